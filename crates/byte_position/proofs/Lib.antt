@@ -1,0 +1,4 @@
+pub mod Headers
+pub mod PageLaws
+pub mod PositionLaws
+pub mod SegmentSizes

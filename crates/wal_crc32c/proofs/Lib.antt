@@ -1,0 +1,3 @@
+mod Lookups
+mod Remainders
+mod Words

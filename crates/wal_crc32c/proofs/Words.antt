@@ -1,0 +1,81 @@
+-- The remainder of several bytes taken as one number, the first byte lowest.
+use Rattle.std.proofs.Common.{◌≡◌, ℕ, zero, suc, ◌+◌, ◌*◌, ◌/◌, ◌%◌, ◌^◌, ◌<◌, List, [], ◌∷◌, length, get_or, fold, refl, sym, ap, ◌∙◌, arith}
+use Rattle.std.proofs.Math.Nat.{div-one, div-div-eq-div-mul, pow-suc, add-zero}
+use Rattle.std.proofs.lemmas.Nat.{xor_comm}
+use Rattle.std.specs.Int.{w64, from_le_bytes, to_le_bytes, byte_at, bytes_low_first}
+use Rattle.std.specs.Int.Bits.{bit_xor, xor_assoc, xor_zero_r, xor_shifted}
+use Rattle.wal_crc32c.specs.Crc32c.{times_power, after_byte}
+use Rattle.wal_crc32c.proofs.Remainders.{times_power-add, times_power-xor, times_power-shifted, times_power-split}
+
+-- n bytes of 0 and one more
+times_power-bytes : (n r : ℕ) → times_power (8 * suc n) r ≡ times_power (8 * n) (times_power 8 r)
+times_power-bytes n r = ap (λ bits. times_power bits r) (omega arith) ∙ times_power-add (8 * n) 8 r
+
+-- bytes as one number, the first lowest
+abbrev number_of : List ℕ → ℕ
+number_of [] = 0
+number_of (byte ∷ bytes) = number_of bytes * 2 ^ 8 + byte
+
+xor-first : (r byte higher : ℕ) → byte < 2 ^ 8 → times_power 8 (bit_xor r (higher * 2 ^ 8 + byte)) ≡ bit_xor (after_byte r byte) higher
+xor-first r byte higher small =
+    ap (λ x. times_power 8 (bit_xor r x)) (sym (xor_shifted higher 8 byte small) ∙ xor_comm (higher * 2 ^ 8) byte)
+    ∙ ap (times_power 8) (sym (xor_assoc r byte (higher * 2 ^ 8)))
+    ∙ times_power-xor 8 (bit_xor r byte) (higher * 2 ^ 8)
+    ∙ ap (bit_xor (after_byte r byte)) (times_power-shifted 8 higher)
+
+fold-after_byte : (r : ℕ) (bytes : List ℕ) → ((i : ℕ) → get_or bytes i 0 < 2 ^ 8) → fold after_byte r bytes ≡ times_power (8 * length bytes) (bit_xor r (number_of bytes))
+unfolding times_power
+fold-after_byte r [] small = sym (xor_zero_r r)
+fold-after_byte r (byte ∷ bytes) small =
+    fold-after_byte (after_byte r byte) bytes (λ i. small (suc i))
+    ∙ ap (times_power (8 * length bytes)) (sym (xor-first r byte (number_of bytes) (small 0)))
+    ∙ sym (times_power-bytes (length bytes) (bit_xor r (number_of bytes * 2 ^ 8 + byte)))
+
+number_of_eight : (bytes : List ℕ) → length bytes ≡ 8 → number_of bytes ≡ from_le_bytes w64 bytes
+number_of_eight (b0 ∷ b1 ∷ b2 ∷ b3 ∷ b4 ∷ b5 ∷ b6 ∷ b7 ∷ []) e = omega arith
+number_of_eight _ e = absurd (omega arith)
+
+pub fold-eight : (r : ℕ) (bytes : List ℕ) → length bytes ≡ 8 → ((i : ℕ) → get_or bytes i 0 < 2 ^ 8) → fold after_byte r bytes ≡ times_power 64 (bit_xor r (from_le_bytes w64 bytes))
+fold-eight r bytes e small =
+    fold-after_byte r bytes small
+    ∙ ap (λ n. times_power (8 * n) (bit_xor r (number_of bytes))) e
+    ∙ ap (λ word. times_power 64 (bit_xor r word)) (number_of_eight bytes e)
+
+-- the remainders of bytes, each with the further ones after it, taken off one after another
+abbrev xor_lookups : ℕ → List ℕ → ℕ
+xor_lookups sum [] = sum
+xor_lookups sum (byte ∷ bytes) = xor_lookups (bit_xor sum (times_power (8 * suc (length bytes)) byte)) bytes
+
+length-bytes_low_first : (i k n : ℕ) → length (bytes_low_first i k n) ≡ k
+length-bytes_low_first i zero n = refl
+length-bytes_low_first i (suc k) n = ap suc (length-bytes_low_first (suc i) k n)
+
+byte_at_is : (i n : ℕ) → byte_at i n ≡ n / 256 ^ i % 256
+byte_at_is zero n = ap (λ x. x % 256) (sym (div-one n))
+byte_at_is (suc i) n = refl
+
+one_lookup : (k w : ℕ) → times_power (8 * suc k) w ≡ bit_xor (times_power (8 * suc k) (w % 256)) (times_power (8 * k) (w / 256))
+one_lookup k w =
+    times_power-bytes k w
+    ∙ ap (times_power (8 * k)) (times_power-split 8 w)
+    ∙ times_power-xor (8 * k) (times_power 8 (w % 256)) (w / 256)
+    ∙ ap (λ x. bit_xor x (times_power (8 * k) (w / 256))) (sym (times_power-bytes k (w % 256)))
+
+lookups : (k i w sum : ℕ) → bit_xor sum (times_power (8 * k) (w / 256 ^ i)) ≡ bit_xor (xor_lookups sum (bytes_low_first i k w)) (w / 256 ^ (i + k))
+unfolding times_power
+lookups zero i w sum = ap (λ n. bit_xor sum (w / 256 ^ n)) (sym (add-zero i))
+lookups (suc k) i w sum =
+    ap (bit_xor sum) (one_lookup k (w / 256 ^ i))
+    ∙ sym (xor_assoc sum (times_power (8 * suc k) (w / 256 ^ i % 256)) (times_power (8 * k) (w / 256 ^ i / 256)))
+    ∙ ap (λ byte. bit_xor (bit_xor sum (times_power (8 * suc k) byte)) (times_power (8 * k) (w / 256 ^ i / 256))) (sym (byte_at_is i w))
+    ∙ ap (λ x. bit_xor (bit_xor sum (times_power (8 * suc k) (byte_at i w))) (times_power (8 * k) x)) (div-div-eq-div-mul w (256 ^ i) 256 ∙ ap (λ x. w / x) (sym (pow-suc 256 i)))
+    ∙ lookups k (suc i) w (bit_xor sum (times_power (8 * suc k) (byte_at i w)))
+    ∙ ap (λ n. bit_xor (xor_lookups (bit_xor sum (times_power (8 * suc n) (byte_at i w))) (bytes_low_first (suc i) k w)) (w / 256 ^ (suc i + k))) (sym (length-bytes_low_first (suc i) k w))
+    ∙ ap (λ n. bit_xor (xor_lookups sum (bytes_low_first i (suc k) w)) (w / 256 ^ n)) (omega arith)
+
+pub lookups_of_word : (w : ℕ) → w < 2 ^ 64 → times_power 64 w ≡ xor_lookups 0 (to_le_bytes w64 w)
+lookups_of_word w small =
+    ap (times_power 64) (sym (div-one w))
+    ∙ lookups 8 0 w 0
+    ∙ ap (bit_xor (xor_lookups 0 (to_le_bytes w64 w))) (omega arith)
+    ∙ xor_zero_r (xor_lookups 0 (to_le_bytes w64 w))

@@ -1,0 +1,11 @@
+//! CRC-32C of bytes, in whatever pieces they come.
+#![tactic(auto)]
+
+mod crc;
+mod division;
+mod tables;
+#[cfg(test)]
+mod tests;
+
+pub use crc::Crc;
+pub use division::crc32c_by_division;

@@ -1,0 +1,79 @@
+ghost use Rattle.std.specs.Prelude.{◌≡◌, ℕ, List, ◌≤◌, ◌<◌, length, drop};
+ghost use Rattle.wal_types.specs.LsnText.{lsn_text, without_leading_zeros};
+
+use crate::hexadecimal::upper_hexadecimal;
+use std::marker::Model;
+
+/// A position of the log: the address of a byte, counted from the log's byte 0 (PostgreSQL's xlogdefs.h).
+#[derive(Clone, Copy, Debug, PartialEq, Eq, PartialOrd, Ord)]
+pub struct Lsn(pub u64);
+
+impl Lsn {
+    /// The position as two hexadecimal numbers, as `0/00100028`.
+    pub fn text(&self) -> LsnText
+        ensures { result ≡ lsn_text self.now.0 }
+    {
+        let high = upper_hexadecimal((self.0 >> 32) as u32);
+        let low = upper_hexadecimal((self.0 % (1 << 32)) as u32);
+        let mut digits = [b'/'; 17];
+        digits[..8].copy_from_slice(&high);
+        digits[9..].copy_from_slice(&low);
+        let start = leading_zeros(&high);
+        LsnText { digits, start }
+    }
+}
+
+// How many digits stand before the first that is not zero, or before the last.
+fn leading_zeros(digits: &[u8]) -> usize
+    requires { 0 < length digits.now }
+    ensures fewer { result < length digits.now }
+    ensures rest { drop result digits.now ≡ without_leading_zeros digits.now }
+{
+    let mut zeros = 0;
+    while zeros + 1 < digits.len() && digits[zeros] == b'0' {
+        zeros += 1;
+    }
+    zeros
+}
+
+/// The text of a position, seen by contracts as its bytes: 10 to 17 of them, in ASCII.
+#[derive(Clone, Debug, Drop)]
+pub struct LsnText {
+    digits: [u8; 17],
+    start: usize,
+}
+
+impl Model for LsnText {
+    ghost Value = { List ℕ };
+
+    ghost view = { λ t. drop t.start t.digits };
+
+    ghost invariant = { λ t. t.start ≤ 7 };
+}
+
+impl LsnText {
+    pub fn as_bytes(&self) -> &[u8]
+        ensures { result.now ≡ self.now }
+    {
+        &self.digits[self.start..]
+    }
+}
+
+#[cfg(test)]
+mod tests {
+    use super::*;
+
+    #[test]
+    fn texts_have_an_upper_and_a_lower_part(rt: HostRuntime) {
+        assert_eq!(rt; Lsn(0).text().as_bytes(), b"0/00000000".as_slice());
+        assert_eq!(rt; Lsn(0x10_0028).text().as_bytes(), b"0/00100028".as_slice());
+        assert_eq!(rt;
+            Lsn(0x1_0000_0000).text().as_bytes(),
+            b"1/00000000".as_slice()
+        );
+        assert_eq!(rt;
+            Lsn(u64::MAX).text().as_bytes(),
+            b"FFFFFFFF/FFFFFFFF".as_slice()
+        );
+    }
+}
