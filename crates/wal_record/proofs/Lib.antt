@@ -1,0 +1,9 @@
+pub mod Bytes
+pub mod Stages
+pub mod HeaderParts
+pub mod Readings
+pub mod Words
+pub mod Acceptance
+pub mod CarriedBytes
+pub mod SpellingLaws
+pub mod CrcBounds

@@ -1,0 +1,10 @@
+use Rattle.std.proofs.Common.{subst, arith}
+use Rattle.wal_record.specs.Reading.{Gives}
+use Rattle.wal_record.proofs.Readings.{found_by, only}
+use Rattle.wal_record.proofs.decoding.decode.Goals as goal
+
+pub returns-clause-found : goal.returns-clause-found
+returns-clause-found c = found_by c.reading.result c.args.bytes.now (λ i. omega (arith, c.type_inv.bytes i)) c.reading.ensures
+
+pub returns-clause-only : goal.returns-clause-only
+returns-clause-only c = λ r spelled. subst (Gives c.reading.result) (only c.args.bytes.now r spelled) c.reading.ensures

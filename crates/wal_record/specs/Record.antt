@@ -1,0 +1,63 @@
+-- Which records the log can hold (PostgreSQL's xloginsert.c and xlogrecord.h).
+use Rattle.std.specs.Prelude.{ℕ, ◌+◌, ◌/◌, ◌%◌, ◌^◌, ◌<◌, Bool, true, IsTrue, ◌&&◌, not, List, [], ◌∷◌, length, Option, Some, None, IfSome, All, ◌==◌, nat_lt, nat_le, if◌then◌else◌}
+use Rattle.wal_types.specs.declared.record.Record.{Record}
+use Rattle.wal_types.specs.declared.record.Block.{Block}
+use Rattle.wal_types.specs.declared.record.Image.{Image}
+
+-- whether no manager has this number: 22 to 127 are left free by PostgreSQL, 128 on are custom ones
+abbrev pub is_free_manager : ℕ → Bool
+is_free_manager rmid = nat_le 22 rmid && nat_le rmid 127
+
+-- whether the record would end its segment (XLOG_SWITCH), which is no record to insert
+abbrev pub is_switch : Record → Bool
+is_switch r = (r.rmid == 0) && (r.info / 16 % 16 == 4)
+
+-- whether an image is that of a page of 8192 bytes; a hole is not at the page's start
+abbrev pub is_right_image : Image → Bool
+is_right_image i = (length i.bytes + i.hole_len == 8192) && (if i.hole_len == 0 then i.hole_offset == 0 else nat_lt 0 i.hole_offset && nat_le (i.hole_offset + i.hole_len) 8192)
+
+abbrev pub is_right_option : Option Image → Bool
+is_right_option None = true
+is_right_option (Some i) = is_right_image i
+
+-- whether a block may stand where the next number is at least `floor`
+abbrev pub is_right_block : ℕ → Block → Bool
+is_right_block floor b = nat_le floor b.id && nat_le b.id 32 && nat_le b.fork 3 && nat_le (length b.content) 65535 && is_right_option b.image
+
+-- whether blocks have rising numbers up to 32, and each is right
+abbrev pub are_right_blocks : ℕ → List Block → Bool
+are_right_blocks floor [] = true
+are_right_blocks floor (b ∷ bs) = is_right_block floor b && are_right_blocks (b.id + 1) bs
+
+-- a record that can be inserted, whatever its size
+pub record IsWellFormed (r : Record) : Type 0 where
+  pub manager : IsTrue (not (is_free_manager r.rmid))
+  pub no_switch : IsTrue (not (is_switch r))
+  pub blocks : IsTrue (are_right_blocks 0 r.blocks)
+
+-- an image's numbers fit their fields
+pub record ImageFits (i : Image) : Type 0 where
+  pub hole_offset : i.hole_offset < 2 ^ 16
+  pub hole_len : i.hole_len < 2 ^ 16
+  pub bytes : All (λ b. b < 256) i.bytes
+
+-- a block's numbers fit their fields
+pub record BlockFits (b : Block) : Type 0 where
+  pub id : b.id < 256
+  pub tablespace : b.rel.spc < 2 ^ 32
+  pub database : b.rel.db < 2 ^ 32
+  pub relation : b.rel.rel < 2 ^ 32
+  pub fork : b.fork < 256
+  pub number : b.blk < 2 ^ 32
+  pub content : All (λ b. b < 256) b.content
+  pub image : IfSome b.image ImageFits
+
+-- a record's numbers fit their fields, as those of a program's value do
+pub record Fits (r : Record) : Type 0 where
+  pub xid : r.xid.0 < 2 ^ 32
+  pub manager : r.rmid < 256
+  pub info : r.info < 256
+  pub origin : IfSome r.origin (λ n. n < 2 ^ 16)
+  pub top_xid : IfSome r.top_xid (λ x. x.0 < 2 ^ 32)
+  pub blocks : All BlockFits r.blocks
+  pub main : All (λ b. b < 256) r.main
