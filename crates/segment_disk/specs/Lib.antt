@@ -1,0 +1,9 @@
+pub mod Cause
+pub mod Stream
+pub mod Tape
+pub mod Image
+pub mod Failing
+pub mod Present
+pub mod MemStream
+pub mod MemDisk
+pub mod Adapter

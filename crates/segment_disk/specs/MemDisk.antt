@@ -1,0 +1,55 @@
+-- A disk in memory: what it holds, and what it fails at.
+use Rattle.std.specs.Prelude.{ℕ, ◌+◌, Bool, List, length, Option, Some, is_some, nat_lt, not, ◌&&◌, ◌||◌}
+use Rattle.segment_disk.specs.Failing.{Failing, is_listed}
+use Rattle.segment_disk.specs.Tape.{DiskState, Tape, empty_state, after_calls}
+use Rattle.segment_disk.specs.declared.memory.disk.MemDisk.{MemDisk}
+
+-- how many segments and counted calls a disk has room for, and the counted calls that fail, by their numbers from 1
+pub record Limits : Type 0 where
+  pub segments : ℕ
+  pub calls : ℕ
+  pub failing : List ℕ
+
+-- the limits that a disk was made with
+abbrev pub limits_of : MemDisk → Limits
+limits_of disk = record { segments = disk.segments.limit; calls = disk.calls.limit; failing = disk.calls.fail.items }
+
+-- a disk's tape: nothing was there at first
+abbrev pub tape_of : MemDisk → Option Tape
+tape_of disk = Some (record { at_first = empty_state; calls = disk.calls.made.items })
+
+-- how many calls were counted
+abbrev pub moment_of : MemDisk → ℕ
+moment_of disk = length disk.calls.made.items
+
+-- how often a disk has failed
+abbrev pub faults_of : MemDisk → ℕ
+faults_of disk = disk.calls.faults
+
+-- the reads that fail
+abbrev pub failing_reads : MemDisk → Failing
+failing_reads disk = disk.reads
+
+-- the segments that are there now
+abbrev pub state_of : MemDisk → DiskState
+state_of disk = after_calls empty_state disk.calls.made.items
+
+-- how many segments are there
+abbrev pub segment_count : MemDisk → ℕ
+segment_count disk = length disk.segments.numbers.items
+
+-- whether the next call is counted
+abbrev pub counts_next : MemDisk → Bool
+counts_next disk = nat_lt (moment_of disk) disk.calls.limit
+
+-- whether it is counted and not listed to fail
+abbrev pub is_next_sound : MemDisk → Bool
+is_next_sound disk = counts_next disk && not (is_listed disk.calls.fail.items (moment_of disk + 1))
+
+-- whether a segment is there
+abbrev pub has_segment : MemDisk → ℕ → Bool
+has_segment disk segment = is_some (state_of disk segment)
+
+-- whether a segment is there, or there is room for it
+abbrev pub can_create : MemDisk → ℕ → Bool
+can_create disk segment = has_segment disk segment || nat_lt (segment_count disk) disk.segments.limit

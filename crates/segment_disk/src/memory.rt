@@ -1,0 +1,34 @@
+//! Bodies in memory of the source, the sink and the disk, for tests and as models of what the real ones do.
+
+mod disk;
+mod reading;
+mod record;
+mod schedule;
+mod segments;
+mod sink;
+mod source;
+#[cfg(test)]
+mod tests;
+
+ghost use Rattle.std.specs.Prelude.{◌≡◌};
+
+pub use disk::MemDisk;
+pub use sink::MemSink;
+pub use source::MemSource;
+use std::alloc::{AllocError, AllocFailed};
+
+/// Memory ran out.
+#[derive(Clone, Copy, Debug, PartialEq, Eq)]
+pub struct Memory;
+
+impl From<AllocError> for Memory {
+    fn from(_: AllocError) -> Self {
+        Memory
+    }
+}
+
+impl<T: Drop> From<AllocFailed<T>> for Memory {
+    fn from(_: AllocFailed<T>) -> Self {
+        Memory
+    }
+}

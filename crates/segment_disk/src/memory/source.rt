@@ -1,0 +1,70 @@
+ghost use Rattle.std.specs.Prelude.{◌≡◌, ◌≤◌, ◌<◌, [], Some, drop, length, min, is_err, IfOk, OnErr, IfSome};
+ghost use Rattle.segment_disk.specs.Cause.{HasCause};
+ghost use Rattle.segment_disk.specs.Failing.{fails_next, with_next};
+ghost use Rattle.segment_disk.specs.Stream.{Takes};
+
+use crate::failed::{Failed, count_fault};
+use crate::memory::schedule::Schedule;
+use crate::stream::Source;
+
+/// A source of bytes in memory.
+#[derive(Debug, Drop)]
+pub struct MemSource {
+    bytes: Vec<u8>,
+    taken: usize,
+    schedule: Schedule,
+    faults: u64,
+    ghost within: { taken ≤ length bytes.items },
+}
+
+impl MemSource {
+    ghost use Rattle.segment_disk.specs.MemStream.{source_failing};
+
+    /// A source of these bytes. It fails at the calls that are listed by their numbers, from 1, and at these alone.
+    pub fn new(bytes: Vec<u8>, fail: Vec<u64>) -> MemSource
+        ensures left { ⟦<MemSource as Source>⟧.left result ≡ Some bytes.items }
+        ensures faults { ⟦<MemSource as Source>⟧.faults result ≡ 0 }
+        ensures failing { source_failing result ≡ record { numbers = fail.items; made = 0 } }
+    {
+        MemSource {
+            bytes,
+            taken: 0,
+            schedule: Schedule::new(fail),
+            faults: 0,
+        }
+    }
+}
+
+impl Source for MemSource {
+    ghost use Rattle.segment_disk.specs.MemStream.{source_left, source_faults, source_failing};
+
+    ghost left = { source_left };
+
+    ghost faults = { source_faults };
+
+    fn read(&mut self, into: &mut [u8]) -> Result<usize, Failed>
+        ensures within { IfOk result (λ n. n ≤ length into.old) }
+        ensures taken { IfOk result (λ n. Takes (source_left self.old) (source_left self.new) n into.new) }
+        ensures end { IfOk result (λ n. n ≡ 0 → 0 < length into.old → IfSome (source_left self.old) (λ bytes. bytes ≡ [])) }
+        ensures failed { OnErr result (source_left self.new ≡ source_left self.old) }
+        ensures cause { HasCause (source_faults self.old) (source_faults self.new) result }
+
+        // It fails at the listed calls alone, and reads as much as there is room for.
+        ensures fails { is_err result ≡ fails_next (source_failing self.old) }
+        ensures failing { source_failing self.new ≡ with_next (source_failing self.old) }
+        ensures count { IfOk result (λ n. IfSome (source_left self.old) (λ bytes. n ≡ min (length into.old) (length bytes))) }
+    {
+        if self.schedule.next_fails() {
+            return Err(count_fault(&mut self.faults));
+        }
+        let rest = &self.bytes[self.taken..];
+        let count = into.len().min(rest.len());
+        into[..count].copy_from_slice(&rest[..count]);
+        self.taken += count;
+        Ok(count)
+    }
+
+    fn faults(&self) -> u64 {
+        self.faults
+    }
+}

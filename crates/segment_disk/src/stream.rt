@@ -1,0 +1,47 @@
+ghost use Rattle.std.specs.Prelude.{◌≡◌, ℕ, ◌<◌, ◌≤◌, List, [], length, take, Option, IfOk, OnErr, IfSome};
+ghost use Rattle.segment_disk.specs.Cause.{HasCause};
+ghost use Rattle.segment_disk.specs.Stream.{Takes, with_behind};
+
+use crate::failed::Failed;
+
+/// Bytes that come from outside, piece by piece.
+pub trait Source {
+    /// The bytes that are left, where the source tells them.
+    ghost left: { Self → Option (List ℕ) };
+
+    /// How often the source has failed.
+    ghost faults: { Self → ℕ };
+
+    /// Reads into the front of a piece, and answers how many bytes. Answers 0 on a piece that is not empty
+    /// exactly where nothing is left. A failed call takes nothing.
+    fn read(&mut self, into: &mut [u8]) -> Result<usize, Failed>
+        ensures within { IfOk result (λ n. n ≤ length into.old) }
+        ensures taken { IfOk result (λ n. Takes (left self.old) (left self.new) n into.new) }
+        ensures end { IfOk result (λ n. n ≡ 0 → 0 < length into.old → IfSome (left self.old) (λ bytes. bytes ≡ [])) }
+        ensures failed { OnErr result (left self.new ≡ left self.old) }
+        ensures cause { HasCause (faults self.old) (faults self.new) result };
+
+    fn faults(&self) -> u64
+        ensures { result ≡ faults self.now };
+}
+
+/// A taker of bytes.
+pub trait Sink {
+    /// The bytes taken so far, where the sink tells them.
+    ghost taken: { Self → Option (List ℕ) };
+
+    /// How often the sink has failed.
+    ghost faults: { Self → ℕ };
+
+    /// Takes bytes off the front of a piece, at least one of a piece that is not empty, and answers how many.
+    /// A failed call takes nothing.
+    fn write(&mut self, from: &[u8]) -> Result<usize, Failed>
+        ensures within { IfOk result (λ n. n ≤ length from.now) }
+        ensures some { IfOk result (λ n. 0 < length from.now → 0 < n) }
+        ensures taken { IfOk result (λ n. taken self.new ≡ with_behind (taken self.old) (take n from.now)) }
+        ensures failed { OnErr result (taken self.new ≡ taken self.old) }
+        ensures cause { HasCause (faults self.old) (faults self.new) result };
+
+    fn faults(&self) -> u64
+        ensures { result ≡ faults self.now };
+}
