@@ -1,0 +1,5 @@
+mod Flags
+pub mod OrderLaws
+pub mod PageLaws
+pub mod StreamLaws
+pub mod FirstPageLaws

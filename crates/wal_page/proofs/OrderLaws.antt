@@ -1,0 +1,70 @@
+-- Laws of the order of the log's records, for the proofs of this crate and of those above.
+use Rattle.std.proofs.Common.{◌≡◌, ℕ, suc, zero, ◌+◌, ◌<◌, ◌≤◌, List, [], ◌∷◌, ◌++◌, length, get_or, take, refl, ap, subst, arith}
+use Rattle.std.proofs.lemmas.List.{take-take}
+use Rattle.std.proofs.lemmas.List.Sums.{sum_by_push, sum_by-cons, sum_by-append, sum_by_more, sum_by-take-le}
+use Rattle.byte_position.specs.Position.{address_of, first_position}
+use Rattle.wal_record.specs.Spelling.{room_of, IsWritable}
+use Rattle.wal_page.specs.Order.{Entry, FollowsFrom, IsChained, position_behind, rooms_of, prev_of}
+
+-- no record takes up less than its header
+pub room_of-pos : (e : Entry) → 24 ≤ room_of e.value
+room_of-pos e = omega arith
+
+pub rooms_of_cons : (e : Entry) (es : List Entry) → rooms_of (e ∷ es) ≡ room_of e.value + rooms_of es
+rooms_of_cons e es = sum_by-cons (λ f. room_of f.value) e es
+
+pub rooms_of_push : (es : List Entry) (e : Entry) → rooms_of (es ++ e ∷ []) ≡ rooms_of es + room_of e.value
+rooms_of_push es e = sum_by_push (λ f. room_of f.value) es e
+
+pub rooms_of-append : (es fs : List Entry) → rooms_of (es ++ fs) ≡ rooms_of es + rooms_of fs
+rooms_of-append es fs = sum_by-append (λ f. room_of f.value) es fs
+
+pub prev_of_push : (size prev : ℕ) (es : List Entry) (e : Entry) → prev_of size prev (es ++ e ∷ []) ≡ address_of size e.start
+prev_of_push size prev [] e = refl
+prev_of_push size prev (f ∷ es) e = prev_of_push size (address_of size f.start) es e
+
+-- an entry may follow that starts where the others end
+pub FollowsFrom_push : (position : ℕ) (es : List Entry) (e : Entry) → FollowsFrom position es → e.start ≡ position + rooms_of es → IsWritable e.value → FollowsFrom position (es ++ e ∷ [])
+FollowsFrom_push position [] e chain at writable = (omega (arith, at), writable, tt)
+FollowsFrom_push position (f ∷ es) e chain at writable =
+    (chain.0, chain.1, FollowsFrom_push (position_behind f) es e chain.2 (omega (arith, at, chain.0, rooms_of_cons f es)) writable)
+
+pub IsChained_push : (size : ℕ) (es : List Entry) (e : Entry) → IsChained size es → e.start ≡ first_position size + rooms_of es → IsWritable e.value → IsChained size (es ++ e ∷ [])
+IsChained_push size es e = FollowsFrom_push (first_position size) es e
+
+-- orders that follow each other are one order, and an order may be parted anywhere
+pub FollowsFrom-append : (position : ℕ) (es fs : List Entry) → FollowsFrom position es → FollowsFrom (position + rooms_of es) fs → FollowsFrom position (es ++ fs)
+FollowsFrom-append position [] fs chain behind = subst (λ (p : ℕ). FollowsFrom p fs) (omega arith) behind
+FollowsFrom-append position (e ∷ es) fs chain behind =
+    let at : position + rooms_of (e ∷ es) ≡ position_behind e + rooms_of es = omega (arith, chain.0, rooms_of_cons e es) in
+    (chain.0, chain.1, FollowsFrom-append (position_behind e) es fs chain.2 (subst (λ (p : ℕ). FollowsFrom p fs) at behind))
+
+pub FollowsFrom-parts : (position : ℕ) (es fs : List Entry) → FollowsFrom position (es ++ fs) → FollowsFrom position es × FollowsFrom (position + rooms_of es) fs
+FollowsFrom-parts position [] fs chain = (tt, subst (λ (p : ℕ). FollowsFrom p fs) (omega arith) chain)
+FollowsFrom-parts position (e ∷ es) fs chain =
+    let parts = FollowsFrom-parts (position_behind e) es fs chain.2 in
+    let at : position_behind e + rooms_of es ≡ position + rooms_of (e ∷ es) = omega (arith, chain.0, rooms_of_cons e es) in
+    ((chain.0, chain.1, parts.0), subst (λ (p : ℕ). FollowsFrom p fs) at parts.1)
+
+-- each entry starts behind those before it, and is writable
+pub FollowsFrom-start : (position : ℕ) (es : List Entry) → FollowsFrom position es → (k : ℕ) (d : Entry) → k < length es → (get_or es k d).start ≡ position + rooms_of (take k es)
+FollowsFrom-start position [] chain k d within = absurd (omega arith)
+FollowsFrom-start position (e ∷ es) chain zero d within = omega (arith, chain.0)
+FollowsFrom-start position (e ∷ es) chain (suc k) d within =
+    omega (arith, chain.0, rooms_of_cons e (take k es), FollowsFrom-start (position_behind e) es chain.2 k d (omega arith))
+
+pub FollowsFrom-writable : (position : ℕ) (es : List Entry) → FollowsFrom position es → (k : ℕ) (d : Entry) → k < length es → IsWritable (get_or es k d).value
+FollowsFrom-writable position [] chain k d within = absurd (omega arith)
+FollowsFrom-writable position (e ∷ es) chain zero d within = chain.1
+FollowsFrom-writable position (e ∷ es) chain (suc k) d within =
+    FollowsFrom-writable (position_behind e) es chain.2 k d (omega arith)
+
+-- a later entry starts at the end of an earlier one or behind it, and no record is empty
+pub FollowsFrom-rises : (position : ℕ) (es : List Entry) → FollowsFrom position es → (i j : ℕ) (d : Entry) → i < j → j < length es → (position_behind (get_or es i d) ≤ (get_or es j d).start) × ((get_or es i d).start < (get_or es j d).start)
+FollowsFrom-rises position es chain i j d before within =
+    let at_i = FollowsFrom-start position es chain i d (omega arith) in
+    let at_j = FollowsFrom-start position es chain j d within in
+    let more : rooms_of (take (i + 1) es) ≡ rooms_of (take i es) + room_of (get_or es i d).value = sum_by_more (λ e. room_of e.value) es i d (omega arith) in
+    let fewer : rooms_of (take (i + 1) (take j es)) ≤ rooms_of (take j es) = sum_by-take-le (λ e. room_of e.value) (take j es) (i + 1) in
+    let same = ap rooms_of (take-take (i + 1) j es (omega arith)) in
+    (omega (arith, at_i, at_j, more, fewer, same), omega (arith, at_i, at_j, more, fewer, same))

@@ -1,0 +1,191 @@
+//! The checks of a page that is read (PostgreSQL's XLogReaderValidatePageHeader of xlogreader.c).
+
+ghost use Rattle.std.specs.Prelude.{◌≡◌, ℕ, ◌+◌, ◌*◌, ◌/◌, ◌%◌, ◌^◌, ◌<◌, ◌≤◌, ◌==◌, IfOk, MatchResult, Some, None};
+ghost use Rattle.std.specs.Int.{w16, w32, w64};
+ghost use Rattle.wal_record.specs.Reading.{number_at};
+ghost use Rattle.wal_page.specs.Page.{info_of, page_fault, remaining_of, timeline_of};
+
+use crate::layout::*;
+use byte_position::Geometry;
+
+/// Which check of a page failed.
+#[derive(Clone, Copy, Debug, PartialEq, Eq)]
+pub enum PageErr {
+    /// The magic number is not that of PostgreSQL 16.
+    Magic,
+    /// A flag is set that there is not.
+    Flags,
+    /// A segment's first page has a short header.
+    NoLong,
+    /// A page inside a segment has a long header.
+    LongInside,
+    /// A long header names another segment size.
+    SegSize,
+    /// A long header names another page size.
+    PageSize,
+    /// A long header has the system id 0.
+    SysId,
+    /// The page belongs to another address.
+    Address,
+    /// The page's timeline is before that of the page read before it.
+    Timeline,
+}
+
+/// The fields of a page's header that a reader goes on with, as they stand (PostgreSQL's XLogPageHeaderData of
+/// xlog_internal.h).
+#[derive(Clone, Copy, Debug, PartialEq, Eq)]
+pub struct PageInfo {
+    /// The header's flags.
+    pub info: u16,
+    /// The timeline on which the page was written.
+    pub timeline: u32,
+    /// How many bytes of the record that continues into the page are still to come; 0 where none does.
+    pub rem_len: u32,
+}
+
+impl PageInfo {
+    /// Whether a record continues into the page (`XLP_FIRST_IS_CONTRECORD`).
+    pub fn is_continued(&self) -> bool
+        ensures { result ≡ (self.now.info % 2 == 1) }
+    {
+        self.info & CONTINUED != 0
+    }
+
+    /// Whether the record that began before the page was overwritten (`XLP_FIRST_IS_OVERWRITE_CONTRECORD`).
+    pub fn is_overwritten(&self) -> bool
+        ensures { result ≡ (self.now.info / 8 % 2 == 1) }
+    {
+        self.info & OVERWRITTEN != 0
+    }
+
+    // Whether the page's header is long (`XLP_LONG_HEADER`).
+    fn is_long(&self) -> bool
+        ensures { result ≡ (self.now.info / 2 % 2 == 1) }
+    {
+        self.info & LONG != 0
+    }
+}
+
+/// Checks a page that is read, in this order: its magic number, its flags, whether it has the long header just where it
+/// is its segment's first, what a long header says, its address, and that its timeline is none before that of the page
+/// read before it (0 where there is none). `page` counts from the log's byte 0.
+pub fn check_page(
+    geometry: Geometry,
+    page: u64,
+    bytes: &[u8; 8192],
+    last_timeline: u32,
+) -> Result<PageInfo, PageErr>
+    requires { page * 8192 < 2 ^ 64 }
+    ensures info { IfOk result (λ i. (i.info ≡ info_of bytes.now) × (i.timeline ≡ timeline_of bytes.now) × (i.rem_len ≡ remaining_of bytes.now)) }
+    ensures which { MatchResult result (λ _. page_fault geometry page bytes.now last_timeline ≡ None) (λ e. page_fault geometry page bytes.now last_timeline ≡ Some e) }
+{
+    let found = PageInfo {
+        info: u16_at(bytes, INFO_AT),
+        timeline: u32_at(bytes, TIMELINE_AT),
+        rem_len: u32_at(bytes, REM_LEN_AT),
+    };
+    if u16_at(bytes, MAGIC_AT) != MAGIC {
+        return Err(PageErr::Magic);
+    }
+    if found.info > ALL_FLAGS {
+        return Err(PageErr::Flags);
+    }
+    let is_first = page % u64::from(geometry.pages()) == 0;
+    let is_long = found.is_long();
+    if is_first && !is_long {
+        return Err(PageErr::NoLong);
+    }
+    if !is_first && is_long {
+        return Err(PageErr::LongInside);
+    }
+    if is_long && u64::from(u32_at(bytes, SEGMENT_SIZE_AT)) != geometry.segment_size() {
+        return Err(PageErr::SegSize);
+    }
+    if is_long && u32_at(bytes, PAGE_SIZE_AT) != PAGE_SIZE as u32 {
+        return Err(PageErr::PageSize);
+    }
+    if is_long && u64_at(bytes, SYSTEM_ID_AT) == 0 {
+        return Err(PageErr::SysId);
+    }
+    if u64_at(bytes, ADDRESS_AT) != page * PAGE_SIZE as u64 {
+        return Err(PageErr::Address);
+    }
+    if found.timeline < last_timeline {
+        return Err(PageErr::Timeline);
+    }
+    Ok(found)
+}
+
+fn u16_at(page: &[u8; 8192], at: usize) -> u16
+    requires { at + 2 ≤ 8192 }
+    ensures { result ≡ number_at w16 page.now at }
+{
+    u16::from_le_bytes([page[at], page[at + 1]])
+}
+
+fn u32_at(page: &[u8; 8192], at: usize) -> u32
+    requires { at + 4 ≤ 8192 }
+    ensures { result ≡ number_at w32 page.now at }
+{
+    u32::from_le_bytes([page[at], page[at + 1], page[at + 2], page[at + 3]])
+}
+
+fn u64_at(page: &[u8; 8192], at: usize) -> u64
+    requires { at + 8 ≤ 8192 }
+    ensures { result ≡ number_at w64 page.now at }
+{
+    u64::from_le_bytes([
+        page[at],
+        page[at + 1],
+        page[at + 2],
+        page[at + 3],
+        page[at + 4],
+        page[at + 5],
+        page[at + 6],
+        page[at + 7],
+    ])
+}
+
+#[cfg(test)]
+mod tests {
+    use super::*;
+    use crate::header::first_header;
+    use std::test::Fail;
+
+    #[test]
+    fn each_fault_is_found(rt: HostRuntime) -> Result<(), Fail> {
+        let geometry = Geometry::new(1 << 20).ok_or("1 MiB is a segment's size")?;
+        let mut page = [0; 8192];
+        page[..40].copy_from_slice(&first_header(geometry, 1));
+        let whole = PageInfo {
+            info: 6,
+            timeline: 1,
+            rem_len: 0,
+        };
+        assert_eq!(rt; check_page(geometry, 128, &page, 1), Ok(whole));
+        assert_eq!(rt;
+            check_page(geometry, 129, &page, 1),
+            Err(PageErr::LongInside)
+        );
+        assert_eq!(rt; check_page(geometry, 256, &page, 1), Err(PageErr::Address));
+        assert_eq!(rt; check_page(geometry, 128, &page, 2), Err(PageErr::Timeline));
+        for (at, byte, fault) in [
+            (1u8, 0xd0, PageErr::Magic),
+            (2, 22, PageErr::Flags),
+            (2, 4, PageErr::NoLong),
+            (34, 0x20, PageErr::SegSize),
+            (37, 0x10, PageErr::PageSize),
+            (24, 0, PageErr::SysId),
+            (12, 1, PageErr::Address),
+        ] {
+            let mut changed = page;
+            changed[usize::from(at)] = byte;
+            assert_eq!(rt;
+                check_page(geometry, 128, &changed, 1),
+                Err(fault),
+                "{fault:?}"
+            );
+        }
+        Ok(())
+    }
+}
