@@ -1,0 +1,12 @@
+pub mod BeginLaws
+pub mod FirstHeader
+pub mod PageReads
+pub mod PagesLaws
+pub mod ReadLaws
+pub mod RecordBytes
+pub mod RecordRows
+pub mod RowLaws
+pub mod SpotLaws
+pub mod StepLaws
+pub mod Tables
+pub mod WrittenLaws

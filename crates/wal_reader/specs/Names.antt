@@ -1,0 +1,31 @@
+-- The words by which damage is named.
+use Rattle.std.specs.Prelude.{ℕ, List, codes}
+use Rattle.wal_page.specs.declared.checks.PageErr.{PageErr}
+use Rattle.wal_page.specs.declared.checks.PageErr.TheVariants.{Magic, Flags, NoLong, LongInside, SegSize, PageSize, SysId, Address, Timeline}
+use Rattle.wal_reader.specs.declared.found.DamageKind.{DamageKind}
+use Rattle.wal_reader.specs.declared.found.DamageKind.TheVariants.{Page, Claims, Length, Rmgr, Prev, Missing, NoContinuation, RemLen, Crc, Malformed}
+
+-- a page's check that failed
+abbrev pub page_name : PageErr → List ℕ
+page_name Magic = codes "magic"
+page_name Flags = codes "flags"
+page_name NoLong = codes "nolong"
+page_name LongInside = codes "longinside"
+page_name SegSize = codes "segsize"
+page_name PageSize = codes "pagesize"
+page_name SysId = codes "sysid"
+page_name Address = codes "address"
+page_name Timeline = codes "timeline"
+
+-- a check that failed
+abbrev pub damage_name : DamageKind → List ℕ
+damage_name (Page fault) = page_name fault
+damage_name Claims = codes "claims"
+damage_name Length = codes "length"
+damage_name Rmgr = codes "rmgr"
+damage_name Prev = codes "prev"
+damage_name Missing = codes "missing"
+damage_name NoContinuation = codes "nocontinuation"
+damage_name RemLen = codes "remlen"
+damage_name Crc = codes "crc"
+damage_name Malformed = codes "malformed"

@@ -1,0 +1,34 @@
+-- The pages of a log as a reader finds them in an image, by their numbers counted from address 0.
+use Rattle.std.specs.Prelude.{ℕ, zero, suc, ◌+◌, ◌*◌, ◌/◌, ◌%◌, ◌^◌, List, [], ◌∷◌, slice_index, Option, Some, None, ◌==◌, nat_lt, nat_le, if◌then◌else◌}
+use Rattle.byte_position.specs.Geometry.{pages_of}
+use Rattle.byte_position.specs.Position.{address_of}
+use Rattle.segment_disk.specs.Image.{Image, ImageSegment}
+
+abbrev pub Pages : Type 0
+Pages = ℕ → Option (List ℕ)
+
+-- a page of a segment, where the segment has it
+abbrev pub page_of_image : Option ImageSegment → ℕ → Option (List ℕ)
+page_of_image None page = None
+page_of_image (Some i) page = if nat_lt page i.pages then Some (i.page page) else None
+
+-- an image's pages; one that ends above address 2 ^ 60 counts as not there
+abbrev pub pages_in : ℕ → Image → Pages
+pages_in size image page = if nat_le ((page + 1) * 8192) (2 ^ 60) then page_of_image (image (page / pages_of size)) (page % pages_of size) else None
+
+-- the first page of segment 1 alone, as long as a reader looks no further
+abbrev pub first_page_of : ℕ → Pages → Pages
+first_page_of size pages page = if page == pages_of size then pages page else None
+
+-- the byte at an address; 0 where its page is not there
+abbrev pub byte_of : Option (List ℕ) → ℕ → ℕ
+byte_of None k = 0
+byte_of (Some bytes) k = slice_index bytes k
+
+abbrev pub byte_at : Pages → ℕ → ℕ
+byte_at pages address = byte_of (pages (address / 8192)) (address % 8192)
+
+-- n bytes from a byte position on, each at its own address: those of headers are left out
+unfoldable pub bytes_from : ℕ → Pages → ℕ → ℕ → List ℕ
+bytes_from size pages zero position = []
+bytes_from size pages (suc n) position = byte_at pages (address_of size position) ∷ bytes_from size pages n (position + 1)

@@ -1,0 +1,94 @@
+ghost use Rattle.std.specs.Prelude.{◌≡◌};
+ghost use Rattle.wal_reader.specs.Names.{page_name};
+
+use wal_page::PageErr;
+use wal_types::{Lsn, Record};
+
+/// A record that was read.
+#[derive(Debug, Drop)]
+pub struct FoundRecord {
+    pub start: Lsn,
+    /// Just behind the record and its rounding.
+    pub end: Lsn,
+    /// The start of the record before, as this one names it.
+    pub prev: Lsn,
+    /// The record's size in bytes.
+    pub total: u32,
+    pub value: Record,
+}
+
+/// Which check failed.
+#[derive(Clone, Copy, Debug, PartialEq, Eq)]
+pub enum DamageKind {
+    /// A check of a page.
+    Page(PageErr),
+    /// A record starts on a page that says that one continues into it.
+    Claims,
+    /// A record's size is less than its header's.
+    Length,
+    /// No manager has the record's number.
+    Rmgr,
+    /// The record names another record before it than the one read.
+    Prev,
+    /// A page that a record needs is not there.
+    Missing,
+    /// A page into which a record continues does not say so.
+    NoContinuation,
+    /// A page says that another number of bytes is still to come.
+    RemLen,
+    Crc,
+    /// The record's items are not as they should be.
+    Malformed,
+}
+
+impl DamageKind {
+    ghost use Rattle.std.specs.Prelude.{◌≡◌};
+    ghost use Rattle.wal_reader.specs.Names.{damage_name};
+
+    /// The word by which the program names it.
+    pub fn name(self) -> &'static str
+        ensures { result.now ≡ damage_name self }
+    {
+        match self {
+            DamageKind::Page(fault) => page_name(fault),
+            DamageKind::Claims => "claims",
+            DamageKind::Length => "length",
+            DamageKind::Rmgr => "rmgr",
+            DamageKind::Prev => "prev",
+            DamageKind::Missing => "missing",
+            DamageKind::NoContinuation => "nocontinuation",
+            DamageKind::RemLen => "remlen",
+            DamageKind::Crc => "crc",
+            DamageKind::Malformed => "malformed",
+        }
+    }
+}
+
+fn page_name(fault: PageErr) -> &'static str
+    ensures { result.now ≡ page_name fault }
+{
+    match fault {
+        PageErr::Magic => "magic",
+        PageErr::Flags => "flags",
+        PageErr::NoLong => "nolong",
+        PageErr::LongInside => "longinside",
+        PageErr::SegSize => "segsize",
+        PageErr::PageSize => "pagesize",
+        PageErr::SysId => "sysid",
+        PageErr::Address => "address",
+        PageErr::Timeline => "timeline",
+    }
+}
+
+/// What stands where no record does.
+#[derive(Clone, Copy, Debug, PartialEq, Eq)]
+pub enum Answer {
+    /// A clean end of the log: the end of the last record, or where reading began.
+    End { at: Lsn },
+    /// Damage: a page's address, or the start of the record that fails.
+    Damaged { at: Lsn, kind: DamageKind },
+    /// A record that starts here has a compressed image.
+    Compressed { at: Lsn },
+    /// A record that starts here was given up, and its continuation overwritten.
+    Overwritten { at: Lsn },
+}

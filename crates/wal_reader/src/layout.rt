@@ -1,0 +1,17 @@
+//! Where a page and a record's header have what the reader looks at (PostgreSQL's xlog_internal.h and xlogrecord.h).
+
+pub(crate) const PAGE_SIZE: u32 = 8192;
+
+/// The header's length on a segment's first page, SizeOfXLogLongPHD.
+pub(crate) const PAGE_HEADER_LEN: u32 = 40;
+
+/// The header's length, SizeOfXLogRecord.
+pub(crate) const HEADER_LEN: usize = 24;
+
+pub(crate) const LEN_AT: usize = 0;
+
+pub(crate) const PREV_AT: usize = 8;
+
+pub(crate) const RMID_AT: usize = 17;
+
+pub(crate) const CRC_AT: usize = 20;
