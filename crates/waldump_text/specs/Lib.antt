@@ -1,0 +1,4 @@
+pub mod Put
+pub mod Names
+pub mod Listing
+pub mod Dump

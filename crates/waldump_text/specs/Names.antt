@@ -1,0 +1,51 @@
+-- The names that the listing has for managers and records (PostgreSQL's rmgrlist.h and xactdesc.c).
+use Rattle.std.specs.Prelude.{ℕ, ◌+◌, ◌/◌, ◌%◌, List, [], ◌∷◌, ◌++◌, codes, slice_index_or, ◌==◌, nat_lt, if◌then◌else◌}
+use Rattle.waldump_text.specs.declared.names.ManagerName.{ManagerName}
+use Rattle.waldump_text.specs.declared.names.ManagerName.TheVariants.{Own, Custom}
+use Rattle.waldump_text.specs.declared.names.RecordWord.{RecordWord}
+use Rattle.waldump_text.specs.declared.names.RecordWord.TheVariants.{Known, Unknown}
+
+-- PostgreSQL's own managers, by their numbers from 0
+abbrev pub manager_names : List (List ℕ)
+manager_names =
+    codes "XLOG" ∷ codes "Transaction" ∷ codes "Storage" ∷ codes "CLOG" ∷ codes "Database" ∷ codes "Tablespace" ∷ codes "MultiXact" ∷ codes "RelMap" ∷ codes "Standby" ∷ codes "Heap2" ∷ codes "Heap"
+    ∷ codes "Btree" ∷ codes "Hash" ∷ codes "Gin" ∷ codes "Gist" ∷ codes "Sequence" ∷ codes "SPGist" ∷ codes "BRIN" ∷ codes "CommitTs" ∷ codes "ReplicationOrigin" ∷ codes "Generic" ∷ codes "LogicalMessage" ∷ []
+
+-- a number below 1000 in three digits
+abbrev pub three_digits : ℕ → List ℕ
+three_digits n = (48 + n / 100 % 10) ∷ (48 + n / 10 % 10) ∷ (48 + n % 10) ∷ []
+
+-- a manager's name; those from 128 on are custom ones
+abbrev pub manager_name : ℕ → List ℕ
+manager_name rmid = if nat_lt rmid 128 then slice_index_or manager_names rmid [] else codes "custom" ++ three_digits rmid
+
+-- the lower-case hexadecimal digit of a number below 16
+abbrev pub lower_digit : ℕ → ℕ
+lower_digit d = if nat_lt d 10 then 48 + d else 87 + d
+
+-- bytes in lower-case hexadecimal, two digits each
+abbrev pub hexadecimal : List ℕ → List ℕ
+hexadecimal [] = []
+hexadecimal (b ∷ bs) = lower_digit (b / 16 % 16) ∷ lower_digit (b % 16) ∷ hexadecimal bs
+
+-- what a record without a name of its own is called: by the upper four bits of its info, without a leading zero
+abbrev pub unknown_word : ℕ → List ℕ
+unknown_word info = codes "UNKNOWN (" ++ (if info / 16 % 16 == 0 then codes "0" else lower_digit (info / 16 % 16) ∷ 48 ∷ []) ++ codes ")"
+
+-- the records of transactions, by bits 4 to 6 of their info
+abbrev pub transaction_words : List (List ℕ)
+transaction_words = codes "COMMIT" ∷ codes "PREPARE" ∷ codes "ABORT" ∷ codes "COMMIT_PREPARED" ∷ codes "ABORT_PREPARED" ∷ codes "ASSIGNMENT" ∷ codes "INVALIDATION" ∷ []
+
+-- a record's word; only transactions have words of their own yet
+abbrev pub record_word : ℕ → ℕ → List ℕ
+record_word rmid info = if rmid == 1 then slice_index_or transaction_words (info / 16 % 8) (unknown_word info) else unknown_word info
+
+-- the text of a manager's name
+abbrev pub name_text : ManagerName → List ℕ
+name_text (Own name) = name.now
+name_text (Custom name) = name
+
+-- the text of a record's word
+abbrev pub word_text : RecordWord → List ℕ
+word_text (Known word) = word.now
+word_text (Unknown word) = word

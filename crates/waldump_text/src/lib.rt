@@ -1,0 +1,19 @@
+//! The listing of a log's records, in the form of PostgreSQL's pg_waldump.
+#![tactic(auto)]
+
+mod dumping;
+mod head;
+mod laws;
+mod lines;
+mod listed;
+mod names;
+mod putting;
+#[cfg(test)]
+mod tests;
+
+pub use dumping::{DumpErr, dump};
+pub use laws::decoding_is_settled;
+pub use lines::line;
+pub use listed::Listed;
+pub use names::{ManagerName, RecordWord, manager_name, record_word};
+pub use putting::{SinkFault, padding, put, put_all};

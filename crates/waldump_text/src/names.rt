@@ -1,0 +1,131 @@
+ghost use Rattle.std.specs.Prelude.{◌≡◌, ◌<◌, ◌≤◌, IsTrue, length, not};
+ghost use Rattle.wal_record.specs.Record.{is_free_manager};
+ghost use Rattle.waldump_text.specs.Names.{manager_name, record_word, unknown_word, lower_digit, name_text, word_text};
+
+/// The name of a resource manager.
+#[derive(Clone, Copy, Debug)]
+pub enum ManagerName {
+    /// One of PostgreSQL's own.
+    Own(&'static str),
+    /// `custom` and the manager's number in three digits.
+    Custom([u8; 9]),
+}
+
+impl ManagerName {
+    pub fn as_bytes(&self) -> &[u8]
+        ensures { result.now ≡ name_text self.now }
+    {
+        match self {
+            ManagerName::Own(name) => name.as_bytes(),
+            ManagerName::Custom(name) => name,
+        }
+    }
+}
+
+// PostgreSQL's own managers, by their numbers.
+static OWN_MANAGERS: [&str; 22] = [
+    "XLOG",
+    "Transaction",
+    "Storage",
+    "CLOG",
+    "Database",
+    "Tablespace",
+    "MultiXact",
+    "RelMap",
+    "Standby",
+    "Heap2",
+    "Heap",
+    "Btree",
+    "Hash",
+    "Gin",
+    "Gist",
+    "Sequence",
+    "SPGist",
+    "BRIN",
+    "CommitTs",
+    "ReplicationOrigin",
+    "Generic",
+    "LogicalMessage",
+];
+
+/// The name of the manager with a number that managers have: to 21, or from 128 on.
+pub fn manager_name(rmid: u8) -> ManagerName
+    requires { IsTrue (not (is_free_manager rmid)) }
+    ensures text { name_text result ≡ manager_name rmid }
+    ensures short { length (name_text result) ≤ 17 }
+{
+    if rmid < 128 {
+        return ManagerName::Own(OWN_MANAGERS[rmid as usize]);
+    }
+    let mut name = *b"custom000";
+    name[6] += rmid / 100;
+    name[7] += rmid / 10 % 10;
+    name[8] += rmid % 10;
+    ManagerName::Custom(name)
+}
+
+/// What a record does, in its manager's words.
+#[derive(Clone, Copy, Debug)]
+pub enum RecordWord {
+    Known(&'static str),
+    /// `UNKNOWN` and the upper four bits of the record's info.
+    Unknown([u8; 12]),
+}
+
+impl RecordWord {
+    pub fn as_bytes(&self) -> &[u8]
+        ensures { result.now ≡ word_text self.now }
+    {
+        match self {
+            RecordWord::Known(word) => word.as_bytes(),
+            RecordWord::Unknown(word) => word,
+        }
+    }
+}
+
+// The records of transactions, by bits 4 to 6 of their info; no record has the last.
+static TRANSACTION_WORDS: [&str; 7] = [
+    "COMMIT",
+    "PREPARE",
+    "ABORT",
+    "COMMIT_PREPARED",
+    "ABORT_PREPARED",
+    "ASSIGNMENT",
+    "INVALIDATION",
+];
+
+/// The word of a record, by its manager's number and its info.
+pub fn record_word(rmid: u8, info: u8) -> RecordWord
+    ensures text { word_text result ≡ record_word rmid info }
+    ensures short { length (word_text result) ≤ 15 }
+{
+    let kind = info / 16 % 8;
+    if rmid == 1 && kind < 7 {
+        RecordWord::Known(TRANSACTION_WORDS[kind as usize])
+    } else {
+        unknown_word(info)
+    }
+}
+
+// PostgreSQL prints the upper four bits in place, as `80`, and no leading zero.
+fn unknown_word(info: u8) -> RecordWord
+    ensures text { word_text result ≡ unknown_word info }
+    ensures short { length (word_text result) ≤ 15 }
+{
+    match info / 16 {
+        0 => RecordWord::Known("UNKNOWN (0)"),
+        high => {
+            let mut word = *b"UNKNOWN (00)";
+            word[9] = lower_digit(high);
+            RecordWord::Unknown(word)
+        }
+    }
+}
+
+// The lower-case hexadecimal digit of a number below 16.
+fn lower_digit(n: u8) -> u8
+    requires { n < 16 }
+    ensures { result ≡ lower_digit n }
+{
+    if n < 10 { b'0' + n } else { b'a' - 10 + n }
+}
