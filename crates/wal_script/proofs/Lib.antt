@@ -1,0 +1,4 @@
+pub mod Cuts
+pub mod Decimals
+pub mod Scripts
+pub mod Words

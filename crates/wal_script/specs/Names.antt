@@ -1,0 +1,12 @@
+-- The words by which reports name what is wrong with a script.
+use Rattle.std.specs.Prelude.{ℕ, List, codes}
+use Rattle.wal_script.specs.declared.line.ScriptFault.{ScriptFault}
+use Rattle.wal_script.specs.declared.line.ScriptFault.TheVariants as faults
+
+-- a fault's name
+abbrev pub fault_name : ScriptFault → List ℕ
+fault_name faults.Length = codes "length"
+fault_name faults.Word = codes "word"
+fault_name faults.Count = codes "count"
+fault_name faults.Number = codes "number"
+fault_name faults.Backends = codes "backends"

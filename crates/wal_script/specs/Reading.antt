@@ -1,0 +1,41 @@
+-- What a reader of scripts returns, beside what they mean: want of memory is no part of the meaning.
+use Rattle.std.specs.Prelude.{◌≡◌, ℕ, List, Option, Some, None, Result, Ok, Err}
+use Rattle.std.specs.Global.{Vec}
+use Rattle.wal_script.specs.declared.line.Line.{Line}
+use Rattle.wal_script.specs.declared.line.Action.{Action}
+use Rattle.wal_script.specs.declared.line.Refusal.{Refusal}
+use Rattle.wal_script.specs.declared.parser.ParseError.{ParseError}
+use Rattle.wal_script.specs.declared.parser.ParseError.TheVariants as errors
+use Rattle.wal_script.specs.declared.parser.LineError.{LineError}
+use Rattle.wal_script.specs.declared.parser.LineError.TheVariants as causes
+use Rattle.wal_script.specs.Meaning.{LineMeaning, passes, asks, refuses}
+
+-- a script that is refused so means that refusal
+abbrev pub Refuses : ParseError → Result (List Line) Refusal → Type 0
+Refuses errors.Memory meaning = Unit {0}
+Refuses (errors.Refused refusal) meaning = meaning ≡ Err refusal
+
+-- a script's lines are what it means, and its refusal is; nothing is said where memory ran out
+abbrev pub Gives : Result (Vec Line) ParseError → Result (List Line) Refusal → Type 0
+Gives (Ok lines) meaning = meaning ≡ Ok lines.items
+Gives (Err error) meaning = Refuses error meaning
+
+-- a line that is refused so means that fault
+abbrev pub RefusesLine : LineError → LineMeaning → Type 0
+RefusesLine causes.Memory meaning = Unit {0}
+RefusesLine (causes.Fault fault) meaning = meaning ≡ refuses fault
+
+-- what was read of a line, seen by `view`, is what it means, and its fault is
+abbrev pub LineGives : {X : Type 0} → (X → LineMeaning) → Result X LineError → LineMeaning → Type 0
+LineGives view (Ok x) meaning = meaning ≡ view x
+LineGives view (Err error) meaning = RefusesLine error meaning
+
+-- what an action or none means
+abbrev pub meant : Option Action → LineMeaning
+meant None = passes
+meant (Some action) = asks action
+
+-- why a script was not read, from why a line was not
+abbrev pub at_line : ℕ → LineError → ParseError
+at_line line causes.Memory = errors.Memory
+at_line line (causes.Fault fault) = errors.Refused (record { line = line; fault = fault })

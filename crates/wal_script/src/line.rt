@@ -1,0 +1,58 @@
+ghost use Rattle.std.specs.Prelude.{◌≡◌};
+
+use wal_types::Record;
+
+/// What a line asks for.
+#[derive(Debug, Drop)]
+pub enum Action {
+    /// Insert this commit's record, then flush to its end.
+    Commit(Record),
+    /// Flush to the end of the backend's last record.
+    Flush,
+}
+
+/// A line of a script. Lines are numbered from 1, all of them.
+#[derive(Debug, Drop)]
+pub struct Line {
+    pub number: u32,
+    pub action: Action,
+}
+
+/// Why a line is refused.
+#[derive(Clone, Copy, Debug, PartialEq, Eq)]
+pub enum ScriptFault {
+    /// The script goes on beyond its limit.
+    Length,
+    /// The first field is no line's letter.
+    Word,
+    /// Too few or too many fields.
+    Count,
+    /// A field that should be a number is none of its range.
+    Number,
+    /// A backend more than there may be.
+    Backends,
+}
+
+impl ScriptFault {
+    ghost use Rattle.wal_script.specs.Names.{fault_name};
+
+    /// The word by which a report names it.
+    pub fn name(self) -> &'static str
+        ensures { result.now ≡ fault_name self }
+    {
+        match self {
+            ScriptFault::Length => "length",
+            ScriptFault::Word => "word",
+            ScriptFault::Count => "count",
+            ScriptFault::Number => "number",
+            ScriptFault::Backends => "backends",
+        }
+    }
+}
+
+/// The first line that is refused, and why.
+#[derive(Clone, Copy, Debug, PartialEq, Eq)]
+pub struct Refusal {
+    pub line: u32,
+    pub fault: ScriptFault,
+}
