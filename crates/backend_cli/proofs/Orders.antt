@@ -1,0 +1,26 @@
+-- Entries that follow each other rise, and rising entries stand sorted.
+use Rattle.std.proofs.Common.{◌≡◌, ℕ, List, [], ◌∷◌, refl, ap, ◌∙◌, arith, true, leb, le-leb}
+use Rattle.wal_page.specs.Order.{Entry, FollowsFrom, position_behind}
+use Rattle.wal_page.proofs.OrderLaws.{room_of-pos}
+use Rattle.backend_cli.specs.Told.{IsRising, insert_by_start, sorted_by_start}
+
+pub IsRising-FollowsFrom : (position : ℕ) (es : List Entry) → FollowsFrom position es → IsRising es
+IsRising-FollowsFrom position [] chain = tt
+IsRising-FollowsFrom position (e ∷ []) chain = tt
+IsRising-FollowsFrom position (e ∷ f ∷ es) chain =
+    (omega (arith, chain.2.0, room_of-pos e), IsRising-FollowsFrom (position_behind e) (f ∷ es) chain.2)
+
+pub IsRising-tail : (e : Entry) (es : List Entry) → IsRising (e ∷ es) → IsRising es
+IsRising-tail e [] rising = tt
+IsRising-tail e (f ∷ es) rising = rising.1
+
+pub insert_by_start-rising : (e : Entry) (es : List Entry) → IsRising (e ∷ es) → insert_by_start e es ≡ e ∷ es
+insert_by_start-rising e [] rising = refl
+insert_by_start-rising e (f ∷ es) rising =
+    let first : leb e.start f.start ≡ true = le-leb e.start f.start (omega (arith, rising.0)) in
+    rw first refl
+
+pub sorted_by_start-rising : (es : List Entry) → IsRising es → sorted_by_start es ≡ es
+sorted_by_start-rising [] rising = refl
+sorted_by_start-rising (e ∷ es) rising =
+    ap (insert_by_start e) (sorted_by_start-rising es (IsRising-tail e es rising)) ∙ insert_by_start-rising e es rising

@@ -1,0 +1,159 @@
+-- Lines that were played are told what they may be told.
+use Rattle.std.proofs.Common.{◌≡◌, ℕ, ◌+◌, ◌-◌, ◌^◌, ◌<◌, ◌≤◌, ◌⊎◌, List, [], ◌∷◌, ◌++◌, length, take, Option, Some, None, IfSome, sym, ap, ◌∙◌, refl, subst, arith, length-append}
+use Rattle.std.proofs.Math.Seq.{take-append_seam}
+use Rattle.byte_position.specs.Geometry.{IsSegmentSize}
+use Rattle.byte_position.specs.Position.{position_of, address_of, end_address_of, first_position}
+use Rattle.byte_position.proofs.PositionLaws.{position_of-address_of}
+use Rattle.wal_types.specs.declared.record.Record.{Record}
+use Rattle.wal_types.specs.declared.lsn.Lsn.{Lsn}
+use Rattle.wal_record.specs.Spelling.{room_of}
+use Rattle.wal_page.specs.Order.{Entry, rooms_of}
+use Rattle.wal_page.proofs.OrderLaws.{rooms_of_push, rooms_of-append}
+use Rattle.wal_script.specs.declared.line.Line.{Line}
+use Rattle.wal_script.specs.declared.line.Action.{Action}
+use Rattle.backend_cli.specs.declared.told.Told.{Told}
+use Rattle.backend_cli.specs.Told.{Logged, IsFull, FitsLine, TellsFrom, TellsAll, behind_or, entry_of, entries_of, order_of}
+use Rattle.backend_cli.specs.Log.{Standing, Plays, at_opening, next_entry, end_of}
+use Rattle.backend_cli.proofs.EndAddresses.{end_address_of-le}
+use Rattle.backend_cli.proofs.StepCases.{StepFact, HoldsOfSteps, fact-Steps}
+use Rattle.backend_cli.proofs.PlayedEntries.{plays_entries, played_order}
+
+-- where the disk has failed, its count of faults was not that of the opening
+abbrev HasFailed : ℕ → Option ℕ → Type 0
+HasFailed opened down = (faults : ℕ) → down ≡ Some faults → (opened < faults) ⊎ (faults ≡ 2 ^ 64 - 1)
+
+-- where the disk has failed, this was its count of faults
+abbrev IsLast : ℕ → Option ℕ → Type 0
+IsLast last down = (faults : ℕ) → down ≡ Some faults → faults ≡ last
+
+-- a disk that has failed stays so
+abbrev StaysDown : StepFact
+StaysDown es down action told after = (faults : ℕ) → down ≡ Some faults → after.down ≡ Some faults
+
+steps_down : (size opened : ℕ) → HoldsOfSteps size opened StaysDown
+steps_down size opened = record {
+  hard = λ es value start end moment at ends writable faults failed. failed;
+  full = λ es value free left short faults failed. failed;
+  failed = λ es value start faults at writable rose others failed. absurd (let no : ⊥ = cc in no);
+  commit_down = λ es value faults others failed. failed;
+  flushed = λ es upto moment at faults failed. failed;
+  flush_down = λ es faults others failed. failed;
+}
+
+plays_down : (size opened : ℕ) (lines : List Line) (told : List Told) (before after : Standing) → Plays size opened before lines told after → (faults : ℕ) → before.down ≡ Some faults → after.down ≡ Some faults
+plays_down size opened [] [] before after plays faults failed = ap (λ (s : Standing). s.down) plays ∙ failed
+plays_down size opened [] (answer ∷ told) before after plays faults failed = absurd plays
+plays_down size opened (line ∷ lines) [] before after plays faults failed = absurd plays
+plays_down size opened (line ∷ lines) (answer ∷ told) before after plays faults failed =
+    plays_down size opened lines told plays.0 after plays.2 faults (fact-Steps size opened StaysDown (steps_down size opened) before line.action answer plays.0 plays.1 faults failed)
+
+abbrev logged_of : ℕ → List Entry → ℕ → ℕ → Logged
+logged_of size order opened last = record { size = size; capacity = 8152; order = order; opened = opened; last = last }
+
+-- an answer as it may be behind some entries, and what is known for the next line
+record TellsLine (size opened last : ℕ) (order es : List Entry) (action : Action) (told : Told) (after : Standing) : Type 0 where
+  fits : FitsLine (logged_of size order opened last) (first_position size + rooms_of es) action told
+  behind : behind_or (first_position size + rooms_of es) (entry_of size 0 action told) ≡ first_position size + rooms_of after.entries
+  failed : HasFailed opened after.down
+
+abbrev TellsStep : ℕ → ℕ → ℕ → List Entry → StepFact
+TellsStep size opened last order es down action told after = (more : List Entry) → order ≡ after.entries ++ more → HasFailed opened down → IsLast last after.down → TellsLine size opened last order es action told after
+
+position_at_end : (size : ℕ) → IsSegmentSize size → (es : List Entry) (start : Lsn) → start.0 ≡ address_of size (first_position size + rooms_of es) → position_of size start.0 ≡ first_position size + rooms_of es
+position_at_end size valid es start at = ap (position_of size) at ∙ position_of-address_of size valid (first_position size + rooms_of es)
+
+start_at_end : (size : ℕ) → IsSegmentSize size → (es : List Entry) (start : Lsn) → start.0 ≡ address_of size (first_position size + rooms_of es) → start.0 ≡ address_of size (position_of size start.0)
+start_at_end size valid es start at = at ∙ ap (address_of size) (sym (position_at_end size valid es start at))
+
+-- the new entry ends where the entries with it do
+behind_at_end : (size : ℕ) → IsSegmentSize size → (es : List Entry) (value : Record) (start : Lsn) → start.0 ≡ address_of size (first_position size + rooms_of es)
+    → position_of size start.0 + room_of value ≡ first_position size + rooms_of (es ++ next_entry size es value ∷ [])
+behind_at_end size valid es value start at = omega (arith, position_at_end size valid es start at, rooms_of_push es (next_entry size es value))
+
+full_line : (size opened last : ℕ) (order es more : List Entry) (value : Record) (free : ℕ) → order ≡ es ++ more → free + rooms_of es ≡ 8152 → free < room_of value
+    → IsFull (logged_of size order opened last) (first_position size + rooms_of es) value free
+full_line size opened last order es more value free parts left short =
+    let front : take (length es) order ≡ es = ap (take (length es)) parts ∙ take-append_seam es more in
+    let rooms : rooms_of (take (length es) order) ≡ rooms_of es = ap rooms_of front in
+    record {
+      front = length es;
+      within = omega (arith, ap length parts, length-append es more);
+      earlier = omega (arith, rooms);
+      left = omega (arith, rooms, left);
+      short = short;
+    }
+
+flushed_line : (size opened last : ℕ) → IsSegmentSize size → (order es more : List Entry) (upto : Lsn) → order ≡ es ++ more → upto.0 ≡ end_of size es
+    → (end_address_of size (first_position size + rooms_of es) ≤ upto.0) × (upto.0 ≤ end_address_of size (first_position size + rooms_of order))
+flushed_line size opened last valid order es more upto parts at =
+    let rooms : rooms_of es ≤ rooms_of order = omega (arith, ap rooms_of parts, rooms_of-append es more) in
+    let rises = end_address_of-le size valid (first_position size + rooms_of es) (first_position size + rooms_of order) (omega (arith, rooms)) in
+    (omega (arith, at), omega (arith, at, rises))
+
+steps_tell : (size opened last : ℕ) (order : List Entry) → IsSegmentSize size → HoldsOfSteps size opened (TellsStep size opened last order)
+steps_tell size opened last order valid = record {
+  hard = λ es value start end moment at ends writable more parts failed is_last. record {
+    fits = record { starts = start_at_end size valid es start at; ends = ends ∙ ap (end_address_of size) (sym (behind_at_end size valid es value start at)) };
+    behind = behind_at_end size valid es value start at;
+    failed = failed;
+  };
+  full = λ es value free left short more parts failed is_last. record {
+    fits = full_line size opened last order es more value free parts left short;
+    behind = refl;
+    failed = failed;
+  };
+  failed = λ es value start faults at writable rose more parts failed is_last. record {
+    fits = (record { rose = rose; upto = omega (arith, is_last faults refl) }, start_at_end size valid es start at);
+    behind = behind_at_end size valid es value start at;
+    failed = λ others same. let equal : faults ≡ others = cc in subst (λ (n : ℕ). (opened < n) ⊎ (n ≡ 2 ^ 64 - 1)) equal rose;
+  };
+  commit_down = λ es value faults more parts failed is_last. record {
+    fits = record { rose = failed faults refl; upto = omega (arith, is_last faults refl) };
+    behind = refl;
+    failed = failed;
+  };
+  flushed = λ es upto moment at more parts failed is_last. record {
+    fits = flushed_line size opened last valid order es more upto parts at;
+    behind = refl;
+    failed = failed;
+  };
+  flush_down = λ es faults more parts failed is_last. record {
+    fits = (record { rose = failed faults refl; upto = omega (arith, is_last faults refl) }, refl);
+    behind = refl;
+    failed = failed;
+  };
+}
+
+plays_tell : (size opened last : ℕ) (order : List Entry) → IsSegmentSize size → (lines : List Line) (told : List Told) (before after : Standing) → Plays size opened before lines told after → order ≡ after.entries
+    → HasFailed opened before.down → IsLast last after.down → TellsFrom (logged_of size order opened last) 0 (first_position size + rooms_of before.entries) lines told
+plays_tell size opened last order valid [] [] before after plays all failed is_last = tt
+plays_tell size opened last order valid [] (answer ∷ told) before after plays all failed is_last = absurd plays
+plays_tell size opened last order valid (line ∷ lines) [] before after plays all failed is_last = absurd plays
+plays_tell size opened last order valid (line ∷ lines) (answer ∷ told) before after plays all failed is_last =
+    let parts = all ∙ plays_entries size opened lines told plays.0 after valid plays.2 in
+    let last_then = λ (faults : ℕ) (down : plays.0.down ≡ Some faults). is_last faults (plays_down size opened lines told plays.0 after plays.2 faults down) in
+    let here = fact-Steps size opened (TellsStep size opened last order) (steps_tell size opened last order valid) before line.action answer plays.0 plays.1 (entries_of size 0 lines told) parts failed last_then in
+    let rest = plays_tell size opened last order valid lines told plays.0 after plays.2 all here.failed is_last in
+    (here.fits, subst (λ (n : ℕ). TellsFrom (logged_of size order opened last) 0 n lines told) (sym here.behind) rest)
+
+IsLast-IfSome : (last : ℕ) (down : Option ℕ) → IfSome down (λ faults. faults ≡ last) → IsLast last down
+IsLast-IfSome last None known = λ faults down. absurd (let no : ⊥ = cc in no)
+IsLast-IfSome last (Some other) known = λ faults down. let same : other ≡ faults = cc in sym same ∙ known
+
+-- over any name for the order
+tells_over : (size opened last : ℕ) (order : List Entry) (lines : List Line) (told : List Told) (after : Standing) → IsSegmentSize size → Plays size opened at_opening lines told after → IfSome after.down (λ faults. faults ≡ last) → order ≡ after.entries
+    → TellsAll (record { size = size; capacity = 8152; order = order; opened = opened; last = last }) 0 (lines ∷ []) (told ∷ [])
+tells_over size opened last order lines told after valid plays known all =
+    let failed : HasFailed opened None = λ faults down. absurd (let no : ⊥ = cc in no) in
+    let tells = plays_tell size opened last order valid lines told at_opening after plays all failed (IsLast-IfSome last after.down known) in
+    let from : first_position size + rooms_of [] ≡ first_position size = omega arith in
+    (subst (λ (n : ℕ). TellsFrom (logged_of size order opened last) 0 n lines told) from tells, tt)
+
+pub played_tells : (size opened last : ℕ) (lines : List Line) (told : List Told) (after : Standing) → IsSegmentSize size → Plays size opened at_opening lines told after → IfSome after.down (λ faults. faults ≡ last)
+    → TellsAll (record { size = size; capacity = 8152; order = after.entries; opened = opened; last = last }) 0 (lines ∷ []) (told ∷ [])
+played_tells size opened last lines told after valid plays known = tells_over size opened last after.entries lines told after valid plays known refl
+
+-- with the order that the answers themselves give
+pub played_tells_order : (size opened last : ℕ) (lines : List Line) (told : List Told) (after : Standing) → IsSegmentSize size → Plays size opened at_opening lines told after → IfSome after.down (λ faults. faults ≡ last)
+    → TellsAll (record { size = size; capacity = 8152; order = order_of size (lines ∷ []) (told ∷ []); opened = opened; last = last }) 0 (lines ∷ []) (told ∷ [])
+played_tells_order size opened last lines told after valid plays known = tells_over size opened last (order_of size (lines ∷ []) (told ∷ [])) lines told after valid plays known (played_order size opened lines told after valid plays)

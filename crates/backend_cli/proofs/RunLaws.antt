@@ -1,0 +1,178 @@
+-- What a run that opened the log has to show, from what its parts say.
+use Rattle.std.proofs.Common.{◌≡◌, ◌<◌, ℕ, ◌+◌, ◌-◌, ◌/◌, ◌^◌, Bool, true, false, cond, eqb, List, [], ◌∷◌, ◌++◌, length, Option, Some, None, Ok, Err, Result, refl, sym, ◌∙◌, ap, subst, inl, inr, ⊎_elim, arith}
+use Rattle.std.specs.Prelude.{IfSome, is_ok, not, codes, if◌then◌else◌, ◌==◌}
+use Rattle.std.specs.Fmt.{decimal}
+use Rattle.std.proofs.lemmas.List.{append-nil}
+use Rattle.byte_position.specs.Position.{first_position, end_address_of}
+use Rattle.byte_position.specs.Geometry.{IsSegmentSize}
+use Rattle.segment_disk.specs.Tape.{Tape}
+use Rattle.wal_types.specs.LsnText.{lsn_text}
+use Rattle.wal_record.specs.Spelling.{assembled}
+use Rattle.wal_record.proofs.SpellingLaws.{room_is}
+use Rattle.wal_page.specs.Order.{Entry, IsChained, rooms_of}
+use Rattle.wal_page.proofs.OrderLaws.{rooms_of_cons}
+use Rattle.wal_script.specs.declared.line.Line.{Line}
+use Rattle.waldump_text.specs.declared.putting.SinkFault.{SinkFault}
+use Rattle.waldump_text.specs.Put.{Puts, joined}
+use Rattle.waldump_text.specs.Put as put
+use Rattle.backend_cli.specs.declared.outcome.Outcome.{Outcome}
+use Rattle.backend_cli.specs.declared.outcome.Outcome.TheVariants.{OutOfMemory}
+use Rattle.backend_cli.specs.declared.told.Told.{Told}
+use Rattle.backend_cli.specs.declared.tasks.Task.{Task}
+use Rattle.backend_cli.specs.declared.log.Log.{Log}
+use Rattle.backend_cli.specs.declared.printing.Summary.{Summary}
+use Rattle.backend_cli.specs.Told.{IsFullAnswer, IsRefused, SomeAnswer}
+use Rattle.backend_cli.specs.Texts.{run_text, summary_text, segments_upto, commits_of, all_commits_of, reserved_count, told_lines_of}
+use Rattle.backend_cli.specs.Printing.{task_lines, summary_line, printed_text, Summarizes}
+use Rattle.backend_cli.specs.Concluding.{Concludes}
+use Rattle.backend_cli.specs.Moments.{MomentsRise}
+use Rattle.backend_cli.specs.Rises.{HasRisen, IsEmpty}
+use Rattle.backend_cli.specs.Log.{Standing, Plays, at_opening}
+use Rattle.backend_cli.specs.LogState.{IsLog, IsUp, IsUpOrDown}
+use Rattle.backend_cli.specs.Outside.{Outside, Took}
+use Rattle.backend_cli.specs.Run.{EndsOpened, IsWhole, RunHolds}
+use Rattle.backend_cli.specs.Told.{order_of}
+use Rattle.backend_cli.specs.Prepared.{MeansLines}
+use Rattle.backend_cli.specs.Tasks.{AreTasks}
+use Rattle.backend_cli.proofs.PlayedEntries.{counted, played_order, played_chained, played_rises}
+use Rattle.backend_cli.proofs.PlayedTells.{played_tells_order}
+use Rattle.backend_cli.proofs.PlayedAnswers.{played_refusals, played_full, SomeTold-one}
+use Rattle.backend_cli.proofs.TaskLaws.{task_lines_are}
+use Rattle.backend_cli.proofs.WholeLaws.{whole}
+
+-- a count that rose by one, or stands at its last value, rose
+pub rose : (old new : ℕ) → put.HasRisen old new → HasRisen old new
+rose old new (inl more) = inl (omega arith)
+rose old new (inr last) = inr last.1
+
+-- what was put was taken
+pub took : (old new : Option (List ℕ)) (before after : ℕ) (text : List ℕ) (result : Result (Unit {0}) SinkFault) → Puts old new before after text result → Took old new before after text
+took old new before after text (Ok done) puts = inl puts.0
+took old new before after text (Err fault) puts = inr (rose before after puts.1, puts.0)
+
+pub quiet_where_printed : (old new : Option (List ℕ)) (before after : ℕ) (text : List ℕ) (result : Result (Unit {0}) SinkFault) → Puts old new before after text result → not (is_ok result) ≡ false → after ≡ before
+quiet_where_printed old new before after text (Ok done) puts is = puts.1
+quiet_where_printed old new before after text (Err fault) puts is = cc
+
+pub risen_where_not_printed : (old new : Option (List ℕ)) (before after : ℕ) (text : List ℕ) (result : Result (Unit {0}) SinkFault) → Puts old new before after text result → not (is_ok result) ≡ true → HasRisen before after
+risen_where_not_printed old new before after text (Ok done) puts is = cc
+risen_where_not_printed old new before after text (Err fault) puts is = rose before after puts.1
+
+-- a disk whose count of faults did not rise is up
+quiet_is_up : (opened last : ℕ) (down : Option ℕ) → IfSome down (λ f. (f ≡ last) × HasRisen opened f) → last ≡ opened → opened < 2 ^ 64 - 1 → down ≡ None
+quiet_is_up opened last None fell same low = refl
+quiet_is_up opened last (Some f) fell same low =
+    absurd (⊎_elim (λ (more : opened < f). omega (arith, fell.0, same)) (λ (most : f ≡ 2 ^ 64 - 1). omega (arith, fell.0, same, most)) fell.1)
+
+module _ (D : Type 0) (tape : D → Option Tape) (faults : D → ℕ) (before : Option Tape) (opened : ℕ) (log : Log D) (es : List Entry) where
+  fell_for : (down : Option ℕ) → IsUpOrDown tape faults before opened log es down → IfSome down (λ f. (f ≡ faults log.disk) × HasRisen opened f)
+  fell_for None state = tt
+  fell_for (Some f) state = (state.told, state.rose)
+
+  up_for : (down : Option ℕ) → IsUpOrDown tape faults before opened log es down → down ≡ None → IsUp tape faults before opened log es
+  up_for None state none = state
+  up_for (Some f) state none = cc
+
+module _ (D : Type 0) (tape : D → Option Tape) (faults : D → ℕ) (before : Option Tape) (opened : ℕ) (log : Log D) (after : Standing) (is_log : IsLog tape faults before opened log after) where
+  -- where the disk failed, its count of faults is the one told, and rose
+  pub fell : IfSome after.down (λ f. (f ≡ faults log.disk) × HasRisen opened f)
+  fell = fell_for D tape faults before opened log after.entries after.down is_log.state
+
+  pub quiet : after.down ≡ None → faults log.disk ≡ opened
+  quiet none = (up_for D tape faults before opened log after.entries after.down is_log.state none).quiet
+
+  -- where it did not, and held nothing at first, it holds the whole order
+  pub is_whole : faults log.disk ≡ opened → opened < 2 ^ 64 - 1 → IsEmpty before → IsWhole log.geometry (tape log.disk) after.entries
+  is_whole same low empty =
+      let none = quiet_is_up opened (faults log.disk) after.down fell same low in
+      let up = up_for D tape faults before opened log after.entries after.down is_log.state none in
+      whole log.geometry after.entries (tape log.disk) is_log.valid is_log.chained is_log.plain is_log.holds.within (up.holds empty)
+
+-- the count at which the disk fell is its last
+pub last_of : (opened last : ℕ) (down : Option ℕ) → IfSome down (λ f. (f ≡ last) × HasRisen opened f) → IfSome down (λ f. f ≡ last)
+last_of opened last None since = tt
+last_of opened last (Some f) since = since.0
+
+-- how a run ends, by what it concluded
+pub ends_opened : (outside : Outside) (told : List Told) (down : Option ℕ) (failed : Bool) (outcome : Outcome) → Concludes down told failed outcome
+    → IfSome down (λ f. (f ≡ outside.disk_after) × HasRisen outside.disk_before f) → (down ≡ None → outside.disk_after ≡ outside.disk_before) → (down ≡ None → SomeAnswer IsRefused told → SomeAnswer IsFullAnswer told)
+    → (failed ≡ false → outside.sink_after ≡ outside.sink_before) → (failed ≡ true → HasRisen outside.sink_before outside.sink_after) → EndsOpened outside (told ∷ []) outcome
+ends_opened outside told (Some f) failed outcome concludes since up full printed unprinted =
+    subst (EndsOpened outside (told ∷ [])) (sym concludes) (subst (HasRisen outside.disk_before) since.0 since.1)
+ends_opened outside told None failed outcome (inl found) since up full printed unprinted =
+    subst (EndsOpened outside (told ∷ [])) (sym found.1) (up refl, inl found.0)
+ends_opened outside told None true outcome (inr room) since up full printed unprinted =
+    subst (EndsOpened outside (told ∷ [])) (sym room.1) (up refl, (λ found. ⊎_elim room.0 (λ no. no) found), unprinted refl)
+ends_opened outside told None false outcome (inr room) since up full printed unprinted =
+    subst (EndsOpened outside (told ∷ [])) (sym room.1) (up refl, (λ refused. ⊎_elim (λ answer. room.0 (full refl answer)) (λ no. no) refused), printed refl)
+
+-- the segments of a summary are those up to the log's end
+segments_are : (size : ℕ) (es : List Entry) (end : ℕ) → (if rooms_of es == 0 then 0 else (end - 1) / size) ≡ segments_upto size es end
+segments_are size [] end = refl
+segments_are size (e ∷ es) end =
+    let more : 0 < rooms_of (e ∷ es) = omega (arith, rooms_of_cons e es, (room_is (assembled e.value)).1) in
+    let apart : eqb (rooms_of (e ∷ es)) 0 ≡ false = grind arith in
+    ap (λ (b : Bool). cond b 0 ((end - 1) / size)) apart
+
+-- a summary's line is that of the order
+summary_is : (size : ℕ) (es : List Entry) (told : List Told) (s : Summary) → Summarizes size (rooms_of es) told s → length es ≡ reserved_count told → summary_line s ≡ summary_text size es (commits_of told)
+summary_is size es told s is count =
+    let end = end_address_of size (first_position size + rooms_of es) in
+    let line = λ (records commits bytes at segments : ℕ). joined (codes "records " ∷ decimal records ∷ codes " commits " ∷ decimal commits ∷ codes " bytes " ∷ decimal bytes ∷ codes " end " ∷ lsn_text at ∷ codes " segments " ∷ decimal segments ∷ codes "\n" ∷ []) in
+    ap (λ (n : ℕ). line n s.commits s.bytes s.end.0 s.segments) (is.records ∙ sym count)
+    ∙ ap (λ (n : ℕ). line (length es) n s.bytes s.end.0 s.segments) is.commits
+    ∙ ap (λ (n : ℕ). line (length es) (commits_of told) n s.end.0 s.segments) is.bytes
+    ∙ ap (λ (n : ℕ). line (length es) (commits_of told) (rooms_of es) s.end.0 n) (is.segments ∙ segments_are size es s.end.0)
+    ∙ ap (λ (n : ℕ). line (length es) (commits_of told) (rooms_of es) n (segments_upto size es n)) is.end
+
+-- what is printed is the run's text
+pub text_is : (size : ℕ) (list : Bool) (lines : List Line) (tasks : List Task) (told : List Told) (es : List Entry) (s : Summary) → AreTasks lines tasks → Summarizes size (rooms_of es) told s → length es ≡ reserved_count told
+    → printed_text list tasks told s ≡ run_text size list (lines ∷ []) (told ∷ []) es
+text_is size list lines tasks told es s are is count =
+    let line = summary_is size es told s is count in
+    let commits : commits_of told ≡ all_commits_of (told ∷ []) = omega arith in
+    let lines_are : task_lines 0 tasks told ≡ told_lines_of 0 lines told ++ [] = task_lines_are 0 lines tasks told are ∙ sym (append-nil (told_lines_of 0 lines told)) in
+    ap (λ (text : List ℕ). (if list then text else []) ++ summary_line s) lines_are
+    ∙ ap (λ (text : List ℕ). (if list then told_lines_of 0 lines told ++ [] else []) ++ text) (line ∙ ap (summary_text size es) commits)
+
+module _ (D : Type 0) (tape : D → Option Tape) (moment faults : D → ℕ) (disk : D) (log : Log D) (after : Standing) (is_log : IsLog tape faults (tape disk) (faults disk) log after) where
+  -- a run that opened the log holds what it promises
+  pub opened_holds : (size : ℕ) (list : Bool) (outcome : Outcome) (lines : List Line) (tasks : List Task) (told : List Told) (summary : Summary) (taken_before taken_after : Option (List ℕ)) (sink_before sink_after : ℕ) (printed : Result (Unit {0}) SinkFault) (source : Option (List ℕ)) (count : ℕ) (result : D) (lists : List (List Told))
+      → log.geometry ≡ size → result ≡ log.disk → lists ≡ told ∷ [] → Plays size (faults disk) at_opening lines told after → MeansLines source lines → AreTasks lines tasks → Summarizes size log.page.used told summary
+      → Puts taken_before taken_after sink_before sink_after (printed_text list tasks told summary) printed → Concludes log.down told (not (is_ok printed)) outcome → MomentsRise (moment disk) told (moment log.disk)
+      → RunHolds (record { source = source; source_before = count; source_after = count; tape_before = tape disk; tape_after = tape result; moment_before = moment disk; moment_after = moment result; disk_before = faults disk; disk_after = faults result; taken_before = taken_before; taken_after = taken_after; sink_before = sink_before; sink_after = sink_after }) size list outcome lists
+  opened_holds size list outcome lines tasks told summary taken_before taken_after sink_before sink_after printed source count result lists same_size same_disk same_lists plays means are summarizes puts concludes rises =
+      let outside_of : D → Outside = λ d. record { source = source; source_before = count; source_after = count; tape_before = tape disk; tape_after = tape d; moment_before = moment disk; moment_after = moment d; disk_before = faults disk; disk_after = faults d; taken_before = taken_before; taken_after = taken_after; sink_before = sink_before; sink_after = sink_after } in
+      let outside : Outside = outside_of log.disk in
+      let valid : IsSegmentSize size = subst IsSegmentSize same_size is_log.valid in
+      let order : order_of size (lines ∷ []) (told ∷ []) ≡ after.entries = played_order size (faults disk) lines told after valid plays in
+      let since = fell D tape faults (tape disk) (faults disk) log after is_log in
+      let used : Summarizes size (rooms_of after.entries) told summary = subst (λ (n : ℕ). Summarizes size n told summary) is_log.holds.used summarizes in
+      let text = text_is size list lines tasks told after.entries summary are used (counted size (faults disk) lines told after plays) in
+      let order_text : printed_text list tasks told summary ≡ run_text size list (lines ∷ []) (told ∷ []) (order_of size (lines ∷ []) (told ∷ [])) = text ∙ ap (run_text size list (lines ∷ []) (told ∷ [])) (sym order) in
+      let holds : RunHolds outside size list outcome (told ∷ []) = (
+        lines ∷ [],
+        record {
+          means = means;
+          told = played_tells_order size (faults disk) (faults log.disk) lines told after valid plays (last_of (faults disk) (faults log.disk) after.down since);
+          gapless = subst (IsChained size) (sym order) (played_chained size (faults disk) lines told after plays);
+          in_line_order = played_rises size (faults disk) lines told after valid plays;
+          moments = (rises, tt);
+          whole = λ same low empty.
+              subst (IsWhole size (tape log.disk)) (sym order) (subst (λ (n : ℕ). IsWhole n (tape log.disk) after.entries) same_size (is_whole D tape faults (tape disk) (faults disk) log after is_log same low empty));
+          printed = subst (Took taken_before taken_after sink_before sink_after) order_text (took taken_before taken_after sink_before sink_after (printed_text list tasks told summary) printed puts);
+          ends = ends_opened outside told after.down (not (is_ok printed)) outcome (subst (λ (down : Option ℕ). Concludes down told (not (is_ok printed)) outcome) is_log.down concludes) since (quiet D tape faults (tape disk) (faults disk) log after is_log)
+              (λ none refused. played_refusals size (faults disk) lines told after plays none refused)
+              (quiet_where_printed taken_before taken_after sink_before sink_after (printed_text list tasks told summary) printed puts) (risen_where_not_printed taken_before taken_after sink_before sink_after (printed_text list tasks told summary) printed puts);
+          full = λ found. let more = played_full size (faults disk) lines told after plays (SomeTold-one IsFullAnswer told found) in omega (arith, more);
+          source_read = refl;
+        },
+      ) in
+      subst (λ (t : List (List Told)). RunHolds (outside_of result) size list outcome t) (sym same_lists) (subst (λ (d : D). RunHolds (outside_of d) size list outcome (told ∷ [])) (sym same_disk) holds)
+
+-- a run that opened the log does not end for want of memory
+pub no_memory : (down : Option ℕ) (told : List Told) (failed : Bool) (outcome : Outcome) → Concludes down told failed outcome → outcome ≡ OutOfMemory → ⊥
+no_memory (Some f) told failed outcome concludes is = cc
+no_memory None told failed outcome (inl found) is = let e = found.1 in cc
+no_memory None told true outcome (inr room) is = let e = room.1 in cc
+no_memory None told false outcome (inr room) is = let e = room.1 in cc

@@ -1,0 +1,28 @@
+use Rattle.std.proofs.Common.{◌<◌, ◌≤◌, ◌+◌, ◌++◌, List, ℕ, length, take, drop, ap, ◌∙◌, arith}
+use Rattle.std.proofs.lemmas.List.{length-take-le, take-append-le}
+use Rattle.backend_cli.proofs.ReadLaws.{HasRead-none, HasRead-more, HasRead-end, HasRead-full}
+use Rattle.backend_cli.proofs.reading.read_upto.Goals as goal
+
+pub loop-bytes-init : goal.loop-bytes-init
+loop-bytes-init g c = rw c.new-bytes.ensures.items (HasRead-none _ _ _)
+
+pub returns-in-Ok-eq0 : goal.returns-in-Ok-eq0
+returns-in-Ok-eq0 g c =
+    let within : c.min-wanted.result ≤ length c.loop-bytes.piece = omega arith in
+    let some : 0 < length (take c.min-wanted.result c.loop-bytes.piece) = omega (arith, length-take-le c.min-wanted.result c.loop-bytes.piece within) in
+    HasRead-end _ _ _ _ _ _ _ c.loop-bytes.invariant (c.in-Ok-eq0.ensures.end c.in-Ok-eq0.field-0-test some) c.in-Ok-eq0.ensures.cause
+
+pub loop-bytes-preserved : goal.loop-bytes-preserved
+loop-bytes-preserved g c =
+    let wanted : c.min-wanted.result ≤ length c.loop-bytes.piece = omega arith in
+    let room = length-take-le c.min-wanted.result c.loop-bytes.piece wanted in
+    let whole : c.in-Ok.count ≤ length c.read.new.into = omega (arith, room, c.in-Ok.ensures.within) in
+    let fits : length c.loop-bytes.bytes.items + c.in-Ok.count ≤ c.args.most = omega (arith, room, c.in-Ok.ensures.within) in
+    let items = c.in_ok-extend_from_slice-in-Ok.ensures.items ∙ ap (λ (front : List ℕ). c.loop-bytes.bytes.items ++ front) (take-append-le c.in-Ok.count c.read.new.into (drop c.min-wanted.result c.loop-bytes.piece) whole) in
+    rw items (HasRead-more _ _ _ _ _ _ _ _ _ _ c.loop-bytes.invariant c.in-Ok.ensures.taken c.in-Ok.ensures.cause whole fits)
+
+pub returns-in-Err : goal.returns-in-Err
+returns-in-Err g c = rw c.loop-bytes.invariant.faults at c.in-Err.ensures.cause
+
+pub returns : goal.returns
+returns g c = HasRead-full _ _ _ _ _ _ c.loop-bytes.invariant (omega arith)

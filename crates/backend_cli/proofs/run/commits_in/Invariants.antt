@@ -1,0 +1,6 @@
+use Rattle.std.proofs.Common.{◌≡◌, take}
+use Rattle.backend_cli.specs.Texts.{commits_of}
+use Rattle.backend_cli.proofs.run.commits_in.Given as goal
+
+abbrev pub invariant-loop-answer : goal.invariant-loop-answer
+invariant-loop-answer l = l.count ≡ commits_of (take l.answer-index l.told)

@@ -1,0 +1,47 @@
+-- What a run makes ready before it opens the log.
+use Rattle.std.specs.Prelude.{◌≡◌, ℕ, ◌<◌, ◌≤◌, List, [], ◌∷◌, length, Option, Result, Ok, Err, IfSome, Vec, vec_capacity}
+use Rattle.std.specs.declared.alloc.Global.{Global}
+use Rattle.wal_script.specs.declared.line.Line.{Line}
+use Rattle.wal_script.specs.Meaning.{meaning_of}
+use Rattle.backend_cli.specs.declared.run.Prepared.{Prepared}
+use Rattle.backend_cli.specs.declared.outcome.Outcome.{Outcome}
+use Rattle.backend_cli.specs.declared.outcome.Outcome.TheVariants.{Done, OutOfMemory, Usage, SourceFault, ScriptRefused, NotEmpty, DiskFault, Stopped, LogFull, SinkFault}
+use Rattle.backend_cli.specs.LogState.{IsNewPage}
+use Rattle.backend_cli.specs.Rises.{HasRisen}
+use Rattle.backend_cli.specs.Tasks.{AreTasks, AreCommits}
+
+-- tasks for these lines, a new page, and room for what the lines are told
+pub record IsReady (size : ℕ) (lines : List Line) (prepared : Prepared) : Type 0 where
+  pub tasks : AreTasks lines prepared.tasks.items
+  pub page : IsNewPage size prepared.page
+  pub told : prepared.told.items ≡ []
+  pub told_room : length prepared.tasks.items ≤ vec_capacity prepared.told
+  pub lists : prepared.lists.items ≡ []
+  pub lists_room : 0 < vec_capacity prepared.lists
+
+-- the script that a source has means these lines
+abbrev pub MeansLines : Option (List ℕ) → List Line → Type 0
+MeansLines source lines = IfSome source (λ bytes. meaning_of bytes ≡ Ok (lines ∷ []))
+
+-- why nothing was made ready: memory, the source, or the script
+abbrev pub IsUnprepared : Option (List ℕ) → ℕ → ℕ → Outcome → Type 0
+IsUnprepared source before after Done = ⊥
+IsUnprepared source before after OutOfMemory = after ≡ before
+IsUnprepared source before after Usage = ⊥
+IsUnprepared source before after SourceFault = HasRisen before after
+IsUnprepared source before after (ScriptRefused refusal) = (after ≡ before) × IfSome source (λ bytes. meaning_of bytes ≡ Err refusal)
+IsUnprepared source before after NotEmpty = ⊥
+IsUnprepared source before after DiskFault = ⊥
+IsUnprepared source before after (Stopped answer) = ⊥
+IsUnprepared source before after LogFull = ⊥
+IsUnprepared source before after SinkFault = ⊥
+
+-- reading the lines of a script
+abbrev pub ReadsLines : Option (List ℕ) → ℕ → ℕ → Result (Vec Line Global) Outcome → Type 0
+ReadsLines source before after (Ok lines) = MeansLines source lines.items × AreCommits lines.items × (after ≡ before)
+ReadsLines source before after (Err outcome) = IsUnprepared source before after outcome
+
+-- making all ready
+abbrev pub Prepares : Option (List ℕ) → ℕ → ℕ → ℕ → Result Prepared Outcome → Type 0
+Prepares source size before after (Ok prepared) = ((lines : List Line) × MeansLines source lines × IsReady size lines prepared) × (after ≡ before)
+Prepares source size before after (Err outcome) = IsUnprepared source before after outcome

@@ -1,0 +1,87 @@
+-- What a run prints.
+use Rattle.std.specs.Prelude.{ℕ, ◌+◌, ◌-◌, ◌/◌, List, [], ◌∷◌, ◌++◌, length, Option, Some, None, codes, Bool, if◌then◌else◌}
+use Rattle.std.specs.Fmt.{decimal}
+use Rattle.byte_position.specs.Position.{end_address_of, first_position}
+use Rattle.wal_types.specs.LsnText.{lsn_text}
+use Rattle.wal_types.specs.declared.lsn.Lsn.{Lsn}
+use Rattle.wal_page.specs.Order.{Entry, rooms_of}
+use Rattle.wal_script.specs.declared.line.Line.{Line}
+use Rattle.waldump_text.specs.Put.{joined}
+use Rattle.backend_cli.specs.declared.told.Told.{Told}
+use Rattle.backend_cli.specs.declared.told.Told.TheVariants.{Wrote, Hard, Flushed, Refused}
+use Rattle.backend_cli.specs.declared.told.Cause.{Cause}
+use Rattle.backend_cli.specs.declared.told.Cause.TheVariants.{Full, Disk, Down}
+
+-- where a refused line reserved a record all the same
+abbrev pub reserved_text : Option Lsn → List (List ℕ)
+reserved_text None = codes "\n" ∷ []
+reserved_text (Some start) = codes " reserved " ∷ lsn_text start.0 ∷ codes "\n" ∷ []
+
+abbrev pub cause_text : Cause → Option Lsn → List (List ℕ)
+cause_text (Full free) reserved = codes " full " ∷ decimal free ∷ codes "\n" ∷ []
+cause_text (Disk faults) reserved = codes " disk " ∷ decimal faults ∷ reserved_text reserved
+cause_text (Down faults) reserved = codes " down " ∷ decimal faults ∷ reserved_text reserved
+
+-- what was told, behind the numbers of its backend and line
+abbrev pub answer_text : Told → List (List ℕ)
+answer_text (Wrote start end) = codes " wrote " ∷ lsn_text start.0 ∷ codes " " ∷ lsn_text end.0 ∷ codes "\n" ∷ []
+answer_text (Hard start end moment) = codes " hard " ∷ lsn_text start.0 ∷ codes " " ∷ lsn_text end.0 ∷ codes " " ∷ decimal moment ∷ codes "\n" ∷ []
+answer_text (Flushed upto moment) = codes " flushed " ∷ lsn_text upto.0 ∷ codes " " ∷ decimal moment ∷ codes "\n" ∷ []
+answer_text (Refused cause reserved) = cause_text cause reserved
+
+-- a told line: backend, line, and what was told
+abbrev pub told_line : ℕ → ℕ → Told → List ℕ
+told_line backend line told = joined (decimal backend ∷ codes " " ∷ decimal line ∷ answer_text told)
+
+-- the told lines of a backend, and of all backends from a number on
+abbrev pub told_lines_of : ℕ → List Line → List Told → List ℕ
+told_lines_of backend [] told = []
+told_lines_of backend (line ∷ lines) [] = []
+told_lines_of backend (line ∷ lines) (told ∷ others) = told_line backend line.number told ++ told_lines_of backend lines others
+
+abbrev pub told_lines_from : ℕ → List (List Line) → List (List Told) → List ℕ
+told_lines_from backend [] told = []
+told_lines_from backend (lines ∷ script) [] = []
+told_lines_from backend (lines ∷ script) (told ∷ others) = told_lines_of backend lines told ++ told_lines_from (backend + 1) script others
+
+-- how many answers say that a commit is durable
+abbrev pub is_hard : Told → ℕ
+is_hard (Wrote start end) = 0
+is_hard (Hard start end moment) = 1
+is_hard (Flushed upto moment) = 0
+is_hard (Refused cause reserved) = 0
+
+abbrev pub commits_of : List Told → ℕ
+commits_of [] = 0
+commits_of (told ∷ others) = is_hard told + commits_of others
+
+abbrev pub all_commits_of : List (List Told) → ℕ
+all_commits_of [] = 0
+all_commits_of (told ∷ others) = commits_of told + all_commits_of others
+
+-- how many answers say that a record was reserved
+abbrev pub is_reserved : Told → ℕ
+is_reserved (Wrote start end) = 1
+is_reserved (Hard start end moment) = 1
+is_reserved (Flushed upto moment) = 0
+is_reserved (Refused cause None) = 0
+is_reserved (Refused cause (Some start)) = 1
+
+abbrev pub reserved_count : List Told → ℕ
+reserved_count [] = 0
+reserved_count (told ∷ others) = is_reserved told + reserved_count others
+
+-- how many segments hold a reserved byte, where the order ends at an address: those from segment 1 up to that of the last byte
+abbrev pub segments_upto : ℕ → List Entry → ℕ → ℕ
+segments_upto size [] end = 0
+segments_upto size (e ∷ es) end = (end - 1) / size
+
+-- the summary: reserved records, durable commits, bytes that records take up, the log's end, and segments
+abbrev pub summary_text : ℕ → List Entry → ℕ → List ℕ
+summary_text size order commits =
+    let end = end_address_of size (first_position size + rooms_of order) in
+    joined (codes "records " ∷ decimal (length order) ∷ codes " commits " ∷ decimal commits ∷ codes " bytes " ∷ decimal (rooms_of order) ∷ codes " end " ∷ lsn_text end ∷ codes " segments " ∷ decimal (segments_upto size order end) ∷ codes "\n" ∷ [])
+
+-- all that a run prints: the told lines where they are asked for, then the summary
+abbrev pub run_text : ℕ → Bool → List (List Line) → List (List Told) → List Entry → List ℕ
+run_text size list script told order = (if list then told_lines_from 0 script told else []) ++ summary_text size order (all_commits_of told)

@@ -1,0 +1,163 @@
+-- What lines are told, and the order that it makes.
+use Rattle.std.specs.Prelude.{◌≡◌, ℕ, ◌+◌, ◌-◌, ◌^◌, ◌<◌, ◌≤◌, ◌⊎◌, List, [], ◌∷◌, ◌++◌, length, take, Option, Some, None, option_to_list, nat_le, if◌then◌else◌}
+use Rattle.wal_types.specs.declared.lsn.Lsn.{Lsn}
+use Rattle.wal_types.specs.declared.record.Record.{Record}
+use Rattle.byte_position.specs.Position.{position_of, address_of, end_address_of, first_position}
+use Rattle.wal_record.specs.Spelling.{room_of}
+use Rattle.wal_page.specs.Order.{Entry, position_behind, rooms_of}
+use Rattle.wal_script.specs.declared.line.Line.{Line}
+use Rattle.wal_script.specs.declared.line.Action.{Action}
+use Rattle.wal_script.specs.declared.line.Action.TheVariants.{Commit, Flush}
+use Rattle.backend_cli.specs.declared.told.Told.{Told}
+use Rattle.backend_cli.specs.declared.told.Told.TheVariants.{Wrote, Hard, Flushed, Refused}
+use Rattle.backend_cli.specs.declared.told.Cause.{Cause}
+use Rattle.backend_cli.specs.declared.told.Cause.TheVariants.{Full, Disk, Down}
+
+-- the start that was reserved for a line's record
+abbrev pub reserved_by : Told → Option Lsn
+reserved_by (Wrote start end) = Some start
+reserved_by (Hard start end moment) = Some start
+reserved_by (Flushed upto moment) = None
+reserved_by (Refused cause reserved) = reserved
+
+-- the entry that a line made, where it reserved one; `size` is that of a segment
+abbrev pub entry_at : ℕ → ℕ → Record → Option Lsn → Option Entry
+entry_at size backend value None = None
+entry_at size backend value (Some start) = Some (record { pass = backend; value = value; start = position_of size start.0 })
+
+abbrev pub entry_of : ℕ → ℕ → Action → Told → Option Entry
+entry_of size backend (Commit value) told = entry_at size backend value (reserved_by told)
+entry_of size backend Flush told = None
+
+-- a backend's entries, in the order of its lines
+abbrev pub entries_of : ℕ → ℕ → List Line → List Told → List Entry
+entries_of size backend [] told = []
+entries_of size backend (line ∷ lines) [] = []
+entries_of size backend (line ∷ lines) (told ∷ others) = option_to_list (entry_of size backend line.action told) ++ entries_of size backend lines others
+
+-- the entries of all backends from a number on
+abbrev pub entries_from : ℕ → ℕ → List (List Line) → List (List Told) → List Entry
+entries_from size backend [] told = []
+entries_from size backend (lines ∷ script) [] = []
+entries_from size backend (lines ∷ script) (told ∷ others) = entries_of size backend lines told ++ entries_from size (backend + 1) script others
+
+-- an entry before the first that starts behind it
+abbrev pub insert_by_start : Entry → List Entry → List Entry
+insert_by_start e [] = e ∷ []
+insert_by_start e (f ∷ fs) = if nat_le e.start f.start then e ∷ f ∷ fs else f ∷ insert_by_start e fs
+
+abbrev pub sorted_by_start : List Entry → List Entry
+sorted_by_start [] = []
+sorted_by_start (e ∷ es) = insert_by_start e (sorted_by_start es)
+
+-- the reserved order: the entries of all backends, by their starts
+abbrev pub order_of : ℕ → List (List Line) → List (List Told) → List Entry
+order_of size script told = sorted_by_start (entries_from size 0 script told)
+
+-- each starts behind the one before
+abbrev pub IsRising : List Entry → Type 0
+IsRising [] = Unit {0}
+IsRising (e ∷ []) = Unit {0}
+IsRising (e ∷ f ∷ es) = (e.start < f.start) × IsRising (f ∷ es)
+
+-- the log that lines are told of: its segment size, how many bytes it has for records, the order of its entries, and the disk's counts of faults at the opening and at the end
+pub record Logged : Type 0 where
+  pub size : ℕ
+  pub capacity : ℕ
+  pub order : List Entry
+  pub opened : ℕ
+  pub last : ℕ
+
+-- a place in the log: a record's start is the address of its byte position, its end the end form of the position behind it
+pub record IsPlaced (size : ℕ) (value : Record) (start end : ℕ) : Type 0 where
+  pub starts : start ≡ address_of size (position_of size start)
+  pub ends : end ≡ end_address_of size (position_of size start + room_of value)
+
+-- the disk failed since the opening, and this was its count of faults then
+pub record IsFault (logged : Logged) (faults : ℕ) : Type 0 where
+  pub rose : (logged.opened < faults) ⊎ (faults ≡ 2 ^ 64 - 1)
+  pub upto : faults ≤ logged.last
+
+-- too few bytes were left for the record behind some front of the order, which has the backend's earlier entries (they end at byte position `behind`)
+pub record IsFull (logged : Logged) (behind : ℕ) (value : Record) (free : ℕ) : Type 0 where
+  pub front : ℕ
+  pub within : front ≤ length logged.order
+  pub earlier : behind ≤ first_position logged.size + rooms_of (take front logged.order)
+  pub left : free + rooms_of (take front logged.order) ≡ logged.capacity
+  pub short : free < room_of value
+
+-- why a commit may be refused
+abbrev pub RefusesCommit : Logged → ℕ → Record → Cause → Option Lsn → Type 0
+RefusesCommit logged behind value (Full free) None = IsFull logged behind value free
+RefusesCommit logged behind value (Full free) (Some start) = ⊥
+RefusesCommit logged behind value (Disk faults) None = IsFault logged faults
+RefusesCommit logged behind value (Disk faults) (Some start) = IsFault logged faults × (start.0 ≡ address_of logged.size (position_of logged.size start.0))
+RefusesCommit logged behind value (Down faults) None = IsFault logged faults
+RefusesCommit logged behind value (Down faults) (Some start) = IsFault logged faults × (start.0 ≡ address_of logged.size (position_of logged.size start.0))
+
+-- why a flush may be refused: it reserves nothing, and needs no room
+abbrev pub RefusesFlush : Logged → Cause → Option Lsn → Type 0
+RefusesFlush logged (Full free) reserved = ⊥
+RefusesFlush logged (Disk faults) reserved = IsFault logged faults × (reserved ≡ None)
+RefusesFlush logged (Down faults) reserved = IsFault logged faults × (reserved ≡ None)
+
+-- what a line may be told, where its backend's earlier entries end at byte position `behind`: a commit that it is durable, a flush that all is up to there at least and no further than the log goes
+abbrev pub FitsLine : Logged → ℕ → Action → Told → Type 0
+FitsLine logged behind (Commit value) (Wrote start end) = ⊥
+FitsLine logged behind (Commit value) (Hard start end moment) = IsPlaced logged.size value start.0 end.0
+FitsLine logged behind (Commit value) (Flushed upto moment) = ⊥
+FitsLine logged behind (Commit value) (Refused cause reserved) = RefusesCommit logged behind value cause reserved
+FitsLine logged behind Flush (Wrote start end) = ⊥
+FitsLine logged behind Flush (Hard start end moment) = ⊥
+FitsLine logged behind Flush (Flushed upto moment) = (end_address_of logged.size behind ≤ upto.0) × (upto.0 ≤ end_address_of logged.size (first_position logged.size + rooms_of logged.order))
+FitsLine logged behind Flush (Refused cause reserved) = RefusesFlush logged cause reserved
+
+-- the byte position at which a backend's entries end after one more line
+abbrev pub behind_or : ℕ → Option Entry → ℕ
+behind_or behind None = behind
+behind_or behind (Some e) = position_behind e
+
+-- one answer for each line, in order, each as it may be
+abbrev pub TellsFrom : Logged → ℕ → ℕ → List Line → List Told → Type 0
+TellsFrom logged backend behind [] [] = Unit {0}
+TellsFrom logged backend behind [] (told ∷ others) = ⊥
+TellsFrom logged backend behind (line ∷ lines) [] = ⊥
+TellsFrom logged backend behind (line ∷ lines) (told ∷ others) =
+    FitsLine logged behind line.action told × TellsFrom logged backend (behind_or behind (entry_of logged.size backend line.action told)) lines others
+
+-- a list for each backend from a number on, and one answer for each of its lines
+abbrev pub TellsAll : Logged → ℕ → List (List Line) → List (List Told) → Type 0
+TellsAll logged backend [] [] = Unit {0}
+TellsAll logged backend [] (told ∷ others) = ⊥
+TellsAll logged backend (lines ∷ script) [] = ⊥
+TellsAll logged backend (lines ∷ script) (told ∷ others) = TellsFrom logged backend (first_position logged.size) lines told × TellsAll logged (backend + 1) script others
+
+-- each backend's entries rise in the order of its lines
+abbrev pub RiseInLineOrder : ℕ → ℕ → List (List Line) → List (List Told) → Type 0
+RiseInLineOrder size backend [] told = Unit {0}
+RiseInLineOrder size backend (lines ∷ script) [] = Unit {0}
+RiseInLineOrder size backend (lines ∷ script) (told ∷ others) = IsRising (entries_of size backend lines told) × RiseInLineOrder size (backend + 1) script others
+
+-- whether an answer says that the log is full, that a record is durable, that the line was refused
+abbrev pub IsFullAnswer : Told → Type 0
+IsFullAnswer (Wrote start end) = ⊥
+IsFullAnswer (Hard start end moment) = ⊥
+IsFullAnswer (Flushed upto moment) = ⊥
+IsFullAnswer (Refused (Full free) reserved) = Unit {0}
+IsFullAnswer (Refused (Disk faults) reserved) = ⊥
+IsFullAnswer (Refused (Down faults) reserved) = ⊥
+
+abbrev pub IsRefused : Told → Type 0
+IsRefused (Wrote start end) = ⊥
+IsRefused (Hard start end moment) = ⊥
+IsRefused (Flushed upto moment) = ⊥
+IsRefused (Refused cause reserved) = Unit {0}
+
+-- the fact holds of some answer of some backend
+abbrev pub SomeAnswer : (Told → Type 0) → List Told → Type 0
+SomeAnswer P [] = ⊥
+SomeAnswer P (told ∷ others) = P told ⊎ SomeAnswer P others
+
+abbrev pub SomeTold : (Told → Type 0) → List (List Told) → Type 0
+SomeTold P [] = ⊥
+SomeTold P (told ∷ others) = SomeAnswer P told ⊎ SomeTold P others

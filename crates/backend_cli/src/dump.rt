@@ -1,0 +1,47 @@
+ghost use Rattle.std.specs.Prelude.{ℕ, List, Option};
+ghost use Rattle.backend_cli.specs.Dumping.{DumpHolds};
+
+use crate::outcome::Outcome;
+use crate::run::Finished;
+use crate::told::ToldLists;
+use byte_position::Geometry;
+use segment_disk::{Disk, Sink};
+use std::alloc::Global;
+use waldump_text::{DumpErr, dump};
+
+/// Lists the log.
+pub(crate) fn list<O: Sink, D: Disk>(
+    alloc: Global,
+    geometry: Geometry,
+    mut disk: D,
+    out: &mut O,
+) -> Finished<D>
+    ensures { (source : Option (List ℕ)) (count : ℕ) → DumpHolds (record {
+      source = source;
+      source_before = count;
+      source_after = count;
+      tape_before = D.tape disk;
+      tape_after = D.tape result.disk;
+      moment_before = D.moment disk;
+      moment_after = D.moment result.disk;
+      disk_before = D.faults disk;
+      disk_after = D.faults result.disk;
+      taken_before = O.taken out.old;
+      taken_after = O.taken out.new;
+      sink_before = O.faults out.old;
+      sink_after = O.faults out.new;
+    }) geometry result.outcome result.told }
+{
+    let outcome = match dump(alloc, &mut disk, geometry, out) {
+        Ok(()) => Outcome::Done,
+        Err(DumpErr::Memory) => Outcome::OutOfMemory,
+        Err(DumpErr::Disk { .. }) => Outcome::DiskFault,
+        Err(DumpErr::Stopped(answer)) => Outcome::Stopped(answer),
+        Err(DumpErr::Sink { .. }) => Outcome::SinkFault,
+    };
+    Finished {
+        outcome,
+        disk,
+        told: ToldLists::none(alloc),
+    }
+}

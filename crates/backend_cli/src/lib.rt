@@ -1,0 +1,21 @@
+//! The program's commands over sources, sinks and disks handed in.
+#![tactic(auto)]
+
+mod dump;
+mod laws;
+mod log;
+mod outcome;
+mod play;
+mod printing;
+mod program;
+mod reading;
+mod run;
+mod tasks;
+mod told;
+mod words;
+
+pub use laws::{law_of_played_entries, law_of_played_full, law_of_played_tells, law_of_whole};
+pub use outcome::Outcome;
+pub use program::{Ended, Gate, pgwal};
+pub use told::{Cause, Told, ToldLists};
+pub use words::{Command, RunOptions};

@@ -1,0 +1,112 @@
+ghost use Rattle.std.specs.Prelude.{◌≡◌, [], ◌∷◌, codes};
+ghost use Rattle.wal_types.specs.LsnText.{lsn_text};
+ghost use Rattle.waldump_text.specs.Put.{Puts, joined};
+ghost use Rattle.backend_cli.specs.Outcome.{status_of, outcome_text};
+
+use segment_disk::Sink;
+use wal_reader::Answer;
+use wal_script::Refusal;
+use wal_types::Lsn;
+use waldump_text::{SinkFault, put_all};
+
+/// How a command ends: the first of its causes in the order of the statuses 1, 2, 7, 3, 9, 4, 6, 5, 8.
+#[derive(Clone, Copy, Debug)]
+pub enum Outcome {
+    Done,
+    OutOfMemory,
+    /// The words ask for nothing.
+    Usage,
+    SourceFault,
+    /// The script is refused at a line.
+    ScriptRefused(Refusal),
+    /// Segment 1 was there before the run.
+    NotEmpty,
+    DiskFault,
+    /// The log that is listed does not come to a clean end.
+    Stopped(Answer),
+    /// A line found the log full.
+    LogFull,
+    SinkFault,
+}
+
+impl Outcome {
+    /// The exit status.
+    pub fn status(self) -> u8
+        ensures { result ≡ status_of self }
+    {
+        match self {
+            Outcome::Done => 0,
+            Outcome::OutOfMemory => 1,
+            Outcome::Usage => 2,
+            Outcome::ScriptRefused(_) => 3,
+            Outcome::DiskFault => 4,
+            Outcome::LogFull => 5,
+            Outcome::Stopped(_) => 6,
+            Outcome::SourceFault => 7,
+            Outcome::SinkFault => 8,
+            Outcome::NotEmpty => 9,
+        }
+    }
+
+    // Puts the line that tells it, if there is one.
+    pub(crate) fn tell<E: Sink>(self, err: &mut E) -> Result<(), SinkFault>
+        ensures { Puts (E.taken err.old) (E.taken err.new) (E.faults err.old) (E.faults err.new) (joined (outcome_text self)) result }
+    {
+        match self {
+            Outcome::Done => put_all(err, &[]),
+            Outcome::OutOfMemory => put_all(err, &[b"pgwal: out of memory\n"]),
+            Outcome::Usage => put_all(err, &[b"pgwal: usage\n"]),
+            Outcome::SourceFault => put_all(err, &[b"pgwal: source fault\n"]),
+            Outcome::ScriptRefused(refusal) => tell_refusal(refusal, err),
+            Outcome::NotEmpty => put_all(err, &[b"pgwal: log not empty\n"]),
+            Outcome::DiskFault => put_all(err, &[b"pgwal: disk fault\n"]),
+            Outcome::Stopped(answer) => tell_stop(answer, err),
+            Outcome::LogFull => put_all(err, &[b"pgwal: log full\n"]),
+            Outcome::SinkFault => put_all(err, &[b"pgwal: sink fault\n"]),
+        }
+    }
+}
+
+fn tell_refusal<E: Sink>(refusal: Refusal, err: &mut E) -> Result<(), SinkFault>
+    ensures { Puts (E.taken err.old) (E.taken err.new) (E.faults err.old) (E.faults err.new) (joined (outcome_text (Outcome.ScriptRefused refusal))) result }
+{
+    let mut number = itoa::Buffer::new();
+    let line = number.format(refusal.line);
+    put_all(
+        err,
+        &[
+            b"pgwal: script line ",
+            line.as_bytes(),
+            b": ",
+            refusal.fault.name().as_bytes(),
+            b"\n",
+        ],
+    )
+}
+
+fn tell_stop<E: Sink>(answer: Answer, err: &mut E) -> Result<(), SinkFault>
+    ensures { Puts (E.taken err.old) (E.taken err.new) (E.faults err.old) (E.faults err.new) (joined (outcome_text (Outcome.Stopped answer))) result }
+{
+    match answer {
+        Answer::End { at: _ } => put_all(err, &[]),
+        Answer::Damaged { at, kind } => tell_damage(at, kind.name(), err),
+        Answer::Compressed { at } => tell_damage(at, "compressed", err),
+        Answer::Overwritten { at } => tell_damage(at, "overwritten", err),
+    }
+}
+
+fn tell_damage<E: Sink>(at: Lsn, what: &str, err: &mut E) -> Result<(), SinkFault>
+    ensures { Puts (E.taken err.old) (E.taken err.new) (E.faults err.old) (E.faults err.new)
+        (joined (codes "pgwal: damaged at " ∷ lsn_text at.0 ∷ codes ": " ∷ what.now ∷ codes "\n" ∷ [])) result }
+{
+    put_all(
+        err,
+        &[
+            b"pgwal: damaged at ",
+            at.text().as_bytes(),
+            b": ",
+            what.as_bytes(),
+            b"\n",
+        ],
+    )
+}

@@ -1,0 +1,116 @@
+ghost use Rattle.std.specs.Prelude.{◌≡◌, map, string_bytes};
+ghost use Rattle.waldump_text.specs.Put.{joined};
+ghost use Rattle.backend_cli.specs.Words.{asks};
+ghost use Rattle.backend_cli.specs.Outcome.{status_of, outcome_text};
+ghost use Rattle.backend_cli.specs.Outside.{Took};
+ghost use Rattle.backend_cli.specs.Obeying.{Obeys, AsksRun};
+ghost use Rattle.backend_cli.specs.declared.outcome.Outcome.{Outcome};
+
+use crate::dump::list;
+use crate::outcome::Outcome;
+use crate::run::{Finished, run};
+use crate::told::ToldLists;
+use crate::words::{Command, asked};
+use segment_disk::{Disk, Sink, Source};
+use std::alloc::Global;
+use std::sync::Wait;
+use std::thread::Threads;
+
+/// Stands before each line of a script. The real one does nothing.
+pub trait Gate {
+    fn pass(&self, backend: u32, line: u32);
+}
+
+/// How the program ended: its exit status, the disk, and what each line of each backend was told (no list where no log was opened).
+#[derive(Drop)]
+pub struct Ended<D> {
+    pub status: u8,
+    pub disk: D,
+    pub told: ToldLists,
+}
+
+// Does what is asked for, and says how it ended.
+fn obey<S: Source, O: Sink, D: Disk, G: Gate>(
+    alloc: Global,
+    command: Option<Command>,
+    script: &mut S,
+    disk: D,
+    out: &mut O,
+    gate: &G,
+) -> Finished<D>
+    ensures obeys { Obeys command (record {
+      source = S.left script.old;
+      source_before = S.faults script.old;
+      source_after = S.faults script.new;
+      tape_before = D.tape disk;
+      tape_after = D.tape result.disk;
+      moment_before = D.moment disk;
+      moment_after = D.moment result.disk;
+      disk_before = D.faults disk;
+      disk_after = D.faults result.disk;
+      taken_before = O.taken out.old;
+      taken_after = O.taken out.new;
+      sink_before = O.faults out.old;
+      sink_after = O.faults out.new;
+    }) result.outcome result.told }
+    ensures as_handed_in { AsksRun command → result.outcome ≡ Outcome.OutOfMemory → result.disk ≡ disk }
+{
+    match &command {
+        None => Finished {
+            outcome: Outcome::Usage,
+            disk,
+            told: ToldLists::none(alloc),
+        },
+        Some(Command::Run(options)) => run(alloc, *options, script, disk, out, gate),
+        Some(Command::Dump(geometry)) => list(alloc, *geometry, disk, out),
+    }
+}
+
+/// Does what the words of a command line ask for.
+///
+/// `words` begin with the program's name. Standard output goes to `out`; `err` takes the line of a status that is not 0.
+/// The threads of `rt` are not used yet: there is one backend.
+pub fn pgwal<R: Threads + Wait + Sync, S: Source, O: Sink, E: Sink, D: Disk + Send, G: Gate + Sync>(
+    _rt: &R,
+    alloc: Global,
+    words: &[String],
+    script: &mut S,
+    disk: D,
+    out: &mut O,
+    err: &mut E,
+    gate: &G,
+) -> Ended<D>
+    // The status and its line on `err` are those of one outcome; for it the command's promises hold: of `run` told, gapless, whole, printed, and how it ends; of `dump` listed.
+    ensures obeys { (outcome : Outcome) × (result.status ≡ status_of outcome)
+        × Took (E.taken err.old) (E.taken err.new) (E.faults err.old) (E.faults err.new) (joined (outcome_text outcome))
+        × Obeys (asks (map (λ w. string_bytes w) words.now)) (record {
+          source = S.left script.old;
+          source_before = S.faults script.old;
+          source_after = S.faults script.new;
+          tape_before = D.tape disk;
+          tape_after = D.tape result.disk;
+          moment_before = D.moment disk;
+          moment_after = D.moment result.disk;
+          disk_before = D.faults disk;
+          disk_after = D.faults result.disk;
+          taken_before = O.taken out.old;
+          taken_after = O.taken out.new;
+          sink_before = O.faults out.old;
+          sink_after = O.faults out.new;
+        }) outcome result.told }
+    // A run that ends for want of memory hands the disk back as it came.
+    ensures as_handed_in { AsksRun (asks (map (λ w. string_bytes w) words.now)) → result.status ≡ 1 → result.disk ≡ disk }
+{
+    let Finished {
+        outcome,
+        disk,
+        told,
+    } = obey(alloc, asked(words), script, disk, out, gate);
+    // A fault while the status is told changes no status.
+    let _ = outcome.tell(err);
+    Ended {
+        status: outcome.status(),
+        disk,
+        told,
+    }
+}

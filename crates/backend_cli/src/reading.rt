@@ -1,0 +1,57 @@
+ghost use Rattle.std.specs.Prelude.{◌<◌, length};
+ghost use Rattle.backend_cli.specs.Reading.{ReadsAll, ReadsUpto};
+
+use segment_disk::Source;
+use std::alloc::{AllocError, Global};
+use wal_script::SCRIPT_LIMIT;
+
+/// Why a script could not be read.
+#[derive(Clone, Copy, Debug, PartialEq, Eq)]
+pub(crate) enum ReadFailure {
+    Memory,
+    Source,
+}
+
+impl From<AllocError> for ReadFailure {
+    ghost use Rattle.std.specs.Prelude.{◌≡◌};
+    ghost use Rattle.backend_cli.specs.declared.reading.ReadFailure.TheVariants.{Memory};
+
+    ghost from_gives = { λ _ e. e ≡ Memory };
+
+    fn from(_e: AllocError) -> ReadFailure {
+        ReadFailure::Memory
+    }
+}
+
+// How many bytes are asked of the source at once.
+const PIECE: usize = 65_536;
+
+/// Reads a script to its end, or to one byte past its limit.
+pub(crate) fn read_script<S: Source>(alloc: Global, source: &mut S) -> Result<Vec<u8>, ReadFailure>
+    ensures { ReadsAll (S.left source.old) (S.faults source.old) (S.faults source.new) result }
+{
+    let mut piece = vec![in alloc; 0u8; PIECE]?;
+    read_upto(alloc, source, &mut piece, SCRIPT_LIMIT + 1)
+}
+
+// Reads a source to its end, or as many bytes as are asked for, each time into a piece.
+fn read_upto<S: Source>(
+    alloc: Global,
+    source: &mut S,
+    piece: &mut [u8],
+    most: usize,
+) -> Result<Vec<u8>, ReadFailure>
+    requires { 0 < length piece.old }
+    ensures { ReadsUpto most (S.left source.old) (S.faults source.old) (S.faults source.new) result }
+{
+    let mut bytes = Vec::new(alloc);
+    while bytes.len() < most {
+        let wanted = piece.len().min(most - bytes.len());
+        match source.read(&mut piece[..wanted]) {
+            Ok(0) => return Ok(bytes),
+            Ok(count) => bytes.extend_from_slice(&piece[..count])?,
+            Err(_) => return Err(ReadFailure::Source),
+        }
+    }
+    Ok(bytes)
+}

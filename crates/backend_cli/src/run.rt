@@ -1,0 +1,282 @@
+ghost use Rattle.std.specs.Prelude.{◌≡◌, ◌≤◌, ◌<◌, ℕ, List, [], ◌∷◌, Option, length, IfOk, IsTrue, false, not};
+ghost use Rattle.wal_script.specs.declared.line.Line.{Line};
+ghost use Rattle.waldump_text.specs.Put.{Puts};
+ghost use Rattle.backend_cli.specs.Told.{SomeAnswer, IsFullAnswer};
+ghost use Rattle.backend_cli.specs.Texts.{reserved_count, commits_of};
+ghost use Rattle.backend_cli.specs.Printing.{printed_text, Summarizes};
+ghost use Rattle.backend_cli.specs.Concluding.{Concludes};
+ghost use Rattle.backend_cli.specs.Tasks.{AreCommits};
+ghost use Rattle.backend_cli.specs.Run.{RunHolds};
+ghost use Rattle.backend_cli.specs.Prepared.{Prepares, ReadsLines, IsReady, MeansLines};
+
+use crate::log::{Log, OpenFailure};
+use crate::outcome::Outcome;
+use crate::play::play;
+use crate::printing::{Summary, put_told_lines};
+use crate::program::Gate;
+use crate::reading::{ReadFailure, read_script};
+use crate::tasks::{Task, tasks_of};
+use crate::told::{Told, ToldLists};
+use crate::words::RunOptions;
+use byte_position::Geometry;
+use segment_disk::{Disk, Sink, Source};
+use std::alloc::{AllocError, Global};
+use wal_page::FirstPage;
+use wal_script::{Line, ParseError, parse};
+use waldump_text::SinkFault;
+
+/// How a command ended: its outcome, the disk, and what its lines were told.
+#[derive(Drop)]
+pub(crate) struct Finished<D> {
+    pub outcome: Outcome,
+    pub disk: D,
+    pub told: ToldLists,
+}
+
+// What a run needs before it opens the log: all that takes memory.
+#[derive(Drop)]
+struct Prepared {
+    tasks: Vec<Task>,
+    page: FirstPage,
+    // Room for the read that looks for a segment.
+    piece: Box<[u8; 8192]>,
+    // Room for what the lines are told.
+    told: Vec<Told>,
+    lists: Vec<Vec<Told>>,
+}
+
+// How many bytes the first page has for records.
+const ROOM: u32 = 8152;
+
+// The system id of each log that this program writes.
+const SYSTEM_ID: u64 = 1;
+
+fn lines_of<S: Source>(alloc: Global, source: &mut S) -> Result<Vec<Line>, Outcome>
+    ensures { ReadsLines (S.left source.old) (S.faults source.old) (S.faults source.new) result }
+{
+    let script = match read_script(alloc, source) {
+        Ok(script) => script,
+        Err(ReadFailure::Memory) => return Err(Outcome::OutOfMemory),
+        Err(ReadFailure::Source) => return Err(Outcome::SourceFault),
+    };
+    match parse(alloc, &script) {
+        Ok(lines) => Ok(lines),
+        Err(ParseError::Memory) => Err(Outcome::OutOfMemory),
+        Err(ParseError::Refused(refusal)) => Err(Outcome::ScriptRefused(refusal)),
+    }
+}
+
+fn room_for(alloc: Global, geometry: Geometry, lines: &[Line]) -> Result<Prepared, AllocError>
+    requires { AreCommits lines.now }
+    ensures { IfOk result (λ prepared. IsReady geometry lines.now prepared) }
+{
+    let tasks = tasks_of(alloc, lines)?;
+    let told = Vec::with_capacity(alloc, tasks.len())?;
+    Ok(Prepared {
+        tasks,
+        page: FirstPage::new(alloc, geometry, SYSTEM_ID)?,
+        piece: Box::new(alloc, [0; 8192])?,
+        told,
+        lists: Vec::with_capacity(alloc, 1)?,
+    })
+}
+
+// Reads the script and takes all room.
+fn prepare<S: Source>(
+    alloc: Global,
+    geometry: Geometry,
+    source: &mut S,
+) -> Result<Prepared, Outcome>
+    ensures { Prepares (S.left source.old) geometry (S.faults source.old) (S.faults source.new) result }
+{
+    let lines = lines_of(alloc, source)?;
+    match room_for(alloc, geometry, &lines) {
+        Ok(prepared) => Ok(prepared),
+        Err(AllocError) => Err(Outcome::OutOfMemory),
+    }
+}
+
+// How many lines reserved a record.
+fn records_in(told: &[Told]) -> u64
+    ensures { result ≡ reserved_count told.now }
+{
+    let mut count = 0;
+    for answer in told {
+        if answer.reserved().is_some() {
+            count += 1;
+        }
+    }
+    count
+}
+
+// How many lines were told that their commit is durable.
+fn commits_in(told: &[Told]) -> u64
+    ensures { result ≡ commits_of told.now }
+{
+    let mut count = 0;
+    for answer in told {
+        if answer.is_hard() {
+            count += 1;
+        }
+    }
+    count
+}
+
+// Whether a line found the log full.
+fn found_full(told: &[Told]) -> bool
+    ensures full { IsTrue result → SomeAnswer IsFullAnswer told.now }
+    ensures room { result ≡ false → SomeAnswer IsFullAnswer told.now → ⊥ }
+{
+    for answer in told {
+        if answer.is_full() {
+            return true;
+        }
+    }
+    false
+}
+
+// What the summary says of a log's page and of what its lines were told.
+fn summary_of(geometry: Geometry, page: &FirstPage, told: &[Told]) -> Summary
+    requires { page.now.size ≡ geometry }
+    ensures { Summarizes geometry page.now.used told.now result }
+{
+    let bytes = u64::from(ROOM - page.free());
+    let end = page.end();
+    Summary {
+        records: records_in(told),
+        commits: commits_in(told),
+        bytes,
+        end,
+        segments: if bytes == 0 {
+            0
+        } else {
+            (end.0 - 1) / geometry.segment_size()
+        },
+    }
+}
+
+// Prints what a run told, and its summary.
+fn print<O: Sink>(
+    out: &mut O,
+    list: bool,
+    tasks: &[Task],
+    told: &[Told],
+    summary: &Summary,
+) -> Result<(), SinkFault>
+    requires { length tasks.now ≡ length told.now }
+    ensures { Puts (O.taken out.old) (O.taken out.new) (O.faults out.old) (O.faults out.new) (printed_text list tasks.now told.now summary.now) result }
+{
+    if list {
+        put_told_lines(out, 0, tasks, told)?;
+    }
+    summary.put(out)
+}
+
+// How a run that opened the log concludes: the first of its causes.
+fn conclusion(down: Option<u64>, told: &[Told], is_printed: bool) -> Outcome
+    ensures { Concludes down told.now (not is_printed) result }
+{
+    if down.is_some() {
+        Outcome::DiskFault
+    } else if found_full(told) {
+        Outcome::LogFull
+    } else if is_printed {
+        Outcome::Done
+    } else {
+        Outcome::SinkFault
+    }
+}
+
+fn run_prepared<O: Sink, D: Disk, G: Gate>(
+    alloc: Global,
+    options: RunOptions,
+    prepared: Prepared,
+    disk: D,
+    out: &mut O,
+    gate: &G,
+) -> Finished<D>
+    requires { (lines : List Line) × IsReady options.geometry lines prepared }
+    ensures holds { (source : Option (List ℕ)) (count : ℕ) (lines : List Line) → MeansLines source lines → IsReady options.geometry lines prepared
+        → RunHolds (record {
+          source = source;
+          source_before = count;
+          source_after = count;
+          tape_before = D.tape disk;
+          tape_after = D.tape result.disk;
+          moment_before = D.moment disk;
+          moment_after = D.moment result.disk;
+          disk_before = D.faults disk;
+          disk_after = D.faults result.disk;
+          taken_before = O.taken out.old;
+          taken_after = O.taken out.new;
+          sink_before = O.faults out.old;
+          sink_after = O.faults out.new;
+        }) options.geometry options.list result.outcome result.told }
+    ensures no_memory { result.outcome ≡ Outcome.OutOfMemory → ⊥ }
+{
+    let Prepared {
+        tasks,
+        page,
+        piece,
+        mut told,
+        lists,
+    } = prepared;
+    match Log::open(disk, options.geometry, page, piece) {
+        Err(OpenFailure::Disk(disk)) => Finished {
+            outcome: Outcome::DiskFault,
+            disk,
+            told: ToldLists::none(alloc),
+        },
+        Err(OpenFailure::NotEmpty(disk)) => Finished {
+            outcome: Outcome::NotEmpty,
+            disk,
+            told: ToldLists::none(alloc),
+        },
+        Ok(mut log) => {
+            play(&mut log, gate, &tasks, &mut told);
+            let summary = summary_of(options.geometry, &log.page, &told);
+            let is_printed = print(out, options.list, &tasks, &told, &summary).is_ok();
+            Finished {
+                outcome: conclusion(log.down, &told, is_printed),
+                disk: log.into_disk(),
+                told: ToldLists::one(lists, told),
+            }
+        }
+    }
+}
+
+/// Runs a script: reads it, makes all ready, opens the log, does each line, prints.
+pub(crate) fn run<S: Source, O: Sink, D: Disk, G: Gate>(
+    alloc: Global,
+    options: RunOptions,
+    source: &mut S,
+    disk: D,
+    out: &mut O,
+    gate: &G,
+) -> Finished<D>
+    ensures holds { RunHolds (record {
+      source = S.left source.old;
+      source_before = S.faults source.old;
+      source_after = S.faults source.new;
+      tape_before = D.tape disk;
+      tape_after = D.tape result.disk;
+      moment_before = D.moment disk;
+      moment_after = D.moment result.disk;
+      disk_before = D.faults disk;
+      disk_after = D.faults result.disk;
+      taken_before = O.taken out.old;
+      taken_after = O.taken out.new;
+      sink_before = O.faults out.old;
+      sink_after = O.faults out.new;
+    }) options.geometry options.list result.outcome result.told }
+    ensures as_handed_in { result.outcome ≡ Outcome.OutOfMemory → result.disk ≡ disk }
+{
+    match prepare(alloc, options.geometry, source) {
+        Ok(prepared) => run_prepared(alloc, options, prepared, disk, out, gate),
+        Err(outcome) => Finished {
+            outcome,
+            disk,
+            told: ToldLists::none(alloc),
+        },
+    }
+}
