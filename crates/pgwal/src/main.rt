@@ -1,0 +1,74 @@
+//! pgwal: writes a write-ahead log from a script, and lists it.
+#![tactic(auto)]
+
+use backend_cli::{Gate, pgwal};
+use segment_disk::{FileDisk, Memory, StandardSink, StandardSource};
+use std::alloc::AllocError;
+use std::env;
+use std::io::ErrorKind;
+use std::process::ExitCode;
+use std::sync::Wait;
+use std::thread::Threads;
+
+/// Lets every line pass.
+struct Open;
+
+impl Gate for Open {
+    fn pass(&self, _backend: u32, _line: u32) {}
+}
+
+// The folder of segment files, in the working directory.
+const FOLDER: &str = "pg_wal";
+
+// The words of the command line; where one of them is no text, none, so that the usage is told.
+fn words(rt: HostRuntime) -> Result<Vec<String>, AllocError> {
+    let mut words = Vec::new(rt.alloc());
+    match env::args(&rt) {
+        Ok(given) => {
+            for word in given {
+                words.push(word)?;
+            }
+        }
+        Err(error) if error.kind() == ErrorKind::OutOfMemory => return Err(AllocError),
+        Err(_) => {}
+    }
+    Ok(words)
+}
+
+// Runs the program over the system's source, sinks and disk, and answers its exit status.
+fn run<R: Threads + Wait + Sync>(threads: &R, rt: HostRuntime) -> Result<u8, Memory> {
+    let alloc = rt.alloc();
+    let words = words(rt)?;
+    let mut source = StandardSource::new(rt.stdin());
+    let mut out = StandardSink::new(alloc, rt.stdout())?;
+    let mut err = StandardSink::new(alloc, rt.stderr())?;
+    let disk = FileDisk::open(rt, alloc, FOLDER)?;
+    let ended = pgwal(
+        threads,
+        alloc,
+        &words,
+        &mut source,
+        disk,
+        &mut out,
+        &mut err,
+        &Open,
+    );
+    let mut status = ended.status;
+    // What is kept back is written now: where that fails, the sink failed.
+    if out.flush().is_err() && status == 0 {
+        status = 8;
+        let _ = rt.eprintln("pgwal: sink fault");
+    }
+    let _ = err.flush();
+    Ok(status)
+}
+
+fn main(rt: HostRuntime) -> ExitCode {
+    match run(&rt, rt) {
+        Ok(status) => ExitCode::from(status),
+        Err(Memory) => {
+            let _ = rt.eprintln("pgwal: out of memory");
+            ExitCode::from(1)
+        }
+    }
+}

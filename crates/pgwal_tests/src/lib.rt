@@ -1,0 +1,11 @@
+//! Tests that cross the crates: scripts run on disks in memory, and listed.
+#![tactic(auto)]
+
+#[cfg(test)]
+mod damage;
+#[cfg(test)]
+mod listing;
+#[cfg(test)]
+mod played;
+#[cfg(test)]
+mod runs;
