@@ -1,4 +1,13 @@
+pub mod Division
+pub mod EndAddresses
+pub mod HeaderSizes
 pub mod Headers
 pub mod PageLaws
+pub mod Pages
+pub mod PagesTimes
+pub mod Places
 pub mod PositionLaws
+pub mod Rising
 pub mod SegmentSizes
+pub mod Segments
+pub mod Words

@@ -29,6 +29,10 @@ pub address_of-next : (size b : ℕ) → address_of size (b + 1) ≡ behind_head
 unfolding address_of
 address_of-next size b = ap (address_of size) (add-one b)
 
+pub end_address_of-zero : (size : ℕ) → end_address_of size 0 ≡ 0
+unfolding end_address_of
+end_address_of-zero size = refl
+
 pub end_address_of-next : (size b : ℕ) → end_address_of size (b + 1) ≡ address_of size b + 1
 unfolding end_address_of
 end_address_of-next size b = ap (end_address_of size) (add-one b)

@@ -1,6 +1,19 @@
 -- Byte positions, which count the bytes that are in no page header, and the addresses of these bytes (PostgreSQL's xlog.c).
 -- Everywhere `size` is the size of a segment in bytes.
-use Rattle.std.specs.Prelude.{ℕ, zero, suc, ◌+◌, ◌-◌, ◌%◌, Bool, ◌||◌, nat_lt, if◌then◌else◌}
+use Rattle.std.specs.Prelude.{ℕ, zero, suc, ◌+◌, ◌-◌, ◌*◌, ◌%◌, Bool, IsTrue, not, ◌||◌, ◌==◌, nat_lt, if◌then◌else◌}
+use Rattle.byte_position.specs.Geometry.{pages_of}
+
+-- whether a page is its segment's first, which has the long header
+abbrev pub is_first_page : ℕ → ℕ → Bool
+is_first_page size page = page % pages_of size == 0
+
+-- how many bytes a page's header has
+abbrev pub header_size : ℕ → ℕ → ℕ
+header_size size page = if is_first_page size page then 40 else 24
+
+-- how many bytes of a segment are in no header: 8168 of each page, less the 16 by which the first header is longer
+abbrev pub usable_bytes_in_segment : ℕ → ℕ
+usable_bytes_in_segment size = pages_of size * 8168 - 16
 
 -- whether the byte at an address is in a page header: of 40 bytes in a segment's first page, of 24 in each other one
 abbrev pub is_in_header : ℕ → ℕ → Bool
@@ -28,3 +41,7 @@ end_address_of size (suc position) = address_of size position + 1
 -- the log's first byte position: it begins with segment 1
 abbrev pub first_position : ℕ → ℕ
 first_position size = position_of size size
+
+-- whether an address has a byte position: in no header, or at a page's start, which stands for the page's first byte behind its header
+abbrev pub HasPosition : ℕ → ℕ → Type 0
+HasPosition size address = IsTrue (address % 8192 == 0 || not (is_in_header size address))

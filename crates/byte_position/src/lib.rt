@@ -2,7 +2,13 @@
 #![tactic(auto)]
 
 mod geometry;
+mod laws;
 mod position;
 
 pub use geometry::{Geometry, segment_sizes_are_whole_pages};
-pub use position::{address_by_counting, first_page_counts_on, positions_and_addresses_correspond};
+pub use laws::{
+    end_addresses_follow_the_byte_before, first_page_counts_on, pages_count_on,
+    positions_and_addresses_correspond, positions_and_addresses_rise, segments_count_on,
+    words_stay_whole,
+};
+pub use position::address_by_counting;

@@ -1,5 +1,5 @@
 use Rattle.byte_position.proofs.PageLaws.{is_in_header-first_page, position_of-first_page, address_of-first_page, end_address_of-first_page, address_of-second_page}
-use Rattle.byte_position.proofs.position.first_page_counts_on.Goals as goal
+use Rattle.byte_position.proofs.laws.first_page_counts_on.Goals as goal
 
 pub returns : goal.returns
 returns c = record {

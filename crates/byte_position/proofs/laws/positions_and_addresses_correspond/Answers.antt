@@ -1,5 +1,5 @@
 use Rattle.byte_position.proofs.PositionLaws.{address_of-position_of, position_of-address_of, is_in_header-address_of}
-use Rattle.byte_position.proofs.position.positions_and_addresses_correspond.Goals as goal
+use Rattle.byte_position.proofs.laws.positions_and_addresses_correspond.Goals as goal
 
 pub returns : goal.returns
 returns c = record {
