@@ -1,5 +1,6 @@
 -- What a crash leaves of a disk.
-use Rattle.std.specs.Prelude.{◌≡◌, ℕ, ◌*◌, ◌<◌, ◌⊎◌, true, List, [], ◌∷◌, length, take, drop, Option, Some, None, IfSome, slice_get}
+use Rattle.std.specs.Prelude.{◌≡◌, ℕ, ◌*◌, ◌<◌, ◌⊎◌, true, List, [], ◌∷◌, length, take, drop, Option, Some, None, slice_get}
+use Rattle.std.specs.Option.{IsSomeAnd}
 use Rattle.segment_disk.specs.declared.disk.Call.{Call}
 use Rattle.segment_disk.specs.declared.disk.CallKind.{CallKind}
 use Rattle.segment_disk.specs.declared.disk.CallKind.TheVariants.{Create, Write, Sync}
@@ -50,7 +51,7 @@ when_done call = cut_short call.kind
 -- what a crash at a moment leaves: what the state then may leave, or what it may leave with the next call done, which the crash cut short
 abbrev pub LeftAt : Tape → ℕ → Image → Type 0
 LeftAt tape moment image =
-    Leaves (state_at tape moment) image ⊎ IfSome (slice_get tape.calls moment) (λ call. IfSome (when_done call) (λ done. Leaves (after_call (state_at tape moment) done) image))
+    Leaves (state_at tape moment) image ⊎ IsSomeAnd (slice_get tape.calls moment) (λ call. IsSomeAnd (when_done call) (λ done. Leaves (after_call (state_at tape moment) done) image))
 
 -- the image of a disk as it is read
 abbrev pub image_as_read : DiskState → Image

@@ -1,0 +1,118 @@
+-- What a writer's calls leave to each crash: what was kept, and nothing but what was put.
+use Rattle.std.proofs.Common.{◌≡◌, ℕ, ◌+◌, ◌-◌, ◌*◌, ◌/◌, ◌%◌, ◌<◌, ◌≤◌, inl, inr, Bool, false, List, [], ◌∷◌, length, Option, Some, None, IfSome, refl, sym, ap, subst, ◌∙◌, ◌==◌, arith}
+use Rattle.std.proofs.lemmas.Bool.{cases_eq, cases_lt, eq-eqb, ne_eqb, eqb-true}
+use Rattle.std.proofs.lemmas.Option.{IfSome_then}
+use Rattle.std.proofs.Math.Nat.{div-add-mod, div-div-eq-div-mul, div-zero, div-mul-le_self, div-lt_iff_lt-mul}
+use Rattle.byte_position.specs.Geometry.{IsSegmentSize, pages_of}
+use Rattle.byte_position.proofs.SegmentSizes.{segment_size_in_pages}
+use Rattle.segment_disk.specs.declared.disk.Call.{Call}
+use Rattle.segment_disk.specs.Tape.{Segment, DiskState, Tape, zero_page, after_writes, state_now}
+use Rattle.segment_disk.specs.Image.{word_of, image_as_read}
+use Rattle.flush_core.specs.declared.writer.Writer.{Writer}
+use Rattle.flush_core.specs.Calls.{put_calls}
+use Rattle.flush_core.specs.Pages.{Pages, made_upto, HoldsSegment, HoldsPut, HoldsNothing, unsynced_writes}
+use Rattle.flush_core.specs.Left.{IsMadeUpto, IsKeptWord, SameBelow, Puts, no_puts, with_put, IsWordOf, IsWordPut, IsNowhere, SegmentAssures, StateAssures, TapeAssures}
+use Rattle.flush_core.specs.Writer.{IsKept, IsWriter}
+use Rattle.flush_core.proofs.Words.{durable_word}
+use Rattle.flush_core.proofs.LeftLaws.{AllFit, store_fits, TapeAssures-now, TapeAssures-weaker}
+
+div_rises : (a b n : ℕ) → a ≤ b → a / n ≤ b / n
+div_rises a b n rises = elim (cases_lt 0 n) [
+  | inl positive ↦ elim (cases_lt (b / n) (a / n)) [
+    | inl falls ↦ (let high : b < a / n * n = (div-lt_iff_lt-mul positive).0 falls in absurd (omega (arith, div-mul-le_self a n)))
+    | inr rise ↦ rise
+  ]
+  | inr none ↦ (let at : n ≡ 0 = omega arith in omega (arith, ap (λ (m : ℕ). a / m) at ∙ div-zero a))
+]
+
+-- what was put, with one page more
+module _ (page : ℕ) (bytes : List ℕ) where
+  put_before : (puts : Puts) (n word : ℕ) (found : List ℕ) → IsWordPut puts n word found → IsWordPut (with_put puts page bytes) n word found
+  put_before puts n word found put = elim (cases_eq n page) [ inl same ↦ rw (eq-eqb n page same) (inr put) | inr other ↦ rw (ne_eqb n page other) put ]
+
+  pub HoldsOnly-more : (size : ℕ) (puts : Puts) (moment : ℕ) (tape : Option Tape) → IfSome tape (TapeAssures size IsNowhere (IsWordPut puts) moment) → IfSome tape (TapeAssures size IsNowhere (IsWordPut (with_put puts page bytes)) moment)
+  HoldsOnly-more size puts moment tape assures = IfSome_then tape assures (λ t only. TapeAssures-weaker size IsNowhere (IsWordPut puts) (IsWordPut (with_put puts page bytes)) (put_before puts) moment t only)
+
+module _ (size written upto page : ℕ) (bytes : List ℕ) (stored : List Call) (are : stored ≡ put_calls size written page upto bytes) (valid : IsSegmentSize size) (at : page ≡ written / 8192) where
+  number : page ≡ page / pages_of size * pages_of size + page % pages_of size
+  number = let parts = div-add-mod page (pages_of size) in omega arith
+
+  -- a segment that is made begins at the written position
+  begins : written % size ≡ 0 → written ≡ page / pages_of size * pages_of size * 8192
+  begins start =
+      let count = pages_of size in
+      let whole = segment_size_in_pages size valid in
+      let parts = div-add-mod written size in
+      let of_written : written / size ≡ page / count = ap (λ (m : ℕ). written / m) whole.0 ∙ sym (div-div-eq-div-mul written 8192 count) ∙ ap (λ (m : ℕ). m / count) (sym at) in
+      let product : size * (written / size) ≡ 8192 * count * (page / count) = ap (λ (m : ℕ). m * (written / size)) whole.0 ∙ ap (λ (m : ℕ). 8192 * count * m) of_written in
+      omega arith
+
+  -- the calls that put a page fit what is kept below a position that is written
+  pub put_keeps : (position : ℕ) (pages : Pages) → position ≤ written → SameBelow position page bytes (pages page) → AllFit size (IsMadeUpto size position) (IsKeptWord position pages) stored
+  put_keeps position pages low same =
+      let count = pages_of size in
+      subst (AllFit size (IsMadeUpto size position) (IsKeptWord position pages)) (sym are)
+      (store_fits size (IsMadeUpto size position) (IsKeptWord position pages) (page / count) (page % count) bytes (written % size == 0) (upto % size == 0)
+      (λ new k word within small below. absurd (omega (arith, begins (eqb-true (written % size) 0 new))))
+      (subst (λ (n : ℕ). SameBelow position n bytes (pages n)) number same))
+
+  zeros_put : (puts : List (List ℕ)) (word : ℕ) → IsWordOf puts word (word_of zero_page word)
+  zeros_put [] word = refl
+  zeros_put (p ∷ puts) word = inr (zeros_put puts word)
+
+  put_now : (puts : Puts) (word : ℕ) → IsWordOf (with_put puts page bytes page) word (word_of bytes word)
+  put_now puts word = rw (eq-eqb page page refl) (inl refl)
+
+  -- they fit what was put, with this page
+  pub put_adds : (puts : Puts) → AllFit size IsNowhere (IsWordPut (with_put puts page bytes)) stored
+  put_adds puts =
+      let count = pages_of size in
+      subst (AllFit size IsNowhere (IsWordPut (with_put puts page bytes))) (sym are)
+      (store_fits size IsNowhere (IsWordPut (with_put puts page bytes)) (page / count) (page % count) bytes (written % size == 0) (upto % size == 0)
+      (λ new k word within small. zeros_put (with_put puts page bytes (page / count * count + k)) word)
+      (subst (λ (n : ℕ). (word : ℕ) → word < 1024 → IsWordOf (with_put puts page bytes n) word (word_of bytes word)) number (λ word _. put_now puts word)))
+
+-- what a disk holds and has synced is kept
+module _ (size : ℕ) (pages : Pages) where
+  segment_kept : (position segment : ℕ) (s : Option Segment) → HoldsSegment size pages segment (image_as_read (λ (n : ℕ). s) segment) → unsynced_writes s ≡ [] → SegmentAssures size (IsMadeUpto size position) (IsKeptWord position pages) segment s
+  segment_kept position segment None holds synced = absurd holds
+  segment_kept position segment (Some s) holds synced = (
+    holds.0,
+    λ page word within small found may below.
+        let durable : s.durable page ≡ pages (segment * pages_of size + page) = sym (ap (λ (writes : List (ℕ × List ℕ)). after_writes writes page (s.durable page)) synced) ∙ holds.1 page within in
+        durable_word s.writes page word found (word_of (s.durable page) word) synced may ∙ ap (λ (bytes : List ℕ). word_of bytes word) durable,
+  )
+
+  -- a segment that is not there
+  absent_kept : (position segment : ℕ) (s : Option Segment) → image_as_read (λ (n : ℕ). s) segment ≡ None → (IsMadeUpto size position segment → ⊥) → SegmentAssures size (IsMadeUpto size position) (IsKeptWord position pages) segment s
+  absent_kept position segment None absent out = out
+  absent_kept position segment (Some s) absent out = (cc)
+
+  state_kept : (written position : ℕ) (state : DiskState) → position ≤ written → HoldsPut size written false state pages → StateAssures size (IsMadeUpto size position) (IsKeptWord position pages) state
+  state_kept written position state low holds =
+      let rises = div_rises (position - 1) (written - 1) size (omega arith) in
+      λ n. elim (cases_eq n 0) [
+        | inl zero_th ↦ absent_kept position n (state n) (holds.read.others n (inl zero_th)) (λ made. absurd (omega (arith, made.0)))
+        | inr positive ↦ elim (cases_lt (made_upto size written) n) [
+          | inl above ↦ absent_kept position n (state n) (holds.read.others n (inr above)) (λ made. absurd (omega (arith, made.1)))
+          | inr made ↦ segment_kept position n (state n) (holds.read.there n (omega arith) made) (holds.synced n (inr refl))
+        ]
+      ]
+
+-- a writer for which nothing waits for a sync
+pub IsKept-synced : (D : Type 0) (tape : D → Option Tape) (moment_of : D → ℕ) → ((disk : D) → IfSome (tape disk) (λ t. moment_of disk ≡ length t.calls)) → (writer : Writer D) (position moment : ℕ) (pages : Pages) → writer.unsynced ≡ false
+    → position ≤ writer.written.0 → moment ≡ moment_of writer.disk → IsWriter tape writer pages → IsKept tape writer moment position pages
+IsKept-synced D tape moment_of counts writer position moment pages synced low now is = by_tape (tape writer.disk) is.holds (counts writer.disk)
+  where
+    by_tape : (o : Option Tape) → IfSome o (λ t. HoldsPut writer.geometry writer.written.0 writer.unsynced (state_now t) pages) → IfSome o (λ t. moment_of writer.disk ≡ length t.calls)
+        → IfSome o (TapeAssures writer.geometry (IsMadeUpto writer.geometry position) (IsKeptWord position pages) moment)
+    by_tape None holds count = tt
+    by_tape (Some t) holds count =
+        TapeAssures-now writer.geometry (IsMadeUpto writer.geometry position) (IsKeptWord position pages) moment t (now ∙ count)
+        (state_kept writer.geometry pages writer.written.0 position (state_now t) low (subst (λ (b : Bool). HoldsPut writer.geometry writer.written.0 b (state_now t) pages) synced holds))
+
+-- a disk that holds nothing holds only what was put
+pub HoldsOnly-nothing : (size moment : ℕ) (o : Option Tape) → IfSome o (λ t. moment ≡ length t.calls) → HoldsNothing o → IfSome o (TapeAssures size IsNowhere (IsWordPut no_puts) moment)
+HoldsOnly-nothing size moment None count nothing = tt
+HoldsOnly-nothing size moment (Some t) count nothing =
+    TapeAssures-now size IsNowhere (IsWordPut no_puts) moment t count (λ n. subst (SegmentAssures size IsNowhere (IsWordPut no_puts) n) (sym (nothing n)) (λ nowhere. nowhere))

@@ -1,0 +1,4 @@
+pub mod Pages
+pub mod Calls
+pub mod Left
+pub mod Writer

@@ -1,0 +1,166 @@
+ghost use Rattle.std.specs.Prelude.{◌≡◌, ℕ, ◌+◌, ◌*◌, ◌/◌, ◌%◌, ◌<◌, ◌≤◌, false, not, ◌==◌, OnOk, IfOk, IfErr, MatchResult};
+ghost use Rattle.flush_core.specs.Calls.{harden_calls, put_calls};
+ghost use Rattle.flush_core.specs.Left.{Puts, SameBelow, no_puts, with_put};
+ghost use Rattle.flush_core.specs.Pages.{HoldsNothing, Pages, no_pages, with_page};
+ghost use Rattle.flush_core.specs.Writer.{HasDone, HoldsOnly, IsKept, IsWriter, TellsFault, disk_of, fault_of, is_unsynced, size_of, written_of};
+
+use crate::store::{place_of, store_page};
+use byte_position::Geometry;
+use segment_disk::Disk;
+use wal_types::Lsn;
+
+/// The disk failed: its count of faults then.
+#[derive(Clone, Copy, Debug, PartialEq, Eq)]
+pub struct DiskFault {
+    pub faults: u64,
+}
+
+/// A log's pages on a disk (PostgreSQL's `XLogWrite` of xlog.c). It makes a segment before its first page is written, writes
+/// pages in place, and syncs a segment as soon as all of it is written, or on demand. Once the disk has failed it makes no
+/// further device call and tells the same fault again.
+#[derive(Drop)]
+pub struct Writer<D> {
+    disk: D,
+    geometry: Geometry,
+    /// Up to where the log is written.
+    written: Lsn,
+    /// Whether a write waits for a sync: only in the segment of the written position, since full ones are synced.
+    unsynced: bool,
+    /// The disk's count of faults when it failed.
+    fault: Option<u64>,
+}
+
+impl<D: Disk> Writer<D> {
+    /// A writer of a new log, which begins with segment 1. It makes no device call.
+    pub fn new(disk: D, geometry: Geometry) -> Writer<D>
+        ensures disk { disk_of result ≡ disk }
+        ensures size { size_of result ≡ geometry }
+        ensures written { written_of result ≡ geometry }
+        ensures synced { is_unsynced result ≡ false }
+        ensures up { fault_of result ≡ None }
+        ensures holds { HoldsNothing (D.tape disk) → IsWriter D.tape result no_pages }
+        ensures only { HoldsNothing (D.tape disk) → HoldsOnly D.tape result (D.moment disk) no_puts }
+    {
+        Writer {
+            disk,
+            geometry,
+            written: Lsn(geometry.segment_size()),
+            unsynced: false,
+            fault: None,
+        }
+    }
+
+    pub fn into_disk(self) -> D
+        ensures { result ≡ disk_of self }
+    {
+        self.disk
+    }
+
+    pub fn disk(&self) -> &D
+        ensures { result.now ≡ disk_of self.now }
+    {
+        &self.disk
+    }
+
+    /// Up to where the log is written.
+    pub fn written(&self) -> Lsn
+        ensures { result.0 ≡ written_of self.now }
+    {
+        self.written
+    }
+
+    /// The disk's moment.
+    pub fn moment(&self) -> u64
+        ensures { result ≡ D.moment (disk_of self.now) }
+    {
+        self.disk.moment()
+    }
+
+    /// The disk's count of faults when it failed.
+    pub fn fault(&self) -> Option<u64>
+        ensures { result ≡ fault_of self.now }
+    {
+        self.fault
+    }
+
+    /// Writes a page, which is whole up to a position, in place: the page of the written position, by its number from the
+    /// log's address 0. It is durable only after `harden`, or where its segment ends with it.
+    pub fn put_page(&mut self, page: u64, upto: Lsn, bytes: &[u8; 8192]) -> Result<(), DiskFault>
+        requires page { page ≡ written_of self.old / 8192 }
+        requires rises { written_of self.old ≤ upto.0 }
+        requires begun { page * 8192 < upto.0 }
+        requires within { upto.0 ≤ (page + 1) * 8192 }
+        ensures put { OnOk result ((pages : Pages) → IsWriter D.tape self.old pages → IsWriter D.tape self.new (with_page pages page bytes.now)) }
+        ensures keeps { (moment position : ℕ) (pages : Pages) → position ≤ written_of self.old → SameBelow position page bytes.now (pages page) → IsKept D.tape self.old moment position pages → IsKept D.tape self.new moment position pages }
+        ensures only { (moment : ℕ) (puts : Puts) → HoldsOnly D.tape self.old moment puts → HoldsOnly D.tape self.new moment (with_put puts page bytes.now) }
+        ensures done { OnOk result (HasDone D.tape D.moment D.faults self.old self.new (put_calls (size_of self.old) (written_of self.old) page upto.0 bytes.now)) }
+        ensures written { MatchResult result (λ _. written_of self.new ≡ upto.0) (λ _. written_of self.new ≡ written_of self.old) }
+        ensures synced { OnOk result (is_unsynced self.new ≡ not (upto.0 % size_of self.old == 0)) }
+        ensures failed { IfErr result (λ e. TellsFault D.tape D.moment D.faults self.old self.new e.faults (put_calls (size_of self.old) (written_of self.old) page upto.0 bytes.now)) }
+        ensures size { size_of self.new ≡ size_of self.old }
+        ensures later { OnOk result (D.moment (disk_of self.old) < D.moment (disk_of self.new)) }
+        ensures not_earlier { D.moment (disk_of self.old) ≤ D.moment (disk_of self.new) }
+    {
+        self.check()?;
+        let geometry = self.geometry;
+        let place = place_of(geometry, page);
+        let is_new = self.written.0 % geometry.segment_size() == 0;
+        let is_full = upto.0 % geometry.segment_size() == 0;
+        match store_page(&mut self.disk, geometry, place, is_new, is_full, bytes) {
+            Ok(()) => {
+                self.written = upto;
+                self.unsynced = !is_full;
+                Ok(())
+            }
+            Err(_) => Err(self.fail()),
+        }
+    }
+
+    /// Makes durable what is written, and answers the disk's moment, from which on it is. It asks for a position that is written.
+    pub fn harden(&mut self, upto: Lsn) -> Result<u64, DiskFault>
+        requires { upto.0 ≤ written_of self.old }
+        ensures holds { OnOk result ((pages : Pages) → IsWriter D.tape self.old pages → IsWriter D.tape self.new pages) }
+        ensures hardened { IfOk result (λ moment. (pages : Pages) → IsWriter D.tape self.old pages → IsKept D.tape self.new moment upto.0 pages) }
+        ensures keeps { (moment position : ℕ) (pages : Pages) → IsKept D.tape self.old moment position pages → IsKept D.tape self.new moment position pages }
+        ensures only { (moment : ℕ) (puts : Puts) → HoldsOnly D.tape self.old moment puts → HoldsOnly D.tape self.new moment puts }
+        ensures moment { IfOk result (λ moment. moment ≡ D.moment (disk_of self.new)) }
+        ensures done { OnOk result (HasDone D.tape D.moment D.faults self.old self.new (harden_calls (size_of self.old) (written_of self.old) (is_unsynced self.old))) }
+        ensures synced { OnOk result (is_unsynced self.new ≡ false) }
+        ensures written { written_of self.new ≡ written_of self.old }
+        ensures failed { IfErr result (λ e. TellsFault D.tape D.moment D.faults self.old self.new e.faults (harden_calls (size_of self.old) (written_of self.old) (is_unsynced self.old))) }
+        ensures same { is_unsynced self.old ≡ false → self.new ≡ self.old }
+        ensures size { size_of self.new ≡ size_of self.old }
+        ensures not_earlier { D.moment (disk_of self.old) ≤ D.moment (disk_of self.new) }
+    {
+        prove!(upto.0 <= self.written.0);
+        self.check()?;
+        if self.unsynced {
+            let segment = self.written.0 / self.geometry.segment_size();
+            match self.disk.sync(self.geometry, segment) {
+                Ok(()) => self.unsynced = false,
+                Err(_) => return Err(self.fail()),
+            }
+        }
+        Ok(self.disk.moment())
+    }
+
+    // The fault again, where the disk has failed.
+    fn check(&self) -> Result<(), DiskFault>
+        ensures { MatchResult result (λ _. self.now.fault ≡ None) (λ e. self.now.fault ≡ Some e.faults) }
+    {
+        match self.fault {
+            None => Ok(()),
+            Some(faults) => Err(DiskFault { faults }),
+        }
+    }
+
+    // Keeps the disk's count of faults, which is told from now on.
+    fn fail(&mut self) -> DiskFault
+        ensures told { result.faults ≡ D.faults self.old.disk }
+        ensures kept { self.new ≡ record self.old { fault = Some result.faults } }
+    {
+        let faults = self.disk.faults();
+        self.fault = Some(faults);
+        DiskFault { faults }
+    }
+}
