@@ -1,5 +1,11 @@
 mod Flags
+mod HeaderWords
+mod PlacedSteps
 pub mod OrderLaws
 pub mod PageLaws
 pub mod StreamLaws
 pub mod FirstPageLaws
+pub mod WordPositions
+pub mod OwnerLaws
+pub mod LogByteLaws
+pub mod LogWordLaws

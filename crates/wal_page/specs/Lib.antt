@@ -1,5 +1,7 @@
 pub mod Order
 pub mod Page
 pub mod Log
+pub mod LogPage
 pub mod Lawful
 pub mod FirstPage
+pub mod Placed

@@ -1,18 +1,10 @@
 -- Page headers, and the checks of a page in their order (PostgreSQL's xlog_internal.h and XLogReaderValidatePageHeader of xlogreader.c).
 use Rattle.std.specs.Prelude.{ℕ, ◌+◌, ◌*◌, ◌/◌, ◌%◌, Bool, ◌&&◌, not, List, [], ◌∷◌, ◌++◌, Option, Some, None, ◌==◌, nat_lt, if◌then◌else◌}
 use Rattle.std.specs.Int.{w16, w32, w64, to_le_bytes}
-use Rattle.byte_position.specs.Geometry.{pages_of}
+pub use Rattle.byte_position.specs.Position.{is_first_page, header_size}
 use Rattle.wal_record.specs.Reading.{number_at}
 use Rattle.wal_page.specs.declared.checks.PageErr.{PageErr}
 use Rattle.wal_page.specs.declared.checks.PageErr.TheVariants.{Magic, Flags, NoLong, LongInside, SegSize, PageSize, SysId, Address, Timeline}
-
--- whether a page is its segment's first, which has the long header
-abbrev pub is_first_page : ℕ → ℕ → Bool
-is_first_page size page = page % pages_of size == 0
-
--- how many bytes a page's header has
-abbrev pub header_size : ℕ → ℕ → ℕ
-header_size size page = if is_first_page size page then 40 else 24
 
 -- the header of a page into which a record continues with `remaining` bytes still to come (0: none does): magic, flags (1 continuation, 2 long, 4 always), timeline 1, address, those bytes, four zeros, and in a long one the system id, the segment's size and the page's
 abbrev pub page_header : ℕ → ℕ → ℕ → ℕ → List ℕ

@@ -2,6 +2,9 @@
 
 pub(crate) const PAGE_SIZE: usize = 8192;
 
+/// SizeOfXLogShortPHD: the length of the header of each other page.
+pub(crate) const SHORT_HEADER_LEN: usize = 24;
+
 /// SizeOfXLogLongPHD: the length of the header of a segment's first page.
 pub(crate) const LONG_HEADER_LEN: usize = 40;
 

@@ -1,0 +1,106 @@
+-- The steps by which a record's words are given.
+use Rattle.std.proofs.Common.{◌≡◌, ℕ, ◌+◌, ◌-◌, ◌*◌, ◌/◌, ◌%◌, ◌^◌, ◌<◌, ◌≤◌, ltb, eqb, true, false, cond, ap, sym, ◌∙◌, inl, inr, arith}
+use Rattle.std.proofs.lemmas.Bool.{cases_lt, lt-ltb, le-ltb, eq-eqb, ne_eqb, cond-true, cond-false}
+use Rattle.byte_position.specs.Geometry.{IsSegmentSize}
+use Rattle.byte_position.specs.Position.{is_in_header, position_of, end_address_of}
+use Rattle.byte_position.proofs.EndAddresses.{end_address_of-le, position_of-end_address_of}
+use Rattle.byte_position.proofs.Words.{end_address_of-mod_word}
+use Rattle.wal_record.specs.Spelling.{Assembled, assembled_size, assembled_room, filled, word_at}
+use Rattle.wal_page.specs.Page.{page_header}
+use Rattle.wal_page.specs.Placed.{Owns, StandsAt, entry_word, still_to_come}
+use Rattle.wal_page.proofs.WordPositions.{position_of-header_word, position_of-own_word, position_of-whole, address-bound}
+use Rattle.wal_page.proofs.OwnerLaws.{Owns-between}
+
+-- what is still to come, as the code counts it
+pub still_to_come-passed : (a : Assembled) (start position passed : ℕ) → position ≡ start + passed → still_to_come a start position ≡ cond (eqb passed 0) 0 (assembled_size a - passed)
+still_to_come-passed a start position passed e =
+    elim (cases_lt 0 passed) [
+      | inl lt ↦ cond-true (ltb start position) _ _ (lt-ltb start position (omega arith)) ∙ omega arith ∙ sym (cond-false (eqb passed 0) 0 (assembled_size a - passed) (ne_eqb passed 0 (omega arith)))
+      | inr le ↦ cond-false (ltb start position) _ _ (le-ltb start position (omega arith)) ∙ sym (cond-true (eqb passed 0) 0 (assembled_size a - passed) (eq-eqb passed 0 (omega arith)))
+    ]
+
+-- before the first word
+pub stands_first : (size : ℕ) (a : Assembled) (start : ℕ) → IsSegmentSize size → start % 8 ≡ 0 → start + assembled_room a < 2 ^ 60 → StandsAt size a start (end_address_of size start) 0
+stands_first size a start valid whole within =
+    let at = position_of-end_address_of size valid start in
+    record {
+      valid = valid;
+      whole_start = whole;
+      within = within;
+      whole_next = end_address_of-mod_word size valid start whole;
+      position = omega (arith, at);
+      passed_within = omega arith;
+      next_within = end_address_of-le size valid start (end_address_of size (start + assembled_room a)) (omega (arith, position_of-end_address_of size valid (start + assembled_room a)));
+    }
+
+module _ (size : ℕ) (a : Assembled) (start next passed : ℕ) (stands : StandsAt size a start next passed) where
+  pub passed-whole : passed % 8 ≡ 0
+  passed-whole =
+      let here = position_of-whole size stands.valid next stands.whole_next in
+      omega (arith, here, stands.position, stands.whole_start)
+
+  pub next-bound : next < 2 ^ 62
+  next-bound = omega (arith, address-bound size stands.valid next, stands.position, stands.passed_within, stands.within)
+
+  -- behind the last word
+  pub stands_behind : passed ≡ assembled_room a → next ≡ end_address_of size (start + assembled_room a)
+  stands_behind all =
+      let reached = end_address_of-le size stands.valid (start + assembled_room a) next (omega (arith, stands.position)) in
+      omega (arith, reached, stands.next_within)
+
+  pub owns-next : passed < assembled_room a → Owns size a start next
+  owns-next left = (omega (arith, stands.position), omega (arith, stands.position))
+
+  next_word_within : passed < assembled_room a → next + 8 ≤ end_address_of size (start + assembled_room a)
+  next_word_within left =
+      let below = (Owns-between size stands.valid a start next (owns-next left)).1 in
+      let whole = end_address_of-mod_word size stands.valid (start + assembled_room a) (omega (arith, stands.whole_start)) in
+      omega (arith, below, whole, stands.whole_next)
+
+  -- over a word of a header
+  pub stands_over_header : passed < assembled_room a → is_in_header size next ≡ true → StandsAt size a start (next + 8) passed
+  stands_over_header left inside =
+      let same = position_of-header_word size stands.valid next 8 stands.whole_next (omega arith) inside in
+      record {
+        valid = stands.valid;
+        whole_start = stands.whole_start;
+        within = stands.within;
+        whole_next = omega (arith, stands.whole_next);
+        position = same ∙ stands.position;
+        passed_within = stands.passed_within;
+        next_within = next_word_within left;
+      }
+
+  -- over a word of the record
+  pub stands_over_own : passed < assembled_room a → is_in_header size next ≡ false → StandsAt size a start (next + 8) (passed + 8)
+  stands_over_own left outside =
+      let on = position_of-own_word size stands.valid next 8 stands.whole_next (omega arith) outside in
+      record {
+        valid = stands.valid;
+        whole_start = stands.whole_start;
+        within = stands.within;
+        whole_next = omega (arith, stands.whole_next);
+        position = omega (arith, on, stands.position);
+        passed_within = omega (arith, passed-whole);
+        next_within = next_word_within left;
+      }
+
+  -- the words
+  pub header_word_next : (sysid prev : ℕ) → is_in_header size next ≡ true → entry_word size sysid a start prev next ≡ word_at (page_header size sysid (next / 8192) (cond (eqb passed 0) 0 (assembled_size a - passed))) (next % 8192 / 8)
+  header_word_next sysid prev inside =
+      cond-true (is_in_header size next) _ _ inside ∙ ap (λ (remaining : ℕ). word_at (page_header size sysid (next / 8192) remaining) (next % 8192 / 8)) (still_to_come-passed a start (position_of size next) passed stands.position)
+
+  pub own_word_next : (sysid prev : ℕ) → is_in_header size next ≡ false → entry_word size sysid a start prev next ≡ word_at (filled a prev) (passed / 8)
+  own_word_next sysid prev outside =
+      let at : position_of size next - start ≡ passed = omega (arith, stands.position) in
+      cond-false (is_in_header size next) _ _ outside ∙ ap (λ (k : ℕ). word_at (filled a prev) (k / 8)) at
+
+-- ---- a page that the record has the header of
+
+pub page-bound : (size : ℕ) (a : Assembled) (start page : ℕ) → IsSegmentSize size → Owns size a start (page * 8192) → start + assembled_room a < 2 ^ 60 → page * 8192 < 2 ^ 62
+page-bound size a start page valid owns within = omega (arith, address-bound size valid (page * 8192), owns.1)
+
+pub page_position-whole : (size start page : ℕ) → IsSegmentSize size → start % 8 ≡ 0 → (position_of size (page * 8192) - start) % 8 ≡ 0
+page_position-whole size start page valid whole =
+    let here = position_of-whole size valid (page * 8192) (omega arith) in
+    omega (arith, here)

@@ -1,0 +1,45 @@
+-- The words that a record gives the log at its place (PostgreSQL's xlog.c, CopyXLogRecordToWAL).
+-- Everywhere `size` is the size of a segment in bytes, and `start` the byte position at which the record `a` starts.
+use Rattle.std.specs.Prelude.{◌≡◌, ℕ, ◌+◌, ◌-◌, ◌*◌, ◌/◌, ◌%◌, ◌^◌, ◌<◌, ◌≤◌, nat_lt, if◌then◌else◌}
+use Rattle.byte_position.specs.Geometry.{IsSegmentSize}
+use Rattle.byte_position.specs.Position.{is_in_header, position_of, end_address_of}
+use Rattle.wal_record.specs.Spelling.{Assembled, assembled_size, assembled_room, filled, word_at}
+use Rattle.wal_page.specs.Page.{page_header}
+
+-- the byte at an address is the record's: its byte position lies in the record's room; a header's bytes have the position of the page's first other byte, and so the same owner
+abbrev pub Owns : ℕ → Assembled → ℕ → ℕ → Type 0
+Owns size a start address = (start ≤ position_of size address) × (position_of size address < start + assembled_room a)
+
+-- how many of the record's bytes are still to come at a byte position behind its start; 0 at its start
+abbrev pub still_to_come : Assembled → ℕ → ℕ → ℕ
+still_to_come a start position = if nat_lt start position then start + assembled_size a - position else 0
+
+-- the n-th word of the header that the record gives a page whose first other byte is the record's
+abbrev pub header_word : ℕ → ℕ → ℕ → Assembled → ℕ → ℕ → ℕ
+header_word size sysid page a start n = word_at (page_header size sysid page (still_to_come a start (position_of size (page * 8192)))) n
+
+-- the word that the record, behind one that starts at `prev`, gives at an address that it owns
+abbrev pub entry_word : ℕ → ℕ → Assembled → ℕ → ℕ → ℕ → ℕ
+entry_word size sysid a start prev address =
+    let position = position_of size address in
+    if is_in_header size address then word_at (page_header size sysid (address / 8192) (still_to_come a start position)) (address % 8192 / 8)
+    else word_at (filled a prev) ((position - start) / 8)
+
+-- a record at its place as its words are given: its log's segment size and system id, the record, the byte position of its start, the start of the record before (0 for none), and the address of its next word
+pub record PlacedState : Type 0 where
+  pub size : ℕ
+  pub sysid : ℕ
+  pub body : Assembled
+  pub start : ℕ
+  pub prev : ℕ
+  pub next : ℕ
+
+-- the next word is at `next`, and `passed` bytes of the record's room lie before it
+pub record StandsAt (size : ℕ) (a : Assembled) (start next passed : ℕ) : Type 0 where
+  pub valid : IsSegmentSize size
+  pub whole_start : start % 8 ≡ 0
+  pub within : start + assembled_room a < 2 ^ 60
+  pub whole_next : next % 8 ≡ 0
+  pub position : position_of size next ≡ start + passed
+  pub passed_within : passed ≤ assembled_room a
+  pub next_within : next ≤ end_address_of size (start + assembled_room a)
