@@ -1,5 +1,11 @@
 pub mod BeginLaws
 pub mod FirstHeader
+pub mod LogHeader
+pub mod LogEnds
+pub mod LogPages
+pub mod LogPositions
+pub mod LogReads
+pub mod LogSegmentLaws
 pub mod PageReads
 pub mod PagesLaws
 pub mod ReadLaws
@@ -10,3 +16,4 @@ pub mod SpotLaws
 pub mod StepLaws
 pub mod Tables
 pub mod WrittenLaws
+pub mod WrittenLogLaws

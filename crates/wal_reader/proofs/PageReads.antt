@@ -1,9 +1,9 @@
 -- The records of a log's first page are read one behind another, and then the log ends.
-use Rattle.std.proofs.Common.{◌≡◌, ℕ, ◌+◌, ◌*◌, ◌/◌, ◌%◌, ◌^◌, ◌<◌, ◌⊎◌, inl, inr, true, false, List, [], ◌∷◌, ◌++◌, Option, Some, None, Ok, Err, eqb, length, take, drop, refl, sym, ap, subst, ◌∙◌, append_assoc, add_assoc, arith}
+use Rattle.std.proofs.Common.{◌≡◌, ℕ, ◌+◌, ◌*◌, ◌/◌, ◌%◌, ◌^◌, ◌<◌, ◌≤◌, ◌⊎◌, inl, inr, true, false, List, [], ◌∷◌, ◌++◌, Option, Some, None, Ok, Err, eqb, length, take, drop, refl, sym, ap, subst, ◌∙◌, append_assoc, add_assoc, arith}
 use Rattle.std.specs.Prelude.{replicate}
 use Rattle.std.specs.Int.{w64, from_le_bytes}
 use Rattle.std.proofs.Math.Nat.{add-mod_left, mod-eq_of_lt}
-use Rattle.std.proofs.lemmas.Bool.{eq-eqb, ne_eqb, not-true, cond-false, cases_lt}
+use Rattle.std.proofs.lemmas.Bool.{eq-eqb, ne_eqb, and_right, not-true, cond-false, cases_lt}
 use Rattle.std.proofs.lemmas.List.{take-replicate, drop-drop}
 use Rattle.byte_position.specs.Geometry.{IsSegmentSize, pages_of}
 use Rattle.byte_position.specs.Position.{address_of, first_position}
@@ -18,12 +18,12 @@ use Rattle.wal_page.specs.Log.{stream_from}
 use Rattle.wal_page.proofs.OrderLaws.{rooms_of_cons}
 use Rattle.wal_reader.specs.declared.found.FoundRecord.{FoundRecord}
 use Rattle.wal_reader.specs.Pages.{Pages, bytes_from}
-use Rattle.wal_reader.specs.Decodes.{Place, Reads, read_at, place_behind, timeline_or, page_answers, is_zero_word, is_right_prev, opens_page, found_or, ended}
+use Rattle.wal_reader.specs.Decodes.{Place, Reads, read_at, place_behind, page_of_byte, timeline_or, page_answers, is_zero_word, is_right_prev, opens_page, found_or, ended}
 use Rattle.wal_reader.specs.Written.{found_from, HasNoBlocks}
 use Rattle.wal_reader.proofs.PagesLaws.{page_of-first_page, bytes_from-first_page, page_of_byte-first_page, take-bytes_from}
 use Rattle.wal_reader.proofs.Tables.{NoneHolds}
 use Rattle.wal_reader.proofs.RecordBytes.{drop-filled}
-use Rattle.wal_reader.proofs.RecordRows.{IsIn, StandsAt, record_is_read, zero_word_ends, no_page_ends, zero_page_ends}
+use Rattle.wal_reader.proofs.RecordRows.{IsIn, StandsAt, no_page_between, record_is_read, zero_word_ends, no_page_ends, zero_page_ends}
 
 -- the first page of segment 1 as a reader finds it, and behind it no page or zeros
 pub record IsFirst (size : ℕ) (pages : Pages) (page : List ℕ) : Type 0 where
@@ -98,7 +98,7 @@ module _ (size : ℕ) (pages : Pages) (page : List ℕ) (first : IsFirst size pa
       record {
         here = ap pages number ∙ first.there;
         no_zero_word = first.no_zero_word;
-        not_continued = first.not_continued;
+        not_claimed = and_right (opens_page size (first_position size + k)) _ first.not_continued;
         passes = subst (λ (n : ℕ). NoneHolds (page_answers size n page (timeline_of page))) (sym number) first.passes;
       }
 
@@ -142,10 +142,13 @@ module _ (size : ℕ) (pages : Pages) (page : List ℕ) (first : IsFirst size pa
         let number = number_of-first_page size k first.valid (omega (arith, stand.zeros, within)) in
         let writable : IsWritable e.value = stand.follows.1 in
         let small = writable.size in
+        let place = place_at size page k before in
+        let one_page : (n : ℕ) → 0 < n → n ≤ room_of e.value → page_of_byte size place.position n ≡ pages_of size = λ n some fits. page_of_byte-first_page size k n first.valid some (omega (arith, stand.zeros, within)) in
         record {
           rest = bytes_behind size e es stand.words;
           bytes = λ n fits. bytes_from-first_page size pages page n k first.valid first.there first.full (omega (arith, stand.zeros, within)) ∙ ap (take n) entry_bytes;
-          one_page = λ n some fits. page_of_byte-first_page size k n first.valid some (omega (arith, stand.zeros, within)) ∙ sym number;
+          header_pages = no_page_between size pages place (size_of e.value) _ _ (one_page 24 (omega arith) (omega arith) ∙ sym number);
+          last_pages = no_page_between size pages place (size_of e.value) _ _ (one_page (size_of e.value) (omega arith) (omega arith) ∙ sym (one_page 24 (omega arith) (omega arith)));
           manager = not-true (is_free_manager e.value.rmid) writable.well_formed.manager;
           prev_right = right;
           size_fits = omega arith;

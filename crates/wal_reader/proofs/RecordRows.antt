@@ -1,5 +1,5 @@
--- A record that stands whole in one page passes every check, and is read as its bytes say.
-use Rattle.std.proofs.Common.{◌≡◌, ℕ, ◌/◌, ◌^◌, ◌<◌, ◌≤◌, Bool, true, false, List, [], ◌++◌, Some, None, Err, eqb, take, drop, refl, sym, ap, ◌∙◌, arith}
+-- A record that stands whole, in pages that pass their checks, passes every check, and is read as its bytes say.
+use Rattle.std.proofs.Common.{◌≡◌, ℕ, ◌/◌, ◌^◌, ◌<◌, ◌≤◌, Bool, true, false, List, ◌++◌, Some, None, Err, ◌&&◌, eqb, take, drop, refl, sym, ap, subst, ◌∙◌, arith}
 use Rattle.std.specs.Prelude.{slice_index}
 use Rattle.std.specs.Int.{w32, w64}
 use Rattle.std.proofs.lemmas.Bool.{eq-eqb, and_from, and_right, not_from_true, le-ltb}
@@ -9,6 +9,7 @@ use Rattle.wal_record.specs.Record.{is_free_manager}
 use Rattle.wal_record.specs.Spelling.{Assembled, assembled_size, assembled_room, spelled, filled, crc_of}
 use Rattle.wal_record.specs.Reading.{number_at, reading_of}
 use Rattle.wal_page.specs.Page.{is_continued, first_fault}
+use Rattle.wal_reader.specs.declared.found.Answer.{Answer}
 use Rattle.wal_reader.specs.Pages.{Pages, bytes_from}
 use Rattle.wal_reader.specs.Decodes.{Place, is_zero_word, opens_page, page_answers, rows_of_pages, page_of_byte, is_right_prev, record_rows, found_or, answer_or, read_in, read_at, ended}
 use Rattle.wal_reader.proofs.PagesLaws.{rows_of_pages-none}
@@ -17,30 +18,28 @@ use Rattle.wal_reader.proofs.Tables.NoneHolds.{none, past}
 use Rattle.wal_reader.proofs.Tables.Tells.{at_once, behind}
 use Rattle.wal_reader.proofs.RecordBytes.{size_in_word, size_in_header, header_is_no_zero_word, prev_in_header, take-filled, crc_in_spelled}
 
--- a place in a page that is there and passes its own checks, and into which no record continues
+-- a place in a page that is there and passes its own checks, and no record continues into it where the place is its first
 pub record IsIn (size : ℕ) (pages : Pages) (place : Place) (page : List ℕ) : Type 0 where
   pub here : pages (address_of size place.position / 8192) ≡ Some page
   pub no_zero_word : is_zero_word page ≡ false
-  pub not_continued : is_continued page ≡ false
+  pub not_claimed : (opens_page size place.position && is_continued page) ≡ false
   pub passes : NoneHolds (page_answers size (address_of size place.position / 8192) page place.timeline)
 
--- a record stands at a place, whole and in one page
+-- a record stands at a place, whole, and the further pages that it needs are there and pass their checks
 pub record StandsAt (size : ℕ) (pages : Pages) (place : Place) (a : Assembled) (prev : ℕ) : Type 0 where
   pub rest : List ℕ
   pub bytes : (n : ℕ) → n ≤ assembled_room a → bytes_from size pages n place.position ≡ take n (filled a prev ++ rest)
-  pub one_page : (n : ℕ) → 0 < n → n ≤ assembled_room a → page_of_byte size place.position n ≡ address_of size place.position / 8192
+  pub header_pages : NoneHolds (rows_of_pages size pages place (assembled_size a) (address_of size place.position / 8192) (page_of_byte size place.position 24))
+  pub last_pages : NoneHolds (rows_of_pages size pages place (assembled_size a) (page_of_byte size place.position 24) (page_of_byte size place.position (assembled_size a)))
   pub manager : is_free_manager a.rmid ≡ false
   pub prev_right : is_right_prev place.prev (address_of size place.position) prev ≡ true
   pub size_fits : assembled_size a < 2 ^ 32
   pub prev_fits : prev < 2 ^ 64
   pub crc_fits : crc_of a prev < 2 ^ 32
 
-no_rows_between : (size : ℕ) (pages : Pages) (place : Place) (total from upto : ℕ) → upto ≡ from → rows_of_pages size pages place total from upto ≡ []
-no_rows_between size pages place total from upto same = ap (rows_of_pages size pages place total from) same ∙ rows_of_pages-none size pages place total from
-
--- where no row of further pages comes between
-none_between : {K : Type 0} (d e f g : List (Bool × K)) → d ≡ [] → f ≡ [] → NoneHolds e → NoneHolds g → NoneHolds (((d ++ e) ++ f) ++ g)
-none_between d e f g no_d no_f he hg = rw (no_d, no_f) (NoneHolds-append (NoneHolds-append he none) hg)
+-- where the last page is the first, no further page is looked at
+pub no_page_between : (size : ℕ) (pages : Pages) (place : Place) (total from upto : ℕ) → upto ≡ from → NoneHolds (rows_of_pages size pages place total from upto)
+no_page_between size pages place total from upto same = subst (λ (rows : List (Bool × Answer)). NoneHolds rows) (sym (ap (rows_of_pages size pages place total from) same ∙ rows_of_pages-none size pages place total from)) none
 
 read_at-page : (size : ℕ) (pages : Pages) (place : Place) (page : List ℕ) → pages (address_of size place.position / 8192) ≡ Some page → read_at size pages None place ≡ answer_or size pages place (first_fault (record_rows size pages None place page))
 unfolding read_at
@@ -71,16 +70,18 @@ module _ (size : ℕ) (pages : Pages) (place : Place) (page : List ℕ) (a : Ass
   record_passes : NoneHolds (record_rows size pages None place page)
   record_passes =
       let total = number_at w32 (bytes_from size pages 8 place.position) 0 in
-      let header = stands.one_page 24 (omega arith) (omega arith) in
-      let last = ap (page_of_byte size place.position) read_total ∙ stands.one_page (assembled_size a) (omega arith) (omega arith) in
+      let start_page = address_of size place.position / 8192 in
+      let header_page = page_of_byte size place.position 24 in
+      let header_pages : NoneHolds (rows_of_pages size pages place total start_page header_page) = subst (λ (n : ℕ). NoneHolds (rows_of_pages size pages place n start_page header_page)) (sym read_total) stands.header_pages in
+      let last_pages : NoneHolds (rows_of_pages size pages place total header_page (page_of_byte size place.position total)) = subst (λ (n : ℕ). NoneHolds (rows_of_pages size pages place n header_page (page_of_byte size place.position n))) (sym read_total) stands.last_pages in
       let no_zero_word = ap is_zero_word read_header ∙ header_is_no_zero_word a prev stands.rest stands.size_fits in
       past (and_right (opens_page size place.position) _ in_page.no_zero_word)
       (NoneHolds-append in_page.passes
-      (past (and_right (opens_page size place.position) _ in_page.not_continued)
+      (past in_page.not_claimed
       (past no_zero_word
       (past (le-ltb total 24 (omega (arith, read_total)))
       (past refl
-      (none_between _ _ _ _ (no_rows_between size pages place total _ _ header) (no_rows_between size pages place total _ _ (last ∙ sym header)) (past right_manager (past (not_from_true _ right_prev) none)) (past (not_from_true _ right_crc) none)))))))
+      (NoneHolds-append (NoneHolds-append (NoneHolds-append header_pages (past right_manager (past (not_from_true _ right_prev) none))) last_pages) (past (not_from_true _ right_crc) none)))))))
 
   -- a record that stands at a place is read there, as its bytes say
   pub record_is_read : read_at size pages None place ≡ found_or size place (assembled_size a) prev (reading_of (spelled a prev))
@@ -97,7 +98,7 @@ zero_word_ends size pages place page in_page zero =
     let told : Tells (record_rows size pages None place page) (ended size place.position) =
     behind (and_right (opens_page size place.position) _ in_page.no_zero_word)
     (Tells-append in_page.passes
-    (behind (and_right (opens_page size place.position) _ in_page.not_continued)
+    (behind in_page.not_claimed
     (at_once zero))) in
     read_at-page size pages place page in_page.here ∙ ap (answer_or size pages place) (first_fault-told told)
 

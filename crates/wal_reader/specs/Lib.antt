@@ -2,6 +2,8 @@ pub mod Pages
 pub mod Decodes
 pub mod Torn
 pub mod Written
+pub mod WrittenLog
+pub mod LogSegments
 pub mod InPage
 pub mod Names
 pub mod Standing

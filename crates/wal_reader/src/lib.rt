@@ -10,7 +10,7 @@ mod spot;
 mod unread;
 
 pub use found::{Answer, DamageKind, FoundRecord};
-pub use laws::written_decodes;
+pub use laws::{written_decodes, written_log_decodes};
 pub use reader::{OpenError, PageReader, Step};
 
 #[cfg(test)]
