@@ -4,21 +4,21 @@ use Rattle.std.proofs.lemmas.List.{take_all}
 use Rattle.segment_disk.specs.Tape.{Tape}
 use Rattle.wal_script.specs.declared.line.Line.{Line}
 use Rattle.wal_script.specs.declared.line.Action.{Action}
-use Rattle.backend_cli.specs.declared.log.Log.{Log}
+use Rattle.wal_log.specs.LogState.{LogState, IsLog, IsSameLog}
+use Rattle.wal_log.specs.Standing.{Standing, at_opening}
 use Rattle.backend_cli.specs.declared.tasks.Task.{Task}
 use Rattle.backend_cli.specs.declared.told.Told.{Told}
-use Rattle.backend_cli.specs.Log.{Standing, Steps, Plays, at_opening}
-use Rattle.backend_cli.specs.LogState.{IsLog}
+use Rattle.backend_cli.specs.Steps.{Steps, Plays}
 use Rattle.backend_cli.specs.Tasks.{IsWork, AreTasks}
 
 -- one line more at the end
-pub Plays_push : (size opened : ℕ) (before mid after : Standing) (lines : List Line) (told : List Told) (line : Line) (answer : Told) → Plays size opened before lines told mid → Steps size opened mid line.action answer after
-    → Plays size opened before (lines ++ line ∷ []) (told ++ answer ∷ []) after
-Plays_push size opened before mid after [] [] line answer plays step = (after, subst (λ (s : Standing). Steps size opened s line.action answer after) plays step, refl)
-Plays_push size opened before mid after [] (t ∷ told) line answer plays step = absurd plays
-Plays_push size opened before mid after (l ∷ lines) [] line answer plays step = absurd plays
-Plays_push size opened before mid after (l ∷ lines) (t ∷ told) line answer plays step =
-    (plays.0, plays.1, Plays_push size opened plays.0 mid after lines told line answer plays.2 step)
+pub Plays_push : (size capacity opened : ℕ) (before mid after : Standing) (lines : List Line) (told : List Told) (line : Line) (answer : Told) → Plays size capacity opened before lines told mid → Steps size capacity opened mid line.action answer after
+    → Plays size capacity opened before (lines ++ line ∷ []) (told ++ answer ∷ []) after
+Plays_push size capacity opened before mid after [] [] line answer plays step = (after, subst (λ (s : Standing). Steps size capacity opened s line.action answer after) plays step, refl)
+Plays_push size capacity opened before mid after [] (t ∷ told) line answer plays step = absurd plays
+Plays_push size capacity opened before mid after (l ∷ lines) [] line answer plays step = absurd plays
+Plays_push size capacity opened before mid after (l ∷ lines) (t ∷ told) line answer plays step =
+    (plays.0, plays.1, Plays_push size capacity opened plays.0 mid after lines told line answer plays.2 step)
 
 length-AreTasks : (lines : List Line) (tasks : List Task) → AreTasks lines tasks → length tasks ≡ length lines
 length-AreTasks [] [] are = refl
@@ -37,30 +37,40 @@ line_of_task (line ∷ lines) (t ∷ tasks) (suc i) task are within is =
     (found.0, found.1, ap (λ (n : ℕ). take n (line ∷ lines)) more ∙ ap (λ (ls : List Line). line ∷ ls) found.2)
 
 -- whatever lines the tasks are of, those before a place were played from a log's opening on
-abbrev pub IsPlayed : {D : Type 0} → (D → Option Tape) → (D → ℕ) → Log D → Log D → List Task → ℕ → List Told → Type 0
+abbrev pub IsPlayed : {D : Type 0} → (D → Option Tape) → (D → ℕ) → LogState D → LogState D → List Task → ℕ → List Told → Type 0
 IsPlayed tape faults old new tasks i told =
-    (before : Option Tape) (opened : ℕ) (lines : List Line) → IsLog tape faults before opened old at_opening → AreTasks lines tasks → (s : Standing) × Plays old.geometry opened at_opening (take i lines) told s × IsLog tape faults before opened new s
+    (before : Option Tape) (opened : ℕ) (lines : List Line) → IsLog tape faults before opened old (at_opening old.size) → AreTasks lines tasks
+    → (s : Standing) × Plays old.size old.capacity opened (at_opening old.size) (take i lines) told s × IsLog tape faults before opened new s
 
-module _ (D : Type 0) (tape : D → Option Tape) (faults : D → ℕ) (old : Log D) (tasks : List Task) where
+module _ (D : Type 0) (tape : D → Option Tape) (faults : D → ℕ) (old : LogState D) (tasks : List Task) where
   -- one line more, whose work a log did
-  pub IsPlayed_more : (mid new : Log D) (i : ℕ) (told all : List Told) (task : Task) (answer : Told) → IsPlayed tape faults old mid tasks i told → mid.geometry ≡ old.geometry → i < length tasks → task ≡ get_or tasks i task → all ≡ told ++ answer ∷ []
-      → ((before : Option Tape) (opened : ℕ) (s : Standing) (action : Action) → IsLog tape faults before opened mid s → IsWork action task.work → (after : Standing) × Steps mid.geometry opened s action answer after × IsLog tape faults before opened new after)
+  pub IsPlayed_more : (mid new : LogState D) (i : ℕ) (told all : List Told) (task : Task) (answer : Told) → IsPlayed tape faults old mid tasks i told → IsSameLog old mid → i < length tasks → task ≡ get_or tasks i task → all ≡ told ++ answer ∷ []
+      → ((before : Option Tape) (opened : ℕ) (s : Standing) (action : Action) → IsLog tape faults before opened mid s → IsWork action task.work → (after : Standing) × Steps mid.size mid.capacity opened s action answer after × IsLog tape faults before opened new after)
       → IsPlayed tape faults old new tasks (i + 1) all
   IsPlayed_more mid new i told all task answer played same within is pushed steps before opened lines is_log are =
-      let size = old.geometry in
+      let size = old.size in
+      let capacity = old.capacity in
       let so_far = played before opened lines is_log are in
       let found = line_of_task lines tasks i task are within is in
       let line = found.0 in
       let step = steps before opened so_far.0 line.action so_far.2 found.1 in
-      let stepped : Steps size opened so_far.0 line.action answer step.0 = subst (λ (n : ℕ). Steps n opened so_far.0 line.action answer step.0) same step.1 in
-      let plays = Plays_push size opened at_opening so_far.0 step.0 (take i lines) told line answer so_far.1 stepped in
-      let all_lines = subst (λ (ls : List Line). Plays size opened at_opening ls (told ++ answer ∷ []) step.0) (sym found.2) plays in
-      (step.0, subst (λ (answers : List Told). Plays size opened at_opening (take (i + 1) lines) answers step.0) (sym pushed) all_lines, step.2)
+      let stepped : Steps size capacity opened so_far.0 line.action answer step.0 =
+      subst (λ (n : ℕ). Steps size n opened so_far.0 line.action answer step.0) same.capacity (subst (λ (n : ℕ). Steps n mid.capacity opened so_far.0 line.action answer step.0) same.size step.1) in
+      let plays = Plays_push size capacity opened (at_opening size) so_far.0 step.0 (take i lines) told line answer so_far.1 stepped in
+      let all_lines = subst (λ (ls : List Line). Plays size capacity opened (at_opening size) ls (told ++ answer ∷ []) step.0) (sym found.2) plays in
+      (step.0, subst (λ (answers : List Told). Plays size capacity opened (at_opening size) (take (i + 1) lines) answers step.0) (sym pushed) all_lines, step.2)
 
   -- all lines
-  pub IsPlayed_all : (new : Log D) (i : ℕ) (told : List Told) → IsPlayed tape faults old new tasks i told → length tasks ≤ i → (before : Option Tape) (opened : ℕ) (lines : List Line) → IsLog tape faults before opened old at_opening → AreTasks lines tasks
-      → (s : Standing) × Plays old.geometry opened at_opening lines told s × IsLog tape faults before opened new s
+  pub IsPlayed_all : (new : LogState D) (i : ℕ) (told : List Told) → IsPlayed tape faults old new tasks i told → length tasks ≤ i → (before : Option Tape) (opened : ℕ) (lines : List Line) → IsLog tape faults before opened old (at_opening old.size) → AreTasks lines tasks
+      → (s : Standing) × Plays old.size old.capacity opened (at_opening old.size) lines told s × IsLog tape faults before opened new s
   IsPlayed_all new i told played end before opened lines is_log are =
       let so_far = played before opened lines is_log are in
       let whole : take i lines ≡ lines = take_all i lines (omega (arith, length-AreTasks lines tasks are)) in
-      (so_far.0, subst (λ (ls : List Line). Plays old.geometry opened at_opening ls told so_far.0) whole so_far.1, so_far.2)
+      (so_far.0, subst (λ (ls : List Line). Plays old.size old.capacity opened (at_opening old.size) ls told so_far.0) whole so_far.1, so_far.2)
+
+-- the same log, one call on
+pub IsSameLog-trans : {D : Type 0} (old mid new : LogState D) → IsSameLog old mid → IsSameLog mid new → IsSameLog old new
+IsSameLog-trans old mid new first second = record { size = second.size ∙ first.size; capacity = second.capacity ∙ first.capacity; sysid = second.sysid ∙ first.sysid }
+
+pub IsSameLog-refl : {D : Type 0} (log : LogState D) → IsSameLog log log
+IsSameLog-refl log = record { size = refl; capacity = refl; sysid = refl }

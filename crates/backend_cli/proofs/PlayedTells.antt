@@ -3,19 +3,21 @@ use Rattle.std.proofs.Common.{◌≡◌, ℕ, ◌+◌, ◌-◌, ◌^◌, ◌<◌
 use Rattle.std.proofs.Math.Seq.{take-append_seam}
 use Rattle.byte_position.specs.Geometry.{IsSegmentSize}
 use Rattle.byte_position.specs.Position.{position_of, address_of, end_address_of, first_position}
+use Rattle.byte_position.proofs.EndAddresses.{end_address_of-mono}
 use Rattle.byte_position.proofs.PositionLaws.{position_of-address_of}
+use Rattle.segment_disk.specs.Cause.{Rose}
 use Rattle.wal_types.specs.declared.record.Record.{Record}
 use Rattle.wal_types.specs.declared.lsn.Lsn.{Lsn}
 use Rattle.wal_record.specs.Spelling.{room_of}
-use Rattle.wal_page.specs.Order.{Entry, rooms_of}
+use Rattle.wal_page.specs.Order.{Entry, rooms_of, finish_of}
 use Rattle.wal_page.proofs.OrderLaws.{rooms_of_push, rooms_of-append}
 use Rattle.wal_script.specs.declared.line.Line.{Line}
 use Rattle.wal_script.specs.declared.line.Action.{Action}
 use Rattle.backend_cli.specs.declared.told.Told.{Told}
-use Rattle.backend_cli.specs.Told.{Logged, IsFull, FitsLine, TellsFrom, TellsAll, behind_or, entry_of, entries_of, order_of}
-use Rattle.backend_cli.specs.Log.{Standing, Plays, at_opening, next_entry, end_of}
-use Rattle.backend_cli.proofs.EndAddresses.{end_address_of-le}
-use Rattle.backend_cli.proofs.StepCases.{StepFact, HoldsOfSteps, fact-Steps}
+use Rattle.backend_cli.specs.Told.{Logged, IsFault, IsFull, IsPlaced, FitsLine, TellsFrom, TellsAll, behind_or, entry_of, entries_of, order_of}
+use Rattle.wal_log.specs.Standing.{Standing, at_opening, next_entry, end_of}
+use Rattle.backend_cli.specs.Steps.{Plays}
+use Rattle.backend_cli.proofs.StepCases.{StepFact, HoldsOfSteps, Reserves, fact-Steps}
 use Rattle.backend_cli.proofs.PlayedEntries.{plays_entries, played_order}
 
 -- where the disk has failed, its count of faults was not that of the opening
@@ -26,38 +28,49 @@ HasFailed opened down = (faults : ℕ) → down ≡ Some faults → (opened < fa
 abbrev IsLast : ℕ → Option ℕ → Type 0
 IsLast last down = (faults : ℕ) → down ≡ Some faults → faults ≡ last
 
+-- none is no count of faults
+is_up : (down : Option ℕ) (faults : ℕ) → down ≡ None → down ≡ Some faults → ⊥
+is_up None faults none some = cc
+is_up (Some other) faults none some = cc
+
 -- a disk that has failed stays so
 abbrev StaysDown : StepFact
-StaysDown es down action told after = (faults : ℕ) → down ≡ Some faults → after.down ≡ Some faults
+StaysDown before action told after = (faults : ℕ) → before.down ≡ Some faults → after.down ≡ Some faults
 
-steps_down : (size opened : ℕ) → HoldsOfSteps size opened StaysDown
-steps_down size opened = record {
-  hard = λ es value start end moment at ends writable faults failed. failed;
-  full = λ es value free left short faults failed. failed;
-  failed = λ es value start faults at writable rose others failed. absurd (let no : ⊥ = cc in no);
-  commit_down = λ es value faults others failed. failed;
-  flushed = λ es upto moment at faults failed. failed;
-  flush_down = λ es faults others failed. failed;
+steps_down : (size capacity opened : ℕ) → HoldsOfSteps size capacity opened StaysDown
+steps_down size capacity opened = record {
+  wrote = λ s value start end reserves ends faults failed. failed;
+  insert_full = λ s value free up left short faults failed. failed;
+  insert_failed = λ s value start faults reserves rose others failed. absurd (is_up s.down others reserves.reserved.up failed);
+  insert_down = λ s value faults down others failed. failed;
+  hard = λ s value start end moment reserves ends faults failed. failed;
+  commit_full = λ s value free up left short faults failed. failed;
+  commit_failed = λ s value start faults reserves rose others failed. absurd (is_up s.down others reserves.reserved.up failed);
+  commit_down = λ s value faults down others failed. failed;
+  flushed = λ s upto moment up at faults failed. failed;
+  flush_failed = λ s faults up rose others failed. absurd (is_up s.down others up failed);
+  flush_down = λ s faults down others failed. failed;
 }
 
-plays_down : (size opened : ℕ) (lines : List Line) (told : List Told) (before after : Standing) → Plays size opened before lines told after → (faults : ℕ) → before.down ≡ Some faults → after.down ≡ Some faults
-plays_down size opened [] [] before after plays faults failed = ap (λ (s : Standing). s.down) plays ∙ failed
-plays_down size opened [] (answer ∷ told) before after plays faults failed = absurd plays
-plays_down size opened (line ∷ lines) [] before after plays faults failed = absurd plays
-plays_down size opened (line ∷ lines) (answer ∷ told) before after plays faults failed =
-    plays_down size opened lines told plays.0 after plays.2 faults (fact-Steps size opened StaysDown (steps_down size opened) before line.action answer plays.0 plays.1 faults failed)
+plays_down : (size capacity opened : ℕ) (lines : List Line) (told : List Told) (before after : Standing) → Plays size capacity opened before lines told after → (faults : ℕ) → before.down ≡ Some faults → after.down ≡ Some faults
+plays_down size capacity opened [] [] before after plays faults failed = ap (λ (s : Standing). s.down) plays ∙ failed
+plays_down size capacity opened [] (answer ∷ told) before after plays faults failed = absurd plays
+plays_down size capacity opened (line ∷ lines) [] before after plays faults failed = absurd plays
+plays_down size capacity opened (line ∷ lines) (answer ∷ told) before after plays faults failed =
+    plays_down size capacity opened lines told plays.0 after plays.2 faults (fact-Steps size capacity opened StaysDown (steps_down size capacity opened) before line.action answer plays.0 plays.1 faults failed)
 
-abbrev logged_of : ℕ → List Entry → ℕ → ℕ → Logged
-logged_of size order opened last = record { size = size; capacity = 8152; order = order; opened = opened; last = last }
+abbrev logged_of : ℕ → ℕ → List Entry → ℕ → ℕ → Logged
+logged_of size capacity order opened last = record { size = size; capacity = capacity; order = order; opened = opened; last = last }
 
 -- an answer as it may be behind some entries, and what is known for the next line
-record TellsLine (size opened last : ℕ) (order es : List Entry) (action : Action) (told : Told) (after : Standing) : Type 0 where
-  fits : FitsLine (logged_of size order opened last) (first_position size + rooms_of es) action told
+record TellsLine (size capacity opened last : ℕ) (order es : List Entry) (action : Action) (told : Told) (after : Standing) : Type 0 where
+  fits : FitsLine (logged_of size capacity order opened last) (first_position size + rooms_of es) action told
   behind : behind_or (first_position size + rooms_of es) (entry_of size 0 action told) ≡ first_position size + rooms_of after.entries
   failed : HasFailed opened after.down
 
-abbrev TellsStep : ℕ → ℕ → ℕ → List Entry → StepFact
-TellsStep size opened last order es down action told after = (more : List Entry) → order ≡ after.entries ++ more → HasFailed opened down → IsLast last after.down → TellsLine size opened last order es action told after
+abbrev TellsStep : ℕ → ℕ → ℕ → ℕ → List Entry → StepFact
+TellsStep size capacity opened last order before action told after =
+    (more : List Entry) → order ≡ after.entries ++ more → HasFailed opened before.down → IsLast last after.down → TellsLine size capacity opened last order before.entries action told after
 
 position_at_end : (size : ℕ) → IsSegmentSize size → (es : List Entry) (start : Lsn) → start.0 ≡ address_of size (first_position size + rooms_of es) → position_of size start.0 ≡ first_position size + rooms_of es
 position_at_end size valid es start at = ap (position_of size) at ∙ position_of-address_of size valid (first_position size + rooms_of es)
@@ -70,9 +83,9 @@ behind_at_end : (size : ℕ) → IsSegmentSize size → (es : List Entry) (value
     → position_of size start.0 + room_of value ≡ first_position size + rooms_of (es ++ next_entry size es value ∷ [])
 behind_at_end size valid es value start at = omega (arith, position_at_end size valid es start at, rooms_of_push es (next_entry size es value))
 
-full_line : (size opened last : ℕ) (order es more : List Entry) (value : Record) (free : ℕ) → order ≡ es ++ more → free + rooms_of es ≡ 8152 → free < room_of value
-    → IsFull (logged_of size order opened last) (first_position size + rooms_of es) value free
-full_line size opened last order es more value free parts left short =
+full_line : (size capacity opened last : ℕ) (order es more : List Entry) (value : Record) (free : ℕ) → order ≡ es ++ more → free + rooms_of es ≡ capacity → free < room_of value
+    → IsFull (logged_of size capacity order opened last) (first_position size + rooms_of es) value free
+full_line size capacity opened last order es more value free parts left short =
     let front : take (length es) order ≡ es = ap (take (length es)) parts ∙ take-append_seam es more in
     let rooms : rooms_of (take (length es) order) ≡ rooms_of es = ap rooms_of front in
     record {
@@ -83,77 +96,118 @@ full_line size opened last order es more value free parts left short =
       short = short;
     }
 
-flushed_line : (size opened last : ℕ) → IsSegmentSize size → (order es more : List Entry) (upto : Lsn) → order ≡ es ++ more → upto.0 ≡ end_of size es
+flushed_line : (size capacity opened last : ℕ) → IsSegmentSize size → (order es more : List Entry) (upto : Lsn) → order ≡ es ++ more → upto.0 ≡ end_of size es
     → (end_address_of size (first_position size + rooms_of es) ≤ upto.0) × (upto.0 ≤ end_address_of size (first_position size + rooms_of order))
-flushed_line size opened last valid order es more upto parts at =
+flushed_line size capacity opened last valid order es more upto parts at =
     let rooms : rooms_of es ≤ rooms_of order = omega (arith, ap rooms_of parts, rooms_of-append es more) in
-    let rises = end_address_of-le size valid (first_position size + rooms_of es) (first_position size + rooms_of order) (omega (arith, rooms)) in
+    let rises = end_address_of-mono size valid (first_position size + rooms_of es) (first_position size + rooms_of order) (omega (arith, rooms)) in
     (omega (arith, at), omega (arith, at, rises))
 
-steps_tell : (size opened last : ℕ) (order : List Entry) → IsSegmentSize size → HoldsOfSteps size opened (TellsStep size opened last order)
-steps_tell size opened last order valid = record {
-  hard = λ es value start end moment at ends writable more parts failed is_last. record {
-    fits = record { starts = start_at_end size valid es start at; ends = ends ∙ ap (end_address_of size) (sym (behind_at_end size valid es value start at)) };
-    behind = behind_at_end size valid es value start at;
+-- a record that was reserved stands at its place
+placed_line : (size capacity : ℕ) → IsSegmentSize size → (s : Standing) (value : Record) (start end : Lsn) → Reserves size capacity s value start.0 → end.0 ≡ finish_of size (next_entry size s.entries value) → IsPlaced size value start.0 end.0
+placed_line size capacity valid s value start end reserves ends =
+    let position = position_at_end size valid s.entries start reserves.reserved.start_is in
+    record {
+      starts = start_at_end size valid s.entries start reserves.reserved.start_is;
+      ends = ends ∙ ap (λ (n : ℕ). end_address_of size (n + room_of value)) (sym position);
+    }
+
+-- a fault that is told since the opening
+fault_line : (size capacity opened last : ℕ) (order : List Entry) (faults : ℕ) → Rose opened faults → faults ≡ last → IsFault (logged_of size capacity order opened last) faults
+fault_line size capacity opened last order faults rose is_last = record { rose = rose; upto = omega (arith, is_last) }
+
+failed_now : (opened faults : ℕ) → Rose opened faults → HasFailed opened (Some faults)
+failed_now opened faults rose others same = let equal : faults ≡ others = cc in subst (Rose opened) equal rose
+
+steps_tell : (size capacity opened last : ℕ) (order : List Entry) → IsSegmentSize size → HoldsOfSteps size capacity opened (TellsStep size capacity opened last order)
+steps_tell size capacity opened last order valid = record {
+  wrote = λ s value start end reserves ends more parts failed is_last. record {
+    fits = placed_line size capacity valid s value start end reserves ends;
+    behind = behind_at_end size valid s.entries value start reserves.reserved.start_is;
     failed = failed;
   };
-  full = λ es value free left short more parts failed is_last. record {
-    fits = full_line size opened last order es more value free parts left short;
+  insert_full = λ s value free up left short more parts failed is_last. record {
+    fits = full_line size capacity opened last order s.entries more value free parts left short;
     behind = refl;
     failed = failed;
   };
-  failed = λ es value start faults at writable rose more parts failed is_last. record {
-    fits = (record { rose = rose; upto = omega (arith, is_last faults refl) }, start_at_end size valid es start at);
-    behind = behind_at_end size valid es value start at;
-    failed = λ others same. let equal : faults ≡ others = cc in subst (λ (n : ℕ). (opened < n) ⊎ (n ≡ 2 ^ 64 - 1)) equal rose;
+  insert_failed = λ s value start faults reserves rose more parts failed is_last. record {
+    fits = (fault_line size capacity opened last order faults rose (is_last faults refl), start_at_end size valid s.entries start reserves.reserved.start_is);
+    behind = behind_at_end size valid s.entries value start reserves.reserved.start_is;
+    failed = failed_now opened faults rose;
   };
-  commit_down = λ es value faults more parts failed is_last. record {
-    fits = record { rose = failed faults refl; upto = omega (arith, is_last faults refl) };
+  insert_down = λ s value faults down more parts failed is_last. record {
+    fits = fault_line size capacity opened last order faults (failed faults down) (is_last faults down);
     behind = refl;
     failed = failed;
   };
-  flushed = λ es upto moment at more parts failed is_last. record {
-    fits = flushed_line size opened last valid order es more upto parts at;
+  hard = λ s value start end moment reserves ends more parts failed is_last. record {
+    fits = placed_line size capacity valid s value start end reserves ends;
+    behind = behind_at_end size valid s.entries value start reserves.reserved.start_is;
+    failed = failed;
+  };
+  commit_full = λ s value free up left short more parts failed is_last. record {
+    fits = full_line size capacity opened last order s.entries more value free parts left short;
     behind = refl;
     failed = failed;
   };
-  flush_down = λ es faults more parts failed is_last. record {
-    fits = (record { rose = failed faults refl; upto = omega (arith, is_last faults refl) }, refl);
+  commit_failed = λ s value start faults reserves rose more parts failed is_last. record {
+    fits = (fault_line size capacity opened last order faults rose (is_last faults refl), start_at_end size valid s.entries start reserves.reserved.start_is);
+    behind = behind_at_end size valid s.entries value start reserves.reserved.start_is;
+    failed = failed_now opened faults rose;
+  };
+  commit_down = λ s value faults down more parts failed is_last. record {
+    fits = fault_line size capacity opened last order faults (failed faults down) (is_last faults down);
+    behind = refl;
+    failed = failed;
+  };
+  flushed = λ s upto moment up at more parts failed is_last. record {
+    fits = flushed_line size capacity opened last valid order s.entries more upto parts at;
+    behind = refl;
+    failed = failed;
+  };
+  flush_failed = λ s faults up rose more parts failed is_last. record {
+    fits = (fault_line size capacity opened last order faults rose (is_last faults refl), refl);
+    behind = refl;
+    failed = failed_now opened faults rose;
+  };
+  flush_down = λ s faults down more parts failed is_last. record {
+    fits = (fault_line size capacity opened last order faults (failed faults down) (is_last faults down), refl);
     behind = refl;
     failed = failed;
   };
 }
 
-plays_tell : (size opened last : ℕ) (order : List Entry) → IsSegmentSize size → (lines : List Line) (told : List Told) (before after : Standing) → Plays size opened before lines told after → order ≡ after.entries
-    → HasFailed opened before.down → IsLast last after.down → TellsFrom (logged_of size order opened last) 0 (first_position size + rooms_of before.entries) lines told
-plays_tell size opened last order valid [] [] before after plays all failed is_last = tt
-plays_tell size opened last order valid [] (answer ∷ told) before after plays all failed is_last = absurd plays
-plays_tell size opened last order valid (line ∷ lines) [] before after plays all failed is_last = absurd plays
-plays_tell size opened last order valid (line ∷ lines) (answer ∷ told) before after plays all failed is_last =
-    let parts = all ∙ plays_entries size opened lines told plays.0 after valid plays.2 in
-    let last_then = λ (faults : ℕ) (down : plays.0.down ≡ Some faults). is_last faults (plays_down size opened lines told plays.0 after plays.2 faults down) in
-    let here = fact-Steps size opened (TellsStep size opened last order) (steps_tell size opened last order valid) before line.action answer plays.0 plays.1 (entries_of size 0 lines told) parts failed last_then in
-    let rest = plays_tell size opened last order valid lines told plays.0 after plays.2 all here.failed is_last in
-    (here.fits, subst (λ (n : ℕ). TellsFrom (logged_of size order opened last) 0 n lines told) (sym here.behind) rest)
+plays_tell : (size capacity opened last : ℕ) (order : List Entry) → IsSegmentSize size → (lines : List Line) (told : List Told) (before after : Standing) → Plays size capacity opened before lines told after → order ≡ after.entries
+    → HasFailed opened before.down → IsLast last after.down → TellsFrom (logged_of size capacity order opened last) 0 (first_position size + rooms_of before.entries) lines told
+plays_tell size capacity opened last order valid [] [] before after plays all failed is_last = tt
+plays_tell size capacity opened last order valid [] (answer ∷ told) before after plays all failed is_last = absurd plays
+plays_tell size capacity opened last order valid (line ∷ lines) [] before after plays all failed is_last = absurd plays
+plays_tell size capacity opened last order valid (line ∷ lines) (answer ∷ told) before after plays all failed is_last =
+    let parts = all ∙ plays_entries size capacity opened lines told plays.0 after valid plays.2 in
+    let last_then = λ (faults : ℕ) (down : plays.0.down ≡ Some faults). is_last faults (plays_down size capacity opened lines told plays.0 after plays.2 faults down) in
+    let here = fact-Steps size capacity opened (TellsStep size capacity opened last order) (steps_tell size capacity opened last order valid) before line.action answer plays.0 plays.1 (entries_of size 0 lines told) parts failed last_then in
+    let rest = plays_tell size capacity opened last order valid lines told plays.0 after plays.2 all here.failed is_last in
+    (here.fits, subst (λ (n : ℕ). TellsFrom (logged_of size capacity order opened last) 0 n lines told) (sym here.behind) rest)
 
 IsLast-IfSome : (last : ℕ) (down : Option ℕ) → IfSome down (λ faults. faults ≡ last) → IsLast last down
 IsLast-IfSome last None known = λ faults down. absurd (let no : ⊥ = cc in no)
 IsLast-IfSome last (Some other) known = λ faults down. let same : other ≡ faults = cc in sym same ∙ known
 
 -- over any name for the order
-tells_over : (size opened last : ℕ) (order : List Entry) (lines : List Line) (told : List Told) (after : Standing) → IsSegmentSize size → Plays size opened at_opening lines told after → IfSome after.down (λ faults. faults ≡ last) → order ≡ after.entries
-    → TellsAll (record { size = size; capacity = 8152; order = order; opened = opened; last = last }) 0 (lines ∷ []) (told ∷ [])
-tells_over size opened last order lines told after valid plays known all =
+tells_over : (size capacity opened last : ℕ) (order : List Entry) (lines : List Line) (told : List Told) (after : Standing) → IsSegmentSize size → Plays size capacity opened (at_opening size) lines told after → IfSome after.down (λ faults. faults ≡ last) → order ≡ after.entries
+    → TellsAll (record { size = size; capacity = capacity; order = order; opened = opened; last = last }) 0 (lines ∷ []) (told ∷ [])
+tells_over size capacity opened last order lines told after valid plays known all =
     let failed : HasFailed opened None = λ faults down. absurd (let no : ⊥ = cc in no) in
-    let tells = plays_tell size opened last order valid lines told at_opening after plays all failed (IsLast-IfSome last after.down known) in
+    let tells = plays_tell size capacity opened last order valid lines told (at_opening size) after plays all failed (IsLast-IfSome last after.down known) in
     let from : first_position size + rooms_of [] ≡ first_position size = omega arith in
-    (subst (λ (n : ℕ). TellsFrom (logged_of size order opened last) 0 n lines told) from tells, tt)
+    (subst (λ (n : ℕ). TellsFrom (logged_of size capacity order opened last) 0 n lines told) from tells, tt)
 
-pub played_tells : (size opened last : ℕ) (lines : List Line) (told : List Told) (after : Standing) → IsSegmentSize size → Plays size opened at_opening lines told after → IfSome after.down (λ faults. faults ≡ last)
-    → TellsAll (record { size = size; capacity = 8152; order = after.entries; opened = opened; last = last }) 0 (lines ∷ []) (told ∷ [])
-played_tells size opened last lines told after valid plays known = tells_over size opened last after.entries lines told after valid plays known refl
+pub played_tells : (size capacity opened last : ℕ) (lines : List Line) (told : List Told) (after : Standing) → IsSegmentSize size → Plays size capacity opened (at_opening size) lines told after → IfSome after.down (λ faults. faults ≡ last)
+    → TellsAll (record { size = size; capacity = capacity; order = after.entries; opened = opened; last = last }) 0 (lines ∷ []) (told ∷ [])
+played_tells size capacity opened last lines told after valid plays known = tells_over size capacity opened last after.entries lines told after valid plays known refl
 
 -- with the order that the answers themselves give
-pub played_tells_order : (size opened last : ℕ) (lines : List Line) (told : List Told) (after : Standing) → IsSegmentSize size → Plays size opened at_opening lines told after → IfSome after.down (λ faults. faults ≡ last)
-    → TellsAll (record { size = size; capacity = 8152; order = order_of size (lines ∷ []) (told ∷ []); opened = opened; last = last }) 0 (lines ∷ []) (told ∷ [])
-played_tells_order size opened last lines told after valid plays known = tells_over size opened last (order_of size (lines ∷ []) (told ∷ [])) lines told after valid plays known (played_order size opened lines told after valid plays)
+pub played_tells_order : (size capacity opened last : ℕ) (lines : List Line) (told : List Told) (after : Standing) → IsSegmentSize size → Plays size capacity opened (at_opening size) lines told after → IfSome after.down (λ faults. faults ≡ last)
+    → TellsAll (record { size = size; capacity = capacity; order = order_of size (lines ∷ []) (told ∷ []); opened = opened; last = last }) 0 (lines ∷ []) (told ∷ [])
+played_tells_order size capacity opened last lines told after valid plays known = tells_over size capacity opened last (order_of size (lines ∷ []) (told ∷ [])) lines told after valid plays known (played_order size capacity opened lines told after valid plays)

@@ -1,5 +1,5 @@
 -- What a run that opened the log has to show, from what its parts say.
-use Rattle.std.proofs.Common.{◌≡◌, ◌<◌, ℕ, ◌+◌, ◌-◌, ◌/◌, ◌^◌, Bool, true, false, cond, eqb, List, [], ◌∷◌, ◌++◌, length, Option, Some, None, Ok, Err, Result, refl, sym, ◌∙◌, ap, subst, inl, inr, ⊎_elim, arith}
+use Rattle.std.proofs.Common.{◌≡◌, ◌<◌, ◌≤◌, ℕ, ◌+◌, ◌-◌, ◌/◌, ◌^◌, Bool, true, false, cond, eqb, List, [], ◌∷◌, ◌++◌, length, Option, Some, None, Ok, Err, Result, refl, sym, ◌∙◌, ap, subst, inl, inr, ⊎_elim, arith}
 use Rattle.std.specs.Prelude.{IfSome, is_ok, not, codes, if◌then◌else◌, ◌==◌}
 use Rattle.std.specs.Fmt.{decimal}
 use Rattle.std.proofs.lemmas.List.{append-nil}
@@ -19,16 +19,19 @@ use Rattle.backend_cli.specs.declared.outcome.Outcome.{Outcome}
 use Rattle.backend_cli.specs.declared.outcome.Outcome.TheVariants.{OutOfMemory}
 use Rattle.backend_cli.specs.declared.told.Told.{Told}
 use Rattle.backend_cli.specs.declared.tasks.Task.{Task}
-use Rattle.backend_cli.specs.declared.log.Log.{Log}
+use Rattle.flush_core.specs.Pages.{HoldsNothing}
+use Rattle.flush_core.specs.Writer.{fault_of}
+use Rattle.wal_log.specs.LogImage.{HoldsLog}
+use Rattle.wal_log.specs.LogState.{LogState, IsLog, IsUpOrDown, log_disk}
+use Rattle.wal_log.specs.Standing.{Standing, at_opening, end_of}
 use Rattle.backend_cli.specs.declared.printing.Summary.{Summary}
 use Rattle.backend_cli.specs.Told.{IsFullAnswer, IsRefused, SomeAnswer}
 use Rattle.backend_cli.specs.Texts.{run_text, summary_text, segments_upto, commits_of, all_commits_of, reserved_count, told_lines_of}
 use Rattle.backend_cli.specs.Printing.{task_lines, summary_line, printed_text, Summarizes}
 use Rattle.backend_cli.specs.Concluding.{Concludes}
 use Rattle.backend_cli.specs.Moments.{MomentsRise}
-use Rattle.backend_cli.specs.Rises.{HasRisen, IsEmpty}
-use Rattle.backend_cli.specs.Log.{Standing, Plays, at_opening}
-use Rattle.backend_cli.specs.LogState.{IsLog, IsUp, IsUpOrDown}
+use Rattle.backend_cli.specs.Rises.{HasRisen}
+use Rattle.backend_cli.specs.Steps.{Plays}
 use Rattle.backend_cli.specs.Outside.{Outside, Took}
 use Rattle.backend_cli.specs.Run.{EndsOpened, IsWhole, RunHolds}
 use Rattle.backend_cli.specs.Told.{order_of}
@@ -36,6 +39,7 @@ use Rattle.backend_cli.specs.Prepared.{MeansLines}
 use Rattle.backend_cli.specs.Tasks.{AreTasks}
 use Rattle.backend_cli.proofs.PlayedEntries.{counted, played_order, played_chained, played_rises}
 use Rattle.backend_cli.proofs.PlayedTells.{played_tells_order}
+use Rattle.backend_cli.proofs.LastFlush.{IsBehindFlush, still_down}
 use Rattle.backend_cli.proofs.PlayedAnswers.{played_refusals, played_full, SomeTold-one}
 use Rattle.backend_cli.proofs.TaskLaws.{task_lines_are}
 use Rattle.backend_cli.proofs.WholeLaws.{whole}
@@ -64,29 +68,22 @@ quiet_is_up opened last None fell same low = refl
 quiet_is_up opened last (Some f) fell same low =
     absurd (⊎_elim (λ (more : opened < f). omega (arith, fell.0, same)) (λ (most : f ≡ 2 ^ 64 - 1). omega (arith, fell.0, same, most)) fell.1)
 
-module _ (D : Type 0) (tape : D → Option Tape) (faults : D → ℕ) (before : Option Tape) (opened : ℕ) (log : Log D) (es : List Entry) where
-  fell_for : (down : Option ℕ) → IsUpOrDown tape faults before opened log es down → IfSome down (λ f. (f ≡ faults log.disk) × HasRisen opened f)
+module _ (D : Type 0) (tape : D → Option Tape) (faults : D → ℕ) (before : Option Tape) (opened : ℕ) (log : LogState D) (es : List Entry) where
+  fell_for : (down : Option ℕ) → IsUpOrDown tape faults before opened log es down → IfSome down (λ f. (f ≡ faults (log_disk log)) × HasRisen opened f)
   fell_for None state = tt
   fell_for (Some f) state = (state.told, state.rose)
 
-  up_for : (down : Option ℕ) → IsUpOrDown tape faults before opened log es down → down ≡ None → IsUp tape faults before opened log es
-  up_for None state none = state
-  up_for (Some f) state none = cc
+  quiet_for : (down : Option ℕ) → IsUpOrDown tape faults before opened log es down → down ≡ None → faults (log_disk log) ≡ opened
+  quiet_for None state none = state.quiet
+  quiet_for (Some f) state none = cc
 
-module _ (D : Type 0) (tape : D → Option Tape) (faults : D → ℕ) (before : Option Tape) (opened : ℕ) (log : Log D) (after : Standing) (is_log : IsLog tape faults before opened log after) where
+module _ (D : Type 0) (tape : D → Option Tape) (faults : D → ℕ) (before : Option Tape) (opened : ℕ) (log : LogState D) (after : Standing) (is_log : IsLog tape faults before opened log after) where
   -- where the disk failed, its count of faults is the one told, and rose
-  pub fell : IfSome after.down (λ f. (f ≡ faults log.disk) × HasRisen opened f)
+  pub fell : IfSome after.down (λ f. (f ≡ faults (log_disk log)) × HasRisen opened f)
   fell = fell_for D tape faults before opened log after.entries after.down is_log.state
 
-  pub quiet : after.down ≡ None → faults log.disk ≡ opened
-  quiet none = (up_for D tape faults before opened log after.entries after.down is_log.state none).quiet
-
-  -- where it did not, and held nothing at first, it holds the whole order
-  pub is_whole : faults log.disk ≡ opened → opened < 2 ^ 64 - 1 → IsEmpty before → IsWhole log.geometry (tape log.disk) after.entries
-  is_whole same low empty =
-      let none = quiet_is_up opened (faults log.disk) after.down fell same low in
-      let up = up_for D tape faults before opened log after.entries after.down is_log.state none in
-      whole log.geometry after.entries (tape log.disk) is_log.valid is_log.chained is_log.plain is_log.holds.within (up.holds empty)
+  pub quiet : after.down ≡ None → faults (log_disk log) ≡ opened
+  quiet none = quiet_for D tape faults before opened log after.entries after.down is_log.state none
 
 -- the count at which the disk fell is its last
 pub last_of : (opened last : ℕ) (down : Option ℕ) → IfSome down (λ f. (f ≡ last) × HasRisen opened f) → IfSome down (λ f. f ≡ last)
@@ -135,40 +132,48 @@ text_is size list lines tasks told es s are is count =
     ap (λ (text : List ℕ). (if list then text else []) ++ summary_line s) lines_are
     ∙ ap (λ (text : List ℕ). (if list then told_lines_of 0 lines told ++ [] else []) ++ text) (line ∙ ap (summary_text size es) commits)
 
-module _ (D : Type 0) (tape : D → Option Tape) (moment faults : D → ℕ) (disk : D) (log : Log D) (after : Standing) (is_log : IsLog tape faults (tape disk) (faults disk) log after) where
+module _ (D : Type 0) (tape : D → Option Tape) (moment faults : D → ℕ) (disk : D) (log : LogState D) (after last : Standing) (is_log : IsLog tape faults (tape disk) (faults disk) log last) (behind : IsBehindFlush log.size after last) where
   -- a run that opened the log holds what it promises
-  pub opened_holds : (size : ℕ) (list : Bool) (outcome : Outcome) (lines : List Line) (tasks : List Task) (told : List Told) (summary : Summary) (taken_before taken_after : Option (List ℕ)) (sink_before sink_after : ℕ) (printed : Result (Unit {0}) SinkFault) (source : Option (List ℕ)) (count : ℕ) (result : D) (lists : List (List Told))
-      → log.geometry ≡ size → result ≡ log.disk → lists ≡ told ∷ [] → Plays size (faults disk) at_opening lines told after → MeansLines source lines → AreTasks lines tasks → Summarizes size log.page.used told summary
-      → Puts taken_before taken_after sink_before sink_after (printed_text list tasks told summary) printed → Concludes log.down told (not (is_ok printed)) outcome → MomentsRise (moment disk) told (moment log.disk)
-      → RunHolds (record { source = source; source_before = count; source_after = count; tape_before = tape disk; tape_after = tape result; moment_before = moment disk; moment_after = moment result; disk_before = faults disk; disk_after = faults result; taken_before = taken_before; taken_after = taken_after; sink_before = sink_before; sink_after = sink_after }) size list outcome lists
-  opened_holds size list outcome lines tasks told summary taken_before taken_after sink_before sink_after printed source count result lists same_size same_disk same_lists plays means are summarizes puts concludes rises =
+  pub opened_holds : (size capacity : ℕ) (list : Bool) (outcome : Outcome) (lines : List Line) (tasks : List Task) (told : List Told) (summary : Summary) (taken_before taken_after : Option (List ℕ)) (sink_before sink_after : ℕ) (printed : Result (Unit {0}) SinkFault) (source : Option (List ℕ)) (count : ℕ) (down : Option ℕ) (result : D) (lists : List (List Told))
+      → log.size ≡ size → log.capacity ≡ capacity → capacity ≤ 2 ^ 42 → log.sysid ≡ 1 → result ≡ log_disk log → lists ≡ told ∷ [] → Plays size capacity (faults disk) (at_opening size) lines told after → MeansLines source lines → AreTasks lines tasks
+      → Summarizes size log.bytes told summary → Puts taken_before taken_after sink_before sink_after (printed_text list tasks told summary) printed → down ≡ fault_of log.writer → Concludes down told (not (is_ok printed)) outcome → MomentsRise (moment disk) told (moment (log_disk log))
+      → (HoldsNothing (tape disk) → last.down ≡ None → last.flushed ≡ end_of log.size last.entries → IfSome (tape result) (λ t. HoldsLog log.size log.sysid last.entries t))
+      → RunHolds (record { source = source; source_before = count; source_after = count; tape_before = tape disk; tape_after = tape result; moment_before = moment disk; moment_after = moment result; disk_before = faults disk; disk_after = faults result; taken_before = taken_before; taken_after = taken_after; sink_before = sink_before; sink_after = sink_after }) size capacity list outcome lists
+  opened_holds size capacity list outcome lines tasks told summary taken_before taken_after sink_before sink_after printed source count down result lists same_size same_capacity small sysid same_disk same_lists plays means are summarizes puts told_down concludes rises settled =
       let outside_of : D → Outside = λ d. record { source = source; source_before = count; source_after = count; tape_before = tape disk; tape_after = tape d; moment_before = moment disk; moment_after = moment d; disk_before = faults disk; disk_after = faults d; taken_before = taken_before; taken_after = taken_after; sink_before = sink_before; sink_after = sink_after } in
-      let outside : Outside = outside_of log.disk in
+      let outside : Outside = outside_of (log_disk log) in
       let valid : IsSegmentSize size = subst IsSegmentSize same_size is_log.valid in
-      let order : order_of size (lines ∷ []) (told ∷ []) ≡ after.entries = played_order size (faults disk) lines told after valid plays in
-      let since = fell D tape faults (tape disk) (faults disk) log after is_log in
-      let used : Summarizes size (rooms_of after.entries) told summary = subst (λ (n : ℕ). Summarizes size n told summary) is_log.holds.used summarizes in
-      let text = text_is size list lines tasks told after.entries summary are used (counted size (faults disk) lines told after plays) in
+      let order : order_of size (lines ∷ []) (told ∷ []) ≡ after.entries = played_order size capacity (faults disk) lines told after valid plays in
+      let since = fell D tape faults (tape disk) (faults disk) log last is_log in
+      let used : Summarizes size (rooms_of after.entries) told summary = subst (λ (n : ℕ). Summarizes size n told summary) (is_log.bytes ∙ ap (λ (es : List Entry). rooms_of es) behind.same) summarizes in
+      let text = text_is size list lines tasks told after.entries summary are used (counted size capacity (faults disk) lines told after plays) in
       let order_text : printed_text list tasks told summary ≡ run_text size list (lines ∷ []) (told ∷ []) (order_of size (lines ∷ []) (told ∷ [])) = text ∙ ap (run_text size list (lines ∷ []) (told ∷ [])) (sym order) in
-      let holds : RunHolds outside size list outcome (told ∷ []) = (
+      let whole_at_end : faults (log_disk log) ≡ faults disk → faults disk < 2 ^ 64 - 1 → HoldsNothing (tape disk) → IsWhole size (tape (log_disk log)) after.entries = λ same low empty.
+      (let none = quiet_is_up (faults disk) (faults (log_disk log)) last.down since same low in
+      let held : IfSome (tape (log_disk log)) (HoldsLog log.size log.sysid last.entries) = subst (λ (d : D). IfSome (tape d) (HoldsLog log.size log.sysid last.entries)) same_disk (settled empty none (behind.flushed none)) in
+      let by_size : IfSome (tape (log_disk log)) (HoldsLog size log.sysid last.entries) = subst (λ (n : ℕ). IfSome (tape (log_disk log)) (HoldsLog n log.sysid last.entries)) same_size held in
+      let by_sysid : IfSome (tape (log_disk log)) (HoldsLog size 1 last.entries) = subst (λ (n : ℕ). IfSome (tape (log_disk log)) (HoldsLog size n last.entries)) sysid by_size in
+      let by_entries : IfSome (tape (log_disk log)) (HoldsLog size 1 after.entries) = subst (λ (es : List Entry). IfSome (tape (log_disk log)) (HoldsLog size 1 es)) behind.same by_sysid in
+      let within : rooms_of after.entries ≤ 2 ^ 42 = omega (arith, is_log.within, ap (λ (es : List Entry). rooms_of es) behind.same, same_capacity, small) in
+      whole size 1 after.entries (tape (log_disk log)) valid (omega arith) (omega arith) (played_chained size capacity (faults disk) lines told after plays) within by_entries) in
+      let holds : RunHolds outside size capacity list outcome (told ∷ []) = (
         lines ∷ [],
         record {
           means = means;
-          told = played_tells_order size (faults disk) (faults log.disk) lines told after valid plays (last_of (faults disk) (faults log.disk) after.down since);
-          gapless = subst (IsChained size) (sym order) (played_chained size (faults disk) lines told after plays);
-          in_line_order = played_rises size (faults disk) lines told after valid plays;
+          told = played_tells_order size capacity (faults disk) (faults (log_disk log)) lines told after valid plays (still_down (faults (log_disk log)) after.down last.down behind.down (last_of (faults disk) (faults (log_disk log)) last.down since));
+          gapless = subst (IsChained size) (sym order) (played_chained size capacity (faults disk) lines told after plays);
+          in_line_order = played_rises size capacity (faults disk) lines told after valid plays;
           moments = (rises, tt);
-          whole = λ same low empty.
-              subst (IsWhole size (tape log.disk)) (sym order) (subst (λ (n : ℕ). IsWhole n (tape log.disk) after.entries) same_size (is_whole D tape faults (tape disk) (faults disk) log after is_log same low empty));
+          whole = λ same low empty. subst (IsWhole size (tape (log_disk log))) (sym order) (whole_at_end same low empty);
           printed = subst (Took taken_before taken_after sink_before sink_after) order_text (took taken_before taken_after sink_before sink_after (printed_text list tasks told summary) printed puts);
-          ends = ends_opened outside told after.down (not (is_ok printed)) outcome (subst (λ (down : Option ℕ). Concludes down told (not (is_ok printed)) outcome) is_log.down concludes) since (quiet D tape faults (tape disk) (faults disk) log after is_log)
-              (λ none refused. played_refusals size (faults disk) lines told after plays none refused)
+          ends = ends_opened outside told last.down (not (is_ok printed)) outcome (subst (λ (d : Option ℕ). Concludes d told (not (is_ok printed)) outcome) (told_down ∙ is_log.down) concludes) since (quiet D tape faults (tape disk) (faults disk) log last is_log)
+              (λ none refused. played_refusals size capacity (faults disk) lines told after plays (behind.up none) refused)
               (quiet_where_printed taken_before taken_after sink_before sink_after (printed_text list tasks told summary) printed puts) (risen_where_not_printed taken_before taken_after sink_before sink_after (printed_text list tasks told summary) printed puts);
-          full = λ found. let more = played_full size (faults disk) lines told after plays (SomeTold-one IsFullAnswer told found) in omega (arith, more);
+          full = λ found. let more = played_full size capacity (faults disk) lines told after plays (SomeTold-one IsFullAnswer told found) in omega (arith, more);
           source_read = refl;
         },
       ) in
-      subst (λ (t : List (List Told)). RunHolds (outside_of result) size list outcome t) (sym same_lists) (subst (λ (d : D). RunHolds (outside_of d) size list outcome (told ∷ [])) (sym same_disk) holds)
+      subst (λ (t : List (List Told)). RunHolds (outside_of result) size capacity list outcome t) (sym same_lists) (subst (λ (d : D). RunHolds (outside_of d) size capacity list outcome (told ∷ [])) (sym same_disk) holds)
 
 -- a run that opened the log does not end for want of memory
 pub no_memory : (down : Option ℕ) (told : List Told) (failed : Bool) (outcome : Outcome) → Concludes down told failed outcome → outcome ≡ OutOfMemory → ⊥

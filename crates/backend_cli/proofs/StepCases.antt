@@ -1,66 +1,93 @@
--- A step of a log is one of six: a durable commit, a full log, a disk that fails, and what is told once it has failed; a flush while it has not, and one afterwards.
-use Rattle.std.proofs.Common.{◌≡◌, ℕ, ◌+◌, ◌-◌, ◌^◌, ◌<◌, ◌⊎◌, List, [], ◌∷◌, ◌++◌, Option, Some, None, sym, subst}
-use Rattle.byte_position.specs.Position.{address_of, first_position}
+-- A step of a log is one of eleven: a record that is written or durable, a log that is full, a disk that fails and what is told once it has failed, for an insert and for a commit; a flush that is done, one whose disk fails, and one afterwards.
+use Rattle.std.proofs.Common.{◌≡◌, ℕ, ◌+◌, ◌<◌, Option, Some, None, Result, Ok, Err, sym, subst}
+use Rattle.segment_disk.specs.Cause.{Rose}
 use Rattle.wal_types.specs.declared.record.Record.{Record}
 use Rattle.wal_types.specs.declared.lsn.Lsn.{Lsn}
 use Rattle.wal_record.specs.Spelling.{room_of, IsWritable}
-use Rattle.wal_page.specs.Order.{Entry, rooms_of}
+use Rattle.wal_page.specs.Order.{rooms_of, finish_of}
+use Rattle.wal_log.specs.declared.told.Receipt.{Receipt}
+use Rattle.wal_log.specs.declared.told.Hard as hard
+use Rattle.wal_log.specs.declared.told.Sealed.{Sealed}
+use Rattle.wal_log.specs.declared.told.Refused as refused
+use Rattle.wal_log.specs.declared.told.Cause.{Cause}
+use Rattle.wal_log.specs.declared.told.Cause.TheVariants.{Full, Disk, Down}
+use Rattle.wal_log.specs.Standing.{Standing, end_of, next_entry, with_next}
+use Rattle.wal_log.specs.Steps.{Inserts, Commits, Flushes, IsReserved, RefusesRecord, RefusesFlush}
 use Rattle.wal_script.specs.declared.line.Action.{Action}
-use Rattle.wal_script.specs.declared.line.Action.TheVariants.{Commit, Flush}
+use Rattle.wal_script.specs.declared.line.Action.TheVariants.{Insert, Commit, Flush}
 use Rattle.backend_cli.specs.declared.told.Told.{Told}
 use Rattle.backend_cli.specs.declared.told.Told.TheVariants.{Wrote, Hard, Flushed, Refused}
-use Rattle.backend_cli.specs.declared.told.Cause.TheVariants.{Full, Disk, Down}
-use Rattle.backend_cli.specs.Log.{Standing, Steps, StepsCommit, StepsFlush, next_entry, end_of}
+use Rattle.backend_cli.specs.Steps.{Steps, told_of_insert, told_of_commit, told_of_flush}
 
--- a fact about the entries and the count of faults before a step, its action, its answer and the standing after it
+-- a fact about the standing before a step, its action, its answer and the standing after it
 abbrev pub StepFact : Type 1
-StepFact = List Entry → Option ℕ → Action → Told → Standing → Type 0
+StepFact = Standing → Action → Told → Standing → Type 0
+
+-- what is known of a record that was reserved: it can be written, it fits, and it starts where the others end
+pub record Reserves (size capacity : ℕ) (before : Standing) (value : Record) (start : ℕ) : Type 0 where
+  pub writable : IsWritable value
+  pub reserved : IsReserved size capacity before value start
 
 -- the fact holds of each kind of step
-pub record HoldsOfSteps (size opened : ℕ) (P : StepFact) : Type 0 where
-  pub hard : (es : List Entry) (value : Record) (start end : Lsn) (moment : ℕ) → start.0 ≡ address_of size (first_position size + rooms_of es) → end.0 ≡ end_of size (es ++ next_entry size es value ∷ []) → IsWritable value
-      → P es None (Commit value) (Hard start end moment) (record { entries = es ++ next_entry size es value ∷ []; down = None })
-  pub full : (es : List Entry) (value : Record) (free : ℕ) → free + rooms_of es ≡ 8152 → free < room_of value → P es None (Commit value) (Refused (Full free) None) (record { entries = es; down = None })
-  pub failed : (es : List Entry) (value : Record) (start : Lsn) (faults : ℕ) → start.0 ≡ address_of size (first_position size + rooms_of es) → IsWritable value → (opened < faults) ⊎ (faults ≡ 2 ^ 64 - 1)
-      → P es None (Commit value) (Refused (Disk faults) (Some start)) (record { entries = es ++ next_entry size es value ∷ []; down = Some faults })
-  pub commit_down : (es : List Entry) (value : Record) (faults : ℕ) → P es (Some faults) (Commit value) (Refused (Down faults) None) (record { entries = es; down = Some faults })
-  pub flushed : (es : List Entry) (upto : Lsn) (moment : ℕ) → upto.0 ≡ end_of size es → P es None Flush (Flushed upto moment) (record { entries = es; down = None })
-  pub flush_down : (es : List Entry) (faults : ℕ) → P es (Some faults) Flush (Refused (Down faults) None) (record { entries = es; down = Some faults })
+pub record HoldsOfSteps (size capacity opened : ℕ) (P : StepFact) : Type 0 where
+  pub wrote : (s : Standing) (value : Record) (start end : Lsn) → Reserves size capacity s value start.0 → end.0 ≡ finish_of size (next_entry size s.entries value)
+      → P s (Insert value) (Wrote start end) (record s { entries = with_next size s.entries value })
+  pub insert_full : (s : Standing) (value : Record) (free : ℕ) → s.down ≡ None → free + rooms_of s.entries ≡ capacity → free < room_of value → P s (Insert value) (Refused (Full free) None) s
+  pub insert_failed : (s : Standing) (value : Record) (start : Lsn) (faults : ℕ) → Reserves size capacity s value start.0 → Rose opened faults
+      → P s (Insert value) (Refused (Disk faults) (Some start)) (record s { entries = with_next size s.entries value; down = Some faults })
+  pub insert_down : (s : Standing) (value : Record) (faults : ℕ) → s.down ≡ Some faults → P s (Insert value) (Refused (Down faults) None) s
+  pub hard : (s : Standing) (value : Record) (start end : Lsn) (moment : ℕ) → Reserves size capacity s value start.0 → end.0 ≡ finish_of size (next_entry size s.entries value)
+      → P s (Commit value) (Hard start end moment) (record s { entries = with_next size s.entries value; flushed = end.0 })
+  pub commit_full : (s : Standing) (value : Record) (free : ℕ) → s.down ≡ None → free + rooms_of s.entries ≡ capacity → free < room_of value → P s (Commit value) (Refused (Full free) None) s
+  pub commit_failed : (s : Standing) (value : Record) (start : Lsn) (faults : ℕ) → Reserves size capacity s value start.0 → Rose opened faults
+      → P s (Commit value) (Refused (Disk faults) (Some start)) (record s { entries = with_next size s.entries value; down = Some faults })
+  pub commit_down : (s : Standing) (value : Record) (faults : ℕ) → s.down ≡ Some faults → P s (Commit value) (Refused (Down faults) None) s
+  pub flushed : (s : Standing) (upto : Lsn) (moment : ℕ) → s.down ≡ None → upto.0 ≡ end_of size s.entries → P s Flush (Flushed upto moment) (record s { flushed = upto.0 })
+  pub flush_failed : (s : Standing) (faults : ℕ) → s.down ≡ None → Rose opened faults → P s Flush (Refused (Disk faults) None) (record s { down = Some faults })
+  pub flush_down : (s : Standing) (faults : ℕ) → s.down ≡ Some faults → P s Flush (Refused (Down faults) None) s
 
-module _ (size opened : ℕ) (P : StepFact) (holds : HoldsOfSteps size opened P) where
-  pub fact-StepsCommit : (es : List Entry) (down : Option ℕ) (value : Record) (told : Told) (after : Standing) → StepsCommit size opened es down value told after → P es down (Commit value) told after
-  fact-StepsCommit es None value (Wrote start end) after step = absurd step
-  fact-StepsCommit es None value (Hard start end moment) after step = subst (P es None (Commit value) (Hard start end moment)) (sym step.4) (holds.hard es value start end moment step.0 step.1 step.2)
-  fact-StepsCommit es None value (Flushed upto moment) after step = absurd step
-  fact-StepsCommit es None value (Refused (Full free) None) after step = subst (P es None (Commit value) (Refused (Full free) None)) (sym step.2) (holds.full es value free step.0 step.1)
-  fact-StepsCommit es None value (Refused (Full free) (Some start)) after step = absurd step
-  fact-StepsCommit es None value (Refused (Disk faults) None) after step = absurd step
-  fact-StepsCommit es None value (Refused (Disk faults) (Some start)) after step = subst (P es None (Commit value) (Refused (Disk faults) (Some start))) (sym step.4) (holds.failed es value start faults step.0 step.1 step.3)
-  fact-StepsCommit es None value (Refused (Down faults) reserved) after step = absurd step
-  fact-StepsCommit es (Some down) value (Wrote start end) after step = absurd step
-  fact-StepsCommit es (Some down) value (Hard start end moment) after step = absurd step
-  fact-StepsCommit es (Some down) value (Flushed upto moment) after step = absurd step
-  fact-StepsCommit es (Some down) value (Refused (Full free) reserved) after step = absurd step
-  fact-StepsCommit es (Some down) value (Refused (Disk faults) reserved) after step = absurd step
-  fact-StepsCommit es (Some down) value (Refused (Down faults) None) after step =
-      subst (P es (Some down) (Commit value) (Refused (Down faults) None)) (sym step.1) (subst (λ (n : ℕ). P es (Some down) (Commit value) (Refused (Down n) None) (record { entries = es; down = Some down })) (sym step.0) (holds.commit_down es value down))
-  fact-StepsCommit es (Some down) value (Refused (Down faults) (Some start)) after step = absurd step
+module _ (size capacity opened : ℕ) (P : StepFact) (holds : HoldsOfSteps size capacity opened P) where
+  insert_refused : (s : Standing) (value : Record) (cause : Cause) (reserved : Option Lsn) (after : Standing) → IsWritable value → RefusesRecord size capacity opened s value cause reserved after → P s (Insert value) (Refused cause reserved) after
+  insert_refused s value (Full free) None after writable step = subst (P s (Insert value) (Refused (Full free) None)) (sym step.same) (holds.insert_full s value free step.up step.left step.small)
+  insert_refused s value (Full free) (Some start) after writable step = absurd step
+  insert_refused s value (Disk faults) None after writable step = absurd step
+  insert_refused s value (Disk faults) (Some start) after writable step =
+      subst (P s (Insert value) (Refused (Disk faults) (Some start))) (sym step.after_is) (holds.insert_failed s value start faults (record { writable = writable; reserved = step.reserved }) step.rose)
+  insert_refused s value (Down faults) None after writable step = subst (P s (Insert value) (Refused (Down faults) None)) (sym step.same) (holds.insert_down s value faults step.down)
+  insert_refused s value (Down faults) (Some start) after writable step = absurd step
 
-  pub fact-StepsFlush : (es : List Entry) (down : Option ℕ) (told : Told) (after : Standing) → StepsFlush size es down told after → P es down Flush told after
-  fact-StepsFlush es None (Wrote start end) after step = absurd step
-  fact-StepsFlush es None (Hard start end moment) after step = absurd step
-  fact-StepsFlush es None (Flushed upto moment) after step = subst (P es None Flush (Flushed upto moment)) (sym step.1) (holds.flushed es upto moment step.0)
-  fact-StepsFlush es None (Refused cause reserved) after step = absurd step
-  fact-StepsFlush es (Some down) (Wrote start end) after step = absurd step
-  fact-StepsFlush es (Some down) (Hard start end moment) after step = absurd step
-  fact-StepsFlush es (Some down) (Flushed upto moment) after step = absurd step
-  fact-StepsFlush es (Some down) (Refused (Full free) reserved) after step = absurd step
-  fact-StepsFlush es (Some down) (Refused (Disk faults) reserved) after step = absurd step
-  fact-StepsFlush es (Some down) (Refused (Down faults) None) after step =
-      subst (P es (Some down) Flush (Refused (Down faults) None)) (sym step.1) (subst (λ (n : ℕ). P es (Some down) Flush (Refused (Down n) None) (record { entries = es; down = Some down })) (sym step.0) (holds.flush_down es down))
-  fact-StepsFlush es (Some down) (Refused (Down faults) (Some start)) after step = absurd step
+  inserts : (s : Standing) (value : Record) (answer : Result Receipt refused.Refused) (after : Standing) → IsWritable value → Inserts size capacity opened s value answer after → P s (Insert value) (told_of_insert answer) after
+  inserts s value (Ok receipt) after writable step =
+      subst (P s (Insert value) (Wrote receipt.start receipt.end)) (sym step.after_is) (holds.wrote s value receipt.start receipt.end (record { writable = writable; reserved = step.reserved }) step.end_is)
+  inserts s value (Err refusal) after writable step = insert_refused s value refusal.cause refusal.reserved after writable step
+
+  commit_refused : (s : Standing) (value : Record) (cause : Cause) (reserved : Option Lsn) (after : Standing) → IsWritable value → RefusesRecord size capacity opened s value cause reserved after → P s (Commit value) (Refused cause reserved) after
+  commit_refused s value (Full free) None after writable step = subst (P s (Commit value) (Refused (Full free) None)) (sym step.same) (holds.commit_full s value free step.up step.left step.small)
+  commit_refused s value (Full free) (Some start) after writable step = absurd step
+  commit_refused s value (Disk faults) None after writable step = absurd step
+  commit_refused s value (Disk faults) (Some start) after writable step =
+      subst (P s (Commit value) (Refused (Disk faults) (Some start))) (sym step.after_is) (holds.commit_failed s value start faults (record { writable = writable; reserved = step.reserved }) step.rose)
+  commit_refused s value (Down faults) None after writable step = subst (P s (Commit value) (Refused (Down faults) None)) (sym step.same) (holds.commit_down s value faults step.down)
+  commit_refused s value (Down faults) (Some start) after writable step = absurd step
+
+  commits : (s : Standing) (value : Record) (answer : Result Sealed refused.Refused) (after : Standing) → IsWritable value → Commits size capacity opened s value answer after → P s (Commit value) (told_of_commit answer) after
+  commits s value (Ok sealed) after writable step =
+      subst (P s (Commit value) (Hard sealed.start sealed.end sealed.moment)) (sym step.after_is) (holds.hard s value sealed.start sealed.end sealed.moment (record { writable = writable; reserved = step.reserved }) step.end_is)
+  commits s value (Err refusal) after writable step = commit_refused s value refusal.cause refusal.reserved after writable step
+
+  flush_refused : (s : Standing) (cause : Cause) (reserved : Option Lsn) (after : Standing) → RefusesFlush opened s cause reserved after → P s Flush (Refused cause reserved) after
+  flush_refused s (Full free) reserved after step = absurd step
+  flush_refused s (Disk faults) None after step = subst (P s Flush (Refused (Disk faults) None)) (sym step.after_is) (holds.flush_failed s faults step.up step.rose)
+  flush_refused s (Disk faults) (Some start) after step = absurd step
+  flush_refused s (Down faults) None after step = subst (P s Flush (Refused (Down faults) None)) (sym step.same) (holds.flush_down s faults step.down)
+  flush_refused s (Down faults) (Some start) after step = absurd step
+
+  flushes : (s : Standing) (answer : Result hard.Hard refused.Refused) (after : Standing) → Flushes size opened s answer after → P s Flush (told_of_flush answer) after
+  flushes s (Ok done) after step = subst (P s Flush (Flushed done.upto done.moment)) (sym step.after_is) (holds.flushed s done.upto done.moment step.up step.upto_is)
+  flushes s (Err refusal) after step = flush_refused s refusal.cause refusal.reserved after step
 
   -- what holds of each kind of step holds of each step
-  pub fact-Steps : (before : Standing) (action : Action) (told : Told) (after : Standing) → Steps size opened before action told after → P before.entries before.down action told after
-  fact-Steps before (Commit value) told after step = fact-StepsCommit before.entries before.down value told after step
-  fact-Steps before Flush told after step = fact-StepsFlush before.entries before.down told after step
+  pub fact-Steps : (before : Standing) (action : Action) (told : Told) (after : Standing) → Steps size capacity opened before action told after → P before action told after
+  fact-Steps before (Insert value) told after step = subst (λ (t : Told). P before (Insert value) t after) (sym step.1) (inserts before value step.0 after step.2 step.3)
+  fact-Steps before (Commit value) told after step = subst (λ (t : Told). P before (Commit value) t after) (sym step.1) (commits before value step.0 after step.2 step.3)
+  fact-Steps before Flush told after step = subst (λ (t : Told). P before Flush t after) (sym step.1) (flushes before step.0 after step.2)

@@ -1,10 +1,10 @@
 -- Tasks made for lines, one by one, and how they print.
-use Rattle.std.proofs.Common.{◌≡◌, ℕ, zero, suc, ◌+◌, ◌<◌, List, [], ◌∷◌, ◌++◌, length, get_or, take, ap, ap₂, subst₂, refl, sym, ◌∙◌, subst, arith}
+use Rattle.std.proofs.Common.{◌≡◌, ℕ, ◌+◌, ◌<◌, List, [], ◌∷◌, ◌++◌, length, get_or, take, ap, ap₂, subst₂, refl, sym, ◌∙◌, arith}
 use Rattle.std.proofs.lemmas.List.{take_more}
 use Rattle.wal_script.specs.declared.line.Line.{Line}
 use Rattle.backend_cli.specs.declared.tasks.Task.{Task}
 use Rattle.backend_cli.specs.declared.told.Told.{Told}
-use Rattle.backend_cli.specs.Tasks.{AreCommits, AreTasks, IsCommit, IsWork}
+use Rattle.backend_cli.specs.Tasks.{AreTasks, IsWork}
 use Rattle.backend_cli.specs.Texts.{told_line, told_lines_of}
 use Rattle.backend_cli.specs.Printing.{task_lines}
 
@@ -13,15 +13,6 @@ AreTasks_push [] [] line task are number work = (number, work, tt)
 AreTasks_push [] (other ∷ tasks) line task are number work = absurd are
 AreTasks_push (first ∷ lines) [] line task are number work = absurd are
 AreTasks_push (first ∷ lines) (other ∷ tasks) line task are number work = (are.0, are.1, AreTasks_push lines tasks line task are.2 number work)
-
--- each line's commit is one that a script can spell
-IsCommit-get_or : (lines : List Line) (i : ℕ) (d : Line) → AreCommits lines → i < length lines → IsCommit (get_or lines i d).action
-IsCommit-get_or [] i d are within = absurd (omega arith)
-IsCommit-get_or (line ∷ lines) zero d are within = are.0
-IsCommit-get_or (line ∷ lines) (suc i) d are within = IsCommit-get_or lines i d are.1 (omega arith)
-
-pub IsCommit-item : (lines : List Line) (i : ℕ) (line : Line) → AreCommits lines → i < length lines → line ≡ get_or lines i line → IsCommit line.action
-IsCommit-item lines i line are within is = subst (λ (l : Line). IsCommit l.action) (sym is) (IsCommit-get_or lines i line are within)
 
 -- the step of a loop over lines
 pub AreTasks_more : (lines : List Line) (i : ℕ) (line : Line) (tasks new : List Task) (task : Task) → i < length lines → line ≡ get_or lines i line → AreTasks (take i lines) tasks

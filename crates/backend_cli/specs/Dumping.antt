@@ -10,7 +10,7 @@ use Rattle.backend_cli.specs.declared.told.Told.{Told}
 use Rattle.backend_cli.specs.Rises.{HasRisen}
 use Rattle.backend_cli.specs.Outside.{Outside}
 
--- what a listing printed, by how it ended: the lines of the records that the disk's log decodes to (of which only the first page of segment 1 is looked at yet), or a front of them
+-- what a listing printed, by how it ended: the lines of the records that the disk's log decodes to, or a front of them
 abbrev pub Listed : ℕ → Outside → Outcome → Tape → Type 0
 Listed size outside Done t = (at : Lsn) × PutsListing size t outside.taken_before outside.taken_after (answers.End at)
 Listed size outside OutOfMemory t = PutsListingFront size t outside.taken_before outside.taken_after
@@ -18,7 +18,7 @@ Listed size outside Usage t = ⊥
 Listed size outside SourceFault t = ⊥
 Listed size outside (ScriptRefused refusal) t = ⊥
 Listed size outside NotEmpty t = ⊥
-Listed size outside DiskFault t = outside.taken_after ≡ outside.taken_before
+Listed size outside DiskFault t = PutsListingFront size t outside.taken_before outside.taken_after
 Listed size outside (Stopped answer) t = PutsListing size t outside.taken_before outside.taken_after answer
 Listed size outside LogFull t = ⊥
 Listed size outside SinkFault t = PutsListingFront size t outside.taken_before outside.taken_after

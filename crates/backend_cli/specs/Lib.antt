@@ -3,7 +3,7 @@ pub mod Told
 pub mod Texts
 pub mod Rises
 pub mod Moments
-pub mod Log
+pub mod Steps
 pub mod Outcome
 pub mod Outside
 pub mod Run
@@ -11,7 +11,6 @@ pub mod Whole
 pub mod Dumping
 pub mod Reading
 pub mod Tasks
-pub mod LogState
 pub mod Printing
 pub mod Prepared
 pub mod Concluding

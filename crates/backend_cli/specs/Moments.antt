@@ -3,11 +3,11 @@ use Rattle.std.specs.Prelude.{◌≡◌, ℕ, ◌<◌, ◌≤◌, List, [], ◌�
 use Rattle.backend_cli.specs.declared.told.Told.{Told}
 use Rattle.backend_cli.specs.declared.told.Told.TheVariants.{Wrote, Hard, Flushed, Refused}
 
--- one answer, between the moments from which all was durable before it and after it: a commit's receipt names a later one than there was, a flush's the one that there was
+-- one answer, between the moments told last before it and after it: a commit's receipt names a later one, a flush's no earlier one
 abbrev pub MomentStep : ℕ → Told → ℕ → Type 0
 MomentStep before (Wrote start end) after = after ≡ before
 MomentStep before (Hard start end moment) after = (before < moment) × (after ≡ moment)
-MomentStep before (Flushed upto moment) after = (moment ≡ before) × (after ≡ before)
+MomentStep before (Flushed upto moment) after = (before ≤ moment) × (after ≡ moment)
 MomentStep before (Refused cause reserved) after = after ≡ before
 
 -- answers in order, from a moment to another

@@ -1,5 +1,6 @@
 -- What a command line promises.
 use Rattle.std.specs.Prelude.{◌≡◌, List, [], Option, Some, None}
+use Rattle.wal_log.specs.Standing.{capacity_of}
 use Rattle.backend_cli.specs.declared.outcome.Outcome.{Outcome}
 use Rattle.backend_cli.specs.declared.outcome.Outcome.TheVariants.{Usage}
 use Rattle.backend_cli.specs.declared.told.Told.{Told}
@@ -20,7 +21,7 @@ pub record IsUsage (outside : Outside) (outcome : Outcome) (lists : List (List T
 -- what is asked for is done
 abbrev pub Obeys : Option Command → Outside → Outcome → List (List Told) → Type 0
 Obeys None outside outcome lists = IsUsage outside outcome lists
-Obeys (Some (Run options)) outside outcome lists = RunHolds outside options.geometry options.list outcome lists
+Obeys (Some (Run options)) outside outcome lists = RunHolds outside options.geometry (capacity_of options.geometry options.cap_segments) options.list outcome lists
 Obeys (Some (Dump size)) outside outcome lists = DumpHolds outside size outcome lists
 
 -- a run is asked for

@@ -1,19 +1,20 @@
 -- What a run makes ready before it opens the log.
-use Rattle.std.specs.Prelude.{◌≡◌, ℕ, ◌<◌, ◌≤◌, List, [], ◌∷◌, length, Option, Result, Ok, Err, IfSome, Vec, vec_capacity}
+use Rattle.std.specs.Prelude.{◌≡◌, ℕ, ◌<◌, ◌≤◌, List, [], ◌∷◌, length, All, Option, Result, Ok, Err, IfSome, Vec, vec_capacity}
 use Rattle.std.specs.declared.alloc.Global.{Global}
 use Rattle.wal_script.specs.declared.line.Line.{Line}
 use Rattle.wal_script.specs.Meaning.{meaning_of}
+use Rattle.wal_script.specs.Writable.{AsksWritable}
+use Rattle.wal_log.specs.declared.shape.Shape.{Shape}
 use Rattle.backend_cli.specs.declared.run.Prepared.{Prepared}
 use Rattle.backend_cli.specs.declared.outcome.Outcome.{Outcome}
 use Rattle.backend_cli.specs.declared.outcome.Outcome.TheVariants.{Done, OutOfMemory, Usage, SourceFault, ScriptRefused, NotEmpty, DiskFault, Stopped, LogFull, SinkFault}
-use Rattle.backend_cli.specs.LogState.{IsNewPage}
 use Rattle.backend_cli.specs.Rises.{HasRisen}
-use Rattle.backend_cli.specs.Tasks.{AreTasks, AreCommits}
+use Rattle.backend_cli.specs.Tasks.{AreTasks}
 
--- tasks for these lines, a new page, and room for what the lines are told
-pub record IsReady (size : ℕ) (lines : List Line) (prepared : Prepared) : Type 0 where
+-- tasks for these lines, room for a log, and room for what the lines are told
+pub record IsReady (shape : Shape) (lines : List Line) (prepared : Prepared) : Type 0 where
   pub tasks : AreTasks lines prepared.tasks.items
-  pub page : IsNewPage size prepared.page
+  pub room : prepared.room ≡ shape
   pub told : prepared.told.items ≡ []
   pub told_room : length prepared.tasks.items ≤ vec_capacity prepared.told
   pub lists : prepared.lists.items ≡ []
@@ -38,10 +39,10 @@ IsUnprepared source before after SinkFault = ⊥
 
 -- reading the lines of a script
 abbrev pub ReadsLines : Option (List ℕ) → ℕ → ℕ → Result (Vec Line Global) Outcome → Type 0
-ReadsLines source before after (Ok lines) = MeansLines source lines.items × AreCommits lines.items × (after ≡ before)
+ReadsLines source before after (Ok lines) = MeansLines source lines.items × All (λ line. AsksWritable line.action) lines.items × (after ≡ before)
 ReadsLines source before after (Err outcome) = IsUnprepared source before after outcome
 
 -- making all ready
-abbrev pub Prepares : Option (List ℕ) → ℕ → ℕ → ℕ → Result Prepared Outcome → Type 0
-Prepares source size before after (Ok prepared) = ((lines : List Line) × MeansLines source lines × IsReady size lines prepared) × (after ≡ before)
-Prepares source size before after (Err outcome) = IsUnprepared source before after outcome
+abbrev pub Prepares : Option (List ℕ) → Shape → ℕ → ℕ → Result Prepared Outcome → Type 0
+Prepares source shape before after (Ok prepared) = ((lines : List Line) × MeansLines source lines × IsReady shape lines prepared) × (after ≡ before)
+Prepares source shape before after (Err outcome) = IsUnprepared source before after outcome

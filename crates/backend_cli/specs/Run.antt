@@ -3,11 +3,12 @@ use Rattle.std.specs.Prelude.{◌≡◌, ℕ, ◌+◌, ◌-◌, ◌^◌, ◌<◌
 use Rattle.byte_position.specs.Position.{first_position}
 use Rattle.segment_disk.specs.Tape.{Tape, state_now, page_of_segment}
 use Rattle.segment_disk.specs.Image.{Image, Leaves, image_as_read}
+use Rattle.flush_core.specs.Pages.{HoldsNothing}
 use Rattle.wal_record.specs.Spelling.{room_of}
 use Rattle.wal_page.specs.Order.{Entry, IsChained, rooms_of}
 use Rattle.wal_script.specs.declared.line.Line.{Line}
 use Rattle.wal_script.specs.declared.line.Action.{Action}
-use Rattle.wal_script.specs.declared.line.Action.TheVariants.{Commit, Flush}
+use Rattle.wal_script.specs.declared.line.Action.TheVariants.{Insert, Commit, Flush}
 use Rattle.wal_script.specs.Meaning.{meaning_of}
 use Rattle.wal_reader.specs.Pages.{pages_in}
 use Rattle.wal_reader.specs.Decodes.{Decodes, ended}
@@ -18,8 +19,12 @@ use Rattle.backend_cli.specs.declared.told.Told.{Told}
 use Rattle.backend_cli.specs.Told.{TellsAll, order_of, RiseInLineOrder, IsFullAnswer, IsRefused, SomeTold}
 use Rattle.backend_cli.specs.Moments.{EachRises}
 use Rattle.backend_cli.specs.Texts.{run_text}
-use Rattle.backend_cli.specs.Rises.{HasRisen, IsEmpty}
+use Rattle.backend_cli.specs.Rises.{HasRisen}
 use Rattle.backend_cli.specs.Outside.{Outside, Took, IsUntouched}
+
+-- the script that a source has means some lines
+abbrev pub MeansSome : Option (List ℕ) → Type 0
+MeansSome source = IfSome source (λ bytes. (script : List (List Line)) × (meaning_of bytes ≡ Ok script))
 
 -- how a run ends that did not open the log, and why
 abbrev pub EndsUnopened : Outside → Outcome → Type 0
@@ -28,8 +33,8 @@ EndsUnopened outside OutOfMemory = outside.disk_after ≡ outside.disk_before
 EndsUnopened outside Usage = ⊥
 EndsUnopened outside SourceFault = HasRisen outside.source_before outside.source_after × (outside.disk_after ≡ outside.disk_before)
 EndsUnopened outside (ScriptRefused refusal) = IfSome outside.source (λ bytes. meaning_of bytes ≡ Err refusal) × (outside.source_after ≡ outside.source_before) × (outside.disk_after ≡ outside.disk_before)
-EndsUnopened outside NotEmpty = IfSome outside.tape_before (λ t. IsSome (page_of_segment (state_now t 1) 0)) × (outside.source_after ≡ outside.source_before) × (outside.disk_after ≡ outside.disk_before)
-EndsUnopened outside DiskFault = HasRisen outside.disk_before outside.disk_after × (outside.source_after ≡ outside.source_before)
+EndsUnopened outside NotEmpty = MeansSome outside.source × IfSome outside.tape_before (λ t. IsSome (page_of_segment (state_now t 1) 0)) × (outside.source_after ≡ outside.source_before) × (outside.disk_after ≡ outside.disk_before)
+EndsUnopened outside DiskFault = MeansSome outside.source × HasRisen outside.disk_before outside.disk_after × (outside.source_after ≡ outside.source_before)
 EndsUnopened outside (Stopped answer) = ⊥
 EndsUnopened outside LogFull = ⊥
 EndsUnopened outside SinkFault = ⊥
@@ -58,6 +63,7 @@ IsWhole size (Some t) es = ((image : Image) → Leaves (state_now t) image → D
 
 -- the bytes that the records of a script take up together
 abbrev pub room_asked : Action → ℕ
+room_asked (Insert value) = room_of value
 room_asked (Commit value) = room_of value
 room_asked Flush = 0
 
@@ -70,19 +76,19 @@ all_rooms_asked [] = 0
 all_rooms_asked (lines ∷ script) = rooms_asked lines + all_rooms_asked script
 
 -- a run that opened the log, of a script with these lines: what it told and made of them
-pub record HoldsOpened (outside : Outside) (size : ℕ) (list : Bool) (outcome : Outcome) (script : List (List Line)) (lists : List (List Told)) : Type 0 where
+pub record HoldsOpened (outside : Outside) (size capacity : ℕ) (list : Bool) (outcome : Outcome) (script : List (List Line)) (lists : List (List Told)) : Type 0 where
   pub means : IfSome outside.source (λ bytes. meaning_of bytes ≡ Ok script)
-  pub told : TellsAll (record { size = size; capacity = 8152; order = order_of size script lists; opened = outside.disk_before; last = outside.disk_after }) 0 script lists
+  pub told : TellsAll (record { size = size; capacity = capacity; order = order_of size script lists; opened = outside.disk_before; last = outside.disk_after }) 0 script lists
   pub gapless : IsChained size (order_of size script lists)
   pub in_line_order : RiseInLineOrder size 0 script lists
   pub moments : EachRises outside.moment_before lists outside.moment_after
-  pub whole : outside.disk_after ≡ outside.disk_before → outside.disk_before < 2 ^ 64 - 1 → IsEmpty outside.tape_before → IsWhole size outside.tape_after (order_of size script lists)
+  pub whole : outside.disk_after ≡ outside.disk_before → outside.disk_before < 2 ^ 64 - 1 → HoldsNothing outside.tape_before → IsWhole size outside.tape_after (order_of size script lists)
   pub printed : Took outside.taken_before outside.taken_after outside.sink_before outside.sink_after (run_text size list script lists (order_of size script lists))
   pub ends : EndsOpened outside lists outcome
-  pub full : SomeTold IsFullAnswer lists → 8152 < all_rooms_asked script
+  pub full : SomeTold IsFullAnswer lists → capacity < all_rooms_asked script
   pub source_read : outside.source_after ≡ outside.source_before
 
 -- a run: without told lists the log was not opened, and nothing was touched
-abbrev pub RunHolds : Outside → ℕ → Bool → Outcome → List (List Told) → Type 0
-RunHolds outside size list outcome [] = EndsUnopened outside outcome × IsUntouched outside
-RunHolds outside size list outcome (told ∷ others) = (script : List (List Line)) × HoldsOpened outside size list outcome script (told ∷ others)
+abbrev pub RunHolds : Outside → ℕ → ℕ → Bool → Outcome → List (List Told) → Type 0
+RunHolds outside size capacity list outcome [] = EndsUnopened outside outcome × IsUntouched outside
+RunHolds outside size capacity list outcome (told ∷ others) = (script : List (List Line)) × HoldsOpened outside size capacity list outcome script (told ∷ others)

@@ -7,11 +7,11 @@ use Rattle.wal_record.specs.Spelling.{room_of}
 use Rattle.wal_page.specs.Order.{Entry, position_behind, rooms_of}
 use Rattle.wal_script.specs.declared.line.Line.{Line}
 use Rattle.wal_script.specs.declared.line.Action.{Action}
-use Rattle.wal_script.specs.declared.line.Action.TheVariants.{Commit, Flush}
+use Rattle.wal_script.specs.declared.line.Action.TheVariants.{Insert, Commit, Flush}
 use Rattle.backend_cli.specs.declared.told.Told.{Told}
 use Rattle.backend_cli.specs.declared.told.Told.TheVariants.{Wrote, Hard, Flushed, Refused}
-use Rattle.backend_cli.specs.declared.told.Cause.{Cause}
-use Rattle.backend_cli.specs.declared.told.Cause.TheVariants.{Full, Disk, Down}
+use Rattle.wal_log.specs.declared.told.Cause.{Cause}
+use Rattle.wal_log.specs.declared.told.Cause.TheVariants.{Full, Disk, Down}
 
 -- the start that was reserved for a line's record
 abbrev pub reserved_by : Told → Option Lsn
@@ -26,6 +26,7 @@ entry_at size backend value None = None
 entry_at size backend value (Some start) = Some (record { pass = backend; value = value; start = position_of size start.0 })
 
 abbrev pub entry_of : ℕ → ℕ → Action → Told → Option Entry
+entry_of size backend (Insert value) told = entry_at size backend value (reserved_by told)
 entry_of size backend (Commit value) told = entry_at size backend value (reserved_by told)
 entry_of size backend Flush told = None
 
@@ -86,14 +87,14 @@ pub record IsFull (logged : Logged) (behind : ℕ) (value : Record) (free : ℕ)
   pub left : free + rooms_of (take front logged.order) ≡ logged.capacity
   pub short : free < room_of value
 
--- why a commit may be refused
-abbrev pub RefusesCommit : Logged → ℕ → Record → Cause → Option Lsn → Type 0
-RefusesCommit logged behind value (Full free) None = IsFull logged behind value free
-RefusesCommit logged behind value (Full free) (Some start) = ⊥
-RefusesCommit logged behind value (Disk faults) None = IsFault logged faults
-RefusesCommit logged behind value (Disk faults) (Some start) = IsFault logged faults × (start.0 ≡ address_of logged.size (position_of logged.size start.0))
-RefusesCommit logged behind value (Down faults) None = IsFault logged faults
-RefusesCommit logged behind value (Down faults) (Some start) = IsFault logged faults × (start.0 ≡ address_of logged.size (position_of logged.size start.0))
+-- why an insert or a commit may be refused
+abbrev pub RefusesRecord : Logged → ℕ → Record → Cause → Option Lsn → Type 0
+RefusesRecord logged behind value (Full free) None = IsFull logged behind value free
+RefusesRecord logged behind value (Full free) (Some start) = ⊥
+RefusesRecord logged behind value (Disk faults) None = IsFault logged faults
+RefusesRecord logged behind value (Disk faults) (Some start) = IsFault logged faults × (start.0 ≡ address_of logged.size (position_of logged.size start.0))
+RefusesRecord logged behind value (Down faults) None = IsFault logged faults
+RefusesRecord logged behind value (Down faults) (Some start) = IsFault logged faults × (start.0 ≡ address_of logged.size (position_of logged.size start.0))
 
 -- why a flush may be refused: it reserves nothing, and needs no room
 abbrev pub RefusesFlush : Logged → Cause → Option Lsn → Type 0
@@ -101,12 +102,16 @@ RefusesFlush logged (Full free) reserved = ⊥
 RefusesFlush logged (Disk faults) reserved = IsFault logged faults × (reserved ≡ None)
 RefusesFlush logged (Down faults) reserved = IsFault logged faults × (reserved ≡ None)
 
--- what a line may be told, where its backend's earlier entries end at byte position `behind`: a commit that it is durable, a flush that all is up to there at least and no further than the log goes
+-- what a line may be told, where its backend's earlier entries end at byte position `behind`: an insert that its record is written, a commit that it is durable, a flush that all is up to there at least and no further than the log goes
 abbrev pub FitsLine : Logged → ℕ → Action → Told → Type 0
+FitsLine logged behind (Insert value) (Wrote start end) = IsPlaced logged.size value start.0 end.0
+FitsLine logged behind (Insert value) (Hard start end moment) = ⊥
+FitsLine logged behind (Insert value) (Flushed upto moment) = ⊥
+FitsLine logged behind (Insert value) (Refused cause reserved) = RefusesRecord logged behind value cause reserved
 FitsLine logged behind (Commit value) (Wrote start end) = ⊥
 FitsLine logged behind (Commit value) (Hard start end moment) = IsPlaced logged.size value start.0 end.0
 FitsLine logged behind (Commit value) (Flushed upto moment) = ⊥
-FitsLine logged behind (Commit value) (Refused cause reserved) = RefusesCommit logged behind value cause reserved
+FitsLine logged behind (Commit value) (Refused cause reserved) = RefusesRecord logged behind value cause reserved
 FitsLine logged behind Flush (Wrote start end) = ⊥
 FitsLine logged behind Flush (Hard start end moment) = ⊥
 FitsLine logged behind Flush (Flushed upto moment) = (end_address_of logged.size behind ≤ upto.0) × (upto.0 ≤ end_address_of logged.size (first_position logged.size + rooms_of logged.order))

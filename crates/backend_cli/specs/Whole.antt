@@ -1,13 +1,12 @@
--- That an order which the disk holds durably is whole.
-use Rattle.std.specs.Prelude.{ℕ, ◌≤◌, List, Option, IfSome}
+-- That a log which a disk holds for good is whole.
+use Rattle.std.specs.Prelude.{ℕ, ◌^◌, ◌<◌, ◌≤◌, List, Option, IfSome}
 use Rattle.byte_position.specs.Geometry.{IsSegmentSize}
-use Rattle.segment_disk.specs.Tape.{Tape, state_now}
+use Rattle.segment_disk.specs.Tape.{Tape}
 use Rattle.wal_page.specs.Order.{Entry, IsChained, rooms_of}
-use Rattle.wal_reader.specs.Written.{HasNoBlocks}
-use Rattle.backend_cli.specs.Log.{HoldsDurably}
+use Rattle.wal_log.specs.LogImage.{HoldsLog}
 use Rattle.backend_cli.specs.Run.{IsWhole}
 
--- an order that segment 1 holds durably in its first page is what every image that a crash may leave, and the disk as it is read, decode to
-abbrev pub DurableIsWhole : Type 0
-DurableIsWhole =
-    (size : ℕ) (es : List Entry) (tape : Option Tape) → IsSegmentSize size → IsChained size es → HasNoBlocks es → rooms_of es ≤ 8152 → IfSome tape (λ t. HoldsDurably size 1 es (state_now t 1)) → IsWhole size tape es
+-- an order whose log a disk holds for good is what every image that a crash may leave, and the disk as it is read, decode to
+abbrev pub HeldLogIsWhole : Type 0
+HeldLogIsWhole =
+    (size sysid : ℕ) (es : List Entry) (tape : Option Tape) → IsSegmentSize size → 0 < sysid → sysid < 2 ^ 64 → IsChained size es → rooms_of es ≤ 2 ^ 42 → IfSome tape (HoldsLog size sysid es) → IsWhole size tape es

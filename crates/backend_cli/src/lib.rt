@@ -1,9 +1,9 @@
 //! The program's commands over sources, sinks and disks handed in.
 #![tactic(auto)]
 
+mod answer;
 mod dump;
 mod laws;
-mod log;
 mod outcome;
 mod play;
 mod printing;
@@ -17,5 +17,6 @@ mod words;
 pub use laws::{law_of_played_entries, law_of_played_full, law_of_played_tells, law_of_whole};
 pub use outcome::Outcome;
 pub use program::{Ended, Gate, pgwal};
-pub use told::{Cause, Told, ToldLists};
+pub use told::{Told, ToldLists};
+pub use wal_log::Cause;
 pub use words::{Command, RunOptions};

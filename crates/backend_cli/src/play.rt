@@ -1,16 +1,18 @@
 ghost use Rattle.std.specs.Prelude.{◌≡◌, ◌≤◌, ℕ, List, [], length, vec_capacity, Option};
 ghost use Rattle.segment_disk.specs.Tape.{Tape};
 ghost use Rattle.wal_script.specs.declared.line.Line.{Line};
-ghost use Rattle.backend_cli.specs.Log.{Standing, Plays, at_opening};
+ghost use Rattle.wal_log.specs.LogState.{IsLog, IsSameLog, log_disk};
+ghost use Rattle.wal_log.specs.Standing.{Standing, at_opening};
 ghost use Rattle.backend_cli.specs.Moments.{MomentsReach};
-ghost use Rattle.backend_cli.specs.LogState.{IsLog};
+ghost use Rattle.backend_cli.specs.Steps.{Plays};
 ghost use Rattle.backend_cli.specs.Tasks.{AreTasks};
 
-use crate::log::Log;
+use crate::answer::answer;
 use crate::program::Gate;
 use crate::tasks::Task;
 use crate::told::Told;
 use segment_disk::Disk;
+use wal_log::Log;
 
 /// Plays a backend's lines in order, and notes what each is told in a vector that has room for it. A line that is refused does not end the
 /// backend: the next is tried.
@@ -22,15 +24,15 @@ pub(crate) fn play<D: Disk, G: Gate>(
 )
     requires empty { told.old.items ≡ [] }
     requires room { length tasks.now ≤ vec_capacity told.old }
-    ensures plays { (before : Option Tape) (opened : ℕ) (lines : List Line) → IsLog D.tape D.faults before opened log.old at_opening → AreTasks lines tasks.now
-        → (after : Standing) × Plays log.old.geometry opened at_opening lines told.new.items after × IsLog D.tape D.faults before opened log.new after }
-    ensures geometry { log.new.geometry ≡ log.old.geometry }
-    ensures moments { log.old.moment ≤ D.moment log.old.disk → MomentsReach log.old.moment told.new.items log.new.moment × (log.new.moment ≤ D.moment log.new.disk) }
+    ensures plays { (before : Option Tape) (opened : ℕ) (lines : List Line) → IsLog D.tape D.faults before opened log.old (at_opening log.old.size) → AreTasks lines tasks.now
+        → (after : Standing) × Plays log.old.size log.old.capacity opened (at_opening log.old.size) lines told.new.items after × IsLog D.tape D.faults before opened log.new after }
+    ensures same { IsSameLog log.old log.new }
+    ensures moments { log.old.moment ≤ D.moment (log_disk log.old) → MomentsReach log.old.moment told.new.items log.new.moment × (log.new.moment ≤ D.moment (log_disk log.new)) }
     ensures each { length told.new.items ≡ length tasks.now }
 {
     for task in tasks {
         gate.pass(0, task.number);
-        let answer = log.answer(&task.work);
+        let answer = answer(log, &task.work);
         told.push_reserved(answer);
     }
 }

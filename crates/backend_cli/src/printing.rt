@@ -6,8 +6,9 @@ ghost use Rattle.backend_cli.specs.Texts.{told_line, answer_text, cause_text, re
 ghost use Rattle.backend_cli.specs.Printing.{task_lines, summary_line};
 
 use crate::tasks::Task;
-use crate::told::{Cause, Told};
+use crate::told::Told;
 use segment_disk::Sink;
+use wal_log::Cause;
 use wal_types::Lsn;
 use waldump_text::{SinkFault, put_all};
 

@@ -1,6 +1,6 @@
 ghost use Rattle.std.specs.Prelude.{◌≡◌, map, string_bytes};
 ghost use Rattle.waldump_text.specs.Put.{joined};
-ghost use Rattle.backend_cli.specs.Words.{asks};
+ghost use Rattle.backend_cli.specs.Words.{AsksInRange, asks};
 ghost use Rattle.backend_cli.specs.Outcome.{status_of, outcome_text};
 ghost use Rattle.backend_cli.specs.Outside.{Took};
 ghost use Rattle.backend_cli.specs.Obeying.{Obeys, AsksRun};
@@ -38,6 +38,7 @@ fn obey<S: Source, O: Sink, D: Disk, G: Gate>(
     out: &mut O,
     gate: &G,
 ) -> Finished<D>
+    requires in_range { AsksInRange command }
     ensures obeys { Obeys command (record {
       source = S.left script.old;
       source_before = S.faults script.old;
@@ -61,7 +62,10 @@ fn obey<S: Source, O: Sink, D: Disk, G: Gate>(
             disk,
             told: ToldLists::none(alloc),
         },
-        Some(Command::Run(options)) => run(alloc, *options, script, disk, out, gate),
+        Some(Command::Run(options)) => {
+            let shape = options.shape().unwrap();
+            run(alloc, shape, options.list, script, disk, out, gate)
+        }
         Some(Command::Dump(geometry)) => list(alloc, *geometry, disk, out),
     }
 }

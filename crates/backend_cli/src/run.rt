@@ -1,15 +1,15 @@
-ghost use Rattle.std.specs.Prelude.{◌≡◌, ◌≤◌, ◌<◌, ℕ, List, [], ◌∷◌, Option, length, IfOk, IsTrue, false, not};
+ghost use Rattle.std.specs.Prelude.{◌≡◌, ◌≤◌, ◌<◌, ℕ, All, List, [], ◌∷◌, Option, length, IfOk, IsTrue, false, not};
 ghost use Rattle.wal_script.specs.declared.line.Line.{Line};
+ghost use Rattle.wal_script.specs.Writable.{AsksWritable};
 ghost use Rattle.waldump_text.specs.Put.{Puts};
+ghost use Rattle.wal_log.specs.Standing.{capacity_of};
 ghost use Rattle.backend_cli.specs.Told.{SomeAnswer, IsFullAnswer};
 ghost use Rattle.backend_cli.specs.Texts.{reserved_count, commits_of};
 ghost use Rattle.backend_cli.specs.Printing.{printed_text, Summarizes};
 ghost use Rattle.backend_cli.specs.Concluding.{Concludes};
-ghost use Rattle.backend_cli.specs.Tasks.{AreCommits};
 ghost use Rattle.backend_cli.specs.Run.{RunHolds};
 ghost use Rattle.backend_cli.specs.Prepared.{Prepares, ReadsLines, IsReady, MeansLines};
 
-use crate::log::{Log, OpenFailure};
 use crate::outcome::Outcome;
 use crate::play::play;
 use crate::printing::{Summary, put_told_lines};
@@ -17,11 +17,10 @@ use crate::program::Gate;
 use crate::reading::{ReadFailure, read_script};
 use crate::tasks::{Task, tasks_of};
 use crate::told::{Told, ToldLists};
-use crate::words::RunOptions;
 use byte_position::Geometry;
 use segment_disk::{Disk, Sink, Source};
 use std::alloc::{AllocError, Global};
-use wal_page::FirstPage;
+use wal_log::{Log, OpenFailure, Room, Shape};
 use wal_script::{Line, ParseError, parse};
 use waldump_text::SinkFault;
 
@@ -37,16 +36,12 @@ pub(crate) struct Finished<D> {
 #[derive(Drop)]
 struct Prepared {
     tasks: Vec<Task>,
-    page: FirstPage,
-    // Room for the read that looks for a segment.
-    piece: Box<[u8; 8192]>,
+    // Room for the log.
+    room: Room,
     // Room for what the lines are told.
     told: Vec<Told>,
     lists: Vec<Vec<Told>>,
 }
-
-// How many bytes the first page has for records.
-const ROOM: u32 = 8152;
 
 // The system id of each log that this program writes.
 const SYSTEM_ID: u64 = 1;
@@ -66,31 +61,26 @@ fn lines_of<S: Source>(alloc: Global, source: &mut S) -> Result<Vec<Line>, Outco
     }
 }
 
-fn room_for(alloc: Global, geometry: Geometry, lines: &[Line]) -> Result<Prepared, AllocError>
-    requires { AreCommits lines.now }
-    ensures { IfOk result (λ prepared. IsReady geometry lines.now prepared) }
+fn room_for(alloc: Global, shape: Shape, lines: &[Line]) -> Result<Prepared, AllocError>
+    requires { All (λ line. AsksWritable line.action) lines.now }
+    ensures { IfOk result (λ prepared. IsReady shape lines.now prepared) }
 {
     let tasks = tasks_of(alloc, lines)?;
     let told = Vec::with_capacity(alloc, tasks.len())?;
     Ok(Prepared {
         tasks,
-        page: FirstPage::new(alloc, geometry, SYSTEM_ID)?,
-        piece: Box::new(alloc, [0; 8192])?,
+        room: Room::new(alloc, shape)?,
         told,
         lists: Vec::with_capacity(alloc, 1)?,
     })
 }
 
 // Reads the script and takes all room.
-fn prepare<S: Source>(
-    alloc: Global,
-    geometry: Geometry,
-    source: &mut S,
-) -> Result<Prepared, Outcome>
-    ensures { Prepares (S.left source.old) geometry (S.faults source.old) (S.faults source.new) result }
+fn prepare<S: Source>(alloc: Global, shape: &Shape, source: &mut S) -> Result<Prepared, Outcome>
+    ensures { Prepares (S.left source.old) shape.now (S.faults source.old) (S.faults source.new) result }
 {
     let lines = lines_of(alloc, source)?;
-    match room_for(alloc, geometry, &lines) {
+    match room_for(alloc, *shape, &lines) {
         Ok(prepared) => Ok(prepared),
         Err(AllocError) => Err(Outcome::OutOfMemory),
     }
@@ -135,13 +125,13 @@ fn found_full(told: &[Told]) -> bool
     false
 }
 
-// What the summary says of a log's page and of what its lines were told.
-fn summary_of(geometry: Geometry, page: &FirstPage, told: &[Told]) -> Summary
-    requires { page.now.size ≡ geometry }
-    ensures { Summarizes geometry page.now.used told.now result }
+// What the summary says of a log and of what its lines were told.
+fn summary_of<D: Disk>(geometry: Geometry, log: &Log<D>, told: &[Told]) -> Summary
+    requires { log.now.size ≡ geometry }
+    ensures { Summarizes geometry log.now.bytes told.now result }
 {
-    let bytes = u64::from(ROOM - page.free());
-    let end = page.end();
+    let bytes = log.bytes();
+    let end = log.end();
     Summary {
         records: records_in(told),
         commits: commits_in(told),
@@ -189,14 +179,15 @@ fn conclusion(down: Option<u64>, told: &[Told], is_printed: bool) -> Outcome
 
 fn run_prepared<O: Sink, D: Disk, G: Gate>(
     alloc: Global,
-    options: RunOptions,
+    shape: Shape,
+    list: bool,
     prepared: Prepared,
     disk: D,
     out: &mut O,
     gate: &G,
 ) -> Finished<D>
-    requires { (lines : List Line) × IsReady options.geometry lines prepared }
-    ensures holds { (source : Option (List ℕ)) (count : ℕ) (lines : List Line) → MeansLines source lines → IsReady options.geometry lines prepared
+    requires { (lines : List Line) × IsReady shape lines prepared }
+    ensures holds { (source : Option (List ℕ)) (count : ℕ) (lines : List Line) → MeansLines source lines → IsReady shape lines prepared
         → RunHolds (record {
           source = source;
           source_before = count;
@@ -211,17 +202,17 @@ fn run_prepared<O: Sink, D: Disk, G: Gate>(
           taken_after = O.taken out.new;
           sink_before = O.faults out.old;
           sink_after = O.faults out.new;
-        }) options.geometry options.list result.outcome result.told }
+        }) shape.geometry (capacity_of shape.geometry shape.cap_segments) list result.outcome result.told }
     ensures no_memory { result.outcome ≡ Outcome.OutOfMemory → ⊥ }
 {
     let Prepared {
         tasks,
-        page,
-        piece,
+        room,
         mut told,
         lists,
     } = prepared;
-    match Log::open(disk, options.geometry, page, piece) {
+    let geometry = shape.geometry;
+    match Log::open(disk, SYSTEM_ID, room) {
         Err(OpenFailure::Disk(disk)) => Finished {
             outcome: Outcome::DiskFault,
             disk,
@@ -234,10 +225,12 @@ fn run_prepared<O: Sink, D: Disk, G: Gate>(
         },
         Ok(mut log) => {
             play(&mut log, gate, &tasks, &mut told);
-            let summary = summary_of(options.geometry, &log.page, &told);
-            let is_printed = print(out, options.list, &tasks, &told, &summary).is_ok();
+            // No line asked for this flush, so none is told its answer; where it fails the log is down.
+            let _ = log.flush();
+            let summary = summary_of(geometry, &log, &told);
+            let is_printed = print(out, list, &tasks, &told, &summary).is_ok();
             Finished {
-                outcome: conclusion(log.down, &told, is_printed),
+                outcome: conclusion(log.down(), &told, is_printed),
                 disk: log.into_disk(),
                 told: ToldLists::one(lists, told),
             }
@@ -245,10 +238,11 @@ fn run_prepared<O: Sink, D: Disk, G: Gate>(
     }
 }
 
-/// Runs a script: reads it, makes all ready, opens the log, does each line, prints.
+/// Runs a script: reads it, makes all ready, opens the log, does each line, flushes to the log's end, prints.
 pub(crate) fn run<S: Source, O: Sink, D: Disk, G: Gate>(
     alloc: Global,
-    options: RunOptions,
+    shape: Shape,
+    list: bool,
     source: &mut S,
     disk: D,
     out: &mut O,
@@ -268,11 +262,11 @@ pub(crate) fn run<S: Source, O: Sink, D: Disk, G: Gate>(
       taken_after = O.taken out.new;
       sink_before = O.faults out.old;
       sink_after = O.faults out.new;
-    }) options.geometry options.list result.outcome result.told }
+    }) shape.geometry (capacity_of shape.geometry shape.cap_segments) list result.outcome result.told }
     ensures as_handed_in { result.outcome ≡ Outcome.OutOfMemory → result.disk ≡ disk }
 {
-    match prepare(alloc, options.geometry, source) {
-        Ok(prepared) => run_prepared(alloc, options, prepared, disk, out, gate),
+    match prepare(alloc, &shape, source) {
+        Ok(prepared) => run_prepared(alloc, shape, list, prepared, disk, out, gate),
         Err(outcome) => Finished {
             outcome,
             disk,

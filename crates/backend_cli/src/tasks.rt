@@ -1,13 +1,17 @@
-ghost use Rattle.std.specs.Prelude.{◌≡◌, IfOk};
-ghost use Rattle.backend_cli.specs.Tasks.{AreTasks, AreCommits, IsCommit, IsWork};
+ghost use Rattle.std.specs.Prelude.{◌≡◌, All, IfOk};
+ghost use Rattle.wal_record.specs.Spelling.{IsWritable, assembled};
+ghost use Rattle.wal_script.specs.Writable.{AsksWritable};
+ghost use Rattle.backend_cli.specs.Tasks.{AreTasks, IsWork};
 
 use std::alloc::{AllocError, Global};
 use wal_record::{Body, BodyErr};
 use wal_script::{Action, Line};
+use wal_types::Record;
 
 /// What a line does, with its record assembled.
 #[derive(Drop)]
 pub(crate) enum Work {
+    Insert(Body),
     Commit(Body),
     Flush,
 }
@@ -21,7 +25,7 @@ pub(crate) struct Task {
 
 /// Makes lines ready: what needs memory is done before the log is opened.
 pub(crate) fn tasks_of(alloc: Global, lines: &[Line]) -> Result<Vec<Task>, AllocError>
-    requires { AreCommits lines.now }
+    requires { All (λ line. AsksWritable line.action) lines.now }
     ensures { IfOk result (λ tasks. AreTasks lines.now tasks.items) }
 {
     let mut tasks = Vec::new(alloc);
@@ -36,18 +40,27 @@ pub(crate) fn tasks_of(alloc: Global, lines: &[Line]) -> Result<Vec<Task>, Alloc
 }
 
 fn work_of(alloc: Global, action: &Action) -> Result<Work, AllocError>
-    requires { IsCommit action.now }
+    requires { AsksWritable action.now }
     ensures { IfOk result (λ work. IsWork action.now work) }
 {
     match action {
-        Action::Commit(record) => match Body::assemble(alloc, record) {
-            Ok(body) => Ok(Work::Commit(body)),
-            Err(error) => {
-                // No commit's record is refused.
-                prove!(matches!(error, BodyErr::Memory));
-                Err(AllocError)
-            }
-        },
+        Action::Insert(record) => Ok(Work::Insert(body_of(alloc, record)?)),
+        Action::Commit(record) => Ok(Work::Commit(body_of(alloc, record)?)),
         Action::Flush => Ok(Work::Flush),
+    }
+}
+
+// A record that can be written, assembled.
+fn body_of(alloc: Global, value: &Record) -> Result<Body, AllocError>
+    requires { IsWritable value.now }
+    ensures { IfOk result (λ body. body ≡ assembled value.now) }
+{
+    match Body::assemble(alloc, value) {
+        Ok(body) => Ok(body),
+        Err(error) => {
+            // Such a record is not refused.
+            prove!(matches!(error, BodyErr::Memory));
+            Err(AllocError)
+        }
     }
 }

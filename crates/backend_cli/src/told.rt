@@ -1,21 +1,12 @@
 ghost use Rattle.std.specs.Prelude.{◌≡◌, ◌==◌, ◌<◌, ◌↔◌, [], ◌∷◌, length, map, slice_index_or, vec_capacity, IsTrue, if◌then◌else◌};
 ghost use Rattle.backend_cli.specs.Told.{reserved_by, IsFullAnswer};
+ghost use Rattle.backend_cli.specs.Steps.{told_of_insert, told_of_commit, told_of_flush};
 ghost use Rattle.backend_cli.specs.Texts.{is_hard};
 
 use std::alloc::Global;
 use std::marker::Model;
+use wal_log::{Cause, Hard, Receipt, Refused, Sealed};
 use wal_types::Lsn;
-
-/// Why a line was refused.
-#[derive(Clone, Copy, Debug, PartialEq, Eq)]
-pub enum Cause {
-    /// The log has fewer bytes left than the record takes up: how many.
-    Full { free: u64 },
-    /// A device call of this line failed: the disk's count of faults then.
-    Disk { faults: u64 },
-    /// A device call failed before: the disk's count of faults then.
-    Down { faults: u64 },
-}
 
 /// What a line was told.
 #[derive(Clone, Copy, Debug, PartialEq, Eq)]
@@ -31,6 +22,42 @@ pub enum Told {
 }
 
 impl Told {
+    pub(crate) fn of_insert(answer: Result<Receipt, Refused>) -> Told
+        ensures { result ≡ told_of_insert answer }
+    {
+        match answer {
+            Ok(Receipt { start, end }) => Told::Wrote { start, end },
+            Err(refused) => Told::of_refusal(refused),
+        }
+    }
+
+    pub(crate) fn of_commit(answer: Result<Sealed, Refused>) -> Told
+        ensures { result ≡ told_of_commit answer }
+    {
+        match answer {
+            Ok(Sealed { start, end, moment }) => Told::Hard { start, end, moment },
+            Err(refused) => Told::of_refusal(refused),
+        }
+    }
+
+    pub(crate) fn of_flush(answer: Result<Hard, Refused>) -> Told
+        ensures { result ≡ told_of_flush answer }
+    {
+        match answer {
+            Ok(Hard { upto, moment }) => Told::Flushed { upto, moment },
+            Err(refused) => Told::of_refusal(refused),
+        }
+    }
+
+    fn of_refusal(refused: Refused) -> Told
+        ensures { result ≡ Told.Refused refused.cause refused.reserved }
+    {
+        Told::Refused {
+            cause: refused.cause,
+            reserved: refused.reserved,
+        }
+    }
+
     // Where a record was reserved for the line.
     pub(crate) fn reserved(&self) -> Option<Lsn>
         ensures { result ≡ reserved_by self.now }

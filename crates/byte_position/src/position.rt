@@ -15,7 +15,7 @@ const USABLE_BYTES_IN_PAGE: u64 = PAGE_SIZE - PAGE_HEADER_SIZE;
 impl Geometry {
     /// The address of the byte at a byte position, behind any header that stands there (`XLogBytePosToRecPtr` of PostgreSQL's xlog.c).
     pub fn to_lsn(self, position: u64) -> Lsn
-        requires { position < 2 ^ 60 }
+        requires { position < 2 ^ 61 }
         ensures { result.0 ≡ address_of self position }
     {
         let usable = self.usable_bytes_in_segment();

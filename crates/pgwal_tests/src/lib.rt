@@ -4,7 +4,11 @@
 #[cfg(test)]
 mod damage;
 #[cfg(test)]
+mod limits;
+#[cfg(test)]
 mod listing;
+#[cfg(test)]
+mod pages;
 #[cfg(test)]
 mod played;
 #[cfg(test)]

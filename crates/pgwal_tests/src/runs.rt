@@ -71,36 +71,6 @@ fn one_commit_is_hard_from_the_third_moment_on(rt: HostRuntime) -> Result<(), Fa
 }
 
 #[test]
-fn the_204th_commit_finds_the_page_full(rt: HostRuntime) -> Result<(), Fail> {
-    let alloc = rt.alloc();
-    let mut script = Vec::new(alloc);
-    for _ in 0..204u32 {
-        script.extend_from_slice(b"C 1 0\n")?;
-    }
-    let played = play(
-        &rt,
-        alloc,
-        &["run", "--seg", "1048576"],
-        setting_of(alloc, &script, empty_disk(alloc, &[])?)?,
-    )?;
-    assert_eq!(rt; played.ended.status, 5);
-    assert_eq!(rt; played.ended.told.len(), 1);
-    assert_eq!(rt;
-        played.ended.told.of(0).last(),
-        Some(&Told::Refused {
-            cause: Cause::Full { free: 32 },
-            reserved: None
-        })
-    );
-    assert_eq!(rt;
-        played.out.taken(),
-        b"records 203 commits 203 bytes 8120 end 0/00101FE0 segments 1\n".as_slice()
-    );
-    assert_eq!(rt; played.err.taken(), b"pgwal: log full\n".as_slice());
-    Ok(())
-}
-
-#[test]
 fn an_empty_script_makes_no_counted_call(rt: HostRuntime) -> Result<(), Fail> {
     let alloc = rt.alloc();
     let played = play(
@@ -234,7 +204,7 @@ fn a_refused_line_is_told_with_its_kind(rt: HostRuntime) -> Result<(), Fail> {
     refused(
         &rt,
         alloc,
-        b"C 1 0\nI 1 10 00 aa\n",
+        b"C 1 0\nX 1 10 00 aa\n",
         b"pgwal: script line 2: word\n",
     )?;
     refused(
@@ -244,7 +214,39 @@ fn a_refused_line_is_told_with_its_kind(rt: HostRuntime) -> Result<(), Fail> {
         b"pgwal: script line 3: count\n",
     )?;
     refused(&rt, alloc, b"C 1 -0", b"pgwal: script line 1: number\n")?;
-    refused(&rt, alloc, b"B", b"pgwal: script line 1: backends\n")
+    refused(&rt, alloc, b"B", b"pgwal: script line 1: backends\n")?;
+    refused(&rt, alloc, b"I 1 10 zz", b"pgwal: script line 1: hex\n")?;
+    refused(
+        &rt,
+        alloc,
+        b"I 1 10 00 1048548*00",
+        b"pgwal: script line 1: too long\n",
+    )?;
+    refused(&rt, alloc, b"I 1 0 40 -", b"pgwal: script line 1: switch\n")?;
+    refused(
+        &rt,
+        alloc,
+        b"C 1 0\nI 1 22 00 -",
+        b"pgwal: script line 2: bad manager\n",
+    )?;
+    refused(
+        &rt,
+        alloc,
+        b"I 1 10 00 - 1663/5:0:7:-:-",
+        b"pgwal: script line 1: block\n",
+    )?;
+    refused(
+        &rt,
+        alloc,
+        b"I 1 10 00 - 1663/5/1:0:7:-:8193+0+00",
+        b"pgwal: script line 1: image\n",
+    )?;
+    refused(
+        &rt,
+        alloc,
+        b"I 1 10 00 - 1663/5/1:0:7:-:5+0+00",
+        b"pgwal: script line 1: bad block\n",
+    )
 }
 
 #[test]

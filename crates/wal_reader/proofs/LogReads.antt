@@ -18,7 +18,7 @@ use Rattle.wal_reader.specs.declared.found.Answer.{Answer}
 use Rattle.wal_reader.specs.declared.found.FoundRecord.{FoundRecord}
 use Rattle.wal_reader.specs.Pages.{Pages}
 use Rattle.wal_reader.specs.Decodes.{Place, Reads, read_at, place_behind, is_right_prev, opens_page, continuation_rows, continuation_rows_of, rows_of_pages, found_or}
-use Rattle.wal_reader.specs.Written.{found_from, HasNoBlocks}
+use Rattle.wal_reader.specs.Written.{found_from}
 use Rattle.wal_reader.specs.WrittenLog.{last_position}
 use Rattle.wal_reader.proofs.Tables.{NoneHolds, NoneHolds-append}
 use Rattle.wal_reader.proofs.Tables.NoneHolds.{none, past}
@@ -50,7 +50,6 @@ pub record StandFrom (size : ℕ) (es : List Entry) (k prev : ℕ) (rest : List 
   pub follows : FollowsFrom (first_position size + k) rest
   pub front : List Entry
   pub parts : es ≡ front ++ rest
-  pub no_blocks : HasNoBlocks rest
   pub prev_fits : prev < 2 ^ 64
 
 module _ (size sysid : ℕ) (pages : Pages) (es : List Entry) (w : IsWritten size sysid pages es) where
@@ -155,7 +154,7 @@ module _ (size sysid : ℕ) (pages : Pages) (es : List Entry) (w : IsWritten siz
     entry_is_read right =
         let here = entry_is_in in
         record_is_read size pages (log_place size k before) here.0 (assembled e.value) prev here.1 (entry_stands right)
-        ∙ ap (found_or size (log_place size k before) (size_of e.value) prev) (spelling_reads e.value prev writable stand.no_blocks.0 stand.prev_fits)
+        ∙ ap (found_or size (log_place size k before) (size_of e.value) prev) (spelling_reads e.value prev writable stand.prev_fits)
         ∙ ap (λ (p : ℕ). found_or size (record { position = p; prev = before; timeline = 1 }) (size_of e.value) prev (Ok e.value)) (sym start_is)
 
     place_behind_entry : place_behind size pages (log_place size k before) (found_entry size prev e) ≡ log_place size (k + room_of e.value) (Some (address_of size e.start))
@@ -177,7 +176,6 @@ module _ (size sysid : ℕ) (pages : Pages) (es : List Entry) (w : IsWritten siz
           follows = subst (λ (p : ℕ). FollowsFrom p others) next stand.follows.2;
           front = stand.front ++ e ∷ [];
           parts = stand.parts ∙ sym (append_assoc stand.front (e ∷ []) others);
-          no_blocks = stand.no_blocks.1;
           prev_fits = omega (arith, address_of-below_end size w.valid e.start (last_position size es) (omega (arith, start_is, within)), w.bounded);
         }
 

@@ -19,7 +19,7 @@ use Rattle.wal_page.proofs.OrderLaws.{rooms_of_cons}
 use Rattle.wal_reader.specs.declared.found.FoundRecord.{FoundRecord}
 use Rattle.wal_reader.specs.Pages.{Pages, bytes_from}
 use Rattle.wal_reader.specs.Decodes.{Place, Reads, read_at, place_behind, page_of_byte, timeline_or, page_answers, is_zero_word, is_right_prev, opens_page, found_or, ended}
-use Rattle.wal_reader.specs.Written.{found_from, HasNoBlocks}
+use Rattle.wal_reader.specs.Written.{found_from}
 use Rattle.wal_reader.proofs.PagesLaws.{page_of-first_page, bytes_from-first_page, page_of_byte-first_page, take-bytes_from}
 use Rattle.wal_reader.proofs.Tables.{NoneHolds}
 use Rattle.wal_reader.proofs.RecordBytes.{drop-filled}
@@ -42,7 +42,6 @@ pub record StandFrom (size : ℕ) (page : List ℕ) (last k prev : ℕ) (es : Li
   pub rooms : k + rooms_of es ≡ last
   pub bytes : drop (40 + k) page ≡ stream_from size prev es ++ replicate (8 * words) 0
   pub follows : FollowsFrom (first_position size + k) es
-  pub no_blocks : HasNoBlocks es
   pub prev_fits : prev < 2 ^ 64
 
 -- the place k bytes behind the page's header, once that is read
@@ -159,7 +158,7 @@ module _ (size : ℕ) (pages : Pages) (page : List ℕ) (first : IsFirst size pa
     entry_is_read : (before : Option ℕ) → is_right_prev before (address_of size (first_position size + k)) prev ≡ true → read_at size pages None (place_at size page k before) ≡ Ok (found_entry size prev e)
     entry_is_read before right =
         record_is_read size pages (place_at size page k before) page (assembled e.value) prev (is_in k before (omega (arith, stand.zeros, within))) (entry_stands before right)
-        ∙ ap (found_or size (place_at size page k before) (size_of e.value) prev) (spelling_reads e.value prev stand.follows.1 stand.no_blocks.0 stand.prev_fits)
+        ∙ ap (found_or size (place_at size page k before) (size_of e.value) prev) (spelling_reads e.value prev stand.follows.1 stand.prev_fits)
         ∙ ap (λ (p : ℕ). found_or size (record { position = p; prev = before; timeline = timeline_of page }) (size_of e.value) prev (Ok e.value)) (sym stand.follows.0)
 
     place_behind_entry : (before : Option ℕ) → place_behind size pages (place_at size page k before) (found_entry size prev e) ≡ place_at size page (k + room_of e.value) (Some (address_of size e.start))
@@ -178,7 +177,6 @@ module _ (size : ℕ) (pages : Pages) (page : List ℕ) (first : IsFirst size pa
           rooms = within;
           bytes = ap (λ (n : ℕ). drop n page) shift ∙ sym (drop-drop (room_of e.value) (40 + k) page) ∙ ap (drop (room_of e.value)) entry_bytes ∙ drop-filled (assembled e.value) prev (bytes_behind size e es stand.words);
           follows = subst (λ (p : ℕ). FollowsFrom p es) next stand.follows.2;
-          no_blocks = stand.no_blocks.1;
           prev_fits = omega (arith, address_fits size k first.valid (omega (arith, stand.zeros, within)), ap (address_of size) stand.follows.0);
         }
 

@@ -21,7 +21,7 @@ use Rattle.wal_reader.specs.declared.found.Answer.TheVariants.{End}
 use Rattle.wal_reader.specs.declared.found.DamageKind.TheVariants as kinds
 use Rattle.wal_reader.specs.Pages.{Pages}
 use Rattle.wal_reader.specs.Decodes.{Place, Decodes, ReadsFrom, beginning, damaged, ended}
-use Rattle.wal_reader.specs.Written.{found_from, found_of, HasNoBlocks, WrittenDecodes}
+use Rattle.wal_reader.specs.Written.{found_from, found_of, WrittenDecodes}
 use Rattle.wal_reader.proofs.PagesLaws.{end_address_of-first_position}
 use Rattle.wal_reader.proofs.BeginLaws.{begins_nowhere, begins_behind_header}
 use Rattle.wal_reader.proofs.Tables.{NoneHolds, NoneHolds-map, first_fault-none}
@@ -79,22 +79,21 @@ module _ (size sysid words : ℕ) (pages : Pages) (es : List Entry) (valid : IsS
     behind = behind;
   }
 
-  entries_stand : IsChained size es → HasNoBlocks es → StandFrom size (written_page size sysid es words) (rooms_of es) 0 0 es
-  entries_stand chained no_blocks = record {
+  entries_stand : IsChained size es → StandFrom size (written_page size sysid es words) (rooms_of es) 0 0 es
+  entries_stand chained = record {
     words = words;
     zeros = fits;
     rooms = zero-add (rooms_of es);
     bytes = refl;
     follows = subst (λ (p : ℕ). FollowsFrom p es) (sym (add-zero (first_position size))) chained;
-    no_blocks = no_blocks;
     prev_fits = omega arith;
   }
 
-  page_decodes : IsChained size es → HasNoBlocks es → (pages (pages_of size + 1) ≡ None) ⊎ (pages (pages_of size + 1) ≡ Some (replicate 8192 0)) → Decodes size pages size None (found_of size es) (ended size (first_position size + rooms_of es))
-  page_decodes chained no_blocks behind =
+  page_decodes : IsChained size es → (pages (pages_of size + 1) ≡ None) ⊎ (pages (pages_of size + 1) ≡ Some (replicate 8192 0)) → Decodes size pages size None (found_of size es) (ended size (first_position size + rooms_of es))
+  page_decodes chained behind =
       let page = written_page size sysid es words in
       let first = page_is_first behind in
-      let stand = entries_stand chained no_blocks in
+      let stand = entries_stand chained in
       let address = address_of-first_page size valid 0 (omega arith) in
       let read = entries_are_read size pages page first es (rooms_of es) 0 0 None stand (lt-ltb 0 (address_of size (first_position size + 0)) (omega (arith, address))) in
       let begins = begins_behind_header size pages valid page there first.no_zero_word (first_fault-none (page_passes 0 (omega arith))) first.not_continued in
@@ -116,9 +115,9 @@ nothing_decodes size pages valid none =
     }
 
 pub written_decodes : WrittenDecodes
-written_decodes size sysid pages [] valid known narrow chained no_blocks fits none = nothing_decodes size pages valid none
-written_decodes size sysid pages (e ∷ es) valid known narrow chained no_blocks fits holds =
+written_decodes size sysid pages [] valid known narrow chained fits none = nothing_decodes size pages valid none
+written_decodes size sysid pages (e ∷ es) valid known narrow chained fits holds =
     let whole = rooms_in_words (e ∷ es) in
     let words : ℕ = (8152 - rooms_of (e ∷ es)) / 8 in
     let filled : rooms_of (e ∷ es) + 8 * words ≡ 8152 = omega (arith, whole.1) in
-    page_decodes size sysid words pages (e ∷ es) valid known narrow filled (holds.0 ∙ ap Some (first_page-written size sysid words (e ∷ es) valid filled)) chained no_blocks holds.1
+    page_decodes size sysid words pages (e ∷ es) valid known narrow filled (holds.0 ∙ ap Some (first_page-written size sysid words (e ∷ es) valid filled)) chained holds.1

@@ -17,7 +17,7 @@ use Rattle.wal_reader.specs.declared.found.Answer.{Answer}
 use Rattle.wal_reader.specs.declared.found.Answer.TheVariants.{End}
 use Rattle.wal_reader.specs.Pages.{Pages}
 use Rattle.wal_reader.specs.Decodes.{Place, Decodes, Reads, ReadsFrom, beginning, ended}
-use Rattle.wal_reader.specs.Written.{found_from, found_of, HasNoBlocks}
+use Rattle.wal_reader.specs.Written.{found_from, found_of}
 use Rattle.wal_reader.specs.WrittenLog.{HoldsLog, last_position, OwnPagesHoldLog, WrittenLogDecodes}
 use Rattle.wal_reader.proofs.PagesLaws.{end_address_of-first_position}
 use Rattle.wal_reader.proofs.BeginLaws.{begins_nowhere, begins_empty, begins_behind_header}
@@ -78,9 +78,9 @@ module _ (size sysid : ℕ) (pages : Pages) (e : Entry) (es : List Entry) (w : I
       ∙ ap (λ (p : ℕ). Ok (record { position = p; prev = None; timeline = 1 })) (sym (add-zero (first_position size)))
 
   -- they are read from the log's start on, and then what stands behind them
-  pub entries_are_read_first : (found : List FoundRecord) (answer : Answer) → HasNoBlocks (e ∷ es) → Reads size pages None (log_place size (rooms_of (e ∷ es)) (last_start size None (e ∷ es))) found answer
+  pub entries_are_read_first : (found : List FoundRecord) (answer : Answer) → Reads size pages None (log_place size (rooms_of (e ∷ es)) (last_start size None (e ∷ es))) found answer
       → ReadsFrom size pages None (beginning size pages size) (found_of size (e ∷ es) ++ found) answer
-  entries_are_read_first found answer no_blocks behind =
+  entries_are_read_first found answer behind =
       let all = e ∷ es in
       let stand : StandFrom size all 0 0 all = record {
         rooms = zero-add (rooms_of all);
@@ -88,18 +88,17 @@ module _ (size sysid : ℕ) (pages : Pages) (e : Entry) (es : List Entry) (w : I
         follows = subst (λ (p : ℕ). FollowsFrom p all) (sym (add-zero (first_position size))) w.chained;
         front = [];
         parts = refl;
-        no_blocks = no_blocks;
         prev_fits = omega arith;
       } in
       let above = start-le-address_of size w.valid (first_position size + 0) (omega arith) in
       let right = lt-ltb 0 (address_of size (first_position size + 0)) (omega (arith, above, segment_size_in_pages size w.valid)) in
       subst (λ (begun : Result Place Answer). ReadsFrom size pages None begun (found_of size all ++ found) answer) (sym begins_at_first) (entries_are_read size sysid pages all w all 0 0 None found answer stand right behind)
 
-  something_decodes : HoldsLog size sysid pages (e ∷ es) → HasNoBlocks (e ∷ es) → Decodes size pages size None (found_of size (e ∷ es)) (ended size (last_position size (e ∷ es)))
-  something_decodes holds no_blocks =
+  something_decodes : HoldsLog size sysid pages (e ∷ es) → Decodes size pages size None (found_of size (e ∷ es)) (ended size (last_position size (e ∷ es)))
+  something_decodes holds =
       let all = e ∷ es in
       let end = ended size (last_position size all) in
-      let read = entries_are_read_first [] end no_blocks (log_ends size sysid pages all holds w (last_start size None all)) in
+      let read = entries_are_read_first [] end (log_ends size sysid pages all holds w (last_start size None all)) in
       record {
         read = found_of size all;
         reads = subst (λ (found : List FoundRecord). ReadsFrom size pages None (beginning size pages size) found end) (append-nil (found_of size all)) read;
@@ -107,10 +106,10 @@ module _ (size sysid : ℕ) (pages : Pages) (e : Entry) (es : List Entry) (w : I
       }
 
 pub written_log_decodes : WrittenLogDecodes
-written_log_decodes size sysid pages [] valid known narrow chained no_blocks bounded holds =
+written_log_decodes size sysid pages [] valid known narrow chained bounded holds =
     nothing_decodes size sysid pages holds (holds_below_end size sysid pages [] holds valid known narrow chained bounded)
-written_log_decodes size sysid pages (e ∷ es) valid known narrow chained no_blocks bounded holds =
-    something_decodes size sysid pages e es (holds_below_end size sysid pages (e ∷ es) holds valid known narrow chained bounded) holds no_blocks
+written_log_decodes size sysid pages (e ∷ es) valid known narrow chained bounded holds =
+    something_decodes size sysid pages e es (holds_below_end size sysid pages (e ∷ es) holds valid known narrow chained bounded) holds
 
 -- ---- the log's own pages
 

@@ -8,3 +8,15 @@ pub mod InPage
 pub mod Names
 pub mod Standing
 pub mod Reader
+pub mod Spelled
+pub mod Cache
+pub mod Standpoint
+pub mod Stops
+pub mod Cursor
+pub mod RecordRows
+pub mod Beginning
+pub mod Steps
+pub mod Standings
+pub mod Buffers
+pub mod LogReader
+pub mod Settled

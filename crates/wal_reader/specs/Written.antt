@@ -19,11 +19,6 @@ found_from size prev (e ∷ es) =
 abbrev pub found_of : ℕ → List Entry → List FoundRecord
 found_of size es = found_from size 0 es
 
--- no entry has block references
-abbrev pub HasNoBlocks : List Entry → Type 0
-HasNoBlocks [] = Unit {0}
-HasNoBlocks (e ∷ es) = (e.value.blocks ≡ []) × HasNoBlocks es
-
 -- pages that hold an order in the first page of segment 1: no such page where nothing is written, else that page, and behind it none or zeros
 abbrev pub HoldsOrder : ℕ → ℕ → Pages → List Entry → Type 0
 HoldsOrder size sysid pages [] = pages (pages_of size) ≡ None
@@ -36,5 +31,5 @@ one_page size bytes page = if page == pages_of size then bytes else None
 -- an order that fits into the first page of segment 1 reads back from there as just its records, and then the log ends
 abbrev pub WrittenDecodes : Type 0
 WrittenDecodes =
-    (size sysid : ℕ) (pages : Pages) (es : List Entry) → IsSegmentSize size → 0 < sysid → sysid < 2 ^ 64 → IsChained size es → HasNoBlocks es → rooms_of es ≤ 8152
+    (size sysid : ℕ) (pages : Pages) (es : List Entry) → IsSegmentSize size → 0 < sysid → sysid < 2 ^ 64 → IsChained size es → rooms_of es ≤ 8152
     → HoldsOrder size sysid pages es → Decodes size pages size None (found_of size es) (ended size (first_position size + rooms_of es))

@@ -8,7 +8,7 @@ use Rattle.wal_page.specs.Log.{log_byte}
 use Rattle.wal_page.specs.LogPage.{IsLogPage}
 use Rattle.wal_reader.specs.Pages.{Pages}
 use Rattle.wal_reader.specs.Decodes.{Decodes, ended}
-use Rattle.wal_reader.specs.Written.{found_of, HasNoBlocks}
+use Rattle.wal_reader.specs.Written.{found_of}
 
 -- the byte position behind the last entry of an order
 abbrev pub last_position : ℕ → List Entry → ℕ
@@ -30,5 +30,5 @@ OwnPagesHoldLog = (size sysid : ℕ) (es : List Entry) → HoldsLog size sysid (
 -- an order that ends at address 2 ^ 60 or below reads back, from pages that hold its log, as just its records, and then the log ends
 abbrev pub WrittenLogDecodes : Type 0
 WrittenLogDecodes =
-    (size sysid : ℕ) (pages : Pages) (es : List Entry) → IsSegmentSize size → 0 < sysid → sysid < 2 ^ 64 → IsChained size es → HasNoBlocks es → end_address_of size (last_position size es) ≤ 2 ^ 60
+    (size sysid : ℕ) (pages : Pages) (es : List Entry) → IsSegmentSize size → 0 < sysid → sysid < 2 ^ 64 → IsChained size es → end_address_of size (last_position size es) ≤ 2 ^ 60
     → HoldsLog size sysid pages es → Decodes size pages size None (found_of size es) (ended size (last_position size es))

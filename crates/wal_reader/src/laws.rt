@@ -1,3 +1,4 @@
+ghost use Rattle.wal_reader.specs.Settled.{DecodingIsSettled, StepsTellDecoding};
 ghost use Rattle.wal_reader.specs.Written.{WrittenDecodes};
 ghost use Rattle.wal_reader.specs.LogSegments.{SegmentsHoldLog};
 ghost use Rattle.wal_reader.specs.WrittenLog.{OwnPagesHoldLog, WrittenLogDecodes};
@@ -14,4 +15,10 @@ pub fn written_log_decodes()
     ensures decodes { WrittenLogDecodes }
     ensures own_pages { OwnPagesHoldLog }
     ensures segments { SegmentsHoldLog }
+{}
+
+/// A law: what an image's pages decode to is settled by them, and the steps of a new reader tell it.
+pub fn decoding_is_settled()
+    ensures settled { DecodingIsSettled }
+    ensures told { StepsTellDecoding }
 {}

@@ -2,6 +2,9 @@
 
 pub(crate) const PAGE_SIZE: u32 = 8192;
 
+/// How many addresses a page takes up.
+pub(crate) const PAGE_ADDRESSES: u64 = 8192;
+
 /// The header's length on a segment's first page, SizeOfXLogLongPHD.
 pub(crate) const PAGE_HEADER_LEN: u32 = 40;
 

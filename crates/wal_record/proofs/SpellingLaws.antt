@@ -1,19 +1,18 @@
 -- The laws of a spelled record.
-use Rattle.std.proofs.Common.{◌≡◌, ℕ, ◌+◌, ◌-◌, ◌*◌, ◌%◌, ◌^◌, ◌<◌, ◌≤◌, eqb, ltb, List, [], ◌∷◌, ◌++◌, length, take, drop, replicate, All, Ok, refl, sym, ap, ◌∙◌, append_assoc, arith, inl, inr}
-use Rattle.std.specs.Int.{w32, w64, to_le_bytes}
-use Rattle.std.proofs.lemmas.Bool.{cases_Bool, eqb-true, ltb-true}
-use Rattle.std.proofs.lemmas.List.{length-append, length-take, length-drop, length-replicate, append-nil, nil_from_length}
+use Rattle.std.proofs.Common.{◌≡◌, ℕ, ◌+◌, ◌-◌, ◌*◌, ◌%◌, ◌^◌, ◌<◌, ◌≤◌, [], ◌∷◌, ◌++◌, length, take, drop, replicate, All, Ok, refl, arith}
+use Rattle.std.specs.Int.{w64, to_le_bytes}
+use Rattle.std.proofs.lemmas.List.{length-append, length-take, length-drop, length-replicate}
 use Rattle.std.proofs.lemmas.List.Elements.{All-append, All-from_recursion, All-replicate}
 use Rattle.wal_types.specs.declared.record.Record.{Record}
-use Rattle.wal_record.specs.Spelling.{Assembled, IsReady, IsWritable, assembled, assembled_size, assembled_room, carried, origin_item, top_xid_item, main_header, header_front, crc_of, spelled, filled, spelling, word_at}
+use Rattle.wal_record.specs.Record.{Fits, IsWellFormed}
+use Rattle.wal_record.specs.Spelling.{Assembled, IsReady, IsWritable, assembled, assembled_size, assembled_room, header_front, crc_of, size_of, spelled, filled, spelling, word_at}
 use Rattle.wal_record.specs.Reading.{reading_of}
-use Rattle.wal_record.specs.Spells.{Spells, SpellsMain}
 use Rattle.wal_record.specs.Header.{HasHeader}
 use Rattle.wal_record.proofs.Bytes.{wide32, wide64, IsBytes-drop, IsBytes-from_All, IsBytes-take}
 use Rattle.wal_record.proofs.CarriedBytes.{AreBytes, bytes_and, bytes32, bytes64, carried_bytes}
 use Rattle.wal_record.proofs.CrcBounds.{crc32c_below}
-use Rattle.wal_record.proofs.Readings.{only, regrouped}
-use Rattle.wal_record.proofs.Acceptance.{main_short}
+use Rattle.wal_record.proofs.Readings.{only}
+use Rattle.wal_record.proofs.SpellingReads.{spelling_spells}
 
 -- ---- lengths
 
@@ -74,44 +73,8 @@ fields_spelled r prev w lt = header_spelled (assembled r) prev (ready r w) lt
 
 -- ---- the round trip
 
-main_spelled_so : (main : List ℕ) → length main < 2 ^ 32 → SpellsMain (main_header main ++ main) main
-main_spelled_so main short =
-    elim (cases_Bool (eqb (length main) 0)) [
-      | inl none ↦ let empty : main ≡ [] = nil_from_length main (eqb-true _ _ none) in inl (rw empty refl, empty)
-      | inr some ↦ elim (cases_Bool (ltb (length main) 256)) [
-        | inl few ↦ inr (inl (ltb-true _ _ few, rw (some, few) refl))
-        | inr many ↦ inr (inr (short, rw (some, many) refl))
-      ]
-    ]
+pub well_formed_reads : (r : Record) (prev : ℕ) → IsWellFormed r → Fits r → size_of r < 2 ^ 32 → reading_of (spelling r prev) ≡ Ok r
+well_formed_reads r prev right fits size = only (spelling r prev) r (spelling_spells r prev right fits size)
 
-carried_items : (r : Record) → r.blocks ≡ [] → carried r ≡ origin_item r.origin ++ (top_xid_item r.top_xid ++ (main_header r.main ++ r.main))
-carried_items r no_blocks = rw no_blocks (simp (append_assoc, append-nil))
-
-spelled_so : (r : Record) (prev : ℕ) → r.blocks ≡ [] → spelling r prev ≡ to_le_bytes w32 (length (spelling r prev)) ++ to_le_bytes w32 r.xid.0 ++ to_le_bytes w64 prev ++ (r.info ∷ r.rmid ∷ 0 ∷ 0 ∷ []) ++ to_le_bytes w32 (crc_of (assembled r) prev) ++ origin_item r.origin ++ top_xid_item r.top_xid ++ (main_header r.main ++ r.main)
-spelled_so r prev no_blocks =
-    let a = assembled r in
-    let crc = to_le_bytes w32 (crc_of a prev) in
-    let grouped = regrouped (to_le_bytes w32 (assembled_size a)) (to_le_bytes w32 r.xid.0) (to_le_bytes w64 prev) (r.info ∷ r.rmid ∷ 0 ∷ 0 ∷ []) crc (origin_item r.origin) (top_xid_item r.top_xid) (main_header r.main ++ r.main) in
-    ap (λ (l : List ℕ). header_front a prev ++ crc ++ l) (carried_items r no_blocks)
-    ∙ sym grouped
-    ∙ ap (λ (n : ℕ). to_le_bytes w32 n ++ to_le_bytes w32 r.xid.0 ++ to_le_bytes w64 prev ++ (r.info ∷ r.rmid ∷ 0 ∷ 0 ∷ []) ++ crc ++ origin_item r.origin ++ top_xid_item r.top_xid ++ (main_header r.main ++ r.main)) (sym (length-spelled a prev))
-
-pub spelling_spells : (r : Record) (prev : ℕ) → IsWritable r → r.blocks ≡ [] → prev < 2 ^ 64 → Spells (spelling r prev) r
-spelling_spells r prev w no_blocks lt = record {
-  fits = w.fits;
-  size = omega (arith, w.size, length-spelled (assembled r) prev);
-  manager = w.well_formed.manager;
-  no_blocks = no_blocks;
-  prev = to_le_bytes w64 prev;
-  prev_length = refl;
-  spare = 0 ∷ 0 ∷ [];
-  spare_length = refl;
-  crc = to_le_bytes w32 (crc_of (assembled r) prev);
-  crc_length = refl;
-  main = main_header r.main ++ r.main;
-  main_spelled = main_spelled_so r.main (main_short r w.size);
-  spelled = spelled_so r prev no_blocks;
-}
-
-pub spelling_reads : (r : Record) (prev : ℕ) → IsWritable r → r.blocks ≡ [] → prev < 2 ^ 64 → reading_of (spelling r prev) ≡ Ok r
-spelling_reads r prev w no_blocks lt = only (spelling r prev) r (spelling_spells r prev w no_blocks lt)
+pub spelling_reads : (r : Record) (prev : ℕ) → IsWritable r → prev < 2 ^ 64 → reading_of (spelling r prev) ≡ Ok r
+spelling_reads r prev w lt = well_formed_reads r prev w.well_formed w.fits (omega (arith, w.size))

@@ -2,6 +2,9 @@ pub use Rattle.wal_crc32c.specs.Crc32c
 pub mod Record
 pub mod Spelling
 pub mod Refusal
+pub mod Fitting
 pub mod Reading
+pub mod Unread
 pub mod Spells
+pub mod Fails
 pub mod Header

@@ -1,18 +1,27 @@
 -- Which records are refused, and why.
-use Rattle.std.specs.Prelude.{◌≡◌, length, Option, Some, None, nat_lt, if◌then◌else◌}
+use Rattle.std.specs.Prelude.{◌≡◌, ℕ, suc, ◌+◌, List, [], ◌∷◌, Option, Some, None, option_map, nat_lt, if◌then◌else◌}
+use Rattle.std.specs.Option.{option_or}
 use Rattle.wal_types.specs.declared.record.Record.{Record}
+use Rattle.wal_types.specs.declared.record.Block.{Block}
 use Rattle.wal_record.specs.declared.fault.BodyErr.{BodyErr}
 use Rattle.wal_record.specs.declared.fault.BodyErr.TheVariants.{Memory, TooLong, BadBlock, Switch, BadRmgr}
-use Rattle.wal_record.specs.Record.{is_free_manager, is_switch}
+use Rattle.wal_record.specs.Record.{is_free_manager, is_switch, is_right_block}
 use Rattle.wal_record.specs.Spelling.{size_of}
 
--- the first reason not to assemble a record; records with block references are not assembled yet
+-- the place of the first block that is not right, where the first one's number is to be at least `floor`
+abbrev pub first_bad_block : ℕ → List Block → Option ℕ
+first_bad_block floor [] = None
+first_bad_block floor (b ∷ bs) = if is_right_block floor b then option_map suc (first_bad_block (b.id + 1) bs) else Some 0
+
+abbrev pub too_long : ℕ → Option BodyErr
+too_long size = if nat_lt 1048576 size then Some (TooLong size) else None
+
+-- the first reason not to assemble a record
 unfoldable pub refusal_of : Record → Option BodyErr
 refusal_of r =
     if is_free_manager r.rmid then Some (BadRmgr r.rmid)
     else (if is_switch r then Some Switch
-    else (if nat_lt 0 (length r.blocks) then Some (BadBlock 0)
-    else (if nat_lt 1048576 (size_of r) then Some (TooLong (size_of r)) else None)))
+    else option_or (option_map BadBlock (first_bad_block 0 r.blocks)) (too_long (size_of r)))
 
 -- the error is the record's refusal; a want of memory says nothing
 abbrev pub Refuses : BodyErr → Record → Type 0

@@ -1,48 +1,20 @@
-//! What a record carries behind its header, and which records are refused (PostgreSQL's XLogRecordAssemble of xloginsert.c).
+//! What a record carries behind its header (PostgreSQL's XLogRecordAssemble of xloginsert.c).
 
-ghost use Rattle.std.specs.Prelude.{◌≡◌, ◌+◌, ◌^◌, ◌<◌, [], ◌++◌, length, All, IfOk, IfSome, OnOk};
+ghost use Rattle.std.specs.Prelude.{◌≡◌, ◌+◌, ◌^◌, ◌<◌, ◌++◌, length, All, IfOk, IfSome, IsTrue, OnOk};
 ghost use Rattle.wal_types.specs.declared.record.Record.{Record};
-ghost use Rattle.wal_record.specs.Record.{is_switch};
-ghost use Rattle.wal_record.specs.Refusal.{refusal_of};
+ghost use Rattle.wal_record.specs.Record.{BlockFits, are_right_blocks};
 ghost use Rattle.wal_record.specs.Spelling.{carried, main_header, origin_item, top_xid_item};
 
-use crate::fault::BodyErr;
+use crate::blocks::{blocks_len, put_block_headers, put_bytes, put_payloads};
 use crate::layout::*;
-use crate::manager::is_free_manager;
 use std::alloc::{AllocError, Global};
 use wal_types::{Record, Xid};
 
-// Why a record cannot be assembled.
-#[tactic(auto, unfolding(crate::specs::Refusal::refusal_of))]
-pub(crate) fn refusal(r: &Record) -> Option<BodyErr>
-    ensures { result ≡ refusal_of r.now }
-{
-    if is_free_manager(r.rmid) {
-        return Some(BodyErr::BadRmgr { rmid: r.rmid });
-    }
-    if is_switch(r) {
-        return Some(BodyErr::Switch);
-    }
-    if !r.blocks.as_slice().is_empty() {
-        return Some(BodyErr::BadBlock { index: 0 });
-    }
-    let len = (HEADER_LEN + carried_len(r)) as u64;
-    if len > MAX_LEN {
-        return Some(BodyErr::TooLong { len });
-    }
-    None
-}
-
-fn is_switch(r: &Record) -> bool
-    ensures { result ≡ is_switch r.now }
-{
-    r.rmid == 0 && r.info >> 4 == 4
-}
-
-fn carried_len(r: &Record) -> usize
-    requires { r.now.blocks ≡ [] }
+// How many bytes stand behind the header.
+pub(crate) fn carried_len(r: &Record) -> usize
+    requires { IsTrue (are_right_blocks 0 r.now.blocks) }
     ensures length { result ≡ length (carried r.now) }
-    ensures bound { result < 2 ^ 63 + 13 }
+    ensures bound { result < 2 ^ 63 + 2 ^ 22 + 13 }
 {
     let origin = if r.origin.is_some() { 3 } else { 0 };
     let top_xid = if r.top_xid.is_some() { 5 } else { 0 };
@@ -52,20 +24,23 @@ fn carried_len(r: &Record) -> usize
         1..=255 => 2,
         _ => 5,
     };
-    origin + top_xid + main_header + main
+    blocks_len(r.blocks.as_slice()) + origin + top_xid + main_header + main
 }
 
 // What stands behind the header.
 pub(crate) fn carried(alloc: Global, r: &Record) -> Result<Vec<u8>, AllocError>
-    requires blocks { r.now.blocks ≡ [] }
+    requires blocks { IsTrue (are_right_blocks 0 r.now.blocks) }
     requires short { length r.now.main < 2 ^ 32 }
     ensures ok { IfOk result (λ v. v.items ≡ carried r.now) }
-    ensures fits { OnOk result (IfSome r.now.origin (λ n. n < 2 ^ 16) × IfSome r.now.top_xid (λ x. x.0 < 2 ^ 32) × All (λ b. b < 256) r.now.main) }
+    ensures fits { OnOk result (IfSome r.now.origin (λ n. n < 2 ^ 16) × IfSome r.now.top_xid (λ x. x.0 < 2 ^ 32) × All (λ b. b < 256) r.now.main × All BlockFits r.now.blocks) }
 {
     let mut carried = Vec::with_capacity(alloc, carried_len(r))?;
+    put_block_headers(&mut carried, r.blocks.as_slice())?;
     put_origin(&mut carried, r.origin)?;
     put_top_xid(&mut carried, r.top_xid)?;
-    put_main(&mut carried, r.main.as_slice())?;
+    put_main_header(&mut carried, r.main.as_slice())?;
+    put_payloads(&mut carried, r.blocks.as_slice())?;
+    put_bytes(&mut carried, r.main.as_slice())?;
     Ok(carried)
 }
 
@@ -91,18 +66,16 @@ fn put_top_xid(out: &mut Vec<u8>, top_xid: Option<Xid>) -> Result<(), AllocError
     Ok(())
 }
 
-fn put_main(out: &mut Vec<u8>, main: &[u8]) -> Result<(), AllocError>
+fn put_main_header(out: &mut Vec<u8>, main: &[u8]) -> Result<(), AllocError>
     requires { length main.now < 2 ^ 32 }
-    ensures ok { OnOk result (out.new.items ≡ out.old.items ++ main_header main.now ++ main.now) }
-    ensures fits { All (λ b. b < 256) main.now }
+    ensures { OnOk result (out.new.items ≡ out.old.items ++ main_header main.now) }
 {
     match main.len() {
-        0 => {}
-        1..=255 => out.extend_from_slice(&[MAIN_SHORT, main.len() as u8])?,
+        0 => Ok(()),
+        1..=255 => out.extend_from_slice(&[MAIN_SHORT, main.len() as u8]),
         _ => {
             let [b0, b1, b2, b3] = (main.len() as u32).to_le_bytes();
-            out.extend_from_slice(&[MAIN_LONG, b0, b1, b2, b3])?;
+            out.extend_from_slice(&[MAIN_LONG, b0, b1, b2, b3])
         }
     }
-    out.extend_from_slice(main)
 }

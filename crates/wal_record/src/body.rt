@@ -1,14 +1,15 @@
 //! A record made ready to be written (PostgreSQL's XLogRecordAssemble of xloginsert.c).
 
-ghost use Rattle.std.specs.Prelude.{◌≡◌, ◌+◌, ◌*◌, ◌<◌, ◌≤◌, [], ◌++◌, length, take, All, None, IfOk, OnOk, IfErr};
+ghost use Rattle.std.specs.Prelude.{◌≡◌, ◌+◌, ◌*◌, ◌<◌, ◌≤◌, ◌++◌, length, take, All, None, IfOk, OnOk, IfErr};
 ghost use Rattle.std.specs.Int.{w64, from_le_bytes};
 ghost use Rattle.wal_types.specs.declared.record.Record.{Record};
 ghost use Rattle.wal_record.specs.Refusal.{Refuses, refusal_of};
 ghost use Rattle.wal_record.specs.Spelling.{IsReady, IsWritable, assembled, assembled_room, assembled_size, crc_of, filled, header_front, word_at};
 
-use crate::assembly::{carried, refusal};
+use crate::assembly::carried;
 use crate::fault::BodyErr;
 use crate::layout::{CRC_AT, HEADER_LEN};
+use crate::refusing::refusal;
 use std::alloc::Global;
 use std::marker::Model;
 use wal_crc32c::Crc;
@@ -40,7 +41,7 @@ impl Model for Body {
 impl Body {
     /// Makes a record ready. Where several reasons forbid it, the error is the first of BadRmgr, Switch, BadBlock and TooLong.
     pub fn assemble(alloc: Global, r: &Record) -> Result<Body, BodyErr>
-        ensures ok { IfOk result (λ body. (body ≡ assembled r.now) × IsWritable r.now × (r.now.blocks ≡ [])) }
+        ensures ok { IfOk result (λ body. (body ≡ assembled r.now) × IsWritable r.now) }
         ensures not_refused { OnOk result (refusal_of r.now ≡ None) }
         ensures which { IfErr result (λ e. Refuses e r.now) }
     {

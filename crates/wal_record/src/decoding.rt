@@ -1,92 +1,64 @@
 //! Reading a record's bytes (PostgreSQL's DecodeXLogRecord of xlogreader.c).
 
-ghost use Rattle.std.specs.Prelude.{◌≡◌, ◌+◌, ◌<◌, ◌≤◌, ◌^◌, length, IfOk, Ok};
-ghost use Rattle.std.specs.Int.{w16, w32};
+mod blocks;
+mod cursor;
+mod items;
+mod payload;
+mod unread;
+
+ghost use Rattle.std.specs.Prelude.{◌≡◌, ◌+◌, ◌<◌, ◌≤◌, ◌^◌, length, IfErr, IfOk, Ok, Err};
+ghost use Rattle.std.specs.List.{sum_by};
+ghost use Rattle.std.specs.Int.{w32};
 ghost use Rattle.wal_types.specs.declared.record.Record.{Record};
-ghost use Rattle.wal_record.specs.Reading.{Gives, GivesAs, items_of, main_item, number_at, optional_item, promised, reading_of};
+ghost use Rattle.wal_record.specs.Reading.{Gives, GivesAs, headers_of, items_of, number_at, payload_len, reading_of, record_of};
+ghost use Rattle.wal_record.specs.Fails.{FailsAt, FailsSo};
 ghost use Rattle.wal_record.specs.Spells.{Spells};
 
 use crate::fault::{RecErr, RecKind};
+use crate::head::BlockHead;
 use crate::layout::*;
 use crate::manager::is_free_manager;
+use blocks::block_items;
+use cursor::malformed;
+use items::{main_item, optional_u16, optional_u32};
+use payload::blocks_of;
 use std::alloc::Global;
+use unread::Unread;
 use wal_types::{BlockList, Bytes, Record, Xid};
 
-/// The bytes of a record that are not read yet, and the offset of the first of them.
-#[derive(Clone, Copy)]
-struct Unread<'a> {
-    at: u64,
-    bytes: &'a [u8],
-    ghost within: { at + length bytes.now < 2 ^ 64 },
+/// What a record's headers say, and the payload behind them.
+#[derive(Drop)]
+struct Headers<'a> {
+    blocks: Vec<BlockHead>,
+    origin: Option<u16>,
+    top_xid: Option<u32>,
+    payload: &'a [u8],
 }
 
-fn malformed(at: u64, kind: RecKind) -> RecErr
-    ensures { result ≡ RecErr.Malformed at kind }
+#[tactic(auto, unfolding(crate::specs::Reading::headers_of))]
+fn read_headers<'a>(alloc: Global, behind_header: &'a [u8]) -> Result<Headers<'a>, RecErr>
+    requires { length behind_header.now + 24 < 2 ^ 64 }
+    ensures exact { GivesAs (λ h. record { blocks = h.blocks.items; origin = h.origin; top_xid = h.top_xid; payload = h.payload.now }) result (headers_of (record { at = 24; rest = behind_header.now; owed = 0 })) }
+    ensures promised { IfOk result (λ h. sum_by payload_len h.blocks.items ≤ length h.payload.now) }
 {
-    RecErr::Malformed { at, kind }
-}
-
-#[tactic(auto, unfolding(crate::specs::Reading::optional_item))]
-fn optional_u16<'a>(tag: u8, unread: Unread<'a>) -> Result<(Option<u16>, Unread<'a>), RecErr>
-    ensures { GivesAs (λ x. record { value = x.0; at = x.1.at; rest = x.1.bytes.now }) result (optional_item tag w16 unread.entry.at unread.entry.bytes.now) }
-{
-    match unread.bytes {
-        [first, ..] if *first == tag => {
-            let Some((item, rest)) = unread.bytes.split_first_chunk::<3>() else {
-                return Err(malformed(unread.at + 1, RecKind::Short));
-            };
-            let number = u16::from_le_bytes([item[1], item[2]]);
-            let at = unread.at + 3;
-            Ok((Some(number), Unread { at, bytes: rest }))
-        }
-        _ => Ok((None, unread)),
+    let unread = Unread {
+        at: HEADER_LEN as u64,
+        bytes: behind_header,
+        owed: 0,
+    };
+    let (blocks, unread) = block_items(alloc, unread)?;
+    let (origin, unread) = optional_u16(ORIGIN, unread)?;
+    let (top_xid, unread) = optional_u32(TOP_XID, unread)?;
+    let end = main_item(unread)?;
+    if end.owed != end.bytes.len() as u64 {
+        return Err(malformed(end.at, RecKind::Fill));
     }
-}
-
-#[tactic(auto, unfolding(crate::specs::Reading::optional_item))]
-fn optional_u32<'a>(tag: u8, unread: Unread<'a>) -> Result<(Option<u32>, Unread<'a>), RecErr>
-    ensures { GivesAs (λ x. record { value = x.0; at = x.1.at; rest = x.1.bytes.now }) result (optional_item tag w32 unread.entry.at unread.entry.bytes.now) }
-{
-    match unread.bytes {
-        [first, ..] if *first == tag => {
-            let Some((item, rest)) = unread.bytes.split_first_chunk::<5>() else {
-                return Err(malformed(unread.at + 1, RecKind::Short));
-            };
-            let number = u32::from_le_bytes([item[1], item[2], item[3], item[4]]);
-            let at = unread.at + 5;
-            Ok((Some(number), Unread { at, bytes: rest }))
-        }
-        _ => Ok((None, unread)),
-    }
-}
-
-// The main data is all that is left behind its header.
-fn promised<'a>(skipped: usize, owed: usize, unread: Unread<'a>) -> Result<&'a [u8], RecErr>
-    requires { skipped ≤ length unread.bytes.now }
-    ensures { GivesAs (λ x. x.now) result (promised skipped owed unread.entry.at unread.entry.bytes.now) }
-{
-    let data = &unread.bytes[skipped..];
-    if data.len() != owed {
-        return Err(malformed(unread.at + skipped as u64, RecKind::Fill));
-    }
-    Ok(data)
-}
-
-#[tactic(auto, unfolding(crate::specs::Reading::main_item))]
-fn main_item<'a>(unread: Unread<'a>) -> Result<&'a [u8], RecErr>
-    ensures { GivesAs (λ x. x.now) result (main_item unread.entry.at unread.entry.bytes.now) }
-{
-    match unread.bytes {
-        [] => Ok(unread.bytes),
-        [MAIN_SHORT, len, ..] => promised(2, usize::from(*len), unread),
-        [MAIN_LONG, b0, b1, b2, b3, ..] => {
-            let len = u32::from_le_bytes([*b0, *b1, *b2, *b3]);
-            promised(5, len as usize, unread)
-        }
-        [MAIN_SHORT | MAIN_LONG, ..] => Err(malformed(unread.at + 1, RecKind::Short)),
-        [ORIGIN | TOP_XID, ..] => Err(malformed(unread.at, RecKind::Order)),
-        [_, ..] => Err(malformed(unread.at, RecKind::Id)),
-    }
+    Ok(Headers {
+        blocks,
+        origin,
+        top_xid,
+        payload: end.bytes,
+    })
 }
 
 fn u32_at(bytes: &[u8], at: usize) -> u32
@@ -96,28 +68,31 @@ fn u32_at(bytes: &[u8], at: usize) -> u32
     u32::from_le_bytes([bytes[at], bytes[at + 1], bytes[at + 2], bytes[at + 3]])
 }
 
-#[tactic(auto, unfolding(crate::specs::Reading::items_of))]
-fn items(alloc: Global, bytes: &[u8]) -> Result<Record, RecErr>
-    requires { 24 ≤ length bytes.now }
-    ensures { Gives result (items_of bytes.now) }
+fn record_of(alloc: Global, bytes: &[u8], headers: Headers) -> Result<Record, RecErr>
+    requires header { 24 ≤ length bytes.now }
+    requires promised { sum_by payload_len headers.blocks.items ≤ length headers.payload.now }
+    ensures { Gives result (Ok (record_of bytes.now (record { blocks = headers.entry.blocks.items; origin = headers.entry.origin; top_xid = headers.entry.top_xid; payload = headers.entry.payload.now }))) }
 {
-    let (_, behind_header) = bytes.split_at(HEADER_LEN);
-    let unread = Unread {
-        at: HEADER_LEN as u64,
-        bytes: behind_header,
-    };
-    let (origin, unread) = optional_u16(ORIGIN, unread)?;
-    let (top_xid, unread) = optional_u32(TOP_XID, unread)?;
-    let main = main_item(unread)?;
+    let (blocks, main) = blocks_of(alloc, &headers.blocks, headers.payload)?;
     Ok(Record {
         xid: Xid(u32_at(bytes, XID_AT)),
         rmid: bytes[RMID_AT],
         info: bytes[INFO_AT],
-        origin,
-        top_xid: top_xid.map(Xid),
-        blocks: BlockList::of(Vec::new(alloc)),
+        origin: headers.origin,
+        top_xid: headers.top_xid.map(Xid),
+        blocks: BlockList::of(blocks),
         main: Bytes::of(Vec::from_slice(alloc, main)?),
     })
+}
+
+#[tactic(auto, unfolding(crate::specs::Reading::items_of))]
+fn read_items(alloc: Global, bytes: &[u8]) -> Result<Record, RecErr>
+    requires { 24 ≤ length bytes.now }
+    ensures { Gives result (items_of bytes.now) }
+{
+    let (_, behind_header) = bytes.split_at(HEADER_LEN);
+    let headers = read_headers(alloc, behind_header)?;
+    record_of(alloc, bytes, headers)
 }
 
 #[tactic(auto, unfolding(crate::specs::Reading::reading_of))]
@@ -130,7 +105,7 @@ fn reading(alloc: Global, bytes: &[u8]) -> Result<Record, RecErr>
     if is_free_manager(bytes[RMID_AT]) {
         return Err(malformed(RMID_AT as u64, RecKind::Rmgr));
     }
-    items(alloc, bytes)
+    read_items(alloc, bytes)
 }
 
 /// Reads a record's bytes, all of them. It looks at neither the CRC nor the start of the record before.
@@ -139,7 +114,11 @@ pub fn decode(alloc: Global, bytes: &[u8]) -> Result<Record, RecErr>
     ensures found { IfOk result (λ r. Spells bytes.now r) }
     // What is spelled so is read, unless memory runs out.
     ensures only { (r : Record) → Spells bytes.now r → Gives result (Ok r) }
-    // Which check fails first, from left to right.
+    // An error is the first check that fails.
+    ensures fails { IfErr result (FailsSo bytes.now) }
+    // The first check that fails is the error, unless memory runs out.
+    ensures refuses { (e : RecErr) → FailsAt bytes.now e → Gives result (Err e) }
+    // All of it as one reading from left to right.
     ensures exact { Gives result (reading_of bytes.now) }
 {
     reading(alloc, bytes)

@@ -1,18 +1,19 @@
 //! The plain slow program for a record's spelling, which tests compare with: each piece is made by itself, and the CRC by division.
 
-ghost use Rattle.std.specs.Prelude.{◌≡◌, ◌+◌, ◌^◌, ◌<◌, [], ◌++◌, length, IfOk};
+ghost use Rattle.std.specs.Prelude.{◌≡◌, ◌^◌, ◌<◌, ◌++◌, length, IfOk, IsTrue};
 ghost use Rattle.wal_types.specs.declared.record.Record.{Record};
-ghost use Rattle.wal_record.specs.Spelling.{assembled, carried, header_front, main_header, origin_item, size_of, spelling, top_xid_item};
+ghost use Rattle.wal_record.specs.Record.{are_right_blocks};
+ghost use Rattle.wal_record.specs.Spelling.{IsWritable, assembled, carried, header_front, main_header, origin_item, size_of, spelling, top_xid_item};
 
 use crate::layout::*;
+use crate::plain_blocks::{block_headers, payloads};
 use std::alloc::{AllocError, Global};
 use wal_crc32c::crc32c_by_division;
 use wal_types::{Lsn, Record, Xid};
 
-/// The bytes of a record without block references behind one that starts at prev.
+/// The bytes of a record behind one that starts at prev.
 pub fn spell_plainly(alloc: Global, r: &Record, prev: Lsn) -> Result<Vec<u8>, AllocError>
-    requires blocks { r.now.blocks ≡ [] }
-    requires size { size_of r.now < 2 ^ 32 }
+    requires { IsWritable r.now }
     ensures { IfOk result (λ v. v.items ≡ spelling r.now prev.0) }
 {
     let carried = carried(alloc, r)?;
@@ -23,7 +24,7 @@ pub fn spell_plainly(alloc: Global, r: &Record, prev: Lsn) -> Result<Vec<u8>, Al
     joined(alloc, &header, &carried)
 }
 
-fn joined(alloc: Global, first: &[u8], second: &[u8]) -> Result<Vec<u8>, AllocError>
+pub(crate) fn joined(alloc: Global, first: &[u8], second: &[u8]) -> Result<Vec<u8>, AllocError>
     ensures { IfOk result (λ v. v.items ≡ first.now ++ second.now) }
 {
     let mut bytes = Vec::from_slice(alloc, first)?;
@@ -45,14 +46,17 @@ fn header_front(alloc: Global, r: &Record, prev: Lsn, len: u32) -> Result<Vec<u8
 
 // What stands behind the header.
 fn carried(alloc: Global, r: &Record) -> Result<Vec<u8>, AllocError>
-    requires blocks { r.now.blocks ≡ [] }
+    requires blocks { IsTrue (are_right_blocks 0 r.now.blocks) }
     requires short { length r.now.main < 2 ^ 32 }
     ensures { IfOk result (λ v. v.items ≡ carried r.now) }
 {
     let main = r.main.as_slice();
-    let mut carried = origin_item(alloc, r.origin)?;
+    let blocks = r.blocks.as_slice();
+    let mut carried = block_headers(alloc, blocks)?;
+    carried.extend_from_slice(&origin_item(alloc, r.origin)?)?;
     carried.extend_from_slice(&top_xid_item(alloc, r.top_xid)?)?;
     carried.extend_from_slice(&main_header(alloc, main)?)?;
+    carried.extend_from_slice(&payloads(alloc, blocks)?)?;
     carried.extend_from_slice(main)?;
     Ok(carried)
 }

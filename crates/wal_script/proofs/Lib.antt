@@ -1,4 +1,10 @@
+pub mod BlockLists
 pub mod Cuts
 pub mod Decimals
+pub mod Fits
+pub mod FittingBlocks
+pub mod Pairs
 pub mod Scripts
+pub mod Steps
 pub mod Words
+pub mod Writing

@@ -1,15 +1,21 @@
 -- What a script means: lines for each backend, or the first refusal.
-use Rattle.std.specs.Prelude.{ℕ, ◌+◌, ◌-◌, ◌^◌, List, [], ◌∷◌, length, take, Option, Some, None, Result, Ok, Err, count_by, codes, ◌==◌, nat_lt, if◌then◌else◌}
+use Rattle.std.specs.Prelude.{ℕ, ◌+◌, ◌-◌, ◌^◌, List, [], ◌∷◌, length, take, Option, Some, None, Result, Ok, Err, count_by, codes, ◌==◌, nat_lt, if◌then◌else◌, option_and_then}
 use Rattle.std.specs.Int.{w64, to_le_bytes}
 use Rattle.wal_types.specs.declared.record.Record.{Record}
+use Rattle.wal_record.specs.declared.fault.BodyErr.{BodyErr}
+use Rattle.wal_record.specs.declared.fault.BodyErr.TheVariants.{Memory, TooLong, BadBlock, Switch, BadRmgr}
+use Rattle.wal_record.specs.Refusal.{refusal_of}
 use Rattle.wal_script.specs.declared.line.Line.{Line}
 use Rattle.wal_script.specs.declared.line.Action.{Action}
-use Rattle.wal_script.specs.declared.line.Action.TheVariants.{Commit, Flush}
+use Rattle.wal_script.specs.declared.line.Action.TheVariants.{Insert, Commit, Flush}
 use Rattle.wal_script.specs.declared.line.Refusal.{Refusal}
 use Rattle.wal_script.specs.declared.line.ScriptFault.{ScriptFault}
 use Rattle.wal_script.specs.declared.line.ScriptFault.TheVariants as faults
 use Rattle.wal_script.specs.Text.{is_text, lines_of, fields_of}
 use Rattle.wal_script.specs.Numbers.{number_of, time_of}
+use Rattle.wal_script.specs.Hexadecimal.{byte_of, data_of}
+use Rattle.wal_script.specs.Blocks.{blocks_of}
+use Rattle.wal_script.specs.Fields.{◌>>=◌, next_as, no_more}
 
 -- what one line means: nothing, an action, or that it is refused
 pub data LineMeaning : Type 0 where
@@ -17,38 +23,62 @@ pub data LineMeaning : Type 0 where
   asks : Action → LineMeaning
   refuses : ScriptFault → LineMeaning
 
+-- the fault of a record that cannot be assembled; want of memory is none
+abbrev pub fault_of : BodyErr → Option ScriptFault
+fault_of Memory = None
+fault_of (TooLong size) = Some faults.TooLong
+fault_of (BadBlock index) = Some faults.BadBlock
+fault_of Switch = Some faults.Switch
+fault_of (BadRmgr rmid) = Some faults.BadManager
+
+abbrev pub unless : {X : Type 0} → Option ScriptFault → X → Result X ScriptFault
+unless None x = Ok x
+unless (Some fault) x = Err fault
+
+-- a record, unless it cannot be assembled
+abbrev pub accepted : Record → Result Record ScriptFault
+accepted r = unless (option_and_then fault_of (refusal_of r)) r
+
+-- the fields behind `I`: a transaction's number, a manager, its info, the main data, and any block references
+abbrev pub insert_of : List (List ℕ) → Result Record ScriptFault
+insert_of fields = do
+  xid ← next_as (number_of (2 ^ 32 - 1)) faults.Number fields
+  manager ← next_as (number_of 255) faults.Number xid.rest
+  info ← next_as byte_of faults.Hex manager.rest
+  main ← next_as data_of faults.Hex info.rest
+  blocks ← blocks_of 0 main.rest
+  accepted (record { xid = record { 0 = xid.value }; rmid = manager.value; info = info.value; origin = None; top_xid = None; blocks = blocks; main = main.value })
+
 -- a transaction's commit (manager 1, info 0): its time as eight bytes is the main data (PostgreSQL's xact.c)
 abbrev pub commit_record : ℕ → ℕ → Record
 commit_record xid time = record { xid = record { 0 = xid }; rmid = 1; info = 0; origin = None; top_xid = None; blocks = []; main = to_le_bytes w64 time }
 
--- the fields behind `C`, judged from the left: a transaction's number, a time, and no more
-abbrev pub commit_with : Option ℕ → Option ℕ → List (List ℕ) → LineMeaning
-commit_with None time more = refuses faults.Number
-commit_with (Some xid) None more = refuses faults.Number
-commit_with (Some xid) (Some time) [] = asks (Commit (commit_record xid time))
-commit_with (Some xid) (Some time) (field ∷ more) = refuses faults.Count
-
-abbrev pub commit_of : List (List ℕ) → LineMeaning
-commit_of [] = refuses faults.Count
-commit_of (xid ∷ []) = without_time (number_of (2 ^ 32 - 1) xid)
-  where
-    without_time : Option ℕ → LineMeaning
-    without_time None = refuses faults.Number
-    without_time (Some x) = refuses faults.Count
-commit_of (xid ∷ time ∷ more) = commit_with (number_of (2 ^ 32 - 1) xid) (time_of time) more
+-- the fields behind `C`: a transaction's number and a time
+abbrev pub commit_of : List (List ℕ) → Result Record ScriptFault
+commit_of fields = do
+  xid ← next_as (number_of (2 ^ 32 - 1)) faults.Number fields
+  time ← next_as time_of faults.Number xid.rest
+  nothing ← no_more time.rest
+  Ok (commit_record xid.value time.value)
 
 -- the fields behind `F`: none
-abbrev pub flush_of : List (List ℕ) → LineMeaning
-flush_of [] = asks Flush
-flush_of (field ∷ more) = refuses faults.Count
+abbrev pub flush_of : List (List ℕ) → Result Action ScriptFault
+flush_of fields = do
+  nothing ← no_more fields
+  Ok Flush
+
+abbrev pub asks_as : {X : Type 0} → (X → Action) → Result X ScriptFault → LineMeaning
+asks_as action (Ok x) = asks (action x)
+asks_as action (Err fault) = refuses fault
 
 -- a line by its first field; no further backend may begin yet
 abbrev pub line_with : List (List ℕ) → LineMeaning
 line_with [] = refuses faults.Word
 line_with (word ∷ fields) =
-    if is_text word (codes "C") then commit_of fields
-    else (if is_text word (codes "F") then flush_of fields
-    else (if is_text word (codes "B") then refuses faults.Backends else refuses faults.Word))
+    if is_text word (codes "I") then asks_as Insert (insert_of fields)
+    else (if is_text word (codes "C") then asks_as Commit (commit_of fields)
+    else (if is_text word (codes "F") then asks_as (λ action. action) (flush_of fields)
+    else (if is_text word (codes "B") then refuses faults.Backends else refuses faults.Word)))
 
 -- an empty line and one that begins with `#` are passed over
 abbrev pub line_of : List ℕ → LineMeaning

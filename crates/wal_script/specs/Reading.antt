@@ -6,9 +6,11 @@ use Rattle.wal_script.specs.declared.line.Action.{Action}
 use Rattle.wal_script.specs.declared.line.Refusal.{Refusal}
 use Rattle.wal_script.specs.declared.parser.ParseError.{ParseError}
 use Rattle.wal_script.specs.declared.parser.ParseError.TheVariants as errors
-use Rattle.wal_script.specs.declared.parser.LineError.{LineError}
-use Rattle.wal_script.specs.declared.parser.LineError.TheVariants as causes
-use Rattle.wal_script.specs.Meaning.{LineMeaning, passes, asks, refuses}
+use Rattle.wal_script.specs.declared.line_error.LineError.{LineError}
+use Rattle.wal_script.specs.declared.line_error.LineError.TheVariants as causes
+use Rattle.wal_script.specs.declared.line.ScriptFault.{ScriptFault}
+use Rattle.wal_record.specs.declared.fault.BodyErr.{BodyErr}
+use Rattle.wal_script.specs.Meaning.{LineMeaning, passes, asks, refuses, fault_of}
 
 -- a script that is refused so means that refusal
 abbrev pub Refuses : ParseError → Result (List Line) Refusal → Type 0
@@ -30,10 +32,31 @@ abbrev pub LineGives : {X : Type 0} → (X → LineMeaning) → Result X LineErr
 LineGives view (Ok x) meaning = meaning ≡ view x
 LineGives view (Err error) meaning = RefusesLine error meaning
 
+-- fields with this fault mean it; nothing is said where memory ran out
+abbrev pub FailsAs : {X : Type 0} → LineError → Result X ScriptFault → Type 0
+FailsAs causes.Memory meaning = Unit {0}
+FailsAs (causes.Fault fault) meaning = meaning ≡ Err fault
+
+-- what was read of fields, seen by `view`, is what they mean, and their fault is
+abbrev pub JudgesAs : {X Y : Type 0} → (X → Y) → Result X LineError → Result Y ScriptFault → Type 0
+JudgesAs view (Ok x) meaning = meaning ≡ Ok (view x)
+JudgesAs view (Err error) meaning = FailsAs error meaning
+
+abbrev pub Judges : {X : Type 0} → Result X LineError → Result X ScriptFault → Type 0
+Judges = JudgesAs (λ x. x)
+
 -- what an action or none means
 abbrev pub meant : Option Action → LineMeaning
 meant None = passes
 meant (Some action) = asks action
+
+-- why a line was not read, from why its record is not assembled
+abbrev pub error_or_memory : Option ScriptFault → LineError
+error_or_memory None = causes.Memory
+error_or_memory (Some fault) = causes.Fault fault
+
+abbrev pub line_error : BodyErr → LineError
+line_error refusal = error_or_memory (fault_of refusal)
 
 -- why a script was not read, from why a line was not
 abbrev pub at_line : ℕ → LineError → ParseError

@@ -1,9 +1,16 @@
-//! Scripts of commits and flushes, read into lines.
+//! Scripts of inserts, commits and flushes, read into lines.
 #![tactic(auto)]
 
+mod blocks;
+mod fields;
+mod hexadecimal;
+mod images;
+pub mod laws;
 mod line;
+mod line_error;
 mod numbers;
 mod parser;
+mod records;
 mod text;
 
 pub use line::{Action, Line, Refusal, ScriptFault};

@@ -5,6 +5,8 @@ use wal_types::Record;
 /// What a line asks for.
 #[derive(Debug, Drop)]
 pub enum Action {
+    /// Insert this record.
+    Insert(Record),
     /// Insert this commit's record, then flush to its end.
     Commit(Record),
     /// Flush to the end of the backend's last record.
@@ -29,8 +31,22 @@ pub enum ScriptFault {
     Count,
     /// A field that should be a number is none of its range.
     Number,
+    /// A field that should be hexadecimal digits is none.
+    Hex,
+    /// A block reference is not made of its parts.
+    Block,
+    /// A block's image is not made of its parts.
+    Image,
     /// A backend more than there may be.
     Backends,
+    /// No manager has the record's number.
+    BadManager,
+    /// The record would end its segment.
+    Switch,
+    /// A block of the record is not right.
+    BadBlock,
+    /// The record has more bytes than it may have.
+    TooLong,
 }
 
 impl ScriptFault {
@@ -45,7 +61,14 @@ impl ScriptFault {
             ScriptFault::Word => "word",
             ScriptFault::Count => "count",
             ScriptFault::Number => "number",
+            ScriptFault::Hex => "hex",
+            ScriptFault::Block => "block",
+            ScriptFault::Image => "image",
             ScriptFault::Backends => "backends",
+            ScriptFault::BadManager => "bad manager",
+            ScriptFault::Switch => "switch",
+            ScriptFault::BadBlock => "bad block",
+            ScriptFault::TooLong => "too long",
         }
     }
 }

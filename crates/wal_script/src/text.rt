@@ -1,5 +1,5 @@
-ghost use Rattle.std.specs.Prelude.{◌≡◌, ◌∷◌};
-ghost use Rattle.wal_script.specs.Text.{pieces_of, pieces_left};
+ghost use Rattle.std.specs.Prelude.{◌≡◌, ◌∷◌, codes};
+ghost use Rattle.wal_script.specs.Text.{is_text, pieces_of, pieces_left};
 
 use std::marker::Model;
 
@@ -55,4 +55,11 @@ fn cut(text: &[u8], separator: u8) -> (&[u8], Option<&[u8]>)
         Some(end) => (&text[..end], Some(&text[end + 1..])),
         None => (text, None),
     }
+}
+
+/// Whether a field says that there is nothing.
+pub(crate) fn is_dash(field: &[u8]) -> bool
+    ensures { result ≡ is_text field.now (codes "-") }
+{
+    matches!(field, [b'-'])
 }

@@ -1,54 +1,105 @@
--- What a reader of the disk's first page gives is what the disk's log decodes to.
-use Rattle.std.proofs.Common.{◌≡◌, ℕ, List, Option, Some, None, Ok, Err, refl}
+-- What a reader of a disk's log gives is what the log decodes to.
+use Rattle.std.proofs.Common.{◌≡◌, ℕ, List, ◌∷◌, ◌++◌, take, Option, Some, None, Result, Ok, Err, [], sym, ap, subst, ◌∙◌}
 use Rattle.std.specs.Prelude.{IfSome}
 use Rattle.byte_position.specs.Geometry.{IsSegmentSize}
-use Rattle.segment_disk.specs.Tape.{Tape, page_of_segment, state_now}
+use Rattle.segment_disk.specs.Image.{image_as_read}
+use Rattle.segment_disk.specs.Stream.{with_behind}
+use Rattle.segment_disk.specs.Tape.{Tape, state_now}
 use Rattle.wal_types.specs.declared.lsn.Lsn.{Lsn}
+use Rattle.wal_reader.specs.Cache.{log_of}
+use Rattle.wal_reader.specs.Cursor.{IsLogOf}
+use Rattle.wal_reader.specs.LogReader.{ReadState, Gives, IsNext, Knows, state_of}
+use Rattle.wal_reader.specs.Pages.{Pages, pages_in}
 use Rattle.wal_reader.specs.declared.found.Answer.{Answer}
-use Rattle.wal_reader.specs.declared.found.Answer.TheVariants.{End, Damaged, Compressed, Overwritten}
-use Rattle.wal_reader.specs.Decodes.{beginning}
-use Rattle.wal_reader.specs.Reader.{ReaderState}
-use Rattle.wal_reader.specs.Written.{one_page}
-use Rattle.waldump_text.specs.Dump.{IsDump, IsStop, IsListOf, IsSettled, HasListCause, PutsListing}
-use Rattle.waldump_text.specs.declared.dumping.DumpErr.{DumpErr}
-use Rattle.waldump_text.specs.declared.dumping.DumpErr.TheVariants.{Memory, Disk, Stopped, Sink}
-use Rattle.waldump_text.proofs.DecodeLaws.{ReadsFrom-same, reading_of_page}
-use Rattle.waldump_text.proofs.DiskLaws.{DecodesOnDisk-from_gives, gives_from_disk}
-
-pub IsStop-from_no_end : (answer : Answer) → ((at : Lsn) → answer ≡ End at → ⊥) → IsStop answer
-IsStop-from_no_end (End at) no_end = no_end at refl
-IsStop-from_no_end (Damaged at kind) no_end = tt
-IsStop-from_no_end (Compressed at) no_end = tt
-IsStop-from_no_end (Overwritten at) no_end = tt
-
-module _ (size : ℕ) (valid : IsSegmentSize size) (reader : ReaderState) (sized : reader.size ≡ size) (begins : reader.place ≡ beginning size (one_page size reader.page) size) (old new : Option (List ℕ)) where
-  listing_put : (t : Tape) (answer : Answer) → reader.page ≡ page_of_segment (state_now t 1) 0 → IsListOf reader old new (Ok answer) → PutsListing size t old new answer
-  listing_put t answer holds list = (list.0, DecodesOnDisk-from_gives size valid t reader sized begins holds list.0 answer list.1, list.2)
-
-  pub dump_ended : (tape : Option Tape) (at : Lsn) → IfSome tape (λ t. reader.page ≡ page_of_segment (state_now t 1) 0) → IsListOf reader old new (Ok (End at)) → IfSome tape (IsDump size old new (Ok tt))
-  dump_ended None at holds list = tt
-  dump_ended (Some t) at holds list = (at, listing_put t (End at) holds list)
-
-  pub dump_stopped : (tape : Option Tape) (answer : Answer) → IfSome tape (λ t. reader.page ≡ page_of_segment (state_now t 1) 0) → IsListOf reader old new (Ok answer) → IfSome tape (IsDump size old new (Err (Stopped answer)))
-  dump_stopped None answer holds list = tt
-  dump_stopped (Some t) answer holds list = listing_put t answer holds list
-
-  pub dump_failed : (tape : Option Tape) (e : DumpErr) (before after : ℕ) → IfSome tape (λ t. reader.page ≡ page_of_segment (state_now t 1) 0) → HasListCause before after (Err e) → IsListOf reader old new (Err e) → IfSome tape (IsDump size old new (Err e))
-  dump_failed None e before after holds cause list = tt
-  dump_failed (Some t) Memory before after holds cause list = λ found answer on_disk. list found answer (gives_from_disk size valid t reader sized begins holds found answer on_disk)
-  dump_failed (Some t) (Disk faults) before after holds cause list = absurd cause
-  dump_failed (Some t) (Stopped answer) before after holds cause list = absurd cause
-  dump_failed (Some t) (Sink faults) before after holds cause list = λ found answer on_disk. list found answer (gives_from_disk size valid t reader sized begins holds found answer on_disk)
+use Rattle.wal_reader.specs.declared.found.Answer.TheVariants as answers
+use Rattle.wal_reader.specs.declared.found.FoundRecord.{FoundRecord}
+use Rattle.wal_reader.specs.declared.log_reader.Reader.{Reader}
+use Rattle.wal_reader.specs.declared.standing.ReadErr.{ReadErr}
+use Rattle.wal_reader.specs.declared.standing.ReadErr.TheVariants.{Memory, Disk, Damaged, Compressed, Overwritten}
+use Rattle.wal_reader.specs.declared.standing.ReadStep.{ReadStep}
+use Rattle.wal_reader.specs.declared.standing.ReadStep.TheVariants.{Record, End}
+use Rattle.wal_reader.specs.declared.standing.Standing.TheVariants.{NotBegun}
+use Rattle.wal_reader.proofs.SettledLaws.{decoding_is_settled, gives_something}
+use Rattle.waldump_text.specs.Dump.{DecodesOnDisk, IsDump, IsSettled, PutsListing, PutsListingFront, failure_of}
+use Rattle.waldump_text.specs.Listing.{line_text, listed_of, listing}
+use Rattle.waldump_text.specs.declared.dumping.DumpErr.TheVariants as errors
+use Rattle.waldump_text.proofs.ListingLaws.{IsUnderway, IsUnderway-none, IsUnderway-more, listed_all, listed_front, listed_front_of_next}
 
 -- there is one thing that a disk's log decodes to
-pub decoding_is_settled : (size : ℕ) (t : Tape) → IsSegmentSize size → IsSettled size t
-decoding_is_settled size t valid =
-    let page = page_of_segment (state_now t 1) 0 in
-    let begun = beginning size (one_page size page) size in
-    let reader : ReaderState = record { size = size; page = page; place = begun; left = 0 } in
-    let some = reading_of_page size valid page begun in (
-      some.0,
-      some.1,
-      DecodesOnDisk-from_gives size valid t reader refl refl refl some.0 some.1 some.2,
-      λ others other decodes. ReadsFrom-same size (one_page size page) begun others some.0 other some.1 (gives_from_disk size valid t reader refl refl refl others other decodes) some.2,
-    )
+pub decoding_of_disk_is_settled : (size : ℕ) (t : Tape) → IsSegmentSize size → IsSettled size t
+decoding_of_disk_is_settled size t valid = decoding_is_settled size (image_as_read (state_now t)) size None valid
+
+-- a reader from segment 1 on, before it has begun
+abbrev pub unread : ℕ → ReadState
+unread size = record { size = size; start = size; end = None; standing = NotBegun }
+
+-- a step of a reader of a disk's log
+abbrev pub Steps : Option Tape → Reader → Reader → Result ReadStep ReadErr → Type 0
+Steps tape old new result = (pages : Pages) → IsLogOf tape (state_of old).size pages → Knows old pages → Knows new pages × IsNext pages (state_of old) (state_of new) result
+
+-- the log of a disk that tells is listed as far as the reader has come
+abbrev pub ListsLog : Option Tape → ℕ → Reader → Option (List ℕ) → Option (List ℕ) → Type 0
+ListsLog tape size reader old new = IfSome tape (λ t. Knows reader (log_of t size) × IsUnderway (log_of t size) (unread size) (state_of reader) old new)
+
+module _ (size : ℕ) (valid : IsSegmentSize size) (old : Option (List ℕ)) where
+  pub ListsLog-none : (tape : Option Tape) (reader : Reader) → state_of reader ≡ unread size → ((pages : Pages) → Knows reader pages) → ListsLog tape size reader old old
+  ListsLog-none None reader is knows = tt
+  ListsLog-none (Some t) reader is knows = (knows (log_of t size), subst (λ (now : ReadState). IsUnderway (log_of t size) (unread size) now old old) (sym is) (IsUnderway-none (log_of t size) (unread size) old))
+
+  module _ (reader : Reader) (sized : (state_of reader).size ≡ size) (mid : Option (List ℕ)) where
+    -- a step of it, of the log
+    step_of : (t : Tape) (next : Reader) (result : Result ReadStep ReadErr) → Steps (Some t) reader next result → Knows reader (log_of t size) → Knows next (log_of t size) × IsNext (log_of t size) (state_of reader) (state_of next) result
+    step_of t next result steps knows = steps (log_of t size) (ap (log_of t) (sym sized)) knows
+
+    -- what it gives still
+    still : (t : Tape) → (others : List FoundRecord) × (answer : Answer) × Gives (log_of t size) (state_of reader) others answer
+    still t =
+        let some = gives_something (image_as_read (state_now t)) (state_of reader) (subst IsSegmentSize (sym sized) valid) in
+        (some.0, some.1, subst (λ (n : ℕ). Gives (log_of t n) (state_of reader) some.0 some.1) sized some.2)
+
+    -- a front of what the log decodes to is a front whatever it is found to decode to
+    front_of : (t : Tape) (new : Option (List ℕ)) (found : List FoundRecord) (answer : Answer) → DecodesOnDisk size t found answer → (n : ℕ) × (new ≡ with_behind old (take n (listing found))) → PutsListingFront size t old new
+    front_of t new found answer decodes front = λ others other on_disk.
+        (let settled = decoding_of_disk_is_settled size t valid in
+        let same : found ≡ others = (settled.3 found answer decodes).0 ∙ sym (settled.3 others other on_disk).0 in
+        (front.0, front.1 ∙ ap (λ (fs : List FoundRecord). with_behind old (take front.0 (listing fs))) same))
+
+    module _ (t : Tape) (lists : ListsLog (Some t) size reader old mid) where
+      put_all : (next : Reader) (answer : Answer) → Gives (log_of t size) (state_of reader) [] answer → PutsListing size t old mid answer
+      put_all next answer ends = listed_all (log_of t size) (unread size) old (state_of reader) mid lists.1 answer ends
+
+      put_front : PutsListingFront size t old mid
+      put_front =
+          let left = still t in
+          let underway = lists.1 in
+          front_of t mid (underway.listed ++ left.0) left.1 (underway.whole left.0 left.1 left.2) (listed_front (log_of t size) (unread size) old (state_of reader) mid underway left.0)
+
+    -- a record is listed
+    pub ListsLog-more : (tape : Option Tape) (next : Reader) (f : FoundRecord) (new : Option (List ℕ)) → ListsLog tape size reader old mid → Steps tape reader next (Ok (Record f)) → new ≡ with_behind mid (line_text (listed_of f)) → ListsLog tape size next old new
+    ListsLog-more None next f new lists steps taken = tt
+    ListsLog-more (Some t) next f new lists steps taken =
+        let step = step_of t next (Ok (Record f)) steps lists.0 in
+        (step.0, IsUnderway-more (log_of t size) (unread size) old (state_of reader) mid lists.1 (state_of next) f step.1 new taken)
+
+    pub dump_ended : (tape : Option Tape) (next : Reader) (at : Lsn) → ListsLog tape size reader old mid → Steps tape reader next (Ok (End at)) → IfSome tape (IsDump size old mid (Ok tt))
+    dump_ended None next at lists steps = tt
+    dump_ended (Some t) next at lists steps = (at, put_all t lists next (answers.End at) (step_of t next (Ok (End at)) steps lists.0).1)
+
+    pub dump_failed : (tape : Option Tape) (next : Reader) (e : ReadErr) → ListsLog tape size reader old mid → Steps tape reader next (Err e) → IfSome tape (IsDump size old mid (Err (failure_of e)))
+    dump_failed None next e lists steps = tt
+    dump_failed (Some t) next Memory lists steps = put_front t lists
+    dump_failed (Some t) next (Disk faults) lists steps = put_front t lists
+    dump_failed (Some t) next (Damaged at kind) lists steps = put_all t lists next (answers.Damaged at kind) (step_of t next (Err (Damaged at kind)) steps lists.0).1
+    dump_failed (Some t) next (Compressed at) lists steps = put_all t lists next (answers.Compressed at) (step_of t next (Err (Compressed at)) steps lists.0).1
+    dump_failed (Some t) next (Overwritten at) lists steps = put_all t lists next (answers.Overwritten at) (step_of t next (Err (Overwritten at)) steps lists.0).1
+
+  -- the sink fails at a record's line
+  pub dump_cut : (reader next : Reader) (sized : (state_of reader).size ≡ size) (kept : (state_of next).size ≡ size) (mid new : Option (List ℕ)) (tape : Option Tape) (f : FoundRecord) (faults : ℕ) → ListsLog tape size reader old mid → Steps tape reader next (Ok (Record f))
+      → (n : ℕ) × (new ≡ with_behind mid (take n (line_text (listed_of f)))) → IfSome tape (IsDump size old new (Err (errors.Sink faults)))
+  dump_cut reader next sized kept mid new None f faults lists steps front = tt
+  dump_cut reader next sized kept mid new (Some t) f faults lists steps front =
+      let underway = lists.1 in
+      let is = (step_of reader sized mid t next (Ok (Record f)) steps lists.0).1 in
+      let left = still next kept mid t in
+      let decodes = underway.whole (f ∷ left.0) left.1 (is left.0 left.1 left.2) in
+      front_of reader sized mid t new (underway.listed ++ f ∷ left.0) left.1 decodes (listed_front_of_next (log_of t size) (unread size) old (state_of reader) mid underway (state_of next) f is new left.0 front)

@@ -1,8 +1,7 @@
+pub mod WordLaws
 pub mod SinkLaws
 pub mod HexadecimalLaws
 pub mod JoinedLaws
-pub mod ReadLaws
-pub mod DecodeLaws
+pub mod SpelledLaws
 pub mod ListingLaws
-pub mod DiskLaws
 pub mod DumpLaws

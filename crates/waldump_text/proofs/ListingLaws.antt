@@ -1,92 +1,62 @@
 -- A reader whose records are listed one after another.
-use Rattle.std.proofs.Common.{◌≡◌, ℕ, false, List, [], ◌∷◌, take, Option, None, Result, Ok, Err, sym, ap, subst}
-use Rattle.segment_disk.specs.Stream.{with_behind}
+use Rattle.std.proofs.Common.{◌≡◌, ℕ, List, [], ◌∷◌, ◌++◌, take, Option, Some, None, Result, Ok, Err, refl, sym, ap, subst, ◌∙◌, append_assoc}
+use Rattle.std.specs.Prelude.{IfSome}
+use Rattle.std.proofs.lemmas.Grind.{flat_map-append}
+use Rattle.std.proofs.lemmas.List.{append-nil}
 use Rattle.byte_position.specs.Geometry.{IsSegmentSize}
-use Rattle.wal_record.specs.Record.{is_free_manager}
+use Rattle.segment_disk.specs.Image.{Image}
+use Rattle.segment_disk.specs.Stream.{with_behind}
+use Rattle.wal_reader.specs.LogReader.{ReadState, Gives, IsNext}
+use Rattle.wal_reader.specs.Pages.{Pages, pages_in}
 use Rattle.wal_reader.specs.declared.found.FoundRecord.{FoundRecord}
 use Rattle.wal_reader.specs.declared.found.Answer.{Answer}
-use Rattle.wal_reader.specs.declared.reader.Step.TheVariants.{Record, Stop}
-use Rattle.wal_reader.specs.Pages.{Pages}
-use Rattle.wal_reader.specs.Decodes.{Place, ReadsFrom}
-use Rattle.wal_reader.specs.Reader.{ReaderState, Gives, IsNext}
-use Rattle.wal_reader.specs.Written.{one_page}
+use Rattle.wal_reader.specs.declared.standing.ReadStep.TheVariants.{Record}
 use Rattle.waldump_text.specs.Listing.{line_text, listed_of, listing}
-use Rattle.waldump_text.proofs.DecodeLaws.{ReadsFrom-same, reading_of_page}
-use Rattle.waldump_text.proofs.ReadLaws.{record_read}
-use Rattle.waldump_text.proofs.SinkLaws.{HasPut, HasPut-none, HasPut-more, HasPut-all, HasPut-front, HasPut-front_of_next}
+use Rattle.waldump_text.specs.Put.{HasPut}
+use Rattle.waldump_text.proofs.SinkLaws.{HasPut-front, HasPut-front_of_next, with_behind-append, with_behind-nil}
 
--- some of what a reader gave at the start is listed, and it gives the others still
-pub record IsUnderway (start now : ReaderState) (old new : Option (List ℕ)) (before after : ℕ) : Type 0 where
-  pub valid : IsSegmentSize now.size
-  pub found : List FoundRecord
-  pub answer : Answer
-  pub whole : Gives start found answer
-  pub others : List FoundRecord
-  pub left : Gives now others answer
-  pub put : HasPut old new before after (listing found) (listing others)
+pub listing-append : (found others : List FoundRecord) → listing (found ++ others) ≡ listing found ++ listing others
+listing-append found others = flat_map-append (λ f. line_text (listed_of f)) found others
 
-pub IsUnderway-none : (reader : ReaderState) (taken : Option (List ℕ)) (faults : ℕ) → IsSegmentSize reader.size → IsUnderway reader reader taken taken faults faults
-IsUnderway-none reader taken faults valid =
-    let gives = reading_of_page reader.size valid reader.page reader.place in
-    record { valid = valid; found = gives.0; answer = gives.1; whole = gives.2; others = gives.0; left = gives.2; put = HasPut-none taken faults (listing gives.0) }
+-- what a reader gave from a start on is listed, and it still gives what comes behind that
+pub record IsUnderway (pages : Pages) (start now : ReadState) (old new : Option (List ℕ)) : Type 0 where
+  pub listed : List FoundRecord
+  pub whole : (others : List FoundRecord) (answer : Answer) → Gives pages now others answer → Gives pages start (listed ++ others) answer
+  pub taken : new ≡ with_behind old (listing listed)
 
--- a record that is read is of a manager that there is
-read_manager : (size : ℕ) (pages : Pages) (place : Result Place Answer) (f : FoundRecord) (others : List FoundRecord) (answer : Answer) → ReadsFrom size pages None place (f ∷ others) answer → is_free_manager f.value.rmid ≡ false
-read_manager size pages (Ok place) f others answer reads = (record_read size pages place f reads.0).manager
-read_manager size pages (Err stopped) f others answer reads = absurd (cc reads.0)
+module _ (pages : Pages) (start : ReadState) (old : Option (List ℕ)) where
+  pub IsUnderway-none : IsUnderway pages start start old old
+  IsUnderway-none = record { listed = []; whole = λ others answer gives. gives; taken = sym (with_behind-nil old) }
 
--- what a record that comes next says of what was left
-pub record IsNextOf (next : ReaderState) (f : FoundRecord) (others : List FoundRecord) (answer : Answer) : Type 0 where
-  pub rest : List FoundRecord
-  pub split : others ≡ f ∷ rest
-  pub left : Gives next rest answer
-  pub manager : is_free_manager f.value.rmid ≡ false
+  module _ (now : ReadState) (mid : Option (List ℕ)) (underway : IsUnderway pages start now old mid) where
+    -- the listing of what is listed and more
+    has_put : (others : List FoundRecord) (faults : ℕ) → HasPut old mid faults faults (listing (underway.listed ++ others)) (listing others)
+    has_put others faults = record { front = listing underway.listed; parts = listing-append underway.listed others; taken = underway.taken; faults = refl }
 
-pub next_of : (now next : ReaderState) (f : FoundRecord) (others : List FoundRecord) (answer : Answer) → IsSegmentSize next.size → IsNext now next (Record f) → Gives now others answer → IsNextOf next f others answer
-next_of now next f others answer valid is gives =
-    let some = reading_of_page next.size valid next.page next.place in
-    let read = is some.0 some.1 some.2 in
-    let same = ReadsFrom-same now.size (one_page now.size now.page) now.place others (f ∷ some.0) answer some.1 gives read in
-    record {
-      rest = some.0;
-      split = same.0;
-      left = subst (Gives next some.0) (sym same.1) some.2;
-      manager = read_manager now.size (one_page now.size now.page) now.place f some.0 some.1 read;
-    }
+    -- where the reader stops all is listed
+    pub listed_all : (answer : Answer) → Gives pages now [] answer → (found : List FoundRecord) × Gives pages start found answer × (mid ≡ with_behind old (listing found))
+    listed_all answer ends =
+        let whole = subst (λ (found : List FoundRecord). Gives pages start found answer) (append-nil underway.listed) (underway.whole [] answer ends) in
+        (underway.listed, whole, underway.taken)
 
-module _ {start now : ReaderState} {old mid : Option (List ℕ)} {before between : ℕ} (underway : IsUnderway start now old mid before between) where
-  -- a reader that could give no record has all before it listed
-  pub listed_front : (found : List FoundRecord) (answer : Answer) → Gives start found answer → (n : ℕ) × (mid ≡ with_behind old (take n (listing found)))
-  listed_front found answer gives =
-      let same = ReadsFrom-same start.size (one_page start.size start.page) start.place underway.found found underway.answer answer underway.whole gives in
-      rw (← same.0) (HasPut-front underway.put)
+    -- wherever it stands a front of all is listed
+    pub listed_front : (others : List FoundRecord) → (n : ℕ) × (mid ≡ with_behind old (take n (listing (underway.listed ++ others))))
+    listed_front others = HasPut-front (has_put others 0)
 
-  pub listed_all : (next : ReaderState) (answer : Answer) → IsNext now next (Stop answer) → (found : List FoundRecord) × Gives start found answer × (mid ≡ with_behind old (listing found))
-  listed_all next answer ends =
-      let same = ReadsFrom-same now.size (one_page now.size now.page) now.place underway.others [] underway.answer answer underway.left ends in
-      (underway.found, subst (Gives start underway.found) same.1 underway.whole, HasPut-all underway.put (ap listing same.0))
+    module _ (next : ReadState) (f : FoundRecord) (is : IsNext pages now next (Ok (Record f))) (new : Option (List ℕ)) where
+      -- the record's line is put
+      pub IsUnderway-more : new ≡ with_behind mid (line_text (listed_of f)) → IsUnderway pages start next old new
+      IsUnderway-more taken = record {
+        listed = underway.listed ++ f ∷ [];
+        whole = λ others answer gives. subst (λ (found : List FoundRecord). Gives pages start found answer) (sym (append_assoc underway.listed (f ∷ []) others)) (underway.whole (f ∷ others) answer (is others answer gives));
+        taken =
+            taken
+            ∙ ap (λ (text : Option (List ℕ)). with_behind text (line_text (listed_of f))) underway.taken
+            ∙ with_behind-append old (listing underway.listed) (line_text (listed_of f))
+            ∙ ap (λ (text : List ℕ). with_behind old (listing underway.listed ++ text)) (sym (append-nil (line_text (listed_of f))))
+            ∙ ap (with_behind old) (sym (listing-append underway.listed (f ∷ [])));
+      }
 
-  module _ (next : ReaderState) (f : FoundRecord) (valid : IsSegmentSize next.size) (is : IsNext now next (Record f)) where
-    abbrev next_is : IsNextOf next f underway.others underway.answer
-    next_is = next_of now next f underway.others underway.answer valid is underway.left
-
-    pub next_manager : is_free_manager f.value.rmid ≡ false
-    next_manager = next_is.manager
-
-    -- the record's line is put
-    pub IsUnderway-more : (new : Option (List ℕ)) (after : ℕ) → new ≡ with_behind mid (line_text (listed_of f)) → after ≡ between → IsUnderway start next old new before after
-    IsUnderway-more new after taken faults = record {
-      valid = valid;
-      found = underway.found;
-      answer = underway.answer;
-      whole = underway.whole;
-      others = next_is.rest;
-      left = next_is.left;
-      put = HasPut-more (line_text (listed_of f)) (listing next_is.rest) underway.put (ap listing next_is.split) taken faults;
-    }
-
-    -- the sink fails at the record's line
-    pub listed_front_of_next : (new : Option (List ℕ)) → (n : ℕ) × (new ≡ with_behind mid (take n (line_text (listed_of f)))) → (found : List FoundRecord) (answer : Answer) → Gives start found answer → (n : ℕ) × (new ≡ with_behind old (take n (listing found)))
-    listed_front_of_next new taken found answer gives =
-        let same = ReadsFrom-same start.size (one_page start.size start.page) start.place underway.found found underway.answer answer underway.whole gives in
-        rw (← same.0) (HasPut-front_of_next (line_text (listed_of f)) (listing next_is.rest) underway.put (ap listing next_is.split) taken)
+      -- the sink fails at the record's line
+      pub listed_front_of_next : (others : List FoundRecord) → (n : ℕ) × (new ≡ with_behind mid (take n (line_text (listed_of f)))) → (n : ℕ) × (new ≡ with_behind old (take n (listing (underway.listed ++ f ∷ others))))
+      listed_front_of_next others taken = HasPut-front_of_next (line_text (listed_of f)) (listing others) (has_put (f ∷ others) 0) refl taken

@@ -3,7 +3,7 @@ use Rattle.std.proofs.Common.{◌≡◌, ℕ, ◌+◌, min, List, [], ◌++◌, 
 use Rattle.std.proofs.lemmas.List.{append-nil, take-append-le, take_min}
 use Rattle.std.proofs.Math.Seq.{take-append_seam, take-append-add}
 use Rattle.segment_disk.specs.Stream.{with_behind}
-use Rattle.waldump_text.specs.Put.{Puts, HasRisen}
+use Rattle.waldump_text.specs.Put.{HasPut, HasRisen, Puts}
 use Rattle.waldump_text.specs.declared.putting.SinkFault.{SinkFault}
 
 pub with_behind-nil : (taken : Option (List ℕ)) → with_behind taken [] ≡ taken
@@ -13,13 +13,6 @@ with_behind-nil (Some bytes) = ap Some (append-nil bytes)
 pub with_behind-append : (taken : Option (List ℕ)) (a b : List ℕ) → with_behind (with_behind taken a) b ≡ with_behind taken (a ++ b)
 with_behind-append None a b = refl
 with_behind-append (Some bytes) a b = ap Some (append_assoc bytes a b)
-
--- a sink has taken a text as far as the rest, and has not failed
-pub record HasPut (old new : Option (List ℕ)) (before after : ℕ) (text rest : List ℕ) : Type 0 where
-  pub front : List ℕ
-  pub parts : text ≡ front ++ rest
-  pub taken : new ≡ with_behind old front
-  pub faults : after ≡ before
 
 pub HasPut-none : (taken : Option (List ℕ)) (faults : ℕ) (text : List ℕ) → HasPut taken taken faults faults text text
 HasPut-none taken faults text = record { front = []; parts = refl; taken = sym (with_behind-nil taken); faults = refl }
@@ -60,3 +53,25 @@ Puts-last new after piece (Ok done) h ends puts =
     let all = HasPut-more piece [] h (ends ∙ sym (append-nil piece)) puts.0 puts.1 in
     (HasPut-all all refl, all.faults)
 Puts-last new after piece (Err fault) h ends puts = Puts-failed piece [] fault h (ends ∙ sym (append-nil piece)) puts
+
+-- ---- a text that is held back in part
+
+-- a further piece goes on behind what is held back, and some of it is held back in turn
+pub HasPut-further : {old mid new : Option (List ℕ)} {before between after : ℕ} {text rest held : List ℕ} (piece left : List ℕ) → HasPut old mid before between text rest → rest ≡ piece ++ left → HasPut mid new between after piece held → HasPut old new before after text (held ++ left)
+HasPut-further {old = old} {held = held} piece left h split more = record {
+  front = h.front ++ more.front;
+  parts = h.parts ∙ ap (λ x. h.front ++ x) (split ∙ ap (λ x. x ++ left) more.parts ∙ append_assoc more.front held left) ∙ sym (append_assoc h.front more.front (held ++ left));
+  taken = more.taken ∙ ap (λ x. with_behind x more.front) h.taken ∙ with_behind-append old h.front more.front;
+  faults = more.faults ∙ h.faults;
+}
+
+-- a text that goes on behind what was put
+pub HasPut-behind : {old new : Option (List ℕ)} {before after : ℕ} {text rest : List ℕ} (more : List ℕ) → HasPut old new before after text rest → HasPut old new before after (text ++ more) (rest ++ more)
+HasPut-behind {rest = rest} more h = record { front = h.front; parts = ap (λ x. x ++ more) h.parts ∙ append_assoc h.front rest more; taken = h.taken; faults = h.faults }
+
+pub HasPut-same : {old new : Option (List ℕ)} {before after : ℕ} {text rest other : List ℕ} → HasPut old new before after text rest → rest ≡ other → HasPut old new before after text other
+HasPut-same {old = old} {new = new} {before = before} {after = after} {text = text} h same = subst (HasPut old new before after text) same h
+
+-- all of a text is put
+pub HasPut-whole : {old new : Option (List ℕ)} {before after : ℕ} (text : List ℕ) → new ≡ with_behind old text → after ≡ before → HasPut old new before after text []
+HasPut-whole text taken faults = record { front = text; parts = sym (append-nil text); taken = taken; faults = faults }

@@ -1,23 +1,25 @@
 -- What a listing of the disk's log puts, and how it ends.
 use Rattle.std.specs.Prelude.{◌≡◌, ℕ, List, take, Option, None, Result, Ok, Err}
+use Rattle.segment_disk.specs.Cause.{Rose}
 use Rattle.segment_disk.specs.Image.{image_as_read}
 use Rattle.segment_disk.specs.Stream.{with_behind}
 use Rattle.segment_disk.specs.Tape.{Tape, state_now}
 use Rattle.wal_types.specs.declared.lsn.Lsn.{Lsn}
-use Rattle.wal_reader.specs.Pages.{pages_in, first_page_of}
+use Rattle.wal_reader.specs.Pages.{pages_in}
 use Rattle.wal_reader.specs.Decodes.{Decodes}
-use Rattle.wal_reader.specs.Reader.{ReaderState, Gives}
 use Rattle.wal_reader.specs.declared.found.FoundRecord.{FoundRecord}
 use Rattle.wal_reader.specs.declared.found.Answer.{Answer}
 use Rattle.wal_reader.specs.declared.found.Answer.TheVariants as answers
+use Rattle.wal_reader.specs.declared.standing.ReadErr.{ReadErr}
+use Rattle.wal_reader.specs.declared.standing.ReadErr.TheVariants as reading
 use Rattle.waldump_text.specs.Listing.{listing}
 use Rattle.waldump_text.specs.Put.{HasRisen}
 use Rattle.waldump_text.specs.declared.dumping.DumpErr.{DumpErr}
 use Rattle.waldump_text.specs.declared.dumping.DumpErr.TheVariants.{Memory, Disk, Stopped, Sink}
 
--- what the disk's log decodes to, of which only the first page of segment 1 is looked at yet
+-- what the disk's log decodes to, from segment 1 on
 abbrev pub DecodesOnDisk : ℕ → Tape → List FoundRecord → Answer → Type 0
-DecodesOnDisk size t found answer = Decodes size (first_page_of size (pages_in size (image_as_read (state_now t)))) size None found answer
+DecodesOnDisk size t found answer = Decodes size (pages_in size (image_as_read (state_now t))) size None found answer
 
 -- there is one thing that it decodes to
 abbrev pub IsSettled : ℕ → Tape → Type 0
@@ -35,7 +37,7 @@ PutsListingFront size t old new = (found : List FoundRecord) (answer : Answer) �
 abbrev pub IsDump : ℕ → Option (List ℕ) → Option (List ℕ) → Result (Unit {0}) DumpErr → Tape → Type 0
 IsDump size old new (Ok done) t = (at : Lsn) × PutsListing size t old new (answers.End at)
 IsDump size old new (Err Memory) t = PutsListingFront size t old new
-IsDump size old new (Err (Disk faults)) t = new ≡ old
+IsDump size old new (Err (Disk faults)) t = PutsListingFront size t old new
 IsDump size old new (Err (Stopped answer)) t = PutsListing size t old new answer
 IsDump size old new (Err (Sink faults)) t = PutsListingFront size t old new
 
@@ -50,19 +52,14 @@ IsStop (answers.Overwritten at) = Unit {0}
 abbrev pub HasDumpCause : ℕ → ℕ → ℕ → ℕ → Result (Unit {0}) DumpErr → Type 0
 HasDumpCause disk disk_after sink sink_after (Ok done) = (disk_after ≡ disk) × (sink_after ≡ sink)
 HasDumpCause disk disk_after sink sink_after (Err Memory) = (disk_after ≡ disk) × (sink_after ≡ sink)
-HasDumpCause disk disk_after sink sink_after (Err (Disk faults)) = HasRisen disk disk_after × (faults ≡ disk_after) × (sink_after ≡ sink)
+HasDumpCause disk disk_after sink sink_after (Err (Disk faults)) = Rose disk disk_after × (faults ≡ disk_after) × (sink_after ≡ sink)
 HasDumpCause disk disk_after sink sink_after (Err (Stopped answer)) = IsStop answer × (disk_after ≡ disk) × (sink_after ≡ sink)
 HasDumpCause disk disk_after sink sink_after (Err (Sink faults)) = HasRisen sink sink_after × (faults ≡ sink_after) × (disk_after ≡ disk)
 
--- a sink took the lines of what a reader gives, or a front of them
-abbrev pub IsListOf : ReaderState → Option (List ℕ) → Option (List ℕ) → Result Answer DumpErr → Type 0
-IsListOf reader old new (Ok answer) = (found : List FoundRecord) × Gives reader found answer × (new ≡ with_behind old (listing found))
-IsListOf reader old new (Err e) = (found : List FoundRecord) (answer : Answer) → Gives reader found answer → (n : ℕ) × (new ≡ with_behind old (take n (listing found)))
-
--- why no more lines were put: the sink's count of faults, before and after
-abbrev pub HasListCause : ℕ → ℕ → Result Answer DumpErr → Type 0
-HasListCause before after (Ok answer) = after ≡ before
-HasListCause before after (Err Memory) = after ≡ before
-HasListCause before after (Err (Disk faults)) = ⊥
-HasListCause before after (Err (Stopped answer)) = ⊥
-HasListCause before after (Err (Sink faults)) = HasRisen before after × (faults ≡ after)
+-- why a listing ends where a reader fails
+abbrev pub failure_of : ReadErr → DumpErr
+failure_of reading.Memory = Memory
+failure_of (reading.Disk faults) = Disk faults
+failure_of (reading.Damaged at kind) = Stopped (answers.Damaged at kind)
+failure_of (reading.Compressed at) = Stopped (answers.Compressed at)
+failure_of (reading.Overwritten at) = Stopped (answers.Overwritten at)

@@ -1,12 +1,17 @@
 -- The listing of records, a line each, in the form of pg_waldump.
-use Rattle.std.specs.Prelude.{ℕ, ◌-◌, List, [], ◌∷◌, ◌++◌, length, replicate, codes, ◌==◌, if◌then◌else◌}
+use Rattle.std.specs.Prelude.{ℕ, ◌-◌, ◌≤◌, IsTrue, not, List, [], ◌∷◌, ◌++◌, length, replicate, codes, slice_index_or, sum_by, All, Option, Some, None, ◌==◌, if◌then◌else◌}
 use Rattle.std.specs.Fmt.{decimal}
 use Rattle.std.specs.List.{flat_map}
 use Rattle.wal_types.specs.LsnText.{lsn_text}
+use Rattle.wal_types.specs.declared.record.Block.{Block}
+use Rattle.wal_types.specs.declared.record.Image.{Image}
+use Rattle.wal_types.specs.declared.record.Rel.{Rel}
+use Rattle.wal_record.specs.Record.{is_free_manager}
+use Rattle.wal_record.specs.Spelling.{image_bytes}
 use Rattle.wal_reader.specs.declared.found.FoundRecord.{FoundRecord}
 use Rattle.waldump_text.specs.declared.listed.Listed.{Listed}
 use Rattle.waldump_text.specs.Put.{joined, padded_left}
-use Rattle.waldump_text.specs.Names.{manager_name, record_word, hexadecimal}
+use Rattle.waldump_text.specs.Names.{manager_name, record_word, fork_names, hexadecimal}
 
 -- a text and blanks behind it up to n bytes
 abbrev pub padded_right : ℕ → List ℕ → List ℕ
@@ -16,15 +21,45 @@ padded_right n text = text ++ replicate (n - length text) 32
 abbrev pub data_text : List ℕ → List ℕ
 data_text main = if length main == 0 then codes "-" else hexadecimal main
 
+-- how many bytes the images of blocks have together
+abbrev pub images_len : List Block → ℕ
+images_len blocks = sum_by (λ b. length (image_bytes b.image)) blocks
+
 -- the pieces of a record's line before its data: manager, size without and with images, transaction, its start, that of the record before and its word
 abbrev pub head_pieces : Listed → List (List ℕ)
 head_pieces r =
-    codes "rmgr: " ∷ padded_right 11 (manager_name r.value.rmid) ∷ codes " len (rec/tot): " ∷ padded_left 6 (decimal r.total) ∷ codes "/" ∷ padded_left 6 (decimal r.total) ∷ codes ", tx: " ∷ padded_left 10 (decimal r.value.xid.0)
+    codes "rmgr: " ∷ padded_right 11 (manager_name r.value.rmid) ∷ codes " len (rec/tot): " ∷ padded_left 6 (decimal (r.total - images_len r.value.blocks)) ∷ codes "/" ∷ padded_left 6 (decimal r.total) ∷ codes ", tx: " ∷ padded_left 10 (decimal r.value.xid.0)
     ∷ codes ", lsn: " ∷ lsn_text r.start.0 ∷ codes ", prev " ∷ lsn_text r.prev.0 ∷ codes ", desc: " ∷ record_word r.value.rmid r.value.info ∷ codes " data " ∷ []
 
--- a record's line (of a record without block references), with its main data at the end
+-- a relation: its tablespace, its database and its own number
+abbrev pub relation_text : Rel → List ℕ
+relation_text rel = joined (decimal rel.spc ∷ codes "/" ∷ decimal rel.db ∷ codes "/" ∷ decimal rel.rel ∷ [])
+
+-- a fork other than the main one is named
+abbrev pub fork_text : ℕ → List ℕ
+fork_text fork = if fork == 0 then [] else codes " fork " ++ slice_index_or fork_names fork []
+
+-- an image is told, and whether it is for redo or for verification alone
+abbrev pub image_text : Option Image → List ℕ
+image_text None = []
+image_text (Some image) = if image.apply then codes " FPW" else codes " FPW for WAL verification"
+
+-- a reference to a block: its number in the record, its relation and fork, its own number, and its image
+abbrev pub block_pieces : Block → List (List ℕ)
+block_pieces b = codes ", blkref #" ∷ decimal b.id ∷ codes ": rel " ∷ relation_text b.rel ∷ fork_text b.fork ∷ codes " blk " ∷ decimal b.blk ∷ image_text b.image ∷ []
+
+abbrev pub blocks_text : List Block → List ℕ
+blocks_text blocks = flat_map (λ b. joined (block_pieces b)) blocks
+
+-- a record's line: its head, its main data and its block references
 abbrev pub line_text : Listed → List ℕ
-line_text r = joined (head_pieces r ++ data_text r.value.main ∷ codes "\n" ∷ [])
+line_text r = joined (head_pieces r ++ data_text r.value.main ∷ blocks_text r.value.blocks ∷ codes "\n" ∷ [])
+
+-- a record that has a line: its manager and its forks have names, and its images are no more than all of it
+pub record IsListable (r : Listed) : Type 0 where
+  pub manager : IsTrue (not (is_free_manager r.value.rmid))
+  pub forks : All (λ b. b.fork ≤ 3) r.value.blocks
+  pub images : images_len r.value.blocks ≤ r.total
 
 -- a record as it is listed
 abbrev pub listed_of : FoundRecord → Listed

@@ -1,5 +1,5 @@
 -- The names that the listing has for managers and records (PostgreSQL's rmgrlist.h and xactdesc.c).
-use Rattle.std.specs.Prelude.{ℕ, ◌+◌, ◌/◌, ◌%◌, List, [], ◌∷◌, ◌++◌, codes, slice_index_or, ◌==◌, nat_lt, if◌then◌else◌}
+use Rattle.std.specs.Prelude.{ℕ, ◌+◌, ◌/◌, ◌%◌, List, [], ◌∷◌, ◌++◌, codes, length, slice_index_or, ◌==◌, nat_lt, if◌then◌else◌}
 use Rattle.waldump_text.specs.declared.names.ManagerName.{ManagerName}
 use Rattle.waldump_text.specs.declared.names.ManagerName.TheVariants.{Own, Custom}
 use Rattle.waldump_text.specs.declared.names.RecordWord.{RecordWord}
@@ -32,13 +32,39 @@ hexadecimal (b ∷ bs) = lower_digit (b / 16 % 16) ∷ lower_digit (b % 16) ∷ 
 abbrev pub unknown_word : ℕ → List ℕ
 unknown_word info = codes "UNKNOWN (" ++ (if info / 16 % 16 == 0 then codes "0" else lower_digit (info / 16 % 16) ∷ 48 ∷ []) ++ codes ")"
 
--- the records of transactions, by bits 4 to 6 of their info
+-- the records of a manager, by the upper four bits of their info; some have no word
+abbrev pub xlog_words : List (List ℕ)
+xlog_words =
+    codes "CHECKPOINT_SHUTDOWN" ∷ codes "CHECKPOINT_ONLINE" ∷ codes "NOOP" ∷ codes "NEXTOID" ∷ codes "SWITCH" ∷ codes "BACKUP_END" ∷ codes "PARAMETER_CHANGE" ∷ codes "RESTORE_POINT" ∷ codes "FPW_CHANGE" ∷ codes "END_OF_RECOVERY"
+    ∷ codes "FPI_FOR_HINT" ∷ codes "FPI" ∷ codes "" ∷ codes "OVERWRITE_CONTRECORD" ∷ []
+
+abbrev pub heap_words : List (List ℕ)
+heap_words =
+    codes "INSERT" ∷ codes "DELETE" ∷ codes "UPDATE" ∷ codes "TRUNCATE" ∷ codes "HOT_UPDATE" ∷ codes "HEAP_CONFIRM" ∷ codes "LOCK" ∷ codes "INPLACE" ∷ codes "INSERT+INIT" ∷ codes "" ∷ codes "UPDATE+INIT" ∷ codes ""
+    ∷ codes "HOT_UPDATE+INIT" ∷ []
+
+abbrev pub message_words : List (List ℕ)
+message_words = codes "MESSAGE" ∷ []
+
+-- those of transactions by bits 4 to 6
 abbrev pub transaction_words : List (List ℕ)
 transaction_words = codes "COMMIT" ∷ codes "PREPARE" ∷ codes "ABORT" ∷ codes "COMMIT_PREPARED" ∷ codes "ABORT_PREPARED" ∷ codes "ASSIGNMENT" ∷ codes "INVALIDATION" ∷ []
 
--- a record's word; only transactions have words of their own yet
+-- a record's word in its manager's table, or none
+abbrev pub own_word : ℕ → ℕ → List ℕ
+own_word rmid info =
+    if rmid == 0 then slice_index_or xlog_words (info / 16) []
+    else (if rmid == 1 then slice_index_or transaction_words (info / 16 % 8) []
+    else (if rmid == 10 then slice_index_or heap_words (info / 16) []
+    else (if rmid == 21 then slice_index_or message_words (info / 16) [] else [])))
+
+-- a record's word
 abbrev pub record_word : ℕ → ℕ → List ℕ
-record_word rmid info = if rmid == 1 then slice_index_or transaction_words (info / 16 % 8) (unknown_word info) else unknown_word info
+record_word rmid info = let word = own_word rmid info in if length word == 0 then unknown_word info else word
+
+-- the forks of a relation
+abbrev pub fork_names : List (List ℕ)
+fork_names = codes "main" ∷ codes "fsm" ∷ codes "vm" ∷ codes "init" ∷ []
 
 -- the text of a manager's name
 abbrev pub name_text : ManagerName → List ℕ

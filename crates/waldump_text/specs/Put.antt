@@ -17,6 +17,18 @@ abbrev pub Puts : Option (List ℕ) → Option (List ℕ) → ℕ → ℕ → Li
 Puts old new before after text (Ok done) = (new ≡ with_behind old text) × (after ≡ before)
 Puts old new before after text (Err fault) = ((n : ℕ) × (new ≡ with_behind old (take n text))) × HasRisen before after × (fault.faults ≡ after)
 
+-- a sink took a text up to a rest, and has not failed
+pub record HasPut (old new : Option (List ℕ)) (before after : ℕ) (text rest : List ℕ) : Type 0 where
+  pub front : List ℕ
+  pub parts : text ≡ front ++ rest
+  pub taken : new ≡ with_behind old front
+  pub faults : after ≡ before
+
+-- a sink took a text but for what is held back; or a front of it where it failed
+abbrev pub PutsBut : Option (List ℕ) → Option (List ℕ) → ℕ → ℕ → List ℕ → List ℕ → Result (Unit {0}) SinkFault → Type 0
+PutsBut old new before after text held (Ok done) = HasPut old new before after text held
+PutsBut old new before after text held (Err fault) = Puts old new before after text (Err fault)
+
 -- a text behind as many blanks as make it n bytes long, and before as many
 abbrev pub padded_left : ℕ → List ℕ → List ℕ
 padded_left n text = replicate (n - length text) 32 ++ text

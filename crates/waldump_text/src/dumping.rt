@@ -1,15 +1,16 @@
 ghost use Rattle.std.specs.Prelude.{◌≡◌, IfSome};
-ghost use Rattle.byte_position.specs.Geometry.{IsSegmentSize};
-ghost use Rattle.waldump_text.specs.Dump.{HasDumpCause, HasListCause, IsDump, IsListOf};
+ghost use Rattle.waldump_text.specs.Dump.{HasDumpCause, IsDump};
 
-use crate::lines::line;
+use crate::line_buffer::LineBuffer;
+use crate::lines::put_line;
 use crate::listed::Listed;
 use crate::putting::SinkFault;
 use byte_position::Geometry;
 use segment_disk::{Disk, Sink};
-use std::alloc::{AllocError, Global};
+use std::alloc::Global;
 use thiserror::Error;
-use wal_reader::{Answer, OpenError, PageReader, Step};
+use wal_reader::{Answer, ReadErr, ReadStep, Reader};
+use wal_types::Lsn;
 
 /// Why a log was not listed to a clean end.
 #[derive(Clone, Copy, Debug, PartialEq, Eq, Error)]
@@ -27,14 +28,20 @@ pub enum DumpErr {
     Sink { faults: u64 },
 }
 
-impl From<AllocError> for DumpErr {
+impl From<ReadErr> for DumpErr {
     ghost use Rattle.std.specs.Prelude.{◌≡◌};
-    ghost use Rattle.waldump_text.specs.declared.dumping.DumpErr.TheVariants.{Memory};
+    ghost use Rattle.waldump_text.specs.Dump.{failure_of};
 
-    ghost from_gives = { λ _ e. e ≡ Memory };
+    ghost from_gives = { λ error e. e ≡ failure_of error };
 
-    fn from(_error: AllocError) -> DumpErr {
-        DumpErr::Memory
+    fn from(error: ReadErr) -> DumpErr {
+        match error {
+            ReadErr::Memory => DumpErr::Memory,
+            ReadErr::Disk { faults } => DumpErr::Disk { faults },
+            ReadErr::Damaged { at, kind } => DumpErr::Stopped(Answer::Damaged { at, kind }),
+            ReadErr::Compressed { at } => DumpErr::Stopped(Answer::Compressed { at }),
+            ReadErr::Overwritten { at } => DumpErr::Stopped(Answer::Overwritten { at }),
+        }
     }
 }
 
@@ -51,8 +58,7 @@ impl From<SinkFault> for DumpErr {
     }
 }
 
-/// Lists what the first page of segment 1 decodes to (every other page counts as not there), a line for each record
-/// as it comes.
+/// Lists what the disk's log decodes to from segment 1 on, a line for each record as it comes.
 pub fn dump<D: Disk, O: Sink>(
     alloc: Global,
     disk: &mut D,
@@ -64,31 +70,12 @@ pub fn dump<D: Disk, O: Sink>(
     ensures moment { D.moment disk.new ≡ D.moment disk.old }
     ensures cause { HasDumpCause (D.faults disk.old) (D.faults disk.new) (O.faults out.old) (O.faults out.new) result }
 {
-    let mut reader = match PageReader::open(alloc, geometry, disk) {
-        Ok(reader) => reader,
-        Err(OpenError::Memory) => return Err(DumpErr::Memory),
-        Err(OpenError::Failed) => {
-            return Err(DumpErr::Disk {
-                faults: disk.faults(),
-            });
-        }
-    };
-    match list(alloc, &mut reader, out)? {
-        Answer::End { .. } => Ok(()),
-        stop => Err(DumpErr::Stopped(stop)),
-    }
-}
-
-// Puts a line for each record that a reader gives, and answers what stands behind the last.
-fn list<O: Sink>(alloc: Global, reader: &mut PageReader, out: &mut O) -> Result<Answer, DumpErr>
-    requires { IsSegmentSize reader.old.size }
-    ensures lines { IsListOf reader.old (O.taken out.old) (O.taken out.new) result }
-    ensures cause { HasListCause (O.faults out.old) (O.faults out.new) result }
-{
+    let mut reader = Reader::new(geometry, Lsn(geometry.segment_size()), None);
+    let mut buffer = LineBuffer::new();
     'records: loop {
-        match reader.next(alloc)? {
-            Step::Record(found) => line(&Listed::from(found), out)?,
-            Step::Stop(answer) => return Ok(answer),
+        match reader.next(alloc, disk)? {
+            ReadStep::Record(found) => put_line(&mut buffer, &Listed::from(found), out)?,
+            ReadStep::End { .. } => return Ok(()),
         }
     }
 }

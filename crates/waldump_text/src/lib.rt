@@ -1,9 +1,10 @@
 //! The listing of a log's records, in the form of PostgreSQL's pg_waldump.
 #![tactic(auto)]
 
+mod block_refs;
 mod dumping;
-mod head;
 mod laws;
+mod line_buffer;
 mod lines;
 mod listed;
 mod names;
@@ -15,5 +16,5 @@ pub use dumping::{DumpErr, dump};
 pub use laws::decoding_is_settled;
 pub use lines::line;
 pub use listed::Listed;
-pub use names::{ManagerName, RecordWord, manager_name, record_word};
+pub use names::{ManagerName, RecordWord, fork_name, manager_name, record_word};
 pub use putting::{SinkFault, padding, put, put_all};

@@ -1,6 +1,6 @@
-ghost use Rattle.std.specs.Prelude.{◌≡◌, ◌<◌, ◌≤◌, IsTrue, length, not};
+ghost use Rattle.std.specs.Prelude.{◌≡◌, ◌<◌, ◌≤◌, IsTrue, [], length, not, slice_index_or};
 ghost use Rattle.wal_record.specs.Record.{is_free_manager};
-ghost use Rattle.waldump_text.specs.Names.{manager_name, record_word, unknown_word, lower_digit, name_text, word_text};
+ghost use Rattle.waldump_text.specs.Names.{manager_name, own_word, record_word, unknown_word, lower_digit, fork_names, name_text, word_text};
 
 /// The name of a resource manager.
 #[derive(Clone, Copy, Debug)]
@@ -83,7 +83,43 @@ impl RecordWord {
     }
 }
 
-// The records of transactions, by bits 4 to 6 of their info; no record has the last.
+// The words of a manager's records by the upper four bits of their info; some have none.
+static XLOG_WORDS: [&str; 14] = [
+    "CHECKPOINT_SHUTDOWN",
+    "CHECKPOINT_ONLINE",
+    "NOOP",
+    "NEXTOID",
+    "SWITCH",
+    "BACKUP_END",
+    "PARAMETER_CHANGE",
+    "RESTORE_POINT",
+    "FPW_CHANGE",
+    "END_OF_RECOVERY",
+    "FPI_FOR_HINT",
+    "FPI",
+    "",
+    "OVERWRITE_CONTRECORD",
+];
+
+static HEAP_WORDS: [&str; 13] = [
+    "INSERT",
+    "DELETE",
+    "UPDATE",
+    "TRUNCATE",
+    "HOT_UPDATE",
+    "HEAP_CONFIRM",
+    "LOCK",
+    "INPLACE",
+    "INSERT+INIT",
+    "",
+    "UPDATE+INIT",
+    "",
+    "HOT_UPDATE+INIT",
+];
+
+static MESSAGE_WORDS: [&str; 1] = ["MESSAGE"];
+
+// Those of transactions by bits 4 to 6; no record has the last.
 static TRANSACTION_WORDS: [&str; 7] = [
     "COMMIT",
     "PREPARE",
@@ -95,22 +131,37 @@ static TRANSACTION_WORDS: [&str; 7] = [
 ];
 
 /// The word of a record, by its manager's number and its info.
+#[tactic(auto, using(crate::proofs::WordLaws::short_word))]
 pub fn record_word(rmid: u8, info: u8) -> RecordWord
     ensures text { word_text result ≡ record_word rmid info }
-    ensures short { length (word_text result) ≤ 15 }
+    ensures short { length (word_text result) ≤ 20 }
 {
-    let kind = info / 16 % 8;
-    if rmid == 1 && kind < 7 {
-        RecordWord::Known(TRANSACTION_WORDS[kind as usize])
-    } else {
+    let word = own_word(rmid, info);
+    if word.is_empty() {
         unknown_word(info)
+    } else {
+        RecordWord::Known(word)
+    }
+}
+
+// A record's word in its manager's table, or none.
+fn own_word(rmid: u8, info: u8) -> &'static str
+    ensures { result.now ≡ own_word rmid info }
+{
+    let kind = (info / 16) as usize;
+    match rmid {
+        0 if kind < XLOG_WORDS.len() => XLOG_WORDS[kind],
+        1 if kind % 8 < TRANSACTION_WORDS.len() => TRANSACTION_WORDS[kind % 8],
+        10 if kind < HEAP_WORDS.len() => HEAP_WORDS[kind],
+        21 if kind < MESSAGE_WORDS.len() => MESSAGE_WORDS[kind],
+        _ => "",
     }
 }
 
 // PostgreSQL prints the upper four bits in place, as `80`, and no leading zero.
 fn unknown_word(info: u8) -> RecordWord
     ensures text { word_text result ≡ unknown_word info }
-    ensures short { length (word_text result) ≤ 15 }
+    ensures short { length (word_text result) ≤ 20 }
 {
     match info / 16 {
         0 => RecordWord::Known("UNKNOWN (0)"),
@@ -128,4 +179,15 @@ fn lower_digit(n: u8) -> u8
     ensures { result ≡ lower_digit n }
 {
     if n < 10 { b'0' + n } else { b'a' - 10 + n }
+}
+
+static FORK_NAMES: [&str; 4] = ["main", "fsm", "vm", "init"];
+
+/// The name of a relation's fork, by a number that forks have.
+pub fn fork_name(fork: u8) -> &'static str
+    requires { fork ≤ 3 }
+    ensures text { result.now ≡ slice_index_or fork_names fork [] }
+    ensures short { length result.now ≤ 4 }
+{
+    FORK_NAMES[fork as usize]
 }

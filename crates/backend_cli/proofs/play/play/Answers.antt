@@ -1,22 +1,22 @@
 -- Each line is played behind those before it.
-use Rattle.std.proofs.Common.{List, ◌∙◌, sym, subst, arith}
+use Rattle.std.proofs.Common.{List, sym, subst, arith}
 use Rattle.backend_cli.specs.declared.told.Told.{Told}
 use Rattle.backend_cli.specs.Moments.{MomentsReach}
 use Rattle.backend_cli.proofs.MomentLaws.{MomentsReach_push}
-use Rattle.backend_cli.proofs.PlayLaws.{IsPlayed_more, IsPlayed_all}
+use Rattle.backend_cli.proofs.PlayLaws.{IsPlayed_more, IsPlayed_all, IsSameLog-trans}
 use Rattle.backend_cli.proofs.play.play.Goals as goal
 
 pub loop-task-preserved : goal.loop-task-preserved
 loop-task-preserved g c =
     let now = c.loop-task in
     record {
-      plays = IsPlayed_more g.row.D.Denot g.D.Disk.tape g.D.Disk.faults c.args.log.now c.args.tasks.now now.log c.answer-answer.new.self now.task-index now.told.items c.push_reserved.new.self.items c.task-item.result c.answer-answer.result
-          now.invariant.plays now.invariant.geometry (omega arith) c.task-item.is c.push_reserved.ensures.items c.answer-answer.ensures.steps;
-      geometry = c.answer-answer.ensures.geometry ∙ now.invariant.geometry;
+      plays = IsPlayed_more g.row.D.Denot g.D.Disk.tape g.D.Disk.faults c.args.log.now c.args.tasks.now now.log c.answer-answer.new.log now.task-index now.told.items c.push_reserved.new.self.items c.task-item.result c.answer-answer.result
+          now.invariant.plays now.invariant.same (omega arith) c.task-item.is c.push_reserved.ensures.items c.answer-answer.ensures.steps;
+      same = IsSameLog-trans c.args.log.now now.log c.answer-answer.new.log now.invariant.same c.answer-answer.ensures.same;
       moments = λ low.
           let so_far = now.invariant.moments low in
           let step = c.answer-answer.ensures.moments so_far.1 in
-          (subst (λ (told : List Told). MomentsReach c.args.log.now.moment told c.answer-answer.new.self.moment) (sym c.push_reserved.ensures.items) (MomentsReach_push _ _ _ now.told.items c.answer-answer.result so_far.0 step.0), step.1);
+          (subst (λ (told : List Told). MomentsReach c.args.log.now.moment told c.answer-answer.new.log.moment) (sym c.push_reserved.ensures.items) (MomentsReach_push _ _ _ now.told.items c.answer-answer.result so_far.0 step.0), step.1);
       each = omega arith;
       room = omega arith;
     }

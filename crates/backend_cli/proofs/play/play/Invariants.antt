@@ -1,4 +1,5 @@
 use Rattle.std.proofs.Common.{◌≡◌, ◌≤◌, length, vec_len, vec_capacity}
+use Rattle.wal_log.specs.LogState.{IsSameLog, log_disk}
 use Rattle.backend_cli.specs.Moments.{MomentsReach}
 use Rattle.backend_cli.proofs.PlayLaws.{IsPlayed}
 use Rattle.backend_cli.proofs.play.play.Given as goal
@@ -7,8 +8,8 @@ use Rattle.backend_cli.proofs.play.play.Given as goal
 abbrev pub invariant-loop-task : goal.invariant-loop-task
 invariant-loop-task g l = record {
   plays : IsPlayed g.D.Disk.tape g.D.Disk.faults l.fn.log l.log l.tasks l.task-index l.told.items;
-  geometry : l.log.geometry ≡ l.fn.log.geometry;
-  moments : l.fn.log.moment ≤ g.D.Disk.moment l.fn.log.disk → MomentsReach l.fn.log.moment l.told.items l.log.moment × (l.log.moment ≤ g.D.Disk.moment l.log.disk);
+  same : IsSameLog l.fn.log l.log;
+  moments : l.fn.log.moment ≤ g.D.Disk.moment (log_disk l.fn.log) → MomentsReach l.fn.log.moment l.told.items l.log.moment × (l.log.moment ≤ g.D.Disk.moment (log_disk l.log));
   each : vec_len l.told ≡ l.task-index;
   room : length l.tasks ≤ vec_capacity l.told;
 }

@@ -1,5 +1,5 @@
 use Rattle.std.proofs.Common.{length, drop}
-use Rattle.waldump_text.proofs.SinkLaws.{HasPut}
+use Rattle.waldump_text.specs.Put.{HasPut}
 use Rattle.backend_cli.specs.Printing.{task_lines}
 use Rattle.backend_cli.proofs.printing.put_told_lines.Given as goal
 

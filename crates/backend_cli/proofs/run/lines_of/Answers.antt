@@ -3,7 +3,7 @@ use Rattle.std.proofs.Common.{subst}
 use Rattle.wal_script.specs.Meaning.{backend_meaning}
 use Rattle.wal_script.specs.Reading.{Refuses}
 use Rattle.wal_script.specs.declared.parser.ParseError.{ParseError}
-use Rattle.backend_cli.proofs.ScriptLaws.{commits_from_meaning}
+use Rattle.backend_cli.proofs.ScriptLaws.{lines_writable}
 use Rattle.backend_cli.proofs.ScriptReading.{MeansLines_read, refused_read}
 use Rattle.backend_cli.proofs.run.lines_of.Goals as goal
 
@@ -12,7 +12,7 @@ returns-in-Ok-parse g c =
     let read = c.in-Ok.ensures in
     let lines = c.in-Ok-parse.lines.items in (
       MeansLines_read (g.S.Source.left c.args.source.now) c.in-Ok.script.items c.deref.result.now lines read.2 c.deref.ensures.value c.in-Ok-parse.ensures,
-      commits_from_meaning c.deref.result.now lines c.in-Ok-parse.ensures,
+      lines_writable c.deref.result.now lines c.in-Ok-parse.ensures,
       read.0,
     )
 

@@ -1,7 +1,8 @@
 -- The told lines are put, where they are asked for, and then the summary.
 use Rattle.std.proofs.Common.{Bool, refl, sym, ap, subst, ◌∙◌}
 use Rattle.std.proofs.lemmas.Result.{err_from_is_err_and}
-use Rattle.waldump_text.proofs.SinkLaws.{HasPut, HasPut-none, HasPut-more, Puts-failed, Puts-last}
+use Rattle.waldump_text.specs.Put.{HasPut}
+use Rattle.waldump_text.proofs.SinkLaws.{HasPut-none, HasPut-more, Puts-failed, Puts-last}
 use Rattle.backend_cli.specs.Printing.{task_lines, summary_line, printed_text}
 use Rattle.backend_cli.proofs.run.print.Goals.{then-list+in_ok-put_told_lines, else-list}
 use Rattle.backend_cli.proofs.run.print.Goals as goal

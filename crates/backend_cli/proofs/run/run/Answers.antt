@@ -1,4 +1,5 @@
 use Rattle.std.proofs.Common.{ℕ, sym, subst}
+use Rattle.wal_log.specs.Standing.{capacity_of}
 use Rattle.backend_cli.specs.Run.{RunHolds}
 use Rattle.backend_cli.proofs.run.run.Goals as goal
 
@@ -21,7 +22,7 @@ returns-in-Ok-clause-holds g c =
       taken_after = g.O.Sink.taken c.run_prepared.new.out;
       sink_before = g.O.Sink.faults c.args.out.now;
       sink_after = g.O.Sink.faults c.run_prepared.new.out;
-    }) c.args.options.geometry c.args.options.list c.run_prepared.result.outcome c.run_prepared.result.told) (sym prepared.1) holds
+    }) c.args.shape.geometry (capacity_of c.args.shape.geometry c.args.shape.cap_segments) c.args.list c.run_prepared.result.outcome c.run_prepared.result.told) (sym prepared.1) holds
 
 pub returns-in-Ok-clause-as_handed_in : goal.returns-in-Ok-clause-as_handed_in
 returns-in-Ok-clause-as_handed_in g c = λ is. absurd (c.run_prepared.ensures.no_memory is)

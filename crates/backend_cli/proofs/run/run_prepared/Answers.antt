@@ -1,38 +1,58 @@
-use Rattle.std.proofs.Common.{sym, ◌∙◌, subst, ℕ, arith}
+-- The lines are played from the log's opening on, the log is flushed to its end, and what was told is printed.
+use Rattle.std.proofs.Common.{◌≡◌, ap, ◌≤◌, ◌^◌, sym, ◌∙◌, subst, ℕ, arith, rules}
 use Rattle.std.specs.Prelude.{not}
+use Rattle.byte_position.specs.Geometry.{IsSegmentSize}
+use Rattle.wal_log.specs.declared.shape.Shape.{Shape}
+use Rattle.wal_log.specs.LogState.{log_disk}
+use Rattle.wal_log.specs.Standing.{at_opening, capacity_of}
+use Rattle.wal_log.specs.Steps.{Flushes}
+use Rattle.backend_cli.proofs.Capacities.{capacity_of-le}
 use Rattle.backend_cli.specs.Tasks.{AreTasks}
 use Rattle.backend_cli.specs.Printing.{Summarizes, printed_text}
 use Rattle.backend_cli.specs.Concluding.{Concludes}
-use Rattle.backend_cli.specs.Log.{Plays, at_opening}
+use Rattle.backend_cli.specs.Steps.{Plays}
 use Rattle.backend_cli.specs.Moments.{MomentsReach, MomentsRise}
 use Rattle.waldump_text.specs.Put.{Puts}
+use Rattle.backend_cli.proofs.LastFlush.{behind_flush}
+use Rattle.backend_cli.proofs.PlayLaws.{IsSameLog-trans}
 use Rattle.backend_cli.proofs.RunLaws.{opened_holds, no_memory}
 use Rattle.backend_cli.proofs.run.run_prepared.Goals as goal
 
-pub summary_of-summary-requires : goal.summary_of-summary-requires
-summary_of-summary-requires g c =
-    let lines = c.requires.0 in
-    let are = subst (AreTasks lines) (sym c.deref.ensures.value) c.requires.1.tasks in
-    let played = c.play.ensures.plays (g.D.Disk.tape c.args.disk) (g.D.Disk.faults c.args.disk) lines c.in-Ok.ensures.ok are in
-    played.2.page_size ∙ c.play.ensures.geometry ∙ c.in-Ok.ensures.made.0
-
 pub returns-clause-holds : goal.returns-clause-holds
 returns-clause-holds g c = λ source count lines means ready.
-    let are = subst (AreTasks lines) (sym c.deref.ensures.value) ready.tasks in
-    let played = c.play.ensures.plays (g.D.Disk.tape c.args.disk) (g.D.Disk.faults c.args.disk) lines c.in-Ok.ensures.ok are in
+    let tape = g.D.Disk.tape in
+    let moment = g.D.Disk.moment in
+    let faults = g.D.Disk.faults in
+    let disk = c.args.disk in
+    let opened = c.in-Ok.log in
+    let played_log = c.play.new.log in
+    let log = c.flush.new.self in
     let told = c.play.new.told.items in
-    let size = c.args.options.geometry in
-    let same_size = c.play.ensures.geometry ∙ c.in-Ok.ensures.made.0 in
-    let plays = subst (λ n. Plays n (g.D.Disk.faults c.args.disk) at_opening lines told played.0) c.in-Ok.ensures.made.0 played.1 in
-    let summarizes = subst (λ t. Summarizes size c.play.new.log.page.used t c.summary_of-summary.result) c.deref-in-Ok.ensures.value c.summary_of-summary.ensures in
-    let puts = subst (λ t. Puts (g.O.Sink.taken c.args.out.now) (g.O.Sink.taken c.print.new.out) (g.O.Sink.faults c.args.out.now) (g.O.Sink.faults c.print.new.out) (printed_text c.args.options.list c.args.prepared.tasks.items t c.summary_of-summary.result) c.print.result) c.deref-in-Ok-3.ensures.value
-    (subst (λ t. Puts (g.O.Sink.taken c.args.out.now) (g.O.Sink.taken c.print.new.out) (g.O.Sink.faults c.args.out.now) (g.O.Sink.faults c.print.new.out) (printed_text c.args.options.list t c.deref-in-Ok-3.result.now c.summary_of-summary.result) c.print.result) c.deref-in-Ok-2.ensures.value c.print.ensures) in
-    let concludes = subst (λ b. Concludes c.play.new.log.down told (not b) c.conclusion.result) c.is_ok-is_printed.ensures.value
-    (subst (λ t. Concludes c.play.new.log.down t (not c.is_ok-is_printed.result) c.conclusion.result) c.deref-in-Ok-4.ensures.value c.conclusion.ensures) in
+    let size = c.args.shape.geometry in
+    let capacity = capacity_of size c.args.shape.cap_segments in
+    let are = subst (AreTasks lines) (sym c.deref.ensures.value) ready.tasks in
+    let played = c.play.ensures.plays (tape disk) (faults disk) lines c.in-Ok.ensures.ok are in
+    let flushed = c.flush.ensures.flushes (tape disk) (faults disk) played.0 played.2 in
+    let same = IsSameLog-trans opened played_log log c.play.ensures.same c.flush.ensures.same in
+    let made = c.in-Ok.ensures.shape in
+    let size_is : opened.size ≡ size = made.0 ∙ ap (λ (r : Shape). r.geometry) ready.room in
+    let capacity_is : opened.capacity ≡ capacity = made.1 ∙ ap (λ (r : Shape). capacity_of r.geometry r.cap_segments) ready.room in
+    let by_size = subst (λ (n : ℕ). Plays n opened.capacity (faults disk) (at_opening n) lines told played.0) size_is played.1 in
+    let plays = subst (λ (n : ℕ). Plays size n (faults disk) (at_opening size) lines told played.0) capacity_is by_size in
+    let valid : IsSegmentSize c.args.shape.geometry = search rules in
+    let small : capacity ≤ 2 ^ 42 = capacity_of-le size c.args.shape.cap_segments valid c.args.shape.cap_high in
+    let behind = behind_flush log.size (faults disk) played.0 c.flush.result flushed.0 (subst (λ (n : ℕ). Flushes n (faults disk) played.0 c.flush.result flushed.0) (sym c.flush.ensures.same.size) flushed.1) in
+    let summarizes = subst (λ t. Summarizes size log.bytes t c.summary_of-summary.result) c.deref-in-Ok.ensures.value c.summary_of-summary.ensures in
+    let puts = subst (λ t. Puts (g.O.Sink.taken c.args.out.now) (g.O.Sink.taken c.print.new.out) (g.O.Sink.faults c.args.out.now) (g.O.Sink.faults c.print.new.out) (printed_text c.args.list c.args.prepared.tasks.items t c.summary_of-summary.result) c.print.result) c.deref-in-Ok-3.ensures.value
+    (subst (λ t. Puts (g.O.Sink.taken c.args.out.now) (g.O.Sink.taken c.print.new.out) (g.O.Sink.faults c.args.out.now) (g.O.Sink.faults c.print.new.out) (printed_text c.args.list t c.deref-in-Ok-3.result.now c.summary_of-summary.result) c.print.result) c.deref-in-Ok-2.ensures.value c.print.ensures) in
+    let concludes = subst (λ b. Concludes c.down.result told (not b) c.conclusion.result) c.is_ok-is_printed.ensures.value
+    (subst (λ t. Concludes c.down.result t (not c.is_ok-is_printed.result) c.conclusion.result) c.deref-in-Ok-4.ensures.value c.conclusion.ensures) in
     let at_first = c.in-Ok.ensures.moment in
-    let reached = c.play.ensures.moments (omega (arith, at_first.0, at_first.1)) in
-    let rises : MomentsRise (g.D.Disk.moment c.args.disk) told (g.D.Disk.moment c.play.new.log.disk) = (c.play.new.log.moment, subst (λ (n : ℕ). MomentsReach n told c.play.new.log.moment) at_first.0 reached.0, reached.1) in
-    opened_holds _ (g.D.Disk.tape) (g.D.Disk.moment) (g.D.Disk.faults) c.args.disk c.play.new.log played.0 played.2 size c.args.options.list c.conclusion.result lines c.args.prepared.tasks.items told c.summary_of-summary.result _ _ _ _ c.print.result source count c.into_disk.result c.one.result same_size c.into_disk.ensures c.one.ensures plays means ready.tasks summarizes puts concludes rises
+    let reached = c.play.ensures.moments (omega (arith, at_first, c.in-Ok.ensures.uncalled.same_moment)) in
+    let rises : MomentsRise (moment disk) told (moment (log_disk log)) = (played_log.moment, subst (λ (n : ℕ). MomentsReach n told played_log.moment) at_first reached.0, omega (arith, reached.1, c.flush.ensures.not_earlier)) in
+    opened_holds _ tape moment faults disk log played.0 flushed.0 flushed.2 behind size capacity c.args.list c.conclusion.result lines c.args.prepared.tasks.items told c.summary_of-summary.result _ _ _ _ c.print.result source count c.down.result c.into_disk.result c.one.result
+    (same.size ∙ size_is) (same.capacity ∙ capacity_is) small (same.sysid ∙ made.2) c.into_disk.ensures.disk c.one.ensures plays means ready.tasks summarizes puts c.down.ensures concludes rises
+    (c.into_disk.ensures.settled (tape disk) (faults disk) flushed.0 flushed.2)
 
 pub returns-clause-no_memory : goal.returns-clause-no_memory
 returns-clause-no_memory g c = λ is. no_memory _ _ _ _ c.conclusion.ensures is

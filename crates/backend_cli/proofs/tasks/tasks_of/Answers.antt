@@ -1,9 +1,6 @@
 use Rattle.std.proofs.Common.{refl}
-use Rattle.backend_cli.proofs.TaskLaws.{IsCommit-item, AreTasks_more}
+use Rattle.backend_cli.proofs.TaskLaws.{AreTasks_more}
 use Rattle.backend_cli.proofs.tasks.tasks_of.Goals as goal
-
-pub work_of-requires : goal.work_of-requires
-work_of-requires c = IsCommit-item c.args.lines.now c.loop-line.line-index c.line-item.result c.requires c.loop-line-test.true c.line-item.is
 
 pub loop-line-preserved : goal.loop-line-preserved
 loop-line-preserved c =

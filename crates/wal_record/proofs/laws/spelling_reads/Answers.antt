@@ -1,5 +1,6 @@
-use Rattle.wal_record.proofs.SpellingLaws.{spelling_reads}
+use Rattle.wal_record.proofs.SpellingLaws.{well_formed_reads}
+use Rattle.wal_record.proofs.SpellingReads.{spelling_spells}
 use Rattle.wal_record.proofs.laws.spelling_reads.Goals as goal
 
 pub returns : goal.returns
-returns c = spelling_reads
+returns c = record { accepted = spelling_spells; read = well_formed_reads }

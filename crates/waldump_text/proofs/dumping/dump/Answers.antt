@@ -1,30 +1,87 @@
-use Rattle.std.proofs.Common.{rules}
+use Rattle.std.proofs.Common.{◌≡◌, ℕ, Option, Ok, Err, ap, refl, subst, sym, ◌∙◌}
 use Rattle.std.proofs.lemmas.Result.{err_from_is_err_and}
 use Rattle.byte_position.specs.Geometry.{IsSegmentSize}
-use Rattle.waldump_text.proofs.DumpLaws.{IsStop-from_no_end, dump_ended, dump_failed, dump_stopped}
+use Rattle.segment_disk.specs.Tape.{Tape}
+use Rattle.wal_reader.specs.LogReader.{Leaves, ReadState, state_of}
+use Rattle.wal_reader.specs.Spelled.{GivesSpelled}
+use Rattle.wal_reader.specs.declared.standing.ReadStep.{ReadStep}
+use Rattle.wal_reader.specs.declared.standing.ReadStep.TheVariants.{Record, End}
+use Rattle.waldump_text.specs.Listing.{IsListable}
+use Rattle.waldump_text.proofs.DumpLaws.{ListsLog-none, ListsLog-more, Steps, dump_cut, dump_ended, dump_failed, unread}
+use Rattle.waldump_text.proofs.SpelledLaws.{IsListable-from_spelled}
 use Rattle.waldump_text.proofs.dumping.dump.Goals as goal
+use Rattle.waldump_text.proofs.dumping.dump.Goals.{In-Record, In_err-found, In-End}
 
-pub returns-in_err-stop-clause-listed : goal.returns-in_err-stop-clause-listed
-returns-in_err-stop-clause-listed g c =
-    let valid : IsSegmentSize c.args.geometry = search rules in
-    let opened = c.in-Ok.ensures in
-    let failed = c.in_err-stop.ensures in
+pub records-init : goal.records-init
+records-init g c =
+    let valid = rw c.segment_size.ensures.value at c.segment_size.ensures.valid in
+    let made : ℕ → ReadState = λ start. record (unread c.args.geometry) { start = start } in
+    let state : state_of c.new-reader.result ≡ unread c.args.geometry = c.new-reader.ensures.state ∙ ap made c.segment_size.ensures.value in
+    record {
+      sized = ap (λ (s : ReadState). s.size) state;
+      lists = ListsLog-none c.args.geometry valid _ (g.D.Disk.tape c.args.disk.now) c.new-reader.result state c.new-reader.ensures.knows;
+      empty = c.new-buffer.ensures;
+      tape = refl;
+      moment = refl;
+      disk_faults = refl;
+      sink_faults = refl;
+    }
+
+pub returns-in_err-found-clause-listed : goal.returns-in_err-found-clause-listed
+returns-in_err-found-clause-listed g c =
+    let valid = rw c.segment_size.ensures.value at c.segment_size.ensures.valid in
     let p = err_from_is_err_and c.from_residual.result c.from_residual.ensures.1 in
-    rw (p.1, p.2) (dump_failed c.args.geometry valid c.in-Ok.reader opened.size opened.place _ _ (g.D.Disk.tape c.args.disk.now) _ _ _ opened.page failed.cause failed.lines)
+    let before = c.records.invariant in
+    let steps = subst (λ (tape : Option Tape). Steps tape c.records.reader c.next.new.self (Err c.in_err-found.field-0.0)) before.tape c.in_err-found.ensures.gives in
+    rw (p.1, p.2) (dump_failed c.args.geometry valid _ c.records.reader before.sized _ _ c.next.new.self _ before.lists steps)
+
+-- the step to a record
+steps_on : (g : _) (c : In-Record g) → Steps (g.D.Disk.tape c.args.disk.now) c.records.reader c.next.new.self (Ok (Record c.in-Record.found))
+steps_on g c =
+    let gives = subst (λ (step : ReadStep). Steps (g.D.Disk.tape c.records.disk) c.records.reader c.next.new.self (Ok step)) c.in-Record.is c.in_ok-found.ensures.gives in
+    subst (λ (tape : Option Tape). Steps tape c.records.reader c.next.new.self (Ok (Record c.in-Record.found))) c.records.invariant.tape gives
+
+sized_on : (g : _) (c : In-Record g) → (state_of c.next.new.self).size ≡ c.args.geometry
+sized_on g c =
+    let leaves = subst (λ (step : ReadStep). Leaves (state_of c.records.reader) (state_of c.next.new.self) (Ok step)) c.in-Record.is c.in_ok-found.ensures.leaves in
+    ap (λ (s : ReadState). s.size) leaves.0 ∙ c.records.invariant.sized
+
+pub put_line-requires : goal.put_line-requires
+put_line-requires g c =
+    let spelled = subst GivesSpelled c.in-Record.is c.in_ok-found.ensures.spelled in
+    record { listable = subst IsListable (sym c.from.ensures) (IsListable-from_spelled c.in-Record.found spelled); empty = c.records.invariant.empty }
+
+pub returns-in_err-put_line-in-Record-clause-listed : goal.returns-in_err-put_line-in-Record-clause-listed
+returns-in_err-put_line-in-Record-clause-listed g c =
+    let valid = rw c.segment_size.ensures.value at c.segment_size.ensures.valid in
+    let step = (goal.at.returns-in_err-put_line-in-Record-clause-listed g c).In-Record in
+    let p = err_from_is_err_and c.from_residual-in_err-put_line-in-Record.result c.from_residual-in_err-put_line-in-Record.ensures.1 in
+    let took = rw c.from.ensures at c.in_err-put_line-in-Record.ensures.put.0 in
+    let before = c.records.invariant in
+    rw (p.1, p.2) (dump_cut c.args.geometry valid _ c.records.reader c.next.new.self before.sized (sized_on g step) _ _ _ c.in-Record.found c.in_err-put_line-in-Record.field-0.0.faults before.lists (steps_on g step) took)
+
+pub records-preserved : goal.records-preserved
+records-preserved g c =
+    let valid = rw c.segment_size.ensures.value at c.segment_size.ensures.valid in
+    let step = (goal.at.records-preserved g c).In-Record in
+    let put = c.in_ok-put_line-in-Record.ensures.put in
+    let took = rw c.from.ensures at put.0 in
+    let before = c.records.invariant in
+    let read = c.in_ok-found.ensures in
+    record {
+      sized = sized_on g step;
+      lists = ListsLog-more c.args.geometry valid _ c.records.reader before.sized _ _ c.next.new.self c.in-Record.found _ before.lists (steps_on g step) took;
+      empty = c.in_ok-put_line-in-Record.ensures.empty;
+      tape = read.tape ∙ before.tape;
+      moment = read.moment ∙ before.moment;
+      disk_faults = read.cause ∙ before.disk_faults;
+      sink_faults = put.1 ∙ before.sink_faults;
+    }
 
 pub returns-in-End-clause-listed : goal.returns-in-End-clause-listed
 returns-in-End-clause-listed g c =
-    let valid : IsSegmentSize c.args.geometry = search rules in
-    let opened = c.in-Ok.ensures in
-    dump_ended c.args.geometry valid c.in-Ok.reader opened.size opened.place _ _ (g.D.Disk.tape c.args.disk.now) c.in-End.at opened.page (rw c.in-End.is at c.in_ok-stop.ensures.lines)
-
-pub returns : goal.returns
-returns g c =
-    let valid : IsSegmentSize c.args.geometry = search rules in
-    let opened = c.in-Ok.ensures in
-    record {
-      listed = dump_stopped c.args.geometry valid c.in-Ok.reader opened.size opened.place _ _ (g.D.Disk.tape c.args.disk.now) c.in_ok-stop.stop opened.page c.in_ok-stop.ensures.lines;
-      tape = opened.tape;
-      moment = opened.moment;
-      cause = (IsStop-from_no_end c.in_ok-stop.stop c.in_default.not-End, opened.cause, c.in_ok-stop.ensures.cause);
-    }
+    let valid = rw c.segment_size.ensures.value at c.segment_size.ensures.valid in
+    let before = c.records.invariant in
+    let gives = subst (λ (step : ReadStep). Steps (g.D.Disk.tape c.records.disk) c.records.reader c.next.new.self (Ok step)) c.in-End.is c.in_ok-found.ensures.gives in
+    let steps = subst (λ (tape : Option Tape). Steps tape c.records.reader c.next.new.self (Ok (End c.in-End.at))) before.tape gives in
+    dump_ended c.args.geometry valid _ c.records.reader before.sized _ _ c.next.new.self c.in-End.at before.lists steps

@@ -5,4 +5,4 @@ use Rattle.waldump_text.proofs.lines.put_digits.Goals as goal
 pub returns : goal.returns
 returns g c =
     let written = rw c.unwrap.ensures at c.encode_to_slice.ensures.written in
-    rw (← (written ∙ encode_lower-is_hexadecimal c.args.bytes.now (λ i. omega (arith, c.type_inv.bytes i)))) c.put.ensures
+    rw (← (written ∙ encode_lower-is_hexadecimal c.args.bytes.now (λ i. omega (arith, c.type_inv.bytes i)))) c.append.ensures

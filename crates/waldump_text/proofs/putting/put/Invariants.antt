@@ -1,5 +1,5 @@
 use Rattle.std.proofs.Common.{length}
-use Rattle.waldump_text.proofs.SinkLaws.{HasPut}
+use Rattle.waldump_text.specs.Put.{HasPut}
 use Rattle.waldump_text.proofs.putting.put.Given as goal
 
 abbrev pub invariant-loop-rest : goal.invariant-loop-rest

@@ -1,6 +1,5 @@
 use Rattle.std.proofs.Common.{map, drop}
-use Rattle.waldump_text.specs.Put.{joined}
-use Rattle.waldump_text.proofs.SinkLaws.{HasPut}
+use Rattle.waldump_text.specs.Put.{HasPut, joined}
 use Rattle.waldump_text.proofs.putting.put_all.Given as goal
 
 abbrev pub invariant-loop-piece : goal.invariant-loop-piece

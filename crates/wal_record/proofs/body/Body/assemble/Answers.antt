@@ -1,11 +1,11 @@
 use Rattle.std.proofs.Common.{◌≡◌, ◌∙◌, sym, arith, subst}
 use Rattle.wal_record.specs.Spelling.{IsReady, assembled}
-use Rattle.wal_record.proofs.Acceptance.{accepted_record, no_blocks_fit, writable}
+use Rattle.wal_record.proofs.Acceptance.{accepted_record, writable}
 use Rattle.wal_record.proofs.CarriedBytes.{carried_bytes}
 use Rattle.wal_record.proofs.body.Body.assemble.Goals as goal
 
 pub carried-requires-clause-blocks : goal.carried-requires-clause-blocks
-carried-requires-clause-blocks c = (accepted_record c.args.r.now (sym c.refusal.ensures ∙ c.in_default.is)).no_blocks
+carried-requires-clause-blocks c = (accepted_record c.args.r.now (sym c.refusal.ensures ∙ c.in_default.is)).well_formed.blocks
 
 pub carried-requires-clause-short : goal.carried-requires-clause-short
 carried-requires-clause-short c = (accepted_record c.args.r.now (sym c.refusal.ensures ∙ c.in_default.is)).short
@@ -18,7 +18,8 @@ of_parts-requires-clause-size c =
 pub of_parts-requires-clause-bytes : goal.of_parts-requires-clause-bytes
 of_parts-requires-clause-bytes c =
     let accepted = accepted_record c.args.r.now (sym c.refusal.ensures ∙ c.in_default.is) in
-    let bytes = carried_bytes c.args.r.now accepted.well_formed.blocks (no_blocks_fit c.args.r.now accepted.no_blocks) c.in_ok-carried.ensures.fits.2 in
+    let fits = c.in_ok-carried.ensures.fits in
+    let bytes = carried_bytes c.args.r.now accepted.well_formed.blocks fits.3 fits.2 in
     rw c.in_ok-carried.ensures.ok bytes.each
 
 pub returns-clause-ok : goal.returns-clause-ok
@@ -28,4 +29,4 @@ returns-clause-ok c =
     let fits = c.in_ok-carried.ensures.fits in
     let same : c.of_parts.result ≡ assembled r = rw c.in_ok-carried.ensures.ok at c.of_parts.ensures.body in
     let ready : IsReady (assembled r) = subst IsReady same c.of_parts.ensures.ready in
-    (same, writable r accepted ready fits.0 fits.1 fits.2, accepted.no_blocks)
+    (same, writable r accepted ready fits.0 fits.1 fits.2 fits.3)

@@ -1,0 +1,105 @@
+#!/usr/bin/env python3
+"""Measures `run` and `dump` of the built program, and checks what they count.
+
+Makes scripts of 100-byte and of 8,000-byte records, of records with a block's data and with a page's image, with a commit
+for each thousand, about 200 MB of log each, and one of half as many small records (twice the records are to take about
+twice the time). Prints records and megabytes a second and the peak memory, with pg_waldump's listing of the same segments
+beside it where one is installed.
+Usage: bench/bench.py [MEGABYTES]
+"""
+import os
+import re
+import resource
+import shutil
+import subprocess
+import sys
+import tempfile
+import time
+
+TOP = os.path.dirname(os.path.dirname(os.path.abspath(__file__)))
+PROGRAM = os.path.join(TOP, "crates", "pgwal", "out", "pgwal")
+
+
+# What each case's records have behind their transaction, and how many bytes they have.
+CASES = {
+    "100 bytes": ("10 00 100*5a", 24 + 2 + 100),
+    "8,000 bytes": ("10 00 8000*5a", 24 + 5 + 8000),
+    "a block of 100 bytes": ("10 00 - 1663/5/16384:0:7:100*5a:-", 24 + 20 + 100),
+    "a page's image": ("10 00 - 1663/5/16384:0:7:-:0+0+5a", 24 + 25 + 8192),
+}
+
+
+def room(total):
+    """The bytes that a record of this size takes up."""
+    return (total + 7) // 8 * 8
+
+
+def script_of(fields, records):
+    return (f"I 1 {fields}\n" * 999 + "C 1 0\n") * (records // 1000), records // 1000 * 1000
+
+
+def timed(words, folder, stdin=None):
+    """Runs a program in a folder: its output, the seconds it took, and its peak memory in MB."""
+    begin = time.monotonic()
+    # Output goes to a file, so that no pipe slows the program down.
+    with tempfile.TemporaryFile() as out, open(stdin or os.devnull, "rb") as given:
+        child = subprocess.Popen(words, cwd=folder, stdin=given, stdout=out, stderr=subprocess.PIPE)
+        told = child.stderr.read()
+        _, status, usage = os.wait4(child.pid, 0)
+        seconds = time.monotonic() - begin
+        out.seek(0, os.SEEK_END)
+        size = out.tell()
+        out.seek(max(0, size - 200))
+        tail = out.read().decode()
+        out.seek(0)
+        lines = sum(piece.count(b"\n") for piece in iter(lambda: out.read(1 << 20), b""))
+    if status != 0:
+        sys.exit(f"{' '.join(words)}: status {os.waitstatus_to_exitcode(status)}: {told.decode()}")
+    return tail, lines, seconds, usage.ru_maxrss / 1024
+
+
+def row(name, records, size, seconds, memory):
+    print(f"| {name} | {records:,} | {records / seconds / 1e6:.3f} | {size / seconds / 1e6:.0f} | {seconds:.2f} | {memory:.0f} |", flush=True)
+
+
+def measure(name, case, records):
+    fields, total = CASES[case]
+    with tempfile.TemporaryDirectory() as folder:
+        script, records = script_of(fields, records)
+        path = os.path.join(folder, "script")
+        with open(path, "w") as out:
+            out.write(script)
+        size = (records - records // 1000) * room(total) + records // 1000 * 40
+        tail, _, seconds, memory = timed([PROGRAM, "run"], folder, path)
+        want = f"records {records} commits {records // 1000} bytes {size} "
+        if not tail.startswith(want):
+            sys.exit(f"run printed {tail!r}, not {want!r}")
+        row(f"run, {name}", records, size, seconds, memory)
+        tail, lines, seconds, memory = timed([PROGRAM, "dump"], folder)
+        if lines != records:
+            sys.exit(f"dump listed {lines} records of {records}")
+        row(f"dump, {name}", records, size, seconds, memory)
+        peer = shutil.which("pg_waldump")
+        if peer:
+            first = os.path.join(folder, "pg_wal", "000000010000000000000001")
+            begin = time.monotonic()
+            done = subprocess.run([peer, first], stdout=subprocess.DEVNULL, stderr=subprocess.PIPE)
+            print(f"| pg_waldump of segment 1, {name} | | | | {time.monotonic() - begin:.2f} | {done.stderr.decode()[-80:].strip()} |")
+
+
+def main():
+    if not os.access(PROGRAM, os.X_OK):
+        sys.exit("build the program first: run ./pgwal once")
+    megabytes = int(sys.argv[1]) if len(sys.argv) > 1 else 200
+    print("| what | records | million records/s | MB/s | s | peak MB |")
+    print("|---|---|---|---|---|---|")
+    for case, (_, total) in CASES.items():
+        records = megabytes * 1_000_000 // room(total)
+        if case == "100 bytes":
+            measure("100 bytes, half", case, records // 2)
+        measure(case, case, records)
+
+
+if __name__ == "__main__":
+    resource.setrlimit(resource.RLIMIT_CORE, (0, 0))
+    main()

@@ -1,0 +1,53 @@
+-- How a log stands behind its last flush.
+use Rattle.std.proofs.Common.{◌≡◌, ℕ, Option, Some, None, Result, Ok, Err, refl, sym, subst}
+use Rattle.std.specs.Prelude.{IfSome}
+use Rattle.wal_log.specs.declared.told.Hard.{Hard}
+use Rattle.wal_log.specs.declared.told.Refused.{Refused}
+use Rattle.wal_log.specs.declared.told.Cause.{Cause}
+use Rattle.wal_log.specs.declared.told.Cause.TheVariants.{Full, Disk, Down}
+use Rattle.wal_types.specs.declared.lsn.Lsn.{Lsn}
+use Rattle.wal_log.specs.Standing.{Standing, end_of}
+use Rattle.wal_log.specs.Steps.{Flushes, RefusesFlush}
+
+-- the entries are those before it, a disk that had failed still has, and one that has not is flushed to the log's end
+pub record IsBehindFlush (size : ℕ) (before after : Standing) : Type 0 where
+  pub same : after.entries ≡ before.entries
+  pub down : (faults : ℕ) → before.down ≡ Some faults → after.down ≡ Some faults
+  pub up : after.down ≡ None → before.down ≡ None
+  pub flushed : after.down ≡ None → after.flushed ≡ end_of size after.entries
+
+not_both : (down : Option ℕ) (faults : ℕ) → down ≡ None → down ≡ Some faults → ⊥
+not_both None faults none some = cc
+not_both (Some other) faults none some = cc
+
+module _ (size opened : ℕ) (before : Standing) where
+  behind_refused : (cause : Cause) (reserved : Option Lsn) (after : Standing) → RefusesFlush opened before cause reserved after → IsBehindFlush size before after
+  behind_refused (Full free) reserved after refuses = absurd refuses
+  behind_refused (Disk faults) None after refuses = subst (IsBehindFlush size before) (sym refuses.after_is) (record {
+    same = refl;
+    down = λ others some. absurd (not_both before.down others refuses.up some);
+    up = λ none. refuses.up;
+    flushed = λ none. absurd (let no : ⊥ = cc in no);
+  })
+  behind_refused (Disk faults) (Some start) after refuses = absurd refuses
+  behind_refused (Down faults) None after refuses = subst (IsBehindFlush size before) (sym refuses.same) (record {
+    same = refl;
+    down = λ others some. some;
+    up = λ none. none;
+    flushed = λ none. absurd (not_both before.down faults none refuses.down);
+  })
+  behind_refused (Down faults) (Some start) after refuses = absurd refuses
+
+  pub behind_flush : (answer : Result Hard Refused) (after : Standing) → Flushes size opened before answer after → IsBehindFlush size before after
+  behind_flush (Ok done) after flushes = subst (IsBehindFlush size before) (sym flushes.after_is) (record {
+    same = refl;
+    down = λ faults some. some;
+    up = λ none. none;
+    flushed = λ none. flushes.upto_is;
+  })
+  behind_flush (Err refusal) after flushes = behind_refused refusal.cause refusal.reserved after flushes
+
+-- the disk's last count of faults is the one at which it failed, also behind the flush
+pub still_down : (last : ℕ) (before after : Option ℕ) → ((faults : ℕ) → before ≡ Some faults → after ≡ Some faults) → IfSome after (λ faults. faults ≡ last) → IfSome before (λ faults. faults ≡ last)
+still_down last None after keeps is_last = tt
+still_down last (Some faults) after keeps is_last = subst (λ (down : Option ℕ). IfSome down (λ f. f ≡ last)) (keeps faults refl) is_last

@@ -1,0 +1,44 @@
+-- Lines done by a log, step by step: `capacity` is how many bytes its records may take up, `opened` the disk's count of faults when it was opened.
+use Rattle.std.specs.Prelude.{◌≡◌, ℕ, List, [], ◌∷◌, Result, Ok, Err}
+use Rattle.wal_record.specs.Spelling.{IsWritable}
+use Rattle.wal_log.specs.declared.told.Receipt.{Receipt}
+use Rattle.wal_log.specs.declared.told.Hard as hard
+use Rattle.wal_log.specs.declared.told.Sealed.{Sealed}
+use Rattle.wal_log.specs.declared.told.Refused as refused
+use Rattle.wal_log.specs.Standing.{Standing}
+use Rattle.wal_log.specs.Steps.{Inserts, Commits, Flushes}
+use Rattle.wal_script.specs.declared.line.Line.{Line}
+use Rattle.wal_script.specs.declared.line.Action.{Action}
+use Rattle.wal_script.specs.declared.line.Action.TheVariants.{Insert, Commit, Flush}
+use Rattle.backend_cli.specs.declared.told.Told.{Told}
+use Rattle.backend_cli.specs.declared.told.Told.TheVariants.{Wrote, Hard, Flushed, Refused}
+
+-- what a line is told, by what the log answered
+abbrev pub told_of_insert : Result Receipt refused.Refused → Told
+told_of_insert (Ok receipt) = Wrote receipt.start receipt.end
+told_of_insert (Err refusal) = Refused refusal.cause refusal.reserved
+
+abbrev pub told_of_commit : Result Sealed refused.Refused → Told
+told_of_commit (Ok sealed) = Hard sealed.start sealed.end sealed.moment
+told_of_commit (Err refusal) = Refused refusal.cause refusal.reserved
+
+abbrev pub told_of_flush : Result hard.Hard refused.Refused → Told
+told_of_flush (Ok done) = Flushed done.upto done.moment
+told_of_flush (Err refusal) = Refused refusal.cause refusal.reserved
+
+-- one line: the standing before it, what it asks for, what it is told, and the standing after it
+abbrev pub Steps : ℕ → ℕ → ℕ → Standing → Action → Told → Standing → Type 0
+Steps size capacity opened before (Insert value) told after =
+    (answer : Result Receipt refused.Refused) × (told ≡ told_of_insert answer) × IsWritable value × Inserts size capacity opened before value answer after
+Steps size capacity opened before (Commit value) told after =
+    (answer : Result Sealed refused.Refused) × (told ≡ told_of_commit answer) × IsWritable value × Commits size capacity opened before value answer after
+Steps size capacity opened before Flush told after =
+    (answer : Result hard.Hard refused.Refused) × (told ≡ told_of_flush answer) × Flushes size opened before answer after
+
+-- lines in order, each told as it may be
+abbrev pub Plays : ℕ → ℕ → ℕ → Standing → List Line → List Told → Standing → Type 0
+Plays size capacity opened before [] [] after = after ≡ before
+Plays size capacity opened before [] (told ∷ others) after = ⊥
+Plays size capacity opened before (line ∷ lines) [] after = ⊥
+Plays size capacity opened before (line ∷ lines) (told ∷ others) after =
+    (mid : Standing) × Steps size capacity opened before line.action told mid × Plays size capacity opened mid lines others after

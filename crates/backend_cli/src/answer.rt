@@ -1,0 +1,27 @@
+ghost use Rattle.std.specs.Prelude.{◌≡◌, ◌≤◌, ℕ, Option};
+ghost use Rattle.segment_disk.specs.Tape.{Tape};
+ghost use Rattle.wal_script.specs.declared.line.Action.{Action};
+ghost use Rattle.wal_log.specs.LogState.{IsLog, IsSameLog, log_disk};
+ghost use Rattle.wal_log.specs.Standing.{Standing};
+ghost use Rattle.backend_cli.specs.Moments.{MomentStep};
+ghost use Rattle.backend_cli.specs.Steps.{Steps};
+ghost use Rattle.backend_cli.specs.Tasks.{IsWork};
+
+use crate::tasks::Work;
+use crate::told::Told;
+use segment_disk::Disk;
+use wal_log::Log;
+
+/// Does what a line asks for.
+pub(crate) fn answer<D: Disk>(log: &mut Log<D>, work: &Work) -> Told
+    ensures steps { (before : Option Tape) (opened : ℕ) (s : Standing) (action : Action) → IsLog D.tape D.faults before opened log.old s → IsWork action work.now
+        → (after : Standing) × Steps log.old.size log.old.capacity opened s action result after × IsLog D.tape D.faults before opened log.new after }
+    ensures same { IsSameLog log.old log.new }
+    ensures moments { log.old.moment ≤ D.moment (log_disk log.old) → MomentStep log.old.moment result log.new.moment × (log.new.moment ≤ D.moment (log_disk log.new)) }
+{
+    match work {
+        Work::Insert(body) => Told::of_insert(log.insert(body)),
+        Work::Commit(body) => Told::of_commit(log.commit(body)),
+        Work::Flush => Told::of_flush(log.flush()),
+    }
+}

@@ -1,0 +1,58 @@
+//! A script beyond its limit.
+
+use crate::played::{Open, empty_disk};
+use backend_cli::pgwal;
+use segment_disk::{Disk, Failed, MemSink, Source};
+use std::test::Fail;
+
+/// A source of line feeds without an end, which tells nothing of what is left.
+#[derive(Drop)]
+struct LineFeeds;
+
+impl Source for LineFeeds {
+    ghost use Rattle.std.specs.Prelude.{None};
+
+    ghost left = { λ _. None };
+
+    ghost faults = { λ _. 0 };
+
+    fn read(&mut self, into: &mut [u8]) -> Result<usize, Failed> {
+        into.fill(b'\n');
+        Ok(into.len())
+    }
+
+    fn faults(&self) -> u64 {
+        0
+    }
+}
+
+// Reading stops one byte beyond the limit of 67,108,864: that byte stands behind as many line feeds.
+#[test]
+fn a_script_beyond_its_limit_is_refused_at_its_first_byte_too_many(
+    rt: HostRuntime,
+) -> Result<(), Fail> {
+    let alloc = rt.alloc();
+    let mut words = Vec::new(alloc);
+    words.push(String::from_str(alloc, "pgwal")?)?;
+    words.push(String::from_str(alloc, "run")?)?;
+    let mut out = MemSink::new(alloc, 1024, Vec::new(alloc))?;
+    let mut err = MemSink::new(alloc, 1024, Vec::new(alloc))?;
+    let ended = pgwal(
+        &rt,
+        alloc,
+        &words,
+        &mut LineFeeds,
+        empty_disk(alloc, &[])?,
+        &mut out,
+        &mut err,
+        &Open,
+    );
+    assert_eq!(rt; ended.status, 3);
+    assert_eq!(rt; ended.disk.moment(), 0);
+    assert_eq!(rt; out.taken(), b"".as_slice());
+    assert_eq!(rt;
+        err.taken(),
+        b"pgwal: script line 67108865: length\n".as_slice()
+    );
+    Ok(())
+}

@@ -1,0 +1,12 @@
+pub mod Results
+pub mod Places
+pub mod RingLaws
+pub mod CopyLaws
+pub mod BufferLaws
+pub mod Copying
+pub mod ShapeLaws
+pub mod LogWords
+pub mod LogLaws
+pub mod OpeningLaws
+pub mod SettledLaws
+pub mod StepLaws

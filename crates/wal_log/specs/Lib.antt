@@ -1,0 +1,10 @@
+pub mod Ring
+pub mod Words
+pub mod Buffers
+pub mod Shape
+pub mod Room
+pub mod Standing
+pub mod Steps
+pub mod LogState
+pub mod LogImage
+pub mod Opening

@@ -1,0 +1,35 @@
+ghost use Rattle.std.specs.Prelude.{◌≡◌, ℕ, ◌+◌, ◌*◌, ◌/◌, ◌<◌, ◌≤◌, length, min, slice_index};
+ghost use Rattle.byte_position.specs.Position.{end_address_of};
+ghost use Rattle.wal_record.specs.Spelling.{assembled_room};
+ghost use Rattle.wal_page.specs.Placed.{entry_word};
+
+use wal_page::Placed;
+use wal_types::Lsn;
+
+pub(crate) const PAGE_SIZE: u64 = 8192;
+
+/// The end of the page of an address, or a position before it.
+pub(crate) fn end_in_page(at: Lsn, upto: Lsn) -> Lsn
+    requires { at.0 < upto.0 }
+    ensures { result.0 ≡ min upto.0 ((at.0 / 8192 + 1) * 8192) }
+{
+    let start = at.0 / PAGE_SIZE * PAGE_SIZE;
+    if upto.0 - start <= PAGE_SIZE {
+        upto
+    } else {
+        Lsn(start + PAGE_SIZE)
+    }
+}
+
+/// Copies the next words of a record, as many as there is place for.
+pub(crate) fn copy_words(placed: &mut Placed, words: &mut [u64])
+    requires { placed.old.next + 8 * length words.old ≤ end_address_of placed.old.size (placed.old.start + assembled_room placed.old.body) }
+    ensures placed { placed.new ≡ record placed.old { next = placed.old.next + 8 * length words.old } }
+    ensures words { (k : ℕ) → k < length words.old → slice_index words.new k ≡ entry_word placed.old.size placed.old.sysid placed.old.body placed.old.start placed.old.prev (placed.old.next + 8 * k) }
+{
+    for word in words.iter_mut() {
+        if let Some((_, next)) = placed.next_word() {
+            *word = next;
+        }
+    }
+}

@@ -1,0 +1,262 @@
+-- What pages decode to is settled by them, and the steps of a reader tell it.
+use Rattle.std.proofs.Common.{◌≡◌, ◌⊎◌, ℕ, zero, suc, ◌+◌, ◌-◌, ◌*◌, ◌/◌, ◌^◌, ◌<◌, ◌≤◌, Bool, true, false, cond, not, eqb, ltb, leb, ◌&&◌, List, [], ◌∷◌, ◌++◌, get_or, take, drop, filter, Option, Some, None, Result, Ok, Err, inl, inr, refl, sym, ap, subst, ◌∙◌, arith}
+use Rattle.std.specs.Int.{w32, w64}
+use Rattle.std.proofs.lemmas.Bool.{cases_Bool, cases_lt, cond-true, cond-false, ltb-false, lt-leb}
+use Rattle.byte_position.specs.Geometry.{IsSegmentSize}
+use Rattle.byte_position.specs.Position.{address_of}
+use Rattle.byte_position.proofs.Rising.{le-address_of}
+use Rattle.segment_disk.specs.Image.{Image}
+use Rattle.wal_crc32c.specs.Crc32c.{crc32c}
+use Rattle.wal_record.specs.Record.{is_free_manager}
+use Rattle.wal_record.specs.Reading.{number_at, reading_of}
+use Rattle.wal_record.specs.declared.fault.RecErr.{RecErr}
+use Rattle.wal_record.specs.declared.fault.RecErr.TheVariants.{Memory, Malformed, Compressed}
+use Rattle.wal_types.specs.declared.record.Record.{Record}
+use Rattle.wal_page.specs.Page.{is_continued, first_fault}
+use Rattle.wal_reader.specs.declared.found.FoundRecord.{FoundRecord}
+use Rattle.wal_reader.specs.declared.found.Answer.{Answer}
+use Rattle.wal_reader.specs.declared.found.Answer.TheVariants as answers
+use Rattle.wal_reader.specs.declared.found.DamageKind.TheVariants as damages
+use Rattle.wal_reader.specs.Decodes.{Place, Reads, ReadsFrom, answer_or, beginning, damaged, ended, found_or, is_at_end, is_right_prev, is_zero_word, opens_page, page_answers, page_of_byte, place_behind, read_at, read_in, record_rows, rows_of_pages}
+use Rattle.wal_reader.specs.LogReader.{ReadState, Gives, GivesAt, IsNext}
+use Rattle.wal_reader.specs.declared.standing.Standing.{Standing}
+use Rattle.wal_reader.specs.declared.standing.Standing.TheVariants.{NotBegun, At, Stopped}
+use Rattle.wal_reader.specs.Standpoint.{place_of}
+use Rattle.wal_reader.specs.Pages.{Pages, bytes_from, pages_in}
+use Rattle.wal_reader.specs.Settled.{DecodingIsSettled, IsBounded, IsSettled, StepsTellDecoding, Tells, stop, step}
+use Rattle.wal_reader.specs.Standings.{told}
+use Rattle.wal_reader.specs.Standpoint.{place_of}
+use Rattle.wal_reader.specs.Steps.{GivesFrom}
+use Rattle.wal_reader.proofs.PagesLaws.{take-bytes_from}
+use Rattle.wal_reader.proofs.RowLaws.{first_of, first_fault-append, number_at-take}
+
+cases_Result : {A B : Type 0} (r : Result A B) → ((x : A) × (r ≡ Ok x)) ⊎ ((e : B) × (r ≡ Err e))
+cases_Result (Ok x) = inl (x, refl)
+cases_Result (Err e) = inr (e, refl)
+
+abbrev read : FoundRecord → Result FoundRecord Answer
+read found = Ok found
+
+same_read : (found other : FoundRecord) → read found ≡ read other → found ≡ other
+same_read found other e = cc
+
+-- ---- there is one reading
+
+Reads-same : (size : ℕ) (pages : Pages) (end : Option ℕ) (place : Place) (found others : List FoundRecord) (answer other : Answer) → Reads size pages end place found answer → Reads size pages end place others other → (found ≡ others) × (answer ≡ other)
+Reads-same size pages end place [] [] answer other a b = (refl, cc)
+Reads-same size pages end place [] (g ∷ others) answer other a b = absurd (cc (a, b.0))
+Reads-same size pages end place (f ∷ found) [] answer other a b = absurd (cc (a.0, b))
+Reads-same size pages end place (f ∷ found) (g ∷ others) answer other a b =
+    let same = same_read f g (sym a.0 ∙ b.0) in
+    let left = subst (λ (h : FoundRecord). Reads size pages end (place_behind size pages place h) found answer) same a.1 in
+    let behind = Reads-same size pages end (place_behind size pages place g) found others answer other left b.1 in
+    (ap (λ (h : FoundRecord). h ∷ found) same ∙ ap (λ (hs : List FoundRecord). g ∷ hs) behind.0, behind.1)
+
+ReadsFrom-same : (size : ℕ) (pages : Pages) (end : Option ℕ) (place : Result Place Answer) (found others : List FoundRecord) (answer other : Answer) → ReadsFrom size pages end place found answer → ReadsFrom size pages end place others other → (found ≡ others) × (answer ≡ other)
+ReadsFrom-same size pages end (Ok place) found others answer other a b = Reads-same size pages end place found others answer other a b
+ReadsFrom-same size pages end (Err stopped) found others answer other a b = (a.0 ∙ sym b.0, a.1 ∙ sym b.1)
+
+-- ---- a record that is read has at least its header
+
+both_none : {K : Type 0} (first second : Option K) → first_of first second ≡ None → (first ≡ None) × (second ≡ None)
+both_none None second e = (refl, e)
+both_none (Some x) second e = absurd cc
+
+passes_both : {K : Type 0} (xs ys : List (Bool × K)) → first_fault (xs ++ ys) ≡ None → (first_fault xs ≡ None) × (first_fault ys ≡ None)
+passes_both xs ys e = both_none (first_fault xs) (first_fault ys) (sym (first_fault-append xs ys) ∙ e)
+
+passes_row : {K : Type 0} (holds : Bool) (told : K) (others : Option K) → cond holds (Some told) others ≡ None → (holds ≡ false) × (others ≡ None)
+passes_row true told others e = absurd cc
+passes_row false told others e = (refl, e)
+
+-- the third row of four
+third_row : {K : Type 0} (p q r t : Bool × K) → first_fault (p ∷ q ∷ r ∷ t ∷ []) ≡ None → r.0 ≡ false
+third_row p q r t e =
+    let first = passes_row p.0 p.1 (first_fault (q ∷ r ∷ t ∷ [])) e in
+    let second = passes_row q.0 q.1 (first_fault (r ∷ t ∷ [])) first.1 in
+    (passes_row r.0 r.1 (first_fault (t ∷ [])) second.1).0
+
+-- the third row of the third group
+row_passes : {K : Type 0} (a b : List (Bool × K)) (p q r t : Bool × K) (d e f g : List (Bool × K)) → first_fault (a ++ b ++ (p ∷ q ∷ r ∷ t ∷ []) ++ d ++ e ++ f ++ g) ≡ None → r.0 ≡ false
+row_passes a b p q r t d e f g passes =
+    let c = p ∷ q ∷ r ∷ t ∷ [] in
+    let upto_f = (passes_both (a ++ b ++ c ++ d ++ e ++ f) g passes).0 in
+    let upto_e = (passes_both (a ++ b ++ c ++ d ++ e) f upto_f).0 in
+    let upto_d = (passes_both (a ++ b ++ c ++ d) e upto_e).0 in
+    let upto_c = (passes_both (a ++ b ++ c) d upto_d).0 in
+    third_row p q r t (passes_both (a ++ b) c upto_c).1
+
+module _ (size : ℕ) (pages : Pages) (end : Option ℕ) (place : Place) where
+  -- the size that a record's first word gives
+  abbrev first_size : ℕ
+  first_size = number_at w32 (bytes_from size pages 8 place.position) 0
+
+  size-passed : (bytes : List ℕ) → first_fault (record_rows size pages end place bytes) ≡ None → 24 ≤ first_size
+  size-passed bytes passes =
+      let start = address_of size place.position in
+      let page = start / 8192 in
+      let header = bytes_from size pages 24 place.position in
+      let whole = bytes_from size pages first_size place.position in
+      let header_page = page_of_byte size place.position 24 in
+      ltb-false first_size 24
+      (row_passes
+      ((opens_page size place.position && is_zero_word bytes, ended size place.position) ∷ [])
+      (page_answers size page bytes place.timeline)
+      (opens_page size place.position && is_continued bytes, damaged start damages.Claims)
+      (is_zero_word header, ended size place.position)
+      (ltb first_size 24, damaged start damages.Length)
+      (is_at_end end (address_of size (place.position + first_size - 1)), ended size place.position)
+      (rows_of_pages size pages place first_size page header_page)
+      ((is_free_manager (get_or header 17 0), damaged start damages.Rmgr) ∷ (not (is_right_prev place.prev start (number_at w64 header 8)), damaged start damages.Prev) ∷ [])
+      (rows_of_pages size pages place first_size header_page (page_of_byte size place.position first_size))
+      ((not (eqb (crc32c (drop 24 whole ++ take 20 whole)) (number_at w32 whole 20)), damaged start damages.Crc) ∷ [])
+      passes)
+
+  -- the first word says the same of the size as the header does
+  size_in_header : number_at w32 (bytes_from size pages 24 place.position) 0 ≡ first_size
+  size_in_header =
+      sym (number_at-take w32 (bytes_from size pages 24 place.position) 8 0 (omega arith))
+      ∙ ap (λ (bytes : List ℕ). number_at w32 bytes 0) (take-bytes_from size pages 8 24 place.position (omega arith))
+
+  module _ (found : FoundRecord) where
+    total_of : (total prev : ℕ) (reading : Result Record RecErr) → found_or size place total prev reading ≡ Ok found → found.total ≡ total
+    total_of total prev (Ok value) e = ap (λ (f : FoundRecord). f.total) (sym (same_read _ found e))
+    total_of total prev (Err Memory) e = absurd cc
+    total_of total prev (Err (Malformed at kind)) e = absurd cc
+    total_of total prev (Err (Compressed block)) e = absurd cc
+
+    from_answer : (bytes : List ℕ) (fault : Option Answer) → first_fault (record_rows size pages end place bytes) ≡ fault → answer_or size pages place fault ≡ Ok found → 24 ≤ found.total
+    from_answer bytes None passes e =
+        let header = bytes_from size pages 24 place.position in
+        let total = number_at w32 header 0 in
+        let long = size-passed bytes passes in
+        let is = total_of total (number_at w64 header 8) (reading_of (bytes_from size pages total place.position)) e in
+        let same = size_in_header in
+        omega arith
+    from_answer bytes (Some answer) passes e = absurd cc
+
+    from_page : (page : Option (List ℕ)) → pages (address_of size place.position / 8192) ≡ page → read_in size pages end place page ≡ Ok found → (24 ≤ found.total) × ((none : pages (address_of size place.position / 8192) ≡ None) → ⊥)
+    from_page None there e = absurd cc
+    from_page (Some bytes) there e = (from_answer bytes (first_fault (record_rows size pages end place bytes)) refl e, λ none. cc)
+
+    -- a record that is read has its header's bytes, and its page is there
+    record_read : read_at size pages end place ≡ Ok found → (24 ≤ found.total) × ((none : pages (address_of size place.position / 8192) ≡ None) → ⊥)
+    unfolding read_at
+    record_read e =
+        elim (cases_Bool (is_at_end end (address_of size place.position))) [
+          | inl at_end ↦ absurd (cc (sym (cond-true _ (Err (ended size place.position)) (read_in size pages end place (pages (address_of size place.position / 8192))) at_end) ∙ e))
+          | inr inside ↦ from_page (pages (address_of size place.position / 8192)) refl (sym (cond-false _ (Err (ended size place.position)) (read_in size pages end place (pages (address_of size place.position / 8192))) inside) ∙ e)
+        ]
+
+-- ---- there is a reading
+
+module _ (size : ℕ) (valid : IsSegmentSize size) (pages : Pages) (bounded : IsBounded pages) (end : Option ℕ) where
+  -- a record that is read starts below address 2 ^ 60
+  starts_below : (place : Place) (found : FoundRecord) → read_at size pages end place ≡ Ok found → place.position < 2 ^ 60
+  starts_below place found e =
+      elim (cases_lt place.position (2 ^ 60)) [
+        | inl below ↦ below
+        | inr high ↦
+            (let address = le-address_of size valid place.position in
+            let page : 2 ^ 47 ≤ address_of size place.position / 8192 = omega arith in
+            absurd ((record_read size pages end place found e).1 (bounded (address_of size place.position / 8192) page)))
+      ]
+
+  reading_from : (turns : ℕ) (place : Place) → 2 ^ 60 ≤ place.position + turns → (found : List FoundRecord) × (answer : Answer) × Reads size pages end place found answer
+  reading_from zero place near =
+      elim (cases_Result (read_at size pages end place)) [
+        | inl (f, e) ↦ (let below = starts_below place f e in
+            absurd (omega arith))
+        | inr (answer, e) ↦ ([], answer, e)
+      ]
+  reading_from (suc turns) place near =
+      elim (cases_Result (read_at size pages end place)) [
+        | inl (f, e) ↦
+            (let total = (record_read size pages end place f e).0 in
+            let behind = reading_from turns (place_behind size pages place f) (omega arith) in
+            (f ∷ behind.0, behind.1, (e, behind.2)))
+        | inr (answer, e) ↦ ([], answer, e)
+      ]
+
+  reading_begun : (begun : Result Place Answer) → (found : List FoundRecord) × (answer : Answer) × ReadsFrom size pages end begun found answer
+  reading_begun (Ok place) = reading_from (2 ^ 60) place (omega arith)
+  reading_begun (Err stopped) = ([], stopped, (refl, refl))
+
+  pub settled : (start : ℕ) → IsSettled size pages start end
+  settled start =
+      let reading = reading_begun (beginning size pages start) in
+      let given = filter (λ f. leb start f.start.0) in (
+        given reading.0,
+        reading.1,
+        record { read = reading.0; reads = reading.2; given = refl },
+        λ others other d.
+            (let same = ReadsFrom-same size pages end (beginning size pages start) d.read reading.0 other reading.1 d.reads reading.2 in
+            (d.given ∙ ap given same.0, same.1)),
+      )
+
+  -- from a place on
+  given_from : (start : ℕ) (place : Place) → (found : List FoundRecord) × (answer : Answer) × GivesFrom size pages start end place found answer
+  given_from start place =
+      let reading = reading_from (2 ^ 60) place (omega arith) in
+      (filter (λ f. leb start f.start.0) reading.0, reading.1, record { read = reading.0; reads = reading.2; given = refl })
+
+  module _ (start : ℕ) where
+    abbrev state_at : Standing → ReadState
+    state_at standing = record { size = size; start = start; end = end; standing = standing }
+
+    -- from wherever a reader stands something is given
+    pub something_given : (standing : Standing) → (found : List FoundRecord) × (answer : Answer) × Gives pages (state_at standing) found answer
+    something_given NotBegun = let is = settled start in (is.0, is.1, is.2)
+    something_given (At standpoint) = given_from start (place_of standpoint)
+    something_given (Stopped stopped) = ([], stopped, (refl, refl))
+
+    -- and that alone
+    pub Gives-same : (standing : Standing) (found others : List FoundRecord) (answer other : Answer) → Gives pages (state_at standing) found answer → Gives pages (state_at standing) others other → (found ≡ others) × (answer ≡ other)
+    Gives-same NotBegun found others answer other a b =
+        let is = settled start in
+        let first = is.3 found answer a in
+        let second = is.3 others other b in
+        (first.0 ∙ sym second.0, first.1 ∙ sym second.1)
+    Gives-same (At standpoint) found others answer other a b =
+        let same = Reads-same size pages end (place_of standpoint) a.read b.read answer other a.reads b.reads in
+        (a.given ∙ ap (λ (read : List FoundRecord). filter (λ f. leb start f.start.0) read) same.0 ∙ sym b.given, same.1)
+    Gives-same (Stopped stopped) found others answer other a b = (a.0 ∙ sym b.0, a.1 ∙ sym b.1)
+
+-- ---- the pages of an image
+
+pub pages_in-bounded : (size : ℕ) (image : Image) → IsBounded (pages_in size image)
+pages_in-bounded size image page high =
+    let above : leb ((page + 1) * 8192) (2 ^ 60) ≡ false = lt-leb ((page + 1) * 8192) (2 ^ 60) (omega arith) in
+    cond-false _ _ None above
+
+pub decoding_is_settled : DecodingIsSettled
+decoding_is_settled size image start end valid = settled size valid (pages_in size image) (pages_in-bounded size image) end start
+
+-- ---- a reader's steps
+
+gives_told : (pages : Pages) (old new : ReadState) (answer : Answer) → IsNext pages old new (told answer) → Gives pages old [] answer
+gives_told pages old new (answers.End at) next = next
+gives_told pages old new (answers.Damaged at kind) next = next
+gives_told pages old new (answers.Compressed at) next = next
+gives_told pages old new (answers.Overwritten at) next = next
+
+Tells-gives : (pages : Pages) {state : ReadState} {found : List FoundRecord} {answer : Answer} → Tells pages state found answer → Gives pages state found answer
+Tells-gives pages (stop {old = old} {answer = answer} new next) = gives_told pages old new answer next
+Tells-gives pages (step {others = others} {answer = answer} new next rest) = next others answer (Tells-gives pages rest)
+
+pub steps_tell_decoding : StepsTellDecoding
+steps_tell_decoding size pages start end found answer tells = Tells-gives pages tells
+
+-- ---- a reader anywhere
+
+gives_at : (size : ℕ) (valid : IsSegmentSize size) (pages : Pages) (bounded : IsBounded pages) (start : ℕ) (end : Option ℕ) (standing : Standing)
+    → (found : List FoundRecord) × (answer : Answer) × GivesAt pages (record { size = size; start = start; end = end; standing = standing }) standing found answer
+gives_at size valid pages bounded start end NotBegun = let all = settled size valid pages bounded end start in (all.0, all.1, all.2)
+gives_at size valid pages bounded start end (At standpoint) =
+    let reading = reading_begun size valid pages bounded end (Ok (place_of standpoint)) in
+    (filter (λ f. leb start f.start.0) reading.0, reading.1, record { read = reading.0; reads = reading.2; given = refl })
+gives_at size valid pages bounded start end (Stopped told) = ([], told, (refl, refl))
+
+-- a reader of an image's pages gives something, wherever it stands
+pub gives_something : (image : Image) (state : ReadState) → IsSegmentSize state.size → (found : List FoundRecord) × (answer : Answer) × Gives (pages_in state.size image) state found answer
+gives_something image state valid = gives_at state.size valid (pages_in state.size image) (pages_in-bounded state.size image) state.start state.end state.standing

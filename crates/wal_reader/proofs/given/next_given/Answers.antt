@@ -1,0 +1,29 @@
+use Rattle.std.proofs.Common.{◌≡◌, ℕ, Some, None, Ok, option_map, subst}
+use Rattle.wal_types.specs.declared.lsn.Lsn.{Lsn}
+use Rattle.wal_reader.specs.Cursor.{Sees}
+use Rattle.wal_reader.specs.Decodes.{beginning}
+use Rattle.wal_reader.specs.Standpoint.{place_of}
+use Rattle.wal_reader.specs.Steps.{ComesNext}
+use Rattle.wal_reader.proofs.GivesLaws.{ComesNext-begun}
+use Rattle.wal_reader.proofs.given.next_given.Goals as goal
+use Rattle.wal_reader.proofs.given.next_given.Goals.{in-Some, in-None+in_ok-at-in-None}
+
+pub returns-clause-next : goal.returns-clause-next
+returns-clause-next g c pages sees =
+    let end = option_map (λ (e : Lsn). e.0) c.args.end in
+    elim c.match-from.branch [
+      | in-Some w ↦
+          (let here : Sees (g.D.Disk.tape c.match-from.disk) c.match-from.buffers.cache pages = rw (w.buffers-is, w.disk-is) sees in
+          let next = c.read_given.ensures.next pages here in
+          let same : ComesNext c.args.buffers.now.cache.geometry pages c.args.start.0 end (Some c.match-from.at) c.read_given.result = rw (← w.buffers-is) next.1 in
+          (next.0, rw (w.in-Some.is, ← w.at-is) same))
+      | in-None+in_ok-at-in-None w ↦
+          (let begins = w.in_ok-at-in-None.ensures.begins pages sees in
+          let here : Sees (g.D.Disk.tape c.match-from.disk) c.match-from.buffers.cache pages = rw (w.buffers-is, w.disk-is) begins.0 in
+          let next = c.read_given.ensures.next pages here in
+          let geometry : c.match-from.buffers.cache.geometry ≡ c.args.buffers.now.cache.geometry = rw w.buffers-is w.in_ok-at-in-None.ensures.geometry in
+          let same : ComesNext c.args.buffers.now.cache.geometry pages c.args.start.0 end (Some c.match-from.at) c.read_given.result = subst (λ (n : ℕ). ComesNext n pages c.args.start.0 end (Some c.match-from.at) c.read_given.result) geometry next.1 in
+          let begun : beginning c.args.buffers.now.cache.geometry pages c.args.start.0 ≡ Ok (place_of c.match-from.at) = rw w.at-is begins.1 in
+          let all : ComesNext c.args.buffers.now.cache.geometry pages c.args.start.0 end None c.read_given.result = ComesNext-begun c.args.buffers.now.cache.geometry pages c.args.start.0 end c.match-from.at c.read_given.result begun same in
+          (next.0, rw w.in-None.is all))
+    ]

@@ -1,0 +1,53 @@
+use Rattle.std.proofs.Common.{◌≡◌, ℕ, ◌∷◌, Option, Result, Ok, Err, option_map, subst, ◌∙◌, arith}
+use Rattle.std.proofs.lemmas.Result.{err_from_is_err_and}
+use Rattle.wal_types.specs.declared.lsn.Lsn.{Lsn}
+use Rattle.wal_reader.specs.declared.found.FoundRecord.{FoundRecord}
+use Rattle.wal_reader.specs.declared.standpoint.Standpoint.{Standpoint}
+use Rattle.wal_reader.specs.declared.stop.Stop.{Stop}
+use Rattle.wal_reader.specs.Decodes.{Place, read_at}
+use Rattle.wal_reader.specs.Pages.{Pages}
+use Rattle.wal_reader.specs.RecordRows.{IsRead}
+use Rattle.wal_reader.specs.Standpoint.{place_of}
+use Rattle.wal_reader.proofs.GivesLaws.{GivesFrom-given, GivesFrom-passed, ComesNext-stopped}
+use Rattle.wal_reader.proofs.given.read_given.Goals as goal
+
+-- what was read, of the log that the buffers was for
+read_of : (size other : ℕ) (pages : Pages) (end : Option ℕ) (place : Place) (result : Result (FoundRecord × Standpoint) Stop) → size ≡ other → IsRead size pages place (read_at size pages end place) result → IsRead other pages place (read_at other pages end place) result
+read_of size other pages end place result same read = subst (λ (n : ℕ). IsRead n pages place (read_at n pages end place) result) same read
+
+pub returns-in_err-found-clause-next : goal.returns-in_err-found-clause-next
+returns-in_err-found-clause-next g c pages sees =
+    let before = c.records.invariant.comes pages sees in
+    let now = c.in_err-found.ensures.sees pages before.0 in
+    let end = option_map (λ (e : Lsn). e.0) c.args.end in
+    let exit = err_from_is_err_and c.from_residual.result c.from_residual.ensures.1 in
+    let read = read_of c.records.buffers.cache.geometry c.args.buffers.now.cache.geometry pages end (place_of c.records.at) (Err c.in_err-found.field-0.0) c.records.invariant.geometry (c.in_err-found.ensures.reads pages before.0) in
+    (now, rw (exit.1, exit.2) (ComesNext-stopped c.args.buffers.now.cache.geometry pages c.args.start.0 end c.args.from c.records.at c.in_err-found.field-0.0 before.1 read))
+
+pub returns-then-found-start-clause-next : goal.returns-then-found-start-clause-next
+returns-then-found-start-clause-next g c pages sees =
+    let before = c.records.invariant.comes pages sees in
+    let now = c.in_ok-found.ensures.sees pages before.0 in
+    let end = option_map (λ (e : Lsn). e.0) c.args.end in
+    let size = c.args.buffers.now.cache.geometry in
+    let found = c.in_ok-found.found in
+    let read = read_of c.records.buffers.cache.geometry size pages end (place_of c.records.at) (Ok (found, c.in_ok-found.behind)) c.records.invariant.geometry (c.in_ok-found.ensures.reads pages before.0) in
+    (now, λ others answer rest. before.1 (found ∷ others) answer (GivesFrom-given size pages c.args.start.0 end (place_of c.records.at) found (place_of c.in_ok-found.behind) read.0 read.1 others answer rest c.if-found-start.true))
+
+pub records-preserved : goal.records-preserved
+records-preserved g c = record {
+  geometry = c.in_ok-found.ensures.geometry ∙ c.records.invariant.geometry;
+  tape = c.in_ok-found.ensures.tape ∙ c.records.invariant.tape;
+  moment = c.in_ok-found.ensures.moment ∙ c.records.invariant.moment;
+  faults = c.in_ok-found.ensures.cause ∙ c.records.invariant.faults;
+  reachable = c.in_ok-found.ensures.goes_on.1;
+  further = (let further = c.in_ok-found.ensures.goes_on.0 in
+      omega arith);
+  comes = λ pages sees. (let before = c.records.invariant.comes pages sees in
+      let now = c.in_ok-found.ensures.sees pages before.0 in
+      let end = option_map (λ (e : Lsn). e.0) c.args.end in
+      let size = c.args.buffers.now.cache.geometry in
+      let found = c.in_ok-found.found in
+      let read = read_of c.records.buffers.cache.geometry size pages end (place_of c.records.at) (Ok (found, c.in_ok-found.behind)) c.records.invariant.geometry (c.in_ok-found.ensures.reads pages before.0) in
+      (now, λ others answer rest. before.1 others answer (GivesFrom-passed size pages c.args.start.0 end (place_of c.records.at) found (place_of c.in_ok-found.behind) read.0 read.1 others answer rest c.if-found-start.false)));
+}

@@ -1,0 +1,24 @@
+use Rattle.std.proofs.Common.{◌≡◌, ◌-◌, ◌^◌, ◌≤◌, List, option_map}
+use Rattle.wal_reader.specs.Cursor.{Sees}
+use Rattle.wal_reader.specs.declared.found.FoundRecord.{FoundRecord}
+use Rattle.wal_reader.specs.declared.found.Answer.{Answer}
+use Rattle.wal_types.specs.declared.lsn.Lsn.{Lsn}
+use Rattle.wal_reader.specs.Pages.{Pages}
+use Rattle.wal_reader.specs.Standpoint.{IsReachable, place_of}
+use Rattle.wal_reader.specs.Steps.{GivesFrom}
+use Rattle.wal_reader.proofs.given.read_given.Given as goal
+
+abbrev pub invariant-records : goal.invariant-records
+invariant-records g l = record {
+  geometry : l.buffers.cache.geometry ≡ l.fn.buffers.cache.geometry;
+  tape : g.D.Disk.tape l.disk ≡ g.D.Disk.tape l.fn.disk;
+  moment : g.D.Disk.moment l.disk ≡ g.D.Disk.moment l.fn.disk;
+  faults : g.D.Disk.faults l.disk ≡ g.D.Disk.faults l.fn.disk;
+  reachable : IsReachable l.at;
+  further : l.fn.from.position ≤ l.at.position;
+  comes : (pages : Pages) → Sees (g.D.Disk.tape l.fn.disk) l.fn.buffers.cache pages → Sees (g.D.Disk.tape l.disk) l.buffers.cache pages
+      × ((others : List FoundRecord) (answer : Answer) → GivesFrom l.fn.buffers.cache.geometry pages l.fn.start.0 (option_map (λ (e : Lsn). e.0) l.fn.end) (place_of l.at) others answer → GivesFrom l.fn.buffers.cache.geometry pages l.fn.start.0 (option_map (λ (e : Lsn). e.0) l.fn.end) (place_of l.fn.from) others answer);
+}
+
+abbrev pub decreases-records : goal.decreases-records
+decreases-records g l = 2 ^ 60 - l.at.position

@@ -1,0 +1,61 @@
+use Rattle.std.proofs.Common.{◌≡◌, ℕ, [], ◌∷◌, Option, Some, Result, Ok, Err, option_map, subst, sym, ap, ◌∙◌}
+use Rattle.wal_types.specs.declared.lsn.Lsn.{Lsn}
+use Rattle.wal_reader.specs.Cursor.{IsLogOf, Sees}
+use Rattle.wal_reader.specs.Pages.{Pages}
+use Rattle.wal_reader.specs.Buffers.{HoldsPageOf}
+use Rattle.wal_reader.specs.LogReader.{Knows, state_of}
+use Rattle.wal_reader.specs.Steps.{ComesNext}
+use Rattle.wal_reader.specs.declared.buffers.Buffers.{Buffers}
+use Rattle.wal_reader.specs.declared.found.FoundRecord.{FoundRecord}
+use Rattle.wal_reader.specs.declared.standpoint.Standpoint.{Standpoint}
+use Rattle.wal_reader.specs.declared.stop.Stop.{Stop}
+use Rattle.wal_reader.specs.declared.stop.Stop.TheVariants as stops
+use Rattle.wal_reader.proofs.LogReaderLaws.{standing_from, Gives-comes, IsNext-told, Leaves-told}
+use Rattle.wal_reader.proofs.log_reader.Reader.next.Given.{Over}
+use Rattle.wal_reader.proofs.log_reader.Reader.next.Goals as goal
+use Rattle.wal_reader.proofs.log_reader.Reader.next.Goals.{After-next_given, in-NotBegun, in-At}
+
+in_buffers : (g : Over) (c : After-next_given g) (pages : Pages) → Knows c.args.self.now pages → HoldsPageOf c.args.self.now.geometry (Some c.in-Some.buffers) pages
+in_buffers g c pages knows = subst (λ (d : Option Buffers). HoldsPageOf c.args.self.now.geometry d pages) c.in-Some.is (c.set_up.ensures.holds pages knows)
+
+sees : (g : Over) (c : After-next_given g) (pages : Pages) → IsLogOf (g.D.Disk.tape c.args.disk.now) c.args.self.now.geometry pages → Knows c.args.self.now pages → Sees (g.D.Disk.tape c.args.disk.now) c.in-Some.buffers.cache pages
+sees g c pages log knows =
+    let held = in_buffers g c pages knows in
+    record { log = subst (λ (n : ℕ). IsLogOf (g.D.Disk.tape c.args.disk.now) n pages) (sym held.0) log; held = held.1 }
+
+knows_still : (g : Over) (c : After-next_given g) (pages : Pages) → IsLogOf (g.D.Disk.tape c.args.disk.now) c.args.self.now.geometry pages → Knows c.args.self.now pages → HoldsPageOf c.args.self.now.geometry (Some c.next_given.new.buffers) pages
+knows_still g c pages log knows =
+    let now = c.next_given.ensures.next pages (sees g c pages log knows) in
+    (c.next_given.ensures.geometry ∙ (in_buffers g c pages knows).0, now.0.held)
+
+comes : (g : Over) (c : After-next_given g) (pages : Pages) → IsLogOf (g.D.Disk.tape c.args.disk.now) c.args.self.now.geometry pages → Knows c.args.self.now pages → ComesNext c.args.self.now.geometry pages c.args.self.now.start.0 (option_map (λ (e : Lsn). e.0) c.args.self.now.end) c.match-self.from c.next_given.result
+comes g c pages log knows =
+    let now = c.next_given.ensures.next pages (sees g c pages log knows) in
+    subst (λ (n : ℕ). ComesNext n pages c.args.self.now.start.0 (option_map (λ (e : Lsn). e.0) c.args.self.now.end) c.match-self.from c.next_given.result) (in_buffers g c pages knows).0 now.1
+
+stands : (g : Over) (c : After-next_given g) → c.args.self.now.standing ≡ standing_from c.match-self.from
+stands g c =
+    elim c.match-self.branch [
+      | in-NotBegun w ↦ w.in-NotBegun.is ∙ ap standing_from (sym w.from-is)
+      | in-At w ↦ w.in-At.is ∙ ap standing_from (sym w.from-is)
+    ]
+
+pub returns-in-Ok-clause-gives : goal.returns-in-Ok-clause-gives
+returns-in-Ok-clause-gives g c pages log knows =
+    let before = (goal.at.returns-in-Ok-clause-gives g c).After-next_given in
+    let end = option_map (λ (e : Lsn). e.0) c.args.self.now.end in
+    let next : ComesNext c.args.self.now.geometry pages c.args.self.now.start.0 end c.match-self.from (Ok (c.in-Ok.found, c.in-Ok.behind)) = subst (λ (r : Result (FoundRecord × Standpoint) Stop). ComesNext c.args.self.now.geometry pages c.args.self.now.start.0 end c.match-self.from r) c.in-Ok.is (comes g before pages log knows) in
+    (knows_still g before pages log knows, λ others answer rest. Gives-comes pages (state_of c.args.self.now) c.match-self.from (c.in-Ok.found ∷ others) answer (stands g before) (next others answer rest))
+
+pub returns-in-Err-Told-clause-gives : goal.returns-in-Err-Told-clause-gives
+returns-in-Err-Told-clause-gives g c pages log knows =
+    let before = (goal.at.returns-in-Err-Told-clause-gives g c).After-next_given in
+    let end = option_map (λ (e : Lsn). e.0) c.args.self.now.end in
+    let said : Result (FoundRecord × Standpoint) Stop = Err (stops.Told c.in-Err-Told.answer) in
+    let next : ComesNext c.args.self.now.geometry pages c.args.self.now.start.0 end c.match-self.from said = subst (λ (r : Result (FoundRecord × Standpoint) Stop). ComesNext c.args.self.now.geometry pages c.args.self.now.start.0 end c.match-self.from r) (c.in-Err-Told.is ∙ ap Err c.in-Err-Told.field-0-is) (comes g before pages log knows) in
+    let gives = Gives-comes pages (state_of c.args.self.now) c.match-self.from [] c.in-Err-Told.answer (stands g before) next in
+    (knows_still g before pages log knows, rw c.told-in-Err-Told.ensures (IsNext-told pages (state_of c.args.self.now) _ c.in-Err-Told.answer gives))
+
+pub returns-in-Err-Told-clause-leaves : goal.returns-in-Err-Told-clause-leaves
+returns-in-Err-Told-clause-leaves g c =
+    rw (c.after-self.ensures, c.told-in-Err-Told.ensures) (Leaves-told (state_of c.args.self.now) c.in-Err-Told.answer)

@@ -1,0 +1,83 @@
+use Rattle.std.proofs.Common.{◌≡◌, ℕ, Option, None, subst, ◌%◌, ◌/◌, ◌&&◌, true, false, eqb, Some, refl, sym, ap, ◌∙◌, arith}
+use Rattle.std.proofs.lemmas.Bool.{and_right, eq-eqb, ne_eqb}
+use Rattle.std.proofs.lemmas.Result.{err_from_is_err_and}
+use Rattle.byte_position.specs.Position.{address_of}
+use Rattle.byte_position.proofs.Words.{address_of-mod_word}
+use Rattle.wal_page.specs.Page.{first_fault, is_continued}
+use Rattle.wal_reader.specs.declared.cursor.Cursor.{Cursor}
+use Rattle.wal_reader.specs.declared.found.Answer.{Answer}
+use Rattle.wal_reader.specs.declared.found.DamageKind.TheVariants as kinds
+use Rattle.wal_reader.specs.RecordRows.{opening_of}
+use Rattle.wal_reader.specs.Decodes.{damaged, is_zero_word, opens_page, page_answers}
+use Rattle.wal_reader.specs.Pages.{Pages}
+use Rattle.wal_reader.specs.Cursor.{Sees}
+use Rattle.wal_reader.specs.Standpoint.{place_of}
+use Rattle.wal_reader.proofs.RecordStages.{opening_page_fails, opening_claims, gathers_none, opens_at}
+use Rattle.wal_reader.proofs.record_start.open_page.Goals as goal
+use Rattle.wal_reader.proofs.record_start.open_page.Goals.{After-check_held, else-opens-via-then-opens+else-is_zero_word, else-opens-via-else-opens}
+
+-- the page is there and held
+there : (g : _) (c : After-check_held g) (pages : Pages) → Sees (g.D.Disk.tape c.args.disk.now) c.args.cache.now pages → pages (address_of c.load.new.self.geometry c.args.at.position / 8192) ≡ Some c.load.new.self.bytes.value
+there g c pages sees =
+    let loaded = (rw c.if-not-branch.false at (c.in_ok-load.ensures.sees pages sees).1).1 in
+    rw (c.in_ok-load.ensures.geometry, ← c.requires.start) loaded
+
+opens : (g : _) (c : After-check_held g) → opens_page c.load.new.self.geometry c.args.at.position ≡ eqb (c.args.start.0 % 8192) c.header_len.result
+opens g c = opens_at c.load.new.self.geometry c.args.at.position c.args.start.0 c.header_len.result (c.requires.start ∙ ap (λ size. address_of size c.args.at.position) (sym c.in_ok-load.ensures.geometry)) c.header_len.ensures.value
+
+-- the page does not begin with zeros where the record would start there
+marked : (g : _) (c : After-check_held g) → (opens_page c.load.new.self.geometry c.args.at.position && is_zero_word c.load.new.self.bytes.value) ≡ false
+marked g c =
+    elim c.else-opens.branch [
+      | else-opens-via-then-opens+else-is_zero_word w ↦ and_right _ _ (sym w.is_zero_word.ensures.value ∙ w.if-is_zero_word.false)
+      | else-opens-via-else-opens w ↦ rw (opens g c, ne_eqb _ _ w.if-opens.false) refl
+    ]
+
+-- the page's number
+numbered : (g : _) (c : After-check_held g) → c.args.start.0 / 8192 ≡ address_of c.load.new.self.geometry c.args.at.position / 8192
+numbered g c = ap (λ (a : ℕ). a / 8192) (c.requires.start ∙ ap (λ size. address_of size c.args.at.position) (sym c.in_ok-load.ensures.geometry))
+
+-- its checks, by that number
+checks_of : (g : _) (c : After-check_held g) → Option Answer → Type 0
+checks_of g c told = first_fault (page_answers c.load.new.self.geometry (address_of c.load.new.self.geometry c.args.at.position / 8192) c.load.new.self.bytes.value c.args.at.timeline) ≡ told
+
+checks_at : (g : _) (c : After-check_held g) (told : Option Answer) → first_fault (page_answers c.load.new.self.geometry (c.args.start.0 / 8192) c.load.new.self.bytes.value c.args.at.timeline) ≡ told → checks_of g c told
+unfolding checks_of
+checks_at g c told e = subst (λ (page : ℕ). first_fault (page_answers c.load.new.self.geometry page c.load.new.self.bytes.value c.args.at.timeline) ≡ told) (numbered g c) e
+
+fails : (g : _) (c : After-check_held g) (pages : Pages) → Sees (g.D.Disk.tape c.args.disk.now) c.args.cache.now pages → (answer : Answer) → checks_of g c (Some answer) → opening_of c.args.cache.now.geometry (place_of c.args.at) (pages (address_of c.args.cache.now.geometry c.args.at.position / 8192)) ≡ Some answer
+unfolding checks_of
+fails g c pages sees answer told = rw (← c.in_ok-load.ensures.geometry) (opening_page_fails c.load.new.self.geometry (place_of c.args.at) _ _ (there g c pages sees) (marked g c) answer told)
+
+pub returns-in_err-info-clause-checks : goal.returns-in_err-info-clause-checks
+returns-in_err-info-clause-checks g c = λ pages sees.
+    let before = (goal.at.returns-in_err-info-clause-checks g c).After-check_held in
+    let stop = err_from_is_err_and c.from_residual-in_err-info.result c.from_residual-in_err-info.ensures.1 in
+    rw (stop.1, stop.2) (fails g before pages sees c.in_err-info.field-0.0 (checks_at g before (Some c.in_err-info.field-0.0) c.in_err-info.ensures.checks))
+
+claims : (g : _) (c : After-check_held g) (pages : Pages) → Sees (g.D.Disk.tape c.args.disk.now) c.args.cache.now pages → checks_of g c None → opens_page c.load.new.self.geometry c.args.at.position ≡ true → is_continued c.load.new.self.bytes.value ≡ true
+    → opening_of c.args.cache.now.geometry (place_of c.args.at) (pages (address_of c.args.cache.now.geometry c.args.at.position / 8192)) ≡ Some (damaged c.args.start.0 kinds.Claims)
+unfolding checks_of
+claims g c pages sees told first continued = rw (c.requires.start, ← c.in_ok-load.ensures.geometry) (opening_claims c.load.new.self.geometry (place_of c.args.at) _ _ (there g c pages sees) (marked g c) told first continued)
+
+pub returns-then-is_continued-clause-checks : goal.returns-then-is_continued-clause-checks
+returns-then-is_continued-clause-checks g c = λ pages sees.
+    let before = (goal.at.returns-then-is_continued-clause-checks g c).After-check_held in
+    let first = opens g before ∙ eq-eqb _ _ c.if-opens-2.true in
+    let continued = sym c.in_ok-info.ensures.continued ∙ sym c.is_continued.ensures ∙ c.if-is_continued.true in
+    rw c.damaged.ensures (claims g before pages sees (checks_at g before None c.in_ok-info.ensures.checks) first continued)
+
+pub returns-clause-cursor : goal.returns-clause-cursor
+returns-clause-cursor g c =
+    let size = c.args.cache.now.geometry in
+    let valid = rw c.in_ok-load.ensures.geometry at c.header_len.ensures.valid in
+    let cursor : Cursor = record { page = c.args.start.0 / 8192; offset = c.args.start.0 % 8192; timeline = c.in_ok-info.info.timeline } in
+    let held = rw c.if-not-branch.false at c.in_ok-load.ensures.held in
+    let reach = rw c.if-not-branch.false at c.in_ok-load.ensures.reach in
+    ((held refl, sym c.in_ok-info.ensures.info.0), gathers_none size c.args.at.position cursor valid (ap (λ (a : ℕ). a / 8192) c.requires.start) (ap (λ (a : ℕ). a % 8192) c.requires.start) (reach refl))
+
+pub returns-clause-place : goal.returns-clause-place
+returns-clause-place g c =
+    let valid = rw c.in_ok-load.ensures.geometry at c.header_len.ensures.valid in
+    let word = address_of-mod_word c.args.cache.now.geometry valid c.args.at.position c.requires.reachable.aligned in
+    (ap (λ (a : ℕ). a / 8192) c.requires.start, omega (arith, c.requires.start))

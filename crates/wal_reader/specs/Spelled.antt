@@ -1,0 +1,21 @@
+-- The bytes that a record was read from.
+use Rattle.std.specs.Prelude.{◌≡◌, ℕ, List, length}
+use Rattle.wal_record.specs.Spells.{Spells}
+use Rattle.wal_reader.specs.declared.found.FoundRecord.{FoundRecord}
+use Rattle.wal_reader.specs.declared.standing.ReadStep.{ReadStep}
+use Rattle.wal_reader.specs.declared.standing.ReadStep.TheVariants.{Record, End}
+
+-- bytes that spell a record, as many as its size says
+pub record HasSpelling (found : FoundRecord) : Type 0 where
+  pub bytes : List ℕ
+  pub length_is : length bytes ≡ found.total
+  pub spelled : Spells bytes found.value
+
+-- a record was read from bytes that spell it
+unfoldable pub IsSpelled : FoundRecord → Type 0
+IsSpelled found = HasSpelling found
+
+-- so was the record that a step gives
+abbrev pub GivesSpelled : ReadStep → Type 0
+GivesSpelled (Record found) = IsSpelled found
+GivesSpelled (End at) = Unit {0}

@@ -1,0 +1,58 @@
+-- Where a log's reader stands, and what a step of it tells.
+use Rattle.std.specs.Prelude.{◌≡◌, ℕ, ◌-◌, ◌%◌, ◌^◌, ◌<◌, Result, Ok, Err}
+use Rattle.std.specs.Coded.{Coded-set, coded_ℕ, ×_prop, Unit-prop, le_prop}
+use Rattle.segment_disk.specs.Cause.{Rose}
+use Rattle.wal_reader.specs.declared.found.Answer.{Answer}
+use Rattle.wal_reader.specs.declared.found.Answer.TheVariants as answers
+use Rattle.wal_reader.specs.declared.standing.Standing.{Standing}
+use Rattle.wal_reader.specs.declared.standing.Standing.TheVariants.{NotBegun, At, Stopped}
+use Rattle.wal_reader.specs.declared.standing.ReadStep.{ReadStep}
+use Rattle.wal_reader.specs.declared.standing.ReadStep.TheVariants.{End}
+use Rattle.wal_reader.specs.declared.standing.ReadErr.{ReadErr}
+use Rattle.wal_reader.specs.declared.standing.ReadErr.TheVariants.{Memory, Disk, Damaged, Compressed, Overwritten}
+
+-- a reader that is before a record stands where reading comes to: at a whole word, below address 2 ^ 60
+abbrev pub IsOnWay : Standing → Type 0
+IsOnWay NotBegun = Unit {0}
+IsOnWay (At at) = (at.position % 8 ≡ 0) × (at.position < 2 ^ 60)
+IsOnWay (Stopped stop) = Unit {0}
+
+pub IsOnWay-prop : (standing : Standing) → IsProp (IsOnWay standing)
+IsOnWay-prop NotBegun = Unit-prop
+IsOnWay-prop (At at) = ×_prop (Coded-set coded_ℕ (at.position % 8) 0) le_prop
+IsOnWay-prop (Stopped stop) = Unit-prop
+
+-- how much of the log is still before a reader
+abbrev pub left_at : Standing → ℕ
+left_at NotBegun = 2 ^ 60
+left_at (At standpoint) = 2 ^ 60 - standpoint.position
+left_at (Stopped stop) = 0
+
+-- an answer as a step tells it
+abbrev pub told : Answer → Result ReadStep ReadErr
+told (answers.End at) = Ok (End at)
+told (answers.Damaged at kind) = Err (Damaged at kind)
+told (answers.Compressed at) = Err (Compressed at)
+told (answers.Overwritten at) = Err (Overwritten at)
+
+-- what an answer leaves of a standing: an end is no more than told, all else is told for good
+abbrev pub standing_after : Standing → Answer → Standing
+standing_after standing (answers.End at) = standing
+standing_after standing (answers.Damaged at kind) = Stopped (answers.Damaged at kind)
+standing_after standing (answers.Compressed at) = Stopped (answers.Compressed at)
+standing_after standing (answers.Overwritten at) = Stopped (answers.Overwritten at)
+
+-- a reader that has stopped tells its answer again, and leaves the disk alone
+abbrev pub IsToldAgain : {D : Type 0} → Standing → Result ReadStep ReadErr → D → D → Type 0
+IsToldAgain NotBegun result old new = Unit {0}
+IsToldAgain (At standpoint) result old new = Unit {0}
+IsToldAgain (Stopped stop) result old new = (result ≡ told stop) × (new ≡ old)
+
+-- the disk's count of faults: it rises only where the disk failed, and is told there
+abbrev pub HasReadCause : ℕ → ℕ → Result ReadStep ReadErr → Type 0
+HasReadCause old new (Ok step) = new ≡ old
+HasReadCause old new (Err Memory) = new ≡ old
+HasReadCause old new (Err (Disk faults)) = Rose old new × (faults ≡ new)
+HasReadCause old new (Err (Damaged at kind)) = new ≡ old
+HasReadCause old new (Err (Compressed at)) = new ≡ old
+HasReadCause old new (Err (Overwritten at)) = new ≡ old

@@ -1,0 +1,43 @@
+//! What a reader works with.
+
+ghost use Rattle.std.specs.Prelude.{◌≡◌, None, IfOk, IsTrue, OnOk, is_some};
+ghost use Rattle.wal_reader.specs.Buffers.{HoldsPageOf};
+ghost use Rattle.wal_reader.specs.Pages.{Pages};
+
+use crate::page_cache::PageCache;
+use byte_position::Geometry;
+use std::alloc::{AllocError, Global};
+
+/// The page that is held, and the room in which a record's bytes are put together.
+#[derive(Drop)]
+pub(crate) struct Buffers {
+    pub(crate) cache: PageCache,
+    pub(crate) room: Vec<u8>,
+}
+
+/// Makes the buffers where there are none yet.
+pub(crate) fn set_up(
+    buffers: &mut Option<Buffers>,
+    alloc: Global,
+    geometry: Geometry,
+) -> Result<(), AllocError>
+    ensures ready { OnOk result (IsTrue (is_some buffers.new)) }
+    ensures holds { (pages : Pages) → HoldsPageOf geometry buffers.old pages → HoldsPageOf geometry buffers.new pages }
+{
+    if buffers.is_none() {
+        *buffers = Some(Buffers::new(alloc, geometry)?);
+    }
+    Ok(())
+}
+
+impl Buffers {
+    // No page is held yet.
+    fn new(alloc: Global, geometry: Geometry) -> Result<Buffers, AllocError>
+        ensures { IfOk result (λ buffers. (buffers.cache.geometry ≡ geometry) × (buffers.cache.number ≡ None)) }
+    {
+        Ok(Buffers {
+            cache: PageCache::new(alloc, geometry)?,
+            room: Vec::new(alloc),
+        })
+    }
+}

@@ -1,0 +1,137 @@
+//! The bytes of a record, gathered page by page (PostgreSQL's XLogDecodeNextRecord of xlogreader.c).
+
+ghost use Rattle.std.specs.Prelude.{◌≡◌, ℕ, ◌+◌, ◌-◌, ◌*◌, ◌/◌, ◌<◌, ◌≤◌, ◌^◌, ◌++◌, length, take, drop, min, vec_len, Some, None, IfOk, OnErr, OnOk, MatchResult};
+ghost use Rattle.byte_position.specs.Position.{address_of};
+ghost use Rattle.wal_page.specs.Page.{first_fault};
+ghost use Rattle.wal_reader.specs.Cursor.{Crosses, HasGathered, HoldsPassed, IsOn, Sees, StandsIn};
+ghost use Rattle.wal_reader.specs.Decodes.{page_of_byte, rows_of_pages};
+ghost use Rattle.wal_reader.specs.Pages.{Pages, bytes_from};
+ghost use Rattle.wal_reader.specs.Standpoint.{place_of};
+ghost use Rattle.wal_reader.specs.Stops.{HasStopCause, IsTold};
+
+use crate::cursor::{Cursor, Extent};
+use crate::layout::PAGE_SIZE;
+use crate::page_cache::PageCache;
+use crate::page_checks::turn_page;
+use crate::stop::Stop;
+use segment_disk::Disk;
+use std::alloc::AllocError;
+
+/// Gathers a record's bytes behind those that the room has, up to `upto` of them: those of a further page once it has
+/// passed its checks.
+pub(crate) fn gather<D: Disk>(
+    cache: &mut PageCache,
+    room: &mut Vec<u8>,
+    disk: &mut D,
+    extent: Extent,
+    cursor: Cursor,
+    upto: u32,
+) -> Result<Cursor, Stop>
+    requires start { extent.start.0 ≡ address_of cache.old.geometry extent.at.position }
+    requires upto { upto ≤ extent.total }
+    requires len { vec_len room.old ≤ upto }
+    requires on { IsOn cache.old cursor }
+    requires gathered { HasGathered cache.old.geometry extent.at.position (vec_len room.old) cursor }
+    ensures geometry { cache.new.geometry ≡ cache.old.geometry }
+    ensures len { OnOk result (vec_len room.new ≡ upto) }
+    ensures cursor { IfOk result (λ now. IsOn cache.new now × HasGathered cache.old.geometry extent.at.position upto now) }
+    ensures sees { (pages : Pages) → Sees (D.tape disk.old) cache.old pages → Sees (D.tape disk.new) cache.new pages }
+    ensures bytes { (pages : Pages) → Sees (D.tape disk.old) cache.old pages → room.old.items ≡ bytes_from cache.old.geometry pages (vec_len room.old) extent.at.position
+        → OnOk result (room.new.items ≡ bytes_from cache.old.geometry pages upto extent.at.position) }
+    ensures room { (pages : Pages) → Sees (D.tape disk.old) cache.old pages → room.old.items ≡ bytes_from cache.old.geometry pages (vec_len room.old) extent.at.position
+        → HoldsPassed cache.old.geometry pages (place_of extent.at) extent.total cursor.page room.new.items }
+    ensures checks { (pages : Pages) → Sees (D.tape disk.old) cache.old pages
+        → MatchResult result (λ now. Crosses cache.old.geometry pages (place_of extent.at) extent.total cursor.page now.page)
+        (IsTold (first_fault (rows_of_pages cache.old.geometry pages (place_of extent.at) extent.total cursor.page (page_of_byte cache.old.geometry extent.at.position upto)))) }
+
+    ensures tape { D.tape disk.new ≡ D.tape disk.old }
+    ensures moment { D.moment disk.new ≡ D.moment disk.old }
+    ensures cause { HasStopCause (D.faults disk.old) (D.faults disk.new) result }
+{
+    let mut cursor = cursor;
+    'pages: while room.len() < upto as usize {
+        cursor = gather_more(cache, room, disk, extent, cursor, upto)?;
+    }
+    Ok(cursor)
+}
+
+// Appends what the page that has the next byte has of the record, up to `upto` bytes in all.
+fn gather_more<D: Disk>(
+    cache: &mut PageCache,
+    room: &mut Vec<u8>,
+    disk: &mut D,
+    extent: Extent,
+    cursor: Cursor,
+    upto: u32,
+) -> Result<Cursor, Stop>
+    requires start { extent.start.0 ≡ address_of cache.old.geometry extent.at.position }
+    requires upto { upto ≤ extent.total }
+    requires more { vec_len room.old < upto }
+    requires on { IsOn cache.old cursor }
+    requires stands { StandsIn cache.old.geometry (extent.at.position + vec_len room.old) cursor }
+    ensures geometry { cache.new.geometry ≡ cache.old.geometry }
+    ensures kept { OnErr result (room.new.items ≡ room.old.items) }
+    ensures len { OnOk result ((vec_len room.old < vec_len room.new) × (vec_len room.new ≤ upto)) }
+    ensures cursor { IfOk result (λ now. IsOn cache.new now × HasGathered cache.old.geometry extent.at.position (vec_len room.new) now) }
+    ensures sees { (pages : Pages) → Sees (D.tape disk.old) cache.old pages → Sees (D.tape disk.new) cache.new pages }
+    ensures bytes { (pages : Pages) → Sees (D.tape disk.old) cache.old pages → room.old.items ≡ bytes_from cache.old.geometry pages (vec_len room.old) extent.at.position
+        → OnOk result (room.new.items ≡ bytes_from cache.old.geometry pages (vec_len room.new) extent.at.position) }
+    ensures checks { (pages : Pages) → Sees (D.tape disk.old) cache.old pages
+        → MatchResult result (λ now. Crosses cache.old.geometry pages (place_of extent.at) extent.total cursor.page now.page)
+        (IsTold (first_fault (rows_of_pages cache.old.geometry pages (place_of extent.at) extent.total cursor.page (page_of_byte cache.old.geometry extent.at.position upto)))) }
+
+    ensures tape { D.tape disk.new ≡ D.tape disk.old }
+    ensures moment { D.moment disk.new ≡ D.moment disk.old }
+    ensures cause { HasStopCause (D.faults disk.old) (D.faults disk.new) result }
+{
+    let cursor = pass_border(cache, disk, extent, cursor, room.len() as u32)?;
+    let most = upto - room.len() as u32;
+    let count = append(room, &cache.bytes, cursor.offset, most)?;
+    Ok(Cursor {
+        offset: cursor.offset + count,
+        ..cursor
+    })
+}
+
+// Goes on to the next page where the cursor is at a page's end; `gathered` bytes of the record are before it.
+fn pass_border<D: Disk>(
+    cache: &mut PageCache,
+    disk: &mut D,
+    extent: Extent,
+    cursor: Cursor,
+    gathered: u32,
+) -> Result<Cursor, Stop>
+    requires start { extent.start.0 ≡ address_of cache.old.geometry extent.at.position }
+    requires more { gathered < extent.total }
+    requires on { IsOn cache.old cursor }
+    requires stands { StandsIn cache.old.geometry (extent.at.position + gathered) cursor }
+    ensures geometry { cache.new.geometry ≡ cache.old.geometry }
+    ensures cursor { IfOk result (λ now. IsOn cache.new now × StandsIn cache.old.geometry (extent.at.position + gathered) now × (now.offset < 8192)) }
+    ensures sees { (pages : Pages) → Sees (D.tape disk.old) cache.old pages → Sees (D.tape disk.new) cache.new pages }
+    ensures checks { (pages : Pages) → Sees (D.tape disk.old) cache.old pages
+        → MatchResult result (λ now. Crosses cache.old.geometry pages (place_of extent.at) extent.total cursor.page now.page)
+        (λ stop. (upto : ℕ) → gathered < upto → IsTold (first_fault (rows_of_pages cache.old.geometry pages (place_of extent.at) extent.total cursor.page (page_of_byte cache.old.geometry extent.at.position upto))) stop) }
+
+    ensures tape { D.tape disk.new ≡ D.tape disk.old }
+    ensures moment { D.moment disk.new ≡ D.moment disk.old }
+    ensures cause { HasStopCause (D.faults disk.old) (D.faults disk.new) result }
+{
+    if cursor.offset < PAGE_SIZE {
+        return Ok(cursor);
+    }
+    turn_page(cache, disk, cursor, extent.start, extent.total - gathered)
+}
+
+// Appends what a page has from an offset on, `most` bytes if it has so many, and answers how many.
+fn append(room: &mut Vec<u8>, page: &[u8; 8192], offset: u32, most: u32) -> Result<u32, AllocError>
+    requires { offset ≤ 8192 }
+    ensures count { IfOk result (λ count. count ≡ min (8192 - offset) most) }
+    ensures items { IfOk result (λ count. room.new.items ≡ room.old.items ++ take count (drop offset page.now)) }
+    ensures len { IfOk result (λ count. vec_len room.new ≡ vec_len room.old + count) }
+    ensures kept { OnErr result (room.new.items ≡ room.old.items) }
+    ensures whole { length page.now ≡ 8192 }
+{
+    let count = (PAGE_SIZE - offset).min(most);
+    room.extend_from_slice(&page[offset as usize..(offset + count) as usize])?;
+    Ok(count)
+}

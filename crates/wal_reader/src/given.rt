@@ -1,0 +1,83 @@
+//! The next record that a reader gives.
+
+ghost use Rattle.std.specs.Prelude.{◌≡◌, ◌<◌, option_map, Some, IfOk, IfSome};
+ghost use Rattle.wal_reader.specs.Cursor.{Sees};
+ghost use Rattle.wal_reader.specs.Pages.{Pages};
+ghost use Rattle.wal_reader.specs.RecordRows.{GoesOn};
+ghost use Rattle.wal_reader.specs.Spelled.{IsSpelled};
+ghost use Rattle.wal_reader.specs.Standpoint.{IsReachable};
+ghost use Rattle.wal_reader.specs.Steps.{ComesNext, IsFurther};
+ghost use Rattle.wal_reader.specs.Stops.{HasStopCause};
+
+use crate::beginning::find_beginning;
+use crate::buffers::Buffers;
+use crate::found::FoundRecord;
+use crate::record_reading::read_record;
+use crate::standpoint::Standpoint;
+use crate::stop::Stop;
+use segment_disk::Disk;
+use std::alloc::Global;
+use wal_types::Lsn;
+
+/// The next record at or behind `start`, and where the one behind it stands: from a standpoint, or where reading has not
+/// begun from where it begins. `end` is where reading ends, if it is given.
+pub(crate) fn next_given<D: Disk>(
+    alloc: Global,
+    buffers: &mut Buffers,
+    disk: &mut D,
+    start: Lsn,
+    end: Option<Lsn>,
+    from: Option<Standpoint>,
+) -> Result<(FoundRecord, Standpoint), Stop>
+    requires { IfSome from IsReachable }
+    ensures geometry { buffers.new.cache.geometry ≡ buffers.old.cache.geometry }
+    ensures behind { IfOk result (λ r. IsFurther from r.1) }
+    ensures spelled { IfOk result (λ r. IsSpelled r.0) }
+    ensures next { (pages : Pages) → Sees (D.tape disk.old) buffers.old.cache pages → Sees (D.tape disk.new) buffers.new.cache pages × ComesNext buffers.old.cache.geometry pages start.0 (option_map (λ e. e.0) end) from result }
+
+    ensures tape { D.tape disk.new ≡ D.tape disk.old }
+    ensures moment { D.moment disk.new ≡ D.moment disk.old }
+    ensures cause { HasStopCause (D.faults disk.old) (D.faults disk.new) result }
+{
+    let at = match from {
+        Some(at) => at,
+        None => find_beginning(&mut buffers.cache, disk, start)?,
+    };
+    read_given(alloc, buffers, disk, start, end, at)
+}
+
+// Records before `start` are read and checked as any other, and passed over.
+fn read_given<D: Disk>(
+    alloc: Global,
+    buffers: &mut Buffers,
+    disk: &mut D,
+    start: Lsn,
+    end: Option<Lsn>,
+    from: Standpoint,
+) -> Result<(FoundRecord, Standpoint), Stop>
+    requires { IsReachable from }
+    ensures geometry { buffers.new.cache.geometry ≡ buffers.old.cache.geometry }
+    ensures behind { IfOk result (λ r. GoesOn from r.1) }
+    ensures spelled { IfOk result (λ r. IsSpelled r.0) }
+    ensures next { (pages : Pages) → Sees (D.tape disk.old) buffers.old.cache pages → Sees (D.tape disk.new) buffers.new.cache pages × ComesNext buffers.old.cache.geometry pages start.0 (option_map (λ e. e.0) end) (Some from) result }
+
+    ensures tape { D.tape disk.new ≡ D.tape disk.old }
+    ensures moment { D.moment disk.new ≡ D.moment disk.old }
+    ensures cause { HasStopCause (D.faults disk.old) (D.faults disk.new) result }
+{
+    let mut at = from;
+    'records: loop {
+        let (found, behind) = read_record(
+            alloc,
+            &mut buffers.cache,
+            &mut buffers.room,
+            disk,
+            end,
+            at,
+        )?;
+        if found.start.0 >= start.0 {
+            return Ok((found, behind));
+        }
+        at = behind;
+    }
+}

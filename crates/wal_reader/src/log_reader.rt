@@ -1,0 +1,86 @@
+//! Reading a log record by record (PostgreSQL's XLogReadRecord of xlogreader.c).
+
+ghost use Rattle.std.specs.Prelude.{◌≡◌};
+ghost use Rattle.wal_reader.specs.Standings.{IsOnWay, IsOnWay-prop};
+
+use crate::buffers::{Buffers, set_up};
+use crate::given::next_given;
+use crate::standing::{ReadErr, ReadStep, Standing, told};
+use crate::stop::Stop;
+use byte_position::Geometry;
+use segment_disk::Disk;
+use std::alloc::Global;
+use wal_types::Lsn;
+
+/// Reads the records of a disk's log, one behind another.
+#[derive(Drop)]
+pub struct Reader {
+    geometry: Geometry,
+    start: Lsn,
+    end: Option<Lsn>,
+    standing: Standing,
+    /// What it reads into, once it has begun.
+    buffers: Option<Buffers>,
+    ghost on_way: { IsOnWay standing } by { IsOnWay-prop standing },
+}
+
+impl Reader {
+    ghost use Rattle.std.specs.Prelude.{IfOk, option_map};
+    ghost use Rattle.wal_reader.specs.declared.standing.Standing.TheVariants.{NotBegun};
+    ghost use Rattle.wal_reader.specs.Pages.{Pages};
+    ghost use Rattle.wal_reader.specs.Cursor.{IsLogOf};
+    ghost use Rattle.wal_reader.specs.LogReader.{IsNext, Knows, Leaves, state_of};
+    ghost use Rattle.wal_reader.specs.Spelled.{GivesSpelled};
+    ghost use Rattle.wal_reader.specs.Standings.{HasReadCause, IsToldAgain};
+
+    /// A reader of the records from the address `start` on, up to `end` where one is given. It takes no memory and reads nothing yet.
+    pub fn new(geometry: Geometry, start: Lsn, end: Option<Lsn>) -> Reader
+        ensures state { state_of result ≡ record { size = geometry; start = start.0; end = option_map (λ address. address.0) end; standing = NotBegun } }
+        ensures knows { (pages : Pages) → Knows result pages }
+    {
+        Reader {
+            geometry,
+            start,
+            end,
+            standing: Standing::NotBegun,
+            buffers: None,
+        }
+    }
+
+    /// The next record that starts at `start` or behind it, where the log goes on; records before it are read and checked as any
+    /// other. Damage is told again from then on. At an end, on want of memory or where the disk failed the reader stays where it is.
+    pub fn next<D: Disk>(&mut self, alloc: Global, disk: &mut D) -> Result<ReadStep, ReadErr>
+        ensures gives { (pages : Pages) → IsLogOf (D.tape disk.old) (state_of self.old).size pages → Knows self.old pages → Knows self.new pages × IsNext pages (state_of self.old) (state_of self.new) result }
+        ensures leaves { Leaves (state_of self.old) (state_of self.new) result }
+        ensures spelled { IfOk result GivesSpelled }
+        ensures stopped { IsToldAgain (state_of self.old).standing result disk.old disk.new }
+
+        ensures tape { D.tape disk.new ≡ D.tape disk.old }
+        ensures moment { D.moment disk.new ≡ D.moment disk.old }
+        ensures cause { HasReadCause (D.faults disk.old) (D.faults disk.new) result }
+    {
+        let from = match self.standing {
+            Standing::NotBegun => None,
+            Standing::At(at) => Some(at),
+            Standing::Stopped(answer) => return told(answer),
+        };
+        set_up(&mut self.buffers, alloc, self.geometry)?;
+        let Some(buffers) = &mut self.buffers else {
+            unreachable!()
+        };
+        match next_given(alloc, buffers, disk, self.start, self.end, from) {
+            Ok((found, behind)) => {
+                self.standing = Standing::At(behind);
+                Ok(ReadStep::Record(found))
+            }
+            Err(Stop::Told(answer)) => {
+                self.standing = self.standing.after(answer);
+                told(answer)
+            }
+            Err(Stop::Memory) => Err(ReadErr::Memory),
+            Err(Stop::Disk) => Err(ReadErr::Disk {
+                faults: disk.faults(),
+            }),
+        }
+    }
+}

@@ -1,0 +1,71 @@
+//! The page of the log that a reader holds.
+
+ghost use Rattle.std.specs.Prelude.{◌≡◌, ◌+◌, ◌*◌, ◌/◌, ◌%◌, ◌<◌, ◌≤◌, ◌^◌, Some, None, IfOk, OnErr, IfSome, IsTrue};
+ghost use Rattle.segment_disk.specs.Cause.{HasCause};
+ghost use Rattle.wal_reader.specs.Cache.{Caches, IsLoaded, log_of};
+ghost use Rattle.wal_reader.specs.Cursor.{Sees};
+ghost use Rattle.wal_reader.specs.Pages.{Pages};
+
+use byte_position::Geometry;
+use segment_disk::{Disk, Failed};
+use std::alloc::{AllocError, Global};
+
+// Pages that end above address 2^60 count as not there.
+const PAGES_READ: u64 = 1 << 47;
+
+/// The page that was read last, so that a page is read once however many records it holds.
+#[derive(Drop)]
+pub(crate) struct PageCache {
+    pub(crate) geometry: Geometry,
+    /// Which page is held, counted from address 0.
+    pub(crate) number: Option<u64>,
+    pub(crate) bytes: Box<[u8; 8192]>,
+}
+
+impl PageCache {
+    /// Nothing is held yet.
+    pub(crate) fn new(alloc: Global, geometry: Geometry) -> Result<PageCache, AllocError>
+        ensures { IfOk result (λ cache. (cache.geometry ≡ geometry) × (cache.number ≡ None)) }
+    {
+        Ok(PageCache {
+            geometry,
+            number: None,
+            bytes: Box::new(alloc, [0; 8192])?,
+        })
+    }
+
+    /// Holds a page from now on, where the log has it. A page that is held already is not read again, and one that ends
+    /// above address 2^60 counts as not there. Once a read has failed nothing is held.
+    pub(crate) fn load<D: Disk>(&mut self, disk: &mut D, page: u64) -> Result<bool, Failed>
+        ensures geometry { self.new.geometry ≡ self.old.geometry }
+        ensures held { IfOk result (λ there. IsTrue there → self.new.number ≡ Some page) }
+        ensures reach { IfOk result (λ there. IsTrue there → page < 2 ^ 47) }
+        ensures nothing_held { OnErr result (self.new.number ≡ None) }
+        ensures caches { IfSome (D.tape disk.old) (λ t. let pages = log_of t self.old.geometry in Caches self.old pages → Caches self.new pages) }
+        ensures loaded { IfOk result (λ there. IfSome (D.tape disk.old) (λ t. let pages = log_of t self.old.geometry in Caches self.old pages → IsLoaded (pages page) page there self.new)) }
+        ensures sees { (pages : Pages) → Sees (D.tape disk.old) self.old pages → Sees (D.tape disk.new) self.new pages × IfOk result (λ there. IsLoaded (pages page) page there self.new) }
+
+        ensures tape { D.tape disk.new ≡ D.tape disk.old }
+        ensures moment { D.moment disk.new ≡ D.moment disk.old }
+        ensures cause { HasCause (D.faults disk.old) (D.faults disk.new) result }
+    {
+        if page >= PAGES_READ {
+            return Ok(false);
+        }
+        if self.number == Some(page) {
+            return Ok(true);
+        }
+        self.number = None;
+        let pages = u64::from(self.geometry.pages());
+        let there = disk.read_page(
+            self.geometry,
+            page / pages,
+            (page % pages) as u32,
+            &mut self.bytes,
+        )?;
+        if there {
+            self.number = Some(page);
+        }
+        Ok(there)
+    }
+}

@@ -1,0 +1,91 @@
+//! The checks of the pages that a record stands on.
+
+ghost use Rattle.std.specs.Prelude.{◌≡◌, ◌+◌, ◌-◌, ◌*◌, ◌/◌, ◌%◌, ◌<◌, ◌≤◌, ◌^◌, ◌==◌, Some, None, IfOk, MatchResult};
+ghost use Rattle.byte_position.specs.Geometry.{IsSegmentSize};
+ghost use Rattle.byte_position.specs.Position.{address_of};
+ghost use Rattle.wal_page.specs.Page.{first_fault, header_size, is_continued, is_overwritten, remaining_of, timeline_of};
+ghost use Rattle.wal_reader.specs.Cursor.{IsOn, Sees};
+ghost use Rattle.wal_reader.specs.Decodes.{continuation_rows_of, page_answers};
+ghost use Rattle.wal_reader.specs.Pages.{Pages};
+ghost use Rattle.wal_reader.specs.Standpoint.{place_of};
+ghost use Rattle.wal_reader.specs.Stops.{HasStopCause, Passes, Settles};
+
+use crate::answers::damaged;
+use crate::cursor::Cursor;
+use crate::found::{Answer, DamageKind};
+use crate::layout::PAGE_ADDRESSES;
+use crate::page_cache::PageCache;
+use crate::stop::Stop;
+use byte_position::Geometry;
+use segment_disk::Disk;
+use wal_page::{PageInfo, check_page};
+use wal_types::Lsn;
+
+const SEGMENT_HEADER_LEN: u32 = 40;
+
+const PAGE_HEADER_LEN: u32 = 24;
+
+/// How many bytes a page's header has.
+pub(crate) fn header_len(geometry: Geometry, page: u64) -> u32
+    ensures value { result ≡ header_size geometry page }
+    ensures valid { IsSegmentSize geometry }
+{
+    if page % (geometry.segment_size() / PAGE_ADDRESSES) == 0 {
+        SEGMENT_HEADER_LEN
+    } else {
+        PAGE_HEADER_LEN
+    }
+}
+
+/// The checks of the page that is held, each told at the page's address.
+pub(crate) fn check_held(cache: &PageCache, page: u64, timeline: u32) -> Result<PageInfo, Answer>
+    requires { page < 2 ^ 47 }
+    ensures checks { Passes (first_fault (page_answers cache.now.geometry page cache.now.bytes.value timeline)) result }
+    ensures continued { IfOk result (λ info. (info.info % 2 == 1) ≡ is_continued cache.now.bytes.value) }
+    ensures overwritten { IfOk result (λ info. (info.info / 8 % 2 == 1) ≡ is_overwritten cache.now.bytes.value) }
+    ensures info { IfOk result (λ info. (info.timeline ≡ timeline_of cache.now.bytes.value) × (info.rem_len ≡ remaining_of cache.now.bytes.value)) }
+{
+    match check_page(cache.geometry, page, &cache.bytes, timeline) {
+        Ok(info) => Ok(info),
+        Err(fault) => Err(damaged(Lsn(page * PAGE_ADDRESSES), DamageKind::Page(fault))),
+    }
+}
+
+/// Turns to the next page, into which the record continues with `owed` bytes.
+pub(crate) fn turn_page<D: Disk>(
+    cache: &mut PageCache,
+    disk: &mut D,
+    cursor: Cursor,
+    start: Lsn,
+    owed: u32,
+) -> Result<Cursor, Stop>
+    requires { cursor.page < 2 ^ 47 }
+    ensures geometry { cache.new.geometry ≡ cache.old.geometry }
+    ensures next { IfOk result (λ next. (next.page ≡ cursor.page + 1) × (next.offset ≡ header_size cache.old.geometry (cursor.page + 1)) × (next.page < 2 ^ 47) × IsOn cache.new next) }
+    ensures sees { (pages : Pages) → Sees (D.tape disk.old) cache.old pages → Sees (D.tape disk.new) cache.new pages }
+    ensures checks { (pages : Pages) → Sees (D.tape disk.old) cache.old pages → Settles (first_fault (continuation_rows_of cache.old.geometry (cursor.page + 1) cursor.timeline start.0 owed (pages (cursor.page + 1)))) result }
+
+    ensures tape { D.tape disk.new ≡ D.tape disk.old }
+    ensures moment { D.moment disk.new ≡ D.moment disk.old }
+    ensures cause { HasStopCause (D.faults disk.old) (D.faults disk.new) result }
+{
+    let page = cursor.page + 1;
+    if !cache.load(disk, page)? {
+        return Err(Stop::Told(damaged(start, DamageKind::Missing)));
+    }
+    let info = check_held(cache, page, cursor.timeline)?;
+    if info.is_overwritten() {
+        return Err(Stop::Told(Answer::Overwritten { at: start }));
+    }
+    if !info.is_continued() {
+        return Err(Stop::Told(damaged(start, DamageKind::NoContinuation)));
+    }
+    if info.rem_len != owed {
+        return Err(Stop::Told(damaged(start, DamageKind::RemLen)));
+    }
+    Ok(Cursor {
+        page,
+        offset: header_len(cache.geometry, page),
+        timeline: info.timeline,
+    })
+}

@@ -1,0 +1,102 @@
+//! The checks of a record's bytes, and what they say.
+
+ghost use Rattle.std.specs.Prelude.{◌≡◌, ◌+◌, ◌*◌, ◌/◌, ◌^◌, ◌<◌, ◌≤◌, ◌++◌, length, take, drop, option_map, IfOk};
+ghost use Rattle.std.specs.Int.{w64};
+ghost use Rattle.byte_position.specs.Position.{address_of};
+ghost use Rattle.wal_crc32c.specs.Crc32c.{crc32c};
+ghost use Rattle.wal_page.specs.Page.{first_fault};
+ghost use Rattle.wal_record.specs.Record.{is_free_manager};
+ghost use Rattle.wal_record.specs.Reading.{number_at, reading_of};
+ghost use Rattle.wal_reader.specs.Decodes.{found_or};
+ghost use Rattle.wal_reader.specs.RecordRows.{crc_rows, header_rows};
+ghost use Rattle.wal_reader.specs.Spelled.{IsSpelled};
+ghost use Rattle.wal_reader.specs.Standpoint.{place_of};
+ghost use Rattle.wal_reader.specs.Stops.{Passes};
+
+use crate::answers::damaged;
+use crate::cursor::Extent;
+use crate::found::{Answer, DamageKind, FoundRecord};
+use crate::layout::*;
+use crate::numbers::{u32_at, u64_at};
+use byte_position::Geometry;
+use std::alloc::{AllocError, Global};
+use wal_crc32c::Crc;
+use wal_record::{RecErr, decode};
+use wal_types::Lsn;
+
+/// Whether a header has a manager that there is, and names the right record before it (PostgreSQL's
+/// ValidXLogRecordHeader of xlogreader.c).
+pub(crate) fn check_header(extent: Extent, header: &[u8]) -> Result<(), Answer>
+    requires { 24 ≤ length header.now }
+    ensures { Passes (first_fault (header_rows extent.start.0 (option_map (λ start. start.0) extent.at.prev) header.now)) result }
+{
+    if is_free_manager(header[RMID_AT]) {
+        return Err(damaged(extent.start, DamageKind::Rmgr));
+    }
+    let named = u64_at(header, PREV_AT);
+    let is_right = match extent.at.prev {
+        Some(before) => named == before.0,
+        None => named < extent.start.0,
+    };
+    if !is_right {
+        return Err(damaged(extent.start, DamageKind::Prev));
+    }
+    Ok(())
+}
+
+/// Whether a record's CRC is that of its bytes (PostgreSQL's ValidXLogRecord of xlogreader.c).
+pub(crate) fn check_crc(extent: Extent, bytes: &[u8]) -> Result<(), Answer>
+    requires { 24 ≤ length bytes.now }
+    ensures { Passes (first_fault (crc_rows extent.start.0 bytes.now)) result }
+{
+    if crc_of(bytes) != u32_at(bytes, CRC_AT) {
+        return Err(damaged(extent.start, DamageKind::Crc));
+    }
+    Ok(())
+}
+
+/// What the bytes of a record say.
+#[tactic(auto, unfolding(crate::specs::Spelled::IsSpelled))]
+pub(crate) fn found(
+    alloc: Global,
+    geometry: Geometry,
+    extent: Extent,
+    bytes: &[u8],
+) -> Result<Result<FoundRecord, Answer>, AllocError>
+    requires start { extent.start.0 ≡ address_of geometry extent.at.position }
+    requires len { (24 ≤ length bytes.now) × (length bytes.now ≡ extent.total) }
+    requires end { extent.at.position + (extent.total + 7) / 8 * 8 < 2 ^ 60 }
+    ensures read { IfOk result (λ found. found ≡ found_or geometry (place_of extent.at) extent.total (number_at w64 bytes.now 8) (reading_of bytes.now)) }
+    ensures spelled { IfOk result (λ found. IfOk found IsSpelled) }
+{
+    match decode(alloc, bytes) {
+        Ok(value) => Ok(Ok(FoundRecord {
+            start: extent.start,
+            end: geometry.to_end_lsn(extent.end()),
+            prev: Lsn(u64_at(bytes, PREV_AT)),
+            total: extent.total,
+            value,
+        })),
+        Err(RecErr::Memory) => Err(AllocError),
+        Err(RecErr::Malformed { .. }) => Ok(Err(damaged(extent.start, DamageKind::Malformed))),
+        Err(RecErr::Compressed { .. }) => Ok(Err(Answer::Compressed { at: extent.start })),
+    }
+}
+
+// What is behind the header, and then the header up to the CRC.
+fn crc_of(bytes: &[u8]) -> u32
+    requires { 24 ≤ length bytes.now }
+    ensures { result ≡ crc32c (drop 24 bytes.now ++ take 20 bytes.now) }
+{
+    let mut crc = Crc::new();
+    crc.update(&bytes[HEADER_LEN..]);
+    crc.update(&bytes[..CRC_AT]);
+    crc.value()
+}
+
+// PostgreSQL leaves these numbers free.
+fn is_free_manager(manager: u8) -> bool
+    ensures { result ≡ is_free_manager manager }
+{
+    (22..=127).contains(&manager)
+}

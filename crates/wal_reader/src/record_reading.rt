@@ -1,0 +1,134 @@
+//! Reading one record (PostgreSQL's XLogDecodeNextRecord of xlogreader.c).
+
+ghost use Rattle.std.specs.Prelude.{◌≡◌, ℕ, ◌+◌, ◌*◌, ◌/◌, ◌^◌, ◌<◌, ◌≤◌, Some, length, take, drop, option_map, IfOk, IfErr, IfSome, MatchResult};
+ghost use Rattle.byte_position.specs.Position.{address_of};
+ghost use Rattle.wal_page.specs.Page.{first_fault};
+ghost use Rattle.wal_reader.specs.Cursor.{HasGathered, HoldsPassed, IsOn, Sees};
+ghost use Rattle.wal_reader.specs.Decodes.{read_at};
+ghost use Rattle.wal_reader.specs.Pages.{Pages};
+ghost use Rattle.wal_reader.specs.RecordRows.{GoesOn, IsRead, IsRoomAfter, rest_rows, said_of};
+ghost use Rattle.wal_reader.specs.Spelled.{IsSpelled};
+ghost use Rattle.wal_reader.specs.Standpoint.{IsReachable, place_of};
+ghost use Rattle.wal_reader.specs.Stops.{HasStopCause, IsNoDiskFault};
+
+use crate::answers::{end_of_log, reaches_end};
+use crate::cursor::{Cursor, Extent};
+use crate::found::FoundRecord;
+use crate::gathering::gather;
+use crate::layout::{HEADER_LEN, PAGE_SIZE};
+use crate::page_cache::PageCache;
+use crate::record_checks::{check_crc, check_header, found};
+use crate::record_start::{claimed, open_page};
+use crate::standpoint::Standpoint;
+use crate::stop::Stop;
+use segment_disk::Disk;
+use std::alloc::Global;
+use wal_types::Lsn;
+
+/// Reads the record at a standpoint, and answers it with the standpoint behind it, or what stands in its place. Where an
+/// end was given, nothing at or above it is read.
+/// Whatever size a record claims, the room takes no more of it than what pages have that passed their checks.
+pub(crate) fn read_record<D: Disk>(
+    alloc: Global,
+    cache: &mut PageCache,
+    room: &mut Vec<u8>,
+    disk: &mut D,
+    end: Option<Lsn>,
+    at: Standpoint,
+) -> Result<(FoundRecord, Standpoint), Stop>
+    requires { IsReachable at }
+    ensures geometry { cache.new.geometry ≡ cache.old.geometry }
+    ensures goes_on { IfOk result (λ r. GoesOn at r.1) }
+    ensures spelled { IfOk result (λ r. IsSpelled r.0) }
+    ensures sees { (pages : Pages) → Sees (D.tape disk.old) cache.old pages → Sees (D.tape disk.new) cache.new pages }
+    ensures room { (pages : Pages) → Sees (D.tape disk.old) cache.old pages → IsRoomAfter cache.old.geometry pages (place_of at) room.old.items room.new.items }
+    ensures reads { (pages : Pages) → Sees (D.tape disk.old) cache.old pages → IsRead cache.old.geometry pages (place_of at) (read_at cache.old.geometry pages (option_map (λ end. end.0) end) (place_of at)) result }
+
+    ensures tape { D.tape disk.new ≡ D.tape disk.old }
+    ensures moment { D.moment disk.new ≡ D.moment disk.old }
+    ensures cause { HasStopCause (D.faults disk.old) (D.faults disk.new) result }
+{
+    if reaches_end(cache.geometry, at.position, end) {
+        return Err(Stop::Told(end_of_log(cache.geometry, at.position)));
+    }
+    let start = cache.geometry.to_lsn(at.position);
+    let cursor = open_page(cache, disk, at, start)?;
+    let extent = claimed(cache, cursor, at, start, end)?;
+    if extent.total <= PAGE_SIZE - cursor.offset {
+        read_in_page(alloc, cache, extent, cursor)
+    } else {
+        read_over_pages(alloc, cache, room, disk, extent, cursor)
+    }
+}
+
+// Reads a record that the held page has whole.
+fn read_in_page(
+    alloc: Global,
+    cache: &PageCache,
+    extent: Extent,
+    cursor: Cursor,
+) -> Result<(FoundRecord, Standpoint), Stop>
+    requires start { extent.start.0 ≡ address_of cache.now.geometry extent.at.position }
+    requires reachable { IsReachable extent.at }
+    requires large { 24 ≤ extent.total }
+    requires on { IsOn cache.now cursor }
+    requires gathered { HasGathered cache.now.geometry extent.at.position 0 cursor }
+    requires within { cursor.offset + extent.total ≤ 8192 }
+    requires page { cursor.page ≡ address_of cache.now.geometry extent.at.position / 8192 }
+    ensures goes_on { IfOk result (λ r. GoesOn extent.at r.1) }
+    ensures spelled { IfOk result (λ r. IsSpelled r.0) }
+    ensures reads { (pages : Pages) → pages cursor.page ≡ Some cache.now.bytes.value
+        → IsRead cache.now.geometry pages (place_of extent.at) (said_of cache.now.geometry pages (place_of extent.at) extent.total (first_fault (rest_rows cache.now.geometry pages (place_of extent.at) extent.total))) result }
+    ensures no_disk { IfErr result IsNoDiskFault }
+{
+    let bytes = part_of_page(&cache.bytes, cursor.offset, extent.total);
+    check_header(extent, bytes)?;
+    check_crc(extent, bytes)?;
+    let found = found(alloc, cache.geometry, extent, bytes)??;
+    Ok((found, extent.behind(cursor.timeline)))
+}
+
+fn part_of_page(page: &[u8; 8192], offset: u32, count: u32) -> &[u8]
+    requires { offset + count ≤ 8192 }
+    ensures bytes { result.now ≡ take count (drop offset page.now) }
+    ensures len { length result.now ≡ count }
+    ensures whole { length page.now ≡ 8192 }
+{
+    &page[offset as usize..(offset + count) as usize]
+}
+
+// Reads a record whose bytes stand on further pages too.
+fn read_over_pages<D: Disk>(
+    alloc: Global,
+    cache: &mut PageCache,
+    room: &mut Vec<u8>,
+    disk: &mut D,
+    extent: Extent,
+    cursor: Cursor,
+) -> Result<(FoundRecord, Standpoint), Stop>
+    requires start { extent.start.0 ≡ address_of cache.old.geometry extent.at.position }
+    requires reachable { IsReachable extent.at }
+    requires large { 24 ≤ extent.total }
+    requires on { IsOn cache.old cursor }
+    requires gathered { HasGathered cache.old.geometry extent.at.position 0 cursor }
+    requires page { cursor.page ≡ address_of cache.old.geometry extent.at.position / 8192 }
+    ensures geometry { cache.new.geometry ≡ cache.old.geometry }
+    ensures goes_on { IfOk result (λ r. GoesOn extent.at r.1) }
+    ensures spelled { IfOk result (λ r. IsSpelled r.0) }
+    ensures sees { (pages : Pages) → Sees (D.tape disk.old) cache.old pages → Sees (D.tape disk.new) cache.new pages }
+    ensures room { (pages : Pages) → Sees (D.tape disk.old) cache.old pages → HoldsPassed cache.old.geometry pages (place_of extent.at) extent.total (address_of cache.old.geometry extent.at.position / 8192) room.new.items }
+    ensures reads { (pages : Pages) → Sees (D.tape disk.old) cache.old pages
+        → IsRead cache.old.geometry pages (place_of extent.at) (said_of cache.old.geometry pages (place_of extent.at) extent.total (first_fault (rest_rows cache.old.geometry pages (place_of extent.at) extent.total))) result }
+
+    ensures tape { D.tape disk.new ≡ D.tape disk.old }
+    ensures moment { D.moment disk.new ≡ D.moment disk.old }
+    ensures cause { HasStopCause (D.faults disk.old) (D.faults disk.new) result }
+{
+    room.clear();
+    let cursor = gather(cache, room, disk, extent, cursor, HEADER_LEN as u32)?;
+    check_header(extent, room)?;
+    let cursor = gather(cache, room, disk, extent, cursor, extent.total)?;
+    check_crc(extent, room)?;
+    let found = found(alloc, cache.geometry, extent, room)??;
+    Ok((found, extent.behind(cursor.timeline)))
+}

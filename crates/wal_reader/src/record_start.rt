@@ -1,0 +1,109 @@
+//! Where a record starts, and how long it claims to be (PostgreSQL's XLogDecodeNextRecord of xlogreader.c).
+
+ghost use Rattle.std.specs.Prelude.{◌≡◌, ℕ, ◌+◌, ◌*◌, ◌/◌, ◌%◌, ◌^◌, ◌<◌, ◌≤◌, ◌==◌, length, option_map, IfOk};
+ghost use Rattle.std.specs.Int.{w32, w64};
+ghost use Rattle.byte_position.specs.Position.{address_of};
+ghost use Rattle.wal_page.specs.Page.{first_fault};
+ghost use Rattle.wal_record.specs.Reading.{number_at};
+ghost use Rattle.wal_reader.specs.Cursor.{HasGathered, IsOn, Sees};
+ghost use Rattle.wal_reader.specs.Pages.{Pages};
+ghost use Rattle.wal_reader.specs.RecordRows.{opening_of, size_rows};
+ghost use Rattle.wal_reader.specs.Standpoint.{IsReachable, place_of};
+ghost use Rattle.wal_reader.specs.Stops.{HasStopCause, Passes, Settles};
+
+use crate::answers::{damaged, end_of_log, reaches_end};
+use crate::cursor::{Cursor, Extent};
+use crate::found::{Answer, DamageKind};
+use crate::layout::{HEADER_LEN, LEN_AT, PAGE_ADDRESSES};
+use crate::numbers::{u32_at, u64_at};
+use crate::page_cache::PageCache;
+use crate::page_checks::{check_held, header_len};
+use crate::standpoint::Standpoint;
+use crate::stop::Stop;
+use segment_disk::Disk;
+use wal_types::Lsn;
+
+/// The page in which a record is to start: it is there and passes its checks, and no other record continues where this one
+/// would start.
+pub(crate) fn open_page<D: Disk>(
+    cache: &mut PageCache,
+    disk: &mut D,
+    at: Standpoint,
+    start: Lsn,
+) -> Result<Cursor, Stop>
+    requires start { start.0 ≡ address_of cache.old.geometry at.position }
+    requires reachable { IsReachable at }
+    ensures geometry { cache.new.geometry ≡ cache.old.geometry }
+    ensures cursor { IfOk result (λ cursor. IsOn cache.new cursor × HasGathered cache.old.geometry at.position 0 cursor) }
+    ensures place { IfOk result (λ cursor. (cursor.page ≡ address_of cache.old.geometry at.position / 8192) × (cursor.offset + 8 ≤ 8192)) }
+    ensures sees { (pages : Pages) → Sees (D.tape disk.old) cache.old pages → Sees (D.tape disk.new) cache.new pages }
+    ensures checks { (pages : Pages) → Sees (D.tape disk.old) cache.old pages → Settles (opening_of cache.old.geometry (place_of at) (pages (address_of cache.old.geometry at.position / 8192))) result }
+
+    ensures tape { D.tape disk.new ≡ D.tape disk.old }
+    ensures moment { D.moment disk.new ≡ D.moment disk.old }
+    ensures cause { HasStopCause (D.faults disk.old) (D.faults disk.new) result }
+{
+    let page = start.0 / PAGE_ADDRESSES;
+    let offset = (start.0 % PAGE_ADDRESSES) as u32;
+    if !cache.load(disk, page)? {
+        return Err(Stop::Told(end_of_log(cache.geometry, at.position)));
+    }
+    let opens = offset == header_len(cache.geometry, page);
+    if opens && is_zero_word(cache, 0) {
+        return Err(Stop::Told(end_of_log(cache.geometry, at.position)));
+    }
+    let info = check_held(cache, page, at.timeline)?;
+    if opens && info.is_continued() {
+        return Err(Stop::Told(damaged(start, DamageKind::Claims)));
+    }
+    Ok(Cursor {
+        page,
+        offset,
+        timeline: info.timeline,
+    })
+}
+
+/// The size that the record at a cursor claims. Where an end was given, the record's last byte is below it.
+pub(crate) fn claimed(
+    cache: &PageCache,
+    cursor: Cursor,
+    at: Standpoint,
+    start: Lsn,
+    end: Option<Lsn>,
+) -> Result<Extent, Answer>
+    requires start { start.0 ≡ address_of cache.now.geometry at.position }
+    requires reachable { IsReachable at }
+    requires within { cursor.offset + 8 ≤ 8192 }
+    ensures extent { IfOk result (λ extent. (extent ≡ record { at = at; start = start; total = number_at w32 cache.now.bytes.value cursor.offset }) × (24 ≤ extent.total)) }
+    ensures whole { length cache.now.bytes.value ≡ 8192 }
+    ensures checks { Passes (first_fault (size_rows cache.now.geometry (option_map (λ end. end.0) end) at.position (number_at w64 cache.now.bytes.value cursor.offset == 0) (number_at w32 cache.now.bytes.value cursor.offset))) result }
+{
+    if is_zero_word(cache, cursor.offset) {
+        return Err(end_of_log(cache.geometry, at.position));
+    }
+    let total = u32_at(&*cache.bytes, cursor.offset as usize + LEN_AT);
+    if (total as usize) < HEADER_LEN {
+        return Err(damaged(start, DamageKind::Length));
+    }
+    if reaches_end(cache.geometry, at.position + u64::from(total) - 1, end) {
+        return Err(end_of_log(cache.geometry, at.position));
+    }
+    Ok(Extent { at, start, total })
+}
+
+/// Whether the eight bytes at an offset of the page that is held are zero.
+pub(crate) fn is_zero_word(cache: &PageCache, offset: u32) -> bool
+    requires { offset + 8 ≤ 8192 }
+    ensures value { result ≡ (number_at w64 cache.now.bytes.value offset == 0) }
+    ensures whole { length cache.now.bytes.value ≡ 8192 }
+{
+    word_at(&cache.bytes, offset) == 0
+}
+
+fn word_at(page: &[u8; 8192], offset: u32) -> u64
+    requires { offset + 8 ≤ 8192 }
+    ensures value { result ≡ number_at w64 page.now offset }
+    ensures whole { length page.now ≡ 8192 }
+{
+    u64_at(page, offset as usize)
+}

@@ -1,0 +1,10 @@
+-- That what a script asks for can be done.
+use Rattle.wal_record.specs.Spelling.{IsWritable}
+use Rattle.wal_script.specs.declared.line.Action.{Action}
+use Rattle.wal_script.specs.declared.line.Action.TheVariants.{Insert, Commit, Flush}
+
+-- a record that is asked for can be written
+abbrev pub AsksWritable : Action → Type 0
+AsksWritable (Insert r) = IsWritable r
+AsksWritable (Commit r) = IsWritable r
+AsksWritable Flush = Unit {0}

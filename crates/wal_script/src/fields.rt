@@ -1,0 +1,73 @@
+//! A line's fields, read from the left.
+
+ghost use Rattle.std.specs.Prelude.{◌-◌, ◌^◌, ◌≤◌, IfOk};
+ghost use Rattle.wal_script.specs.Fields.{next_as, no_more};
+ghost use Rattle.wal_script.specs.Hexadecimal.{byte_of, data_of};
+ghost use Rattle.wal_script.specs.Numbers.{number_of, time_of};
+ghost use Rattle.wal_script.specs.Reading.{Judges, JudgesAs};
+ghost use Rattle.wal_script.specs.declared.line.ScriptFault.TheVariants as faults;
+
+use crate::hexadecimal::{byte, data};
+use crate::line::ScriptFault;
+use crate::line_error::LineError;
+use crate::numbers::{number, time};
+use crate::text::Pieces;
+use std::alloc::Global;
+use wal_types::Bytes;
+
+// The next field as a number of at most `most`.
+fn next_number(fields: &mut Pieces, most: u64) -> Result<u64, LineError>
+    ensures read { JudgesAs (λ n. record { value = n; rest = fields.new }) result (next_as (number_of most) faults.Number fields.old) }
+    ensures within { IfOk result (λ n. n ≤ most) }
+{
+    let field = fields.next().ok_or(ScriptFault::Count)?;
+    Ok(number(field, most).ok_or(ScriptFault::Number)?)
+}
+
+/// The next field as a number of 32 bits.
+pub(crate) fn next_u32(fields: &mut Pieces) -> Result<u32, LineError>
+    ensures { JudgesAs (λ n. record { value = n; rest = fields.new }) result (next_as (number_of (2 ^ 32 - 1)) faults.Number fields.old) }
+{
+    Ok(next_number(fields, u64::from(u32::MAX))? as u32)
+}
+
+/// The next field as a number of 8 bits.
+pub(crate) fn next_u8(fields: &mut Pieces) -> Result<u8, LineError>
+    ensures { JudgesAs (λ n. record { value = n; rest = fields.new }) result (next_as (number_of 255) faults.Number fields.old) }
+{
+    Ok(next_number(fields, u64::from(u8::MAX))? as u8)
+}
+
+/// The next field as a time.
+pub(crate) fn next_time(fields: &mut Pieces) -> Result<u64, LineError>
+    ensures { JudgesAs (λ t. record { value = t; rest = fields.new }) result (next_as time_of faults.Number fields.old) }
+{
+    let field = fields.next().ok_or(ScriptFault::Count)?;
+    Ok(time(field).ok_or(ScriptFault::Number)?)
+}
+
+/// The next field as a byte in two hexadecimal digits.
+pub(crate) fn next_byte(fields: &mut Pieces) -> Result<u8, LineError>
+    ensures { JudgesAs (λ b. record { value = b; rest = fields.new }) result (next_as byte_of faults.Hex fields.old) }
+{
+    let field = fields.next().ok_or(ScriptFault::Count)?;
+    Ok(byte(field).ok_or(ScriptFault::Hex)?)
+}
+
+/// The next field as data.
+pub(crate) fn next_data(alloc: Global, fields: &mut Pieces) -> Result<Bytes, LineError>
+    ensures { JudgesAs (λ bytes. record { value = bytes; rest = fields.new }) result (next_as data_of faults.Hex fields.old) }
+{
+    let field = fields.next().ok_or(ScriptFault::Count)?;
+    data(alloc, field)
+}
+
+/// No field is left.
+pub(crate) fn no_more(mut fields: Pieces) -> Result<(), LineError>
+    ensures { Judges result (no_more fields.entry) }
+{
+    match fields.next() {
+        None => Ok(()),
+        Some(_) => Err(LineError::Fault(ScriptFault::Count)),
+    }
+}

@@ -1,0 +1,88 @@
+//! Bytes as scripts spell them.
+
+ghost use Rattle.std.specs.Prelude.{◌≡◌, ◌<◌, IfSome};
+ghost use Rattle.std.specs.Option.{ok_or};
+ghost use Rattle.wal_script.specs.Hexadecimal.{byte_of, bytes_of, data_of, digit_of, pair_of, repeated_of};
+ghost use Rattle.wal_script.specs.Reading.{Judges, JudgesAs};
+ghost use Rattle.wal_script.specs.declared.line.ScriptFault.TheVariants as faults;
+
+use crate::line::ScriptFault;
+use crate::line_error::LineError;
+use crate::numbers::number;
+use std::alloc::Global;
+use wal_types::Bytes;
+
+// How many bytes `COUNT*hh` may spell.
+const MOST_COPIES: u64 = 1_048_576;
+
+fn digit(byte: u8) -> Option<u8>
+    ensures value { result ≡ digit_of byte }
+    ensures within { IfSome result (λ d. d < 16) }
+{
+    match byte {
+        b'0'..=b'9' => Some(byte - b'0'),
+        b'A'..=b'F' => Some(byte - b'A' + 10),
+        b'a'..=b'f' => Some(byte - b'a' + 10),
+        _ => None,
+    }
+}
+
+fn pair(high: u8, low: u8) -> Option<u8>
+    ensures { result ≡ pair_of (digit_of high) (digit_of low) }
+{
+    let high = digit(high)?;
+    let low = digit(low)?;
+    Some(high * 16 + low)
+}
+
+/// A field of two digits as a byte.
+pub(crate) fn byte(field: &[u8]) -> Option<u8>
+    ensures { result ≡ byte_of field.now }
+{
+    match field {
+        [high, low] => pair(*high, *low),
+        _ => None,
+    }
+}
+
+/// A data field as its bytes.
+pub(crate) fn data(alloc: Global, field: &[u8]) -> Result<Bytes, LineError>
+    ensures { Judges result (ok_or (data_of field.now) faults.Hex) }
+{
+    let bytes = match field {
+        [] => return Err(LineError::Fault(ScriptFault::Hex)),
+        [b'-'] => Vec::new(alloc),
+        [count @ .., b'*', high, low] => repeated(alloc, count, &[*high, *low])?,
+        digits => bytes(alloc, digits)?,
+    };
+    Ok(Bytes::of(bytes))
+}
+
+// As many bytes as a count says.
+fn repeated(alloc: Global, count: &[u8], hexadecimal: &[u8]) -> Result<Vec<u8>, LineError>
+    ensures { JudgesAs (λ v. v.items) result (ok_or (repeated_of count.now hexadecimal.now) faults.Hex) }
+{
+    let count = match number(count, MOST_COPIES) {
+        None | Some(0) => return Err(LineError::Fault(ScriptFault::Hex)),
+        Some(count) => count as usize,
+    };
+    let filler = byte(hexadecimal).ok_or(ScriptFault::Hex)?;
+    Ok(vec![in alloc; filler; count]?)
+}
+
+// The bytes of digits, two each.
+fn bytes(alloc: Global, digits: &[u8]) -> Result<Vec<u8>, LineError>
+    ensures { JudgesAs (λ v. v.items) result (ok_or (bytes_of digits.now) faults.Hex) }
+{
+    let mut bytes = Vec::with_capacity(alloc, digits.len() / 2)?;
+    let mut rest = digits;
+    while let [high, low, behind @ ..] = rest {
+        bytes.push(pair(*high, *low).ok_or(ScriptFault::Hex)?)?;
+        rest = behind;
+    }
+    if rest.is_empty() {
+        Ok(bytes)
+    } else {
+        Err(LineError::Fault(ScriptFault::Hex))
+    }
+}

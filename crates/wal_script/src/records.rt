@@ -1,0 +1,72 @@
+//! The records that lines insert.
+
+ghost use Rattle.std.specs.Prelude.{◌≡◌, IfOk};
+ghost use Rattle.wal_script.specs.Meaning.{accepted, commit_of, commit_record, insert_of};
+ghost use Rattle.wal_script.specs.Reading.{Judges};
+
+use crate::blocks::blocks;
+use crate::fields::{next_byte, next_data, next_time, next_u8, next_u32, no_more};
+use crate::line_error::LineError;
+use crate::text::Pieces;
+use std::alloc::{AllocError, Global};
+use wal_record::refusal;
+use wal_types::{BlockList, Bytes, Record, Xid};
+
+// The resource manager of transactions (PostgreSQL's rmgrlist.h).
+const TRANSACTION_MANAGER: u8 = 1;
+
+/// The record of a line `I`, which can be assembled.
+pub(crate) fn insert(alloc: Global, mut fields: Pieces) -> Result<Record, LineError>
+    ensures { Judges result (insert_of fields.entry) }
+{
+    let xid = next_u32(&mut fields)?;
+    let rmid = next_u8(&mut fields)?;
+    let info = next_byte(&mut fields)?;
+    let main = next_data(alloc, &mut fields)?;
+    let blocks = blocks(alloc, fields)?;
+    accepted(Record {
+        xid: Xid(xid),
+        rmid,
+        info,
+        origin: None,
+        top_xid: None,
+        blocks,
+        main,
+    })
+}
+
+// A record that can be assembled.
+fn accepted(r: Record) -> Result<Record, LineError>
+    ensures { Judges result (accepted r) }
+{
+    match refusal(&r) {
+        None => Ok(r),
+        Some(refusal) => Err(LineError::from(refusal)),
+    }
+}
+
+/// The record of a line `C`.
+pub(crate) fn commit(alloc: Global, mut fields: Pieces) -> Result<Record, LineError>
+    ensures { Judges result (commit_of fields.entry) }
+{
+    let xid = next_u32(&mut fields)?;
+    let microseconds = next_time(&mut fields)?;
+    no_more(fields)?;
+    Ok(commit_record(alloc, Xid(xid), microseconds)?)
+}
+
+// A transaction's commit, as PostgreSQL's xact.c records it: its time is the main data.
+fn commit_record(alloc: Global, xid: Xid, microseconds: u64) -> Result<Record, AllocError>
+    ensures { IfOk result (λ r. r ≡ commit_record xid.0 microseconds) }
+{
+    let main = Vec::from_slice(alloc, &microseconds.to_le_bytes())?;
+    Ok(Record {
+        xid,
+        rmid: TRANSACTION_MANAGER,
+        info: 0,
+        origin: None,
+        top_xid: None,
+        blocks: BlockList::of(Vec::new(alloc)),
+        main: Bytes::of(main),
+    })
+}
