@@ -34,8 +34,12 @@ def room(total):
     return (total + 7) // 8 * 8
 
 
-def script_of(fields, records):
-    return (f"I 1 {fields}\n" * 999 + "C 1 0\n") * (records // 1000), records // 1000 * 1000
+def write_script(path, fields, records):
+    """Writes a script piece by piece: a child's peak memory counts what its parent held when it was made."""
+    with open(path, "w") as out:
+        for _ in range(records // 1000):
+            out.write(f"I 1 {fields}\n" * 999 + "C 1 0\n")
+    return records // 1000 * 1000
 
 
 def timed(words, folder, stdin=None):
@@ -65,10 +69,8 @@ def row(name, records, size, seconds, memory):
 def measure(name, case, records):
     fields, total = CASES[case]
     with tempfile.TemporaryDirectory() as folder:
-        script, records = script_of(fields, records)
         path = os.path.join(folder, "script")
-        with open(path, "w") as out:
-            out.write(script)
+        records = write_script(path, fields, records)
         size = (records - records // 1000) * room(total) + records // 1000 * 40
         tail, _, seconds, memory = timed([PROGRAM, "run"], folder, path)
         want = f"records {records} commits {records // 1000} bytes {size} "
