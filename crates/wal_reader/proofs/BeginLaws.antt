@@ -1,19 +1,16 @@
--- Where reading begins in the first page of segment 1, where no page is behind it.
-use Rattle.std.proofs.Common.{◌≡◌, ℕ, suc, ◌+◌, ◌-◌, ◌*◌, ◌/◌, ◌^◌, ◌<◌, ◌≤◌, true, false, leb, List, Option, Some, None, option_map, Ok, Err, refl, ap, ◌∙◌, inl, inr, add-zero, arith}
-use Rattle.std.proofs.lemmas.Bool.{cases_Bool, cond-true, cond-false, le-leb, lt-leb}
+-- Where reading begins in the first page of segment 1.
+use Rattle.std.proofs.Common.{◌≡◌, ℕ, suc, ◌-◌, ◌*◌, ◌^◌, true, false, List, Option, Some, None, option_map, Ok, Err, refl, ap, ◌∙◌, arith}
 use Rattle.byte_position.specs.Geometry.{IsSegmentSize, pages_of}
-use Rattle.byte_position.specs.Position.{position_of, end_address_of, first_position}
+use Rattle.byte_position.specs.Position.{position_of, first_position}
 use Rattle.byte_position.proofs.SegmentSizes.{segment_size_in_pages}
-use Rattle.byte_position.proofs.PageLaws.{position_of-first_page, end_address_of-first_page}
 use Rattle.wal_page.specs.declared.checks.PageErr.{PageErr}
-use Rattle.wal_page.specs.Page.{is_continued, remaining_of, timeline_of, first_fault, page_fault, page_rows}
+use Rattle.wal_page.specs.Page.{is_continued, timeline_of, first_fault, page_fault, page_rows}
 use Rattle.wal_reader.specs.declared.found.Answer.{Answer}
 use Rattle.wal_reader.specs.declared.found.Answer.TheVariants as answers
 use Rattle.wal_reader.specs.declared.found.DamageKind.TheVariants as kinds
 use Rattle.wal_reader.specs.Pages.{Pages}
 use Rattle.wal_reader.specs.Decodes.{damaged, is_zero_word, page_answers, begin_in, begin_at, beginning, ended}
-use Rattle.wal_reader.specs.InPage.{skipped_in}
-use Rattle.wal_reader.proofs.PagesLaws.{end_address_of-first_position, header_size-first_page}
+use Rattle.wal_reader.proofs.PagesLaws.{end_address_of-first_position}
 use Rattle.wal_reader.proofs.RowLaws.{first_fault-map}
 
 begin_at-suc : (turns size : ℕ) (pages : Pages) (page timeline : ℕ) → begin_at (suc turns) size pages page timeline ≡ begin_in (begin_at turns size pages) size page timeline (pages page)
@@ -48,11 +45,6 @@ module _ (size : ℕ) (pages : Pages) (valid : IsSegmentSize size) where
     begins_empty empty = beginning_is (Some page) there ∙ rw empty (ap Err (ended_at_start size valid))
 
     module _ (marked : is_zero_word page ≡ false) where
-      pub begins_damaged : (fault : PageErr) → page_fault size (pages_of size) page 0 ≡ Some fault → beginning size pages size ≡ Err (damaged size (kinds.Page fault))
-      begins_damaged fault e =
-          let told = answers_of size page (Some fault) valid e in
-          beginning_is (Some page) there ∙ rw (marked, told) refl
-
       module _ (passes : page_fault size (pages_of size) page 0 ≡ None) where
         pub begins_behind_header : is_continued page ≡ false → beginning size pages size ≡ Ok (record { position = first_position size; prev = None; timeline = timeline_of page })
         begins_behind_header e =
@@ -60,47 +52,3 @@ module _ (size : ℕ) (pages : Pages) (valid : IsSegmentSize size) where
             let at : pages_of size * 8192 ≡ size = omega (arith, whole) in
             let told = answers_of size page None valid passes in
             beginning_is (Some page) there ∙ rw (marked, told, e, at) refl
-
-        begins_behind_record : is_continued page ≡ true → (remaining_of page + 7) / 8 * 8 < 8152 → beginning size pages size ≡ Ok (record { position = first_position size + (remaining_of page + 7) / 8 * 8; prev = None; timeline = timeline_of page })
-        begins_behind_record e within =
-            let whole = (segment_size_in_pages size valid).0 in
-            let at : pages_of size * 8192 ≡ size = omega (arith, whole) in
-            let told = answers_of size page None valid passes in
-            let header = header_size-first_page size valid in
-            let fits : leb (8192 - 40) ((remaining_of page + 7) / 8 * 8) ≡ false = lt-leb (8192 - 40) ((remaining_of page + 7) / 8 * 8) within in
-            beginning_is (Some page) there ∙ rw (marked, told, e, header, fits, at) refl
-
-        begins_past_record : is_continued page ≡ true → 8152 ≤ (remaining_of page + 7) / 8 * 8 → pages (pages_of size + 1) ≡ None → beginning size pages size ≡ Err (answers.End (record { 0 = size + 8192 }))
-        begins_past_record e past none =
-            let whole = (segment_size_in_pages size valid).0 in
-            let at : (pages_of size + 1) * 8192 ≡ size + 40 + 8152 = omega (arith, whole) in
-            let told = answers_of size page None valid passes in
-            let header = header_size-first_page size valid in
-            let far : leb (8192 - 40) ((remaining_of page + 7) / 8 * 8) ≡ true = le-leb (8192 - 40) ((remaining_of page + 7) / 8 * 8) past in
-            let next = begin_at-suc (2 ^ 47 - 2) size pages (pages_of size + 1) (timeline_of page) ∙ ap (begin_in (begin_at (2 ^ 47 - 2) size pages) size (pages_of size + 1) (timeline_of page)) none in
-            let end = ap (position_of size) at ∙ position_of-first_page size valid 8152 (omega arith) in
-            let address : end_address_of size (first_position size + 8152) ≡ size + 8192 = omega (arith, end_address_of-first_page size valid 8152 (omega arith) (omega arith)) in
-            beginning_is (Some page) there ∙ rw (marked, told, e, header, far) (next ∙ ap (λ (p : ℕ). Err (ended size p)) end ∙ ap (λ (a : ℕ). Err (answers.End (record { 0 = a }))) address)
-
-        -- behind what is skipped, or behind the page
-        pub begins_at : skipped_in page < 8152 → beginning size pages size ≡ Ok (record { position = first_position size + skipped_in page; prev = None; timeline = timeline_of page })
-        begins_at within =
-            elim (cases_Bool (is_continued page)) [
-              | inl e ↦
-                  (let skipped : skipped_in page ≡ (remaining_of page + 7) / 8 * 8 = cond-true _ _ _ e in
-                  rw skipped (begins_behind_record e (rw skipped at within)))
-              | inr e ↦
-                  (let skipped : skipped_in page ≡ 0 = cond-false _ _ _ e in
-                  rw (skipped, add-zero) (begins_behind_header e))
-            ]
-
-        pub begins_past_page : 8152 ≤ skipped_in page → pages (pages_of size + 1) ≡ None → beginning size pages size ≡ Err (answers.End (record { 0 = size + 8192 }))
-        begins_past_page past none =
-            elim (cases_Bool (is_continued page)) [
-              | inl e ↦
-                  (let skipped : skipped_in page ≡ (remaining_of page + 7) / 8 * 8 = cond-true _ _ _ e in
-                  begins_past_record e (rw skipped at past) none)
-              | inr e ↦
-                  (let skipped : skipped_in page ≡ 0 = cond-false _ _ _ e in
-                  absurd (omega arith))
-            ]

@@ -46,13 +46,6 @@ module _ (size : ℕ) (pages : Pages) (start : ℕ) (end : Option ℕ) where
     given = gives.given;
   }
 
-  pub Decodes-stopped : (answer : Answer) → beginning size pages start ≡ Err answer → Decodes size pages start end [] answer
-  Decodes-stopped answer stops = record {
-    read = [];
-    reads = subst (λ (begun : Result Place Answer). ReadsFrom size pages end begun [] answer) (sym stops) (refl, refl);
-    given = refl;
-  }
-
 -- where what comes from one standpoint comes from another, a stop at the first is one at the other
 pub ComesNext-stopped : (size : ℕ) (pages : Pages) (start : ℕ) (end : Option ℕ) (from at : Standpoint) (stop : Stop) → ((others : List FoundRecord) (answer : Answer) → GivesFrom size pages start end (place_of at) others answer → GivesFrom size pages start end (place_of from) others answer) → IsRead size pages (place_of at) (read_at size pages end (place_of at)) (Err stop) → ComesNext size pages start end (Some from) (Err stop)
 ComesNext-stopped size pages start end from at (Told answer) comes reads = comes [] answer (GivesFrom-stop size pages start end (place_of at) answer reads)

@@ -1,7 +1,6 @@
 pub mod BeginLaws
 pub mod CacheLaws
 pub mod BeginningLaws
-pub mod FirstHeader
 pub mod LogHeader
 pub mod LogEnds
 pub mod LogPages
@@ -12,9 +11,7 @@ pub mod GatherLaws
 pub mod PageCheckLaws
 pub mod GivesLaws
 pub mod LogReaderLaws
-pub mod PageReads
 pub mod PagesLaws
-pub mod ReadLaws
 pub mod RecordAt
 pub mod RecordBytes
 pub mod RecordReads
@@ -22,9 +19,6 @@ pub mod RecordRows
 pub mod RecordStages
 pub mod RowLaws
 pub mod SettledLaws
-pub mod SpotLaws
-pub mod StepLaws
 pub mod StopLaws
 pub mod Tables
-pub mod WrittenLaws
 pub mod WrittenLogLaws

@@ -18,7 +18,7 @@ use Rattle.wal_page.proofs.LogByteLaws.{log_byte-stream}
 use Rattle.wal_page.proofs.StreamLaws.{length-stream_of}
 use Rattle.wal_reader.specs.Pages.{Pages, byte_of, bytes_from}
 use Rattle.wal_reader.specs.Decodes.{read_at, is_zero_word, opens_page, ended}
-use Rattle.wal_reader.specs.WrittenLog.{HoldsLog, last_position}
+use Rattle.wal_reader.specs.WrittenLog.{HavePagesOfLog, last_position}
 use Rattle.wal_reader.proofs.PagesLaws.{take-bytes_from}
 use Rattle.wal_reader.proofs.RecordRows.{IsIn, zero_word_ends, no_page_ends, zero_page_ends}
 use Rattle.wal_reader.proofs.LogPositions.{page_begins, page_from_first, page_of-start}
@@ -32,7 +32,7 @@ zero_word bytes zeros =
     let at : (k : ℕ) → k < 8 → get_or (take 8 bytes) k 0 ≡ 0 = λ k lt. get_or-take 8 bytes k 0 lt ∙ zeros k lt in
     eq-eqb _ _ (omega (arith, at 0 (omega arith), at 1 (omega arith), at 2 (omega arith), at 3 (omega arith), at 4 (omega arith), at 5 (omega arith), at 6 (omega arith), at 7 (omega arith)))
 
-module _ (size sysid : ℕ) (pages : Pages) (es : List Entry) (holds : HoldsLog size sysid pages es) where
+module _ (size sysid : ℕ) (pages : Pages) (es : List Entry) (holds : HavePagesOfLog size sysid pages es) where
   is_log_page : (page : ℕ) (bytes : List ℕ) → pages_of size ≤ page → pages page ≡ Some bytes → IsLogPage size sysid es page bytes
   is_log_page page bytes from there = subst (λ (o : Option (List ℕ)). IfSome o (IsLogPage size sysid es page)) there (holds.is_log page from)
 

@@ -10,7 +10,7 @@ use Rattle.segment_disk.specs.Image.{Image, ImageSegment}
 use Rattle.wal_page.specs.Order.{Entry}
 use Rattle.wal_page.specs.LogPage.{IsLogPage}
 use Rattle.wal_reader.specs.Pages.{page_of_image, pages_in}
-use Rattle.wal_reader.specs.WrittenLog.{HoldsLog, last_position}
+use Rattle.wal_reader.specs.WrittenLog.{HavePagesOfLog, last_position}
 use Rattle.wal_reader.specs.LogSegments.{IsLogSegment, HoldsSegments, SegmentsHoldLog}
 
 module _ (size sysid : ℕ) (image : Image) (es : List Entry) (valid : IsSegmentSize size) (bounded : end_address_of size (last_position size es) ≤ 2 ^ 60) (holds : HoldsSegments size sysid image es) where
@@ -77,7 +77,7 @@ module _ (size sysid : ℕ) (image : Image) (es : List Entry) (valid : IsSegment
         let some = holds.there segment in_log (omega (arith, begins)) in
         subst (λ (o : Option (List ℕ)). IsSome o) (sym (cond-true _ here None low)) (page_is_there (image segment) refl some)
 
-  holds_log : HoldsLog size sysid (pages_in size image) es
+  holds_log : HavePagesOfLog size sysid (pages_in size image) es
   holds_log = record { is_log = page_is_log; there = page_is_in }
 
 pub segments_hold_log : SegmentsHoldLog

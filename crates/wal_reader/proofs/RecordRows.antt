@@ -1,5 +1,5 @@
 -- A record that stands whole, in pages that pass their checks, passes every check, and is read as its bytes say.
-use Rattle.std.proofs.Common.{◌≡◌, ℕ, ◌/◌, ◌^◌, ◌<◌, ◌≤◌, Bool, true, false, List, ◌++◌, Some, None, Err, ◌&&◌, eqb, take, drop, refl, sym, ap, subst, ◌∙◌, arith}
+use Rattle.std.proofs.Common.{◌≡◌, ℕ, ◌/◌, ◌^◌, ◌<◌, ◌≤◌, true, false, List, ◌++◌, Some, None, Err, ◌&&◌, eqb, take, drop, refl, sym, ap, subst, ◌∙◌, arith}
 use Rattle.std.specs.Prelude.{slice_index}
 use Rattle.std.specs.Int.{w32, w64}
 use Rattle.std.proofs.lemmas.Bool.{eq-eqb, and_from, and_right, not_from_true, le-ltb}
@@ -9,10 +9,8 @@ use Rattle.wal_record.specs.Record.{is_free_manager}
 use Rattle.wal_record.specs.Spelling.{Assembled, assembled_size, assembled_room, spelled, filled, crc_of}
 use Rattle.wal_record.specs.Reading.{number_at, reading_of}
 use Rattle.wal_page.specs.Page.{is_continued, first_fault}
-use Rattle.wal_reader.specs.declared.found.Answer.{Answer}
 use Rattle.wal_reader.specs.Pages.{Pages, bytes_from}
 use Rattle.wal_reader.specs.Decodes.{Place, is_zero_word, opens_page, page_answers, rows_of_pages, page_of_byte, is_right_prev, record_rows, found_or, answer_or, read_in, read_at, ended}
-use Rattle.wal_reader.proofs.PagesLaws.{rows_of_pages-none}
 use Rattle.wal_reader.proofs.Tables.{NoneHolds, NoneHolds-append, Tells, Tells-append, first_fault-none, first_fault-told}
 use Rattle.wal_reader.proofs.Tables.NoneHolds.{none, past}
 use Rattle.wal_reader.proofs.Tables.Tells.{at_once, behind}
@@ -36,10 +34,6 @@ pub record StandsAt (size : ℕ) (pages : Pages) (place : Place) (a : Assembled)
   pub size_fits : assembled_size a < 2 ^ 32
   pub prev_fits : prev < 2 ^ 64
   pub crc_fits : crc_of a prev < 2 ^ 32
-
--- where the last page is the first, no further page is looked at
-pub no_page_between : (size : ℕ) (pages : Pages) (place : Place) (total from upto : ℕ) → upto ≡ from → NoneHolds (rows_of_pages size pages place total from upto)
-no_page_between size pages place total from upto same = subst (λ (rows : List (Bool × Answer)). NoneHolds rows) (sym (ap (rows_of_pages size pages place total from) same ∙ rows_of_pages-none size pages place total from)) none
 
 read_at-page : (size : ℕ) (pages : Pages) (place : Place) (page : List ℕ) → pages (address_of size place.position / 8192) ≡ Some page → read_at size pages None place ≡ answer_or size pages place (first_fault (record_rows size pages None place page))
 unfolding read_at

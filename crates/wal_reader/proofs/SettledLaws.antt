@@ -26,7 +26,6 @@ use Rattle.wal_reader.specs.Pages.{Pages, bytes_from, pages_in}
 use Rattle.wal_reader.specs.Settled.{DecodingIsSettled, IsBounded, IsSettled, StepsTellDecoding, Tells, stop, step}
 use Rattle.wal_reader.specs.Standings.{told}
 use Rattle.wal_reader.specs.Standpoint.{place_of}
-use Rattle.wal_reader.specs.Steps.{GivesFrom}
 use Rattle.wal_reader.proofs.PagesLaws.{take-bytes_from}
 use Rattle.wal_reader.proofs.RowLaws.{first_of, first_fault-append, number_at-take}
 
@@ -193,34 +192,6 @@ module _ (size : ℕ) (valid : IsSegmentSize size) (pages : Pages) (bounded : Is
             (let same = ReadsFrom-same size pages end (beginning size pages start) d.read reading.0 other reading.1 d.reads reading.2 in
             (d.given ∙ ap given same.0, same.1)),
       )
-
-  -- from a place on
-  given_from : (start : ℕ) (place : Place) → (found : List FoundRecord) × (answer : Answer) × GivesFrom size pages start end place found answer
-  given_from start place =
-      let reading = reading_from (2 ^ 60) place (omega arith) in
-      (filter (λ f. leb start f.start.0) reading.0, reading.1, record { read = reading.0; reads = reading.2; given = refl })
-
-  module _ (start : ℕ) where
-    abbrev state_at : Standing → ReadState
-    state_at standing = record { size = size; start = start; end = end; standing = standing }
-
-    -- from wherever a reader stands something is given
-    pub something_given : (standing : Standing) → (found : List FoundRecord) × (answer : Answer) × Gives pages (state_at standing) found answer
-    something_given NotBegun = let is = settled start in (is.0, is.1, is.2)
-    something_given (At standpoint) = given_from start (place_of standpoint)
-    something_given (Stopped stopped) = ([], stopped, (refl, refl))
-
-    -- and that alone
-    pub Gives-same : (standing : Standing) (found others : List FoundRecord) (answer other : Answer) → Gives pages (state_at standing) found answer → Gives pages (state_at standing) others other → (found ≡ others) × (answer ≡ other)
-    Gives-same NotBegun found others answer other a b =
-        let is = settled start in
-        let first = is.3 found answer a in
-        let second = is.3 others other b in
-        (first.0 ∙ sym second.0, first.1 ∙ sym second.1)
-    Gives-same (At standpoint) found others answer other a b =
-        let same = Reads-same size pages end (place_of standpoint) a.read b.read answer other a.reads b.reads in
-        (a.given ∙ ap (λ (read : List FoundRecord). filter (λ f. leb start f.start.0) read) same.0 ∙ sym b.given, same.1)
-    Gives-same (Stopped stopped) found others answer other a b = (a.0 ∙ sym b.0, a.1 ∙ sym b.1)
 
 -- ---- the pages of an image
 

@@ -17,12 +17,11 @@ use Rattle.wal_reader.specs.declared.found.Answer.{Answer}
 use Rattle.wal_reader.specs.declared.found.Answer.TheVariants.{End}
 use Rattle.wal_reader.specs.Pages.{Pages}
 use Rattle.wal_reader.specs.Decodes.{Place, Decodes, Reads, ReadsFrom, beginning, ended}
-use Rattle.wal_reader.specs.Written.{found_from, found_of}
-use Rattle.wal_reader.specs.WrittenLog.{HoldsLog, last_position, OwnPagesHoldLog, WrittenLogDecodes}
+use Rattle.wal_reader.specs.Written.{found_entry, found_from, found_of}
+use Rattle.wal_reader.specs.WrittenLog.{HavePagesOfLog, last_position, OwnPagesHoldLog, WrittenLogDecodes}
 use Rattle.wal_reader.proofs.PagesLaws.{end_address_of-first_position}
 use Rattle.wal_reader.proofs.BeginLaws.{begins_nowhere, begins_empty, begins_behind_header}
 use Rattle.wal_reader.proofs.Tables.{first_fault-none}
-use Rattle.wal_reader.proofs.PageReads.{found_entry}
 use Rattle.wal_reader.proofs.LogPositions.{page_of-start, start-le-address_of}
 use Rattle.wal_reader.proofs.LogPages.{IsWritten, page_is_sound}
 use Rattle.wal_reader.proofs.LogReads.{StandFrom, log_place, last_start, entries_are_read}
@@ -46,7 +45,7 @@ first_page_position size valid = ap (position_of size) (page_of-start size valid
 
 -- ---- where nothing is written
 
-module _ (size sysid : ℕ) (pages : Pages) (holds : HoldsLog size sysid pages []) (w : IsWritten size sysid pages []) where
+module _ (size sysid : ℕ) (pages : Pages) (holds : HavePagesOfLog size sysid pages []) (w : IsWritten size sysid pages []) where
   -- there is no page, or one that begins with zeros
   begins_nothing : (here : Option (List ℕ)) → pages (pages_of size) ≡ here → beginning size pages size ≡ Err (End (record { 0 = size }))
   begins_nothing None there = begins_nowhere size pages w.valid there
@@ -94,7 +93,7 @@ module _ (size sysid : ℕ) (pages : Pages) (e : Entry) (es : List Entry) (w : I
       let right = lt-ltb 0 (address_of size (first_position size + 0)) (omega (arith, above, segment_size_in_pages size w.valid)) in
       subst (λ (begun : Result Place Answer). ReadsFrom size pages None begun (found_of size all ++ found) answer) (sym begins_at_first) (entries_are_read size sysid pages all w all 0 0 None found answer stand right behind)
 
-  something_decodes : HoldsLog size sysid pages (e ∷ es) → Decodes size pages size None (found_of size (e ∷ es)) (ended size (last_position size (e ∷ es)))
+  something_decodes : HavePagesOfLog size sysid pages (e ∷ es) → Decodes size pages size None (found_of size (e ∷ es)) (ended size (last_position size (e ∷ es)))
   something_decodes holds =
       let all = e ∷ es in
       let end = ended size (last_position size all) in

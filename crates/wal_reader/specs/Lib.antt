@@ -4,10 +4,7 @@ pub mod Torn
 pub mod Written
 pub mod WrittenLog
 pub mod LogSegments
-pub mod InPage
 pub mod Names
-pub mod Standing
-pub mod Reader
 pub mod Spelled
 pub mod Cache
 pub mod Standpoint

@@ -5,8 +5,8 @@ use Rattle.wal_reader.specs.declared.found.Answer.{Answer}
 use Rattle.wal_reader.specs.declared.found.Answer.TheVariants as answers
 use Rattle.wal_reader.specs.declared.standing.Standing.{Standing}
 use Rattle.wal_reader.specs.declared.standing.Standing.TheVariants.{NotBegun, At, Stopped}
-use Rattle.wal_reader.specs.declared.standing.ReadStep.{ReadStep}
-use Rattle.wal_reader.specs.declared.standing.ReadStep.TheVariants.{Record, End}
+use Rattle.wal_reader.specs.declared.standing.Step.{Step}
+use Rattle.wal_reader.specs.declared.standing.Step.TheVariants.{Record, End}
 use Rattle.wal_reader.specs.declared.standing.ReadErr.{ReadErr}
 use Rattle.wal_reader.specs.declared.standing.ReadErr.TheVariants.{Memory, Disk, Damaged, Compressed, Overwritten}
 use Rattle.wal_reader.specs.declared.log_reader.Reader.{Reader}
@@ -41,7 +41,7 @@ abbrev pub Gives : Pages → ReadState → List FoundRecord → Answer → Type 
 Gives pages state found answer = GivesAt pages state state.standing found answer
 
 -- a step is the next of what a reader gives of these pages
-abbrev pub IsNext : Pages → ReadState → ReadState → Result ReadStep ReadErr → Type 0
+abbrev pub IsNext : Pages → ReadState → ReadState → Result Step ReadErr → Type 0
 IsNext pages old new (Ok (Record found)) = (others : List FoundRecord) (answer : Answer) → Gives pages new others answer → Gives pages old (found ∷ others) answer
 IsNext pages old new (Ok (End at)) = Gives pages old [] (answers.End at)
 IsNext pages old new (Err (Damaged at kind)) = Gives pages old [] (answers.Damaged at kind)
@@ -57,7 +57,7 @@ abbrev pub stopped_at : ReadState → Answer → ReadState
 stopped_at state answer = record state { standing = Stopped answer }
 
 -- where a step leaves a reader: behind its record, stopped by damage for good, and else where it was
-abbrev pub Leaves : ReadState → ReadState → Result ReadStep ReadErr → Type 0
+abbrev pub Leaves : ReadState → ReadState → Result Step ReadErr → Type 0
 Leaves old new (Ok (Record found)) = (new ≡ record old { standing = new.standing }) × (left_of new < left_of old)
 Leaves old new (Ok (End at)) = new ≡ old
 Leaves old new (Err (Damaged at kind)) = new ≡ stopped_at old (answers.Damaged at kind)

@@ -6,7 +6,7 @@ use Rattle.segment_disk.specs.Image.{Image, ImageSegment}
 use Rattle.wal_page.specs.Order.{Entry}
 use Rattle.wal_page.specs.LogPage.{IsLogPage}
 use Rattle.wal_reader.specs.Pages.{pages_in}
-use Rattle.wal_reader.specs.WrittenLog.{HoldsLog, last_position}
+use Rattle.wal_reader.specs.WrittenLog.{HavePagesOfLog, last_position}
 
 -- a segment has all its pages, and each is the log's
 abbrev pub IsLogSegment : ℕ → ℕ → List Entry → ℕ → ImageSegment → Type 0
@@ -21,4 +21,4 @@ pub record HoldsSegments (size sysid : ℕ) (image : Image) (es : List Entry) : 
 abbrev pub SegmentsHoldLog : Type 0
 SegmentsHoldLog =
     (size sysid : ℕ) (image : Image) (es : List Entry) → IsSegmentSize size → end_address_of size (last_position size es) ≤ 2 ^ 60
-    → HoldsSegments size sysid image es → HoldsLog size sysid (pages_in size image) es
+    → HoldsSegments size sysid image es → HavePagesOfLog size sysid (pages_in size image) es

@@ -1,5 +1,5 @@
 -- The pages of a log as a reader finds them in an image, by their numbers counted from address 0.
-use Rattle.std.specs.Prelude.{ℕ, zero, suc, ◌+◌, ◌*◌, ◌/◌, ◌%◌, ◌^◌, List, [], ◌∷◌, slice_index, Option, Some, None, ◌==◌, nat_lt, nat_le, if◌then◌else◌}
+use Rattle.std.specs.Prelude.{ℕ, zero, suc, ◌+◌, ◌*◌, ◌/◌, ◌%◌, ◌^◌, List, [], ◌∷◌, slice_index, Option, Some, None, nat_lt, nat_le, if◌then◌else◌}
 use Rattle.byte_position.specs.Geometry.{pages_of}
 use Rattle.byte_position.specs.Position.{address_of}
 use Rattle.segment_disk.specs.Image.{Image, ImageSegment}
@@ -15,10 +15,6 @@ page_of_image (Some i) page = if nat_lt page i.pages then Some (i.page page) els
 -- an image's pages; one that ends above address 2 ^ 60 counts as not there
 abbrev pub pages_in : ℕ → Image → Pages
 pages_in size image page = if nat_le ((page + 1) * 8192) (2 ^ 60) then page_of_image (image (page / pages_of size)) (page % pages_of size) else None
-
--- the first page of segment 1 alone, as long as a reader looks no further
-abbrev pub first_page_of : ℕ → Pages → Pages
-first_page_of size pages page = if page == pages_of size then pages page else None
 
 -- the byte at an address; 0 where its page is not there
 abbrev pub byte_of : Option (List ℕ) → ℕ → ℕ

@@ -5,7 +5,7 @@ use Rattle.segment_disk.specs.Image.{Image}
 use Rattle.wal_reader.specs.declared.found.FoundRecord.{FoundRecord}
 use Rattle.wal_reader.specs.declared.found.Answer.{Answer}
 use Rattle.wal_reader.specs.declared.standing.Standing.TheVariants.{NotBegun}
-use Rattle.wal_reader.specs.declared.standing.ReadStep.TheVariants.{Record}
+use Rattle.wal_reader.specs.declared.standing.Step.TheVariants.{Record}
 use Rattle.wal_reader.specs.Decodes.{Decodes}
 use Rattle.wal_reader.specs.LogReader.{ReadState, IsNext}
 use Rattle.wal_reader.specs.Pages.{Pages, pages_in}

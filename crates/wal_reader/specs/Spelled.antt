@@ -2,8 +2,8 @@
 use Rattle.std.specs.Prelude.{◌≡◌, ℕ, List, length}
 use Rattle.wal_record.specs.Spells.{Spells}
 use Rattle.wal_reader.specs.declared.found.FoundRecord.{FoundRecord}
-use Rattle.wal_reader.specs.declared.standing.ReadStep.{ReadStep}
-use Rattle.wal_reader.specs.declared.standing.ReadStep.TheVariants.{Record, End}
+use Rattle.wal_reader.specs.declared.standing.Step.{Step}
+use Rattle.wal_reader.specs.declared.standing.Step.TheVariants.{Record, End}
 
 -- bytes that spell a record, as many as its size says
 pub record HasSpelling (found : FoundRecord) : Type 0 where
@@ -16,6 +16,6 @@ unfoldable pub IsSpelled : FoundRecord → Type 0
 IsSpelled found = HasSpelling found
 
 -- so was the record that a step gives
-abbrev pub GivesSpelled : ReadStep → Type 0
+abbrev pub GivesSpelled : Step → Type 0
 GivesSpelled (Record found) = IsSpelled found
 GivesSpelled (End at) = Unit {0}

@@ -6,8 +6,8 @@ use Rattle.wal_reader.specs.declared.found.Answer.{Answer}
 use Rattle.wal_reader.specs.declared.found.Answer.TheVariants as answers
 use Rattle.wal_reader.specs.declared.standing.Standing.{Standing}
 use Rattle.wal_reader.specs.declared.standing.Standing.TheVariants.{NotBegun, At, Stopped}
-use Rattle.wal_reader.specs.declared.standing.ReadStep.{ReadStep}
-use Rattle.wal_reader.specs.declared.standing.ReadStep.TheVariants.{End}
+use Rattle.wal_reader.specs.declared.standing.Step.{Step}
+use Rattle.wal_reader.specs.declared.standing.Step.TheVariants.{End}
 use Rattle.wal_reader.specs.declared.standing.ReadErr.{ReadErr}
 use Rattle.wal_reader.specs.declared.standing.ReadErr.TheVariants.{Memory, Disk, Damaged, Compressed, Overwritten}
 
@@ -29,7 +29,7 @@ left_at (At standpoint) = 2 ^ 60 - standpoint.position
 left_at (Stopped stop) = 0
 
 -- an answer as a step tells it
-abbrev pub told : Answer → Result ReadStep ReadErr
+abbrev pub told : Answer → Result Step ReadErr
 told (answers.End at) = Ok (End at)
 told (answers.Damaged at kind) = Err (Damaged at kind)
 told (answers.Compressed at) = Err (Compressed at)
@@ -43,13 +43,13 @@ standing_after standing (answers.Compressed at) = Stopped (answers.Compressed at
 standing_after standing (answers.Overwritten at) = Stopped (answers.Overwritten at)
 
 -- a reader that has stopped tells its answer again, and leaves the disk alone
-abbrev pub IsToldAgain : {D : Type 0} → Standing → Result ReadStep ReadErr → D → D → Type 0
+abbrev pub IsToldAgain : {D : Type 0} → Standing → Result Step ReadErr → D → D → Type 0
 IsToldAgain NotBegun result old new = Unit {0}
 IsToldAgain (At standpoint) result old new = Unit {0}
 IsToldAgain (Stopped stop) result old new = (result ≡ told stop) × (new ≡ old)
 
 -- the disk's count of faults: it rises only where the disk failed, and is told there
-abbrev pub HasReadCause : ℕ → ℕ → Result ReadStep ReadErr → Type 0
+abbrev pub HasReadCause : ℕ → ℕ → Result Step ReadErr → Type 0
 HasReadCause old new (Ok step) = new ≡ old
 HasReadCause old new (Err Memory) = new ≡ old
 HasReadCause old new (Err (Disk faults)) = Rose old new × (faults ≡ new)

@@ -1,13 +1,6 @@
 ghost use Rattle.wal_reader.specs.Settled.{DecodingIsSettled, StepsTellDecoding};
-ghost use Rattle.wal_reader.specs.Written.{WrittenDecodes};
 ghost use Rattle.wal_reader.specs.LogSegments.{SegmentsHoldLog};
 ghost use Rattle.wal_reader.specs.WrittenLog.{OwnPagesHoldLog, WrittenLogDecodes};
-
-/// What the writer puts into the first page of segment 1 reads back as exactly its records, and
-/// then a clean end.
-pub fn written_decodes()
-    ensures { WrittenDecodes }
-{}
 
 /// What the writer puts into the log's pages, however many they are, reads back as exactly its
 /// records, and then a clean end. Each order has such pages, and an image of its segments gives them.

@@ -5,10 +5,13 @@ pub(crate) const PAGE_SIZE: u32 = 8192;
 /// How many addresses a page takes up.
 pub(crate) const PAGE_ADDRESSES: u64 = 8192;
 
-/// The header's length on a segment's first page, SizeOfXLogLongPHD.
-pub(crate) const PAGE_HEADER_LEN: u32 = 40;
+/// SizeOfXLogLongPHD: the length of the header of a segment's first page.
+pub(crate) const FIRST_PAGE_HEADER_LEN: u32 = 40;
 
-/// The header's length, SizeOfXLogRecord.
+/// SizeOfXLogShortPHD: the length of the header of each other page.
+pub(crate) const OTHER_PAGE_HEADER_LEN: u32 = 24;
+
+/// SizeOfXLogRecord: the length of a record's header.
 pub(crate) const HEADER_LEN: usize = 24;
 
 pub(crate) const LEN_AT: usize = 0;

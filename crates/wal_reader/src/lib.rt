@@ -14,23 +14,17 @@ mod log_reader;
 mod numbers;
 mod page_cache;
 mod page_checks;
-mod reader;
 mod record_checks;
 mod record_reading;
 mod record_start;
-mod spot;
 mod standing;
 mod standpoint;
 mod stop;
-mod unread;
 
 pub use found::{Answer, DamageKind, FoundRecord};
-pub use laws::{decoding_is_settled, written_decodes, written_log_decodes};
+pub use laws::{decoding_is_settled, written_log_decodes};
 pub use log_reader::Reader;
-pub use reader::{OpenError, PageReader, Step};
-pub use standing::{ReadErr, ReadStep};
+pub use standing::{ReadErr, Step};
 
-#[cfg(test)]
-mod log_tests;
 #[cfg(test)]
 mod tests;

@@ -5,7 +5,7 @@ ghost use Rattle.wal_reader.specs.Standings.{IsOnWay, IsOnWay-prop};
 
 use crate::buffers::{Buffers, set_up};
 use crate::given::next_given;
-use crate::standing::{ReadErr, ReadStep, Standing, told};
+use crate::standing::{ReadErr, Standing, Step, told};
 use crate::stop::Stop;
 use byte_position::Geometry;
 use segment_disk::Disk;
@@ -49,7 +49,7 @@ impl Reader {
 
     /// The next record that starts at `start` or behind it, where the log goes on; records before it are read and checked as any
     /// other. Damage is told again from then on. At an end, on want of memory or where the disk failed the reader stays where it is.
-    pub fn next<D: Disk>(&mut self, alloc: Global, disk: &mut D) -> Result<ReadStep, ReadErr>
+    pub fn next<D: Disk>(&mut self, alloc: Global, disk: &mut D) -> Result<Step, ReadErr>
         ensures gives { (pages : Pages) → IsLogOf (D.tape disk.old) (state_of self.old).size pages → Knows self.old pages → Knows self.new pages × IsNext pages (state_of self.old) (state_of self.new) result }
         ensures leaves { Leaves (state_of self.old) (state_of self.new) result }
         ensures spelled { IfOk result GivesSpelled }
@@ -71,7 +71,7 @@ impl Reader {
         match next_given(alloc, buffers, disk, self.start, self.end, from) {
             Ok((found, behind)) => {
                 self.standing = Standing::At(behind);
-                Ok(ReadStep::Record(found))
+                Ok(Step::Record(found))
             }
             Err(Stop::Told(answer)) => {
                 self.standing = self.standing.after(answer);

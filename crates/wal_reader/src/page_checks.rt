@@ -13,7 +13,7 @@ ghost use Rattle.wal_reader.specs.Stops.{HasStopCause, Passes, Settles};
 use crate::answers::damaged;
 use crate::cursor::Cursor;
 use crate::found::{Answer, DamageKind};
-use crate::layout::PAGE_ADDRESSES;
+use crate::layout::{FIRST_PAGE_HEADER_LEN, OTHER_PAGE_HEADER_LEN, PAGE_ADDRESSES};
 use crate::page_cache::PageCache;
 use crate::stop::Stop;
 use byte_position::Geometry;
@@ -21,19 +21,15 @@ use segment_disk::Disk;
 use wal_page::{PageInfo, check_page};
 use wal_types::Lsn;
 
-const SEGMENT_HEADER_LEN: u32 = 40;
-
-const PAGE_HEADER_LEN: u32 = 24;
-
 /// How many bytes a page's header has.
 pub(crate) fn header_len(geometry: Geometry, page: u64) -> u32
     ensures value { result ≡ header_size geometry page }
     ensures valid { IsSegmentSize geometry }
 {
     if page % (geometry.segment_size() / PAGE_ADDRESSES) == 0 {
-        SEGMENT_HEADER_LEN
+        FIRST_PAGE_HEADER_LEN
     } else {
-        PAGE_HEADER_LEN
+        OTHER_PAGE_HEADER_LEN
     }
 }
 

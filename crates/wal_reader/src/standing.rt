@@ -36,7 +36,7 @@ impl Standing {
 
 /// What a step of reading gives.
 #[derive(Debug, Drop)]
-pub enum ReadStep {
+pub enum Step {
     /// The next record.
     Record(FoundRecord),
     /// A clean end of the log: the end of the last record, or where reading began.
@@ -73,11 +73,11 @@ impl From<AllocError> for ReadErr {
 }
 
 /// An answer as a step tells it.
-pub(crate) fn told(answer: Answer) -> Result<ReadStep, ReadErr>
+pub(crate) fn told(answer: Answer) -> Result<Step, ReadErr>
     ensures { result ≡ told answer }
 {
     match answer {
-        Answer::End { at } => Ok(ReadStep::End { at }),
+        Answer::End { at } => Ok(Step::End { at }),
         Answer::Damaged { at, kind } => Err(ReadErr::Damaged { at, kind }),
         Answer::Compressed { at } => Err(ReadErr::Compressed { at }),
         Answer::Overwritten { at } => Err(ReadErr::Overwritten { at }),

@@ -1,13 +1,25 @@
-ghost use Rattle.std.specs.Prelude.{◌≡◌};
+ghost use Rattle.std.specs.Prelude.{◌≡◌, ◌%◌};
 
 use crate::*;
 use byte_position::Geometry;
 use segment_disk::{Disk, MemDisk};
-use std::alloc::{AllocError, Global};
+use std::alloc::Global;
 use std::test::Fail;
-use wal_page::FirstPage;
+use wal_page::{PageErr, Placed};
 use wal_record::{Body, BodyErr};
 use wal_types::{BlockList, Bytes, Lsn, Record, Xid};
+
+const START: Lsn = Lsn(0x10_0000);
+
+// The byte position of segment 1's first record.
+const FIRST: u64 = 128 * 8168 - 16;
+
+// The first two pages of segment 1.
+#[derive(Drop)]
+struct TwoPages {
+    first: [u8; 8192],
+    second: [u8; 8192],
+}
 
 fn smallest() -> Geometry
     ensures { result ≡ 1048576 }
@@ -18,59 +30,104 @@ fn smallest() -> Geometry
     }
 }
 
-fn commit(alloc: Global) -> Result<Body, BodyErr> {
+fn record(alloc: Global, rmid: u8, main: Vec<u8>) -> Result<Body, BodyErr> {
     let record = Record {
         xid: Xid(700),
-        rmid: 1,
+        rmid,
         info: 0,
         origin: None,
         top_xid: None,
         blocks: BlockList::of(Vec::new(alloc)),
-        main: Bytes::of(vec![in alloc; 0; 8]?),
+        main: Bytes::of(main),
     };
     Body::assemble(alloc, &record)
 }
 
-// The first page of segment 1 with so many commits.
-fn page_of_commits(alloc: Global, count: u32) -> Result<[u8; 8192], BodyErr> {
-    let body = commit(alloc)?;
-    let mut page = FirstPage::new(alloc, smallest(), 1)?;
-    for _ in 0..count {
-        if body.room() <= page.free() {
-            page.push(&body);
-        }
-    }
-    Ok(*page.bytes())
+fn commit(alloc: Global) -> Result<Body, BodyErr> {
+    record(alloc, 1, vec![in alloc; 0; 8]?)
 }
 
-fn disk_with(alloc: Global, page: &[u8; 8192]) -> Result<MemDisk, Fail> {
-    let mut disk = MemDisk::new(alloc, 1, 10, Vec::new(alloc), vec![in alloc; 2]?)?;
+fn heap_insert(alloc: Global, count: usize) -> Result<Body, BodyErr> {
+    record(alloc, 10, vec![in alloc; 0x5a; count]?)
+}
+
+// Puts a record behind those that take up so many bytes.
+fn put(pages: &mut TwoPages, body: &Body, passed: u32, prev: Lsn)
+    requires { passed % 8 ≡ 0 }
+{
+    let _room = body.room();
+    let start = FIRST + u64::from(passed);
+    let mut words = Placed::new(smallest(), 1, body, start, prev);
+    for _word in 0..2048 {
+        if let Some((lsn, word)) = words.next_word() {
+            if lsn.0 / 8192 == 128 {
+                put_word(&mut pages.first, lsn, word);
+            } else {
+                put_word(&mut pages.second, lsn, word);
+            }
+        }
+    }
+}
+
+fn put_word(page: &mut [u8; 8192], lsn: Lsn, word: u64) {
+    let at = (lsn.0 % 8192) as usize;
+    if at <= 8184 {
+        page[at..at + 8].copy_from_slice(&word.to_le_bytes());
+    }
+}
+
+fn no_records() -> TwoPages {
+    TwoPages {
+        first: [0; 8192],
+        second: [0; 8192],
+    }
+}
+
+fn two_commits(alloc: Global) -> Result<TwoPages, Fail> {
+    let mut pages = no_records();
+    put(&mut pages, &commit(alloc)?, 0, Lsn(0));
+    put(&mut pages, &commit(alloc)?, 40, Lsn(0x10_0028));
+    Ok(pages)
+}
+
+// A record of 8,144 bytes, and behind it two commits, of which the first goes on in the second page.
+fn crossing_commit(alloc: Global) -> Result<TwoPages, Fail> {
+    let mut pages = no_records();
+    put(&mut pages, &heap_insert(alloc, 8115)?, 0, Lsn(0));
+    put(&mut pages, &commit(alloc)?, 8144, Lsn(0x10_0028));
+    put(&mut pages, &commit(alloc)?, 8184, Lsn(0x10_1ff8));
+    Ok(pages)
+}
+
+fn disk_with(alloc: Global, pages: &TwoPages) -> Result<MemDisk, Fail> {
+    let mut disk = MemDisk::new(alloc, 1, 10, Vec::new(alloc), Vec::new(alloc))?;
     disk.create(smallest(), 1)?;
-    disk.write_page(smallest(), 1, 0, page)?;
+    disk.write_page(smallest(), 1, 0, &pages.first)?;
+    disk.write_page(smallest(), 1, 1, &pages.second)?;
     Ok(disk)
 }
 
-fn record_of(step: Step) -> Option<FoundRecord> {
+fn record_of(step: Result<Step, ReadErr>) -> Result<FoundRecord, Fail> {
     match step {
-        Step::Record(found) => Some(found),
-        Step::Stop(_) => None,
+        Ok(Step::Record(found)) => Ok(found),
+        _ => Err(Fail::from("a record was written")),
     }
 }
 
-fn answer_of(step: Step) -> Option<Answer> {
+fn end_of(step: Result<Step, ReadErr>) -> Option<Lsn> {
     match step {
-        Step::Record(_) => None,
-        Step::Stop(answer) => Some(answer),
+        Ok(Step::End { at }) => Some(at),
+        _ => None,
     }
 }
 
 #[test]
 fn commits_are_read_and_then_the_log_ends(rt: HostRuntime) -> Result<(), Fail> {
     let alloc = rt.alloc();
-    let mut disk = disk_with(alloc, &page_of_commits(alloc, 2)?)?;
-    let mut reader = PageReader::open(alloc, smallest(), &mut disk)?;
+    let mut disk = disk_with(alloc, &two_commits(alloc)?)?;
+    let mut reader = Reader::new(smallest(), START, None);
 
-    let first = record_of(reader.next(alloc)?).ok_or("a commit was written")?;
+    let first = record_of(reader.next(alloc, &mut disk))?;
     assert_eq!(rt; first.start, Lsn(0x10_0028));
     assert_eq!(rt; first.end, Lsn(0x10_0050));
     assert_eq!(rt; first.prev, Lsn(0));
@@ -78,41 +135,107 @@ fn commits_are_read_and_then_the_log_ends(rt: HostRuntime) -> Result<(), Fail> {
     assert_eq!(rt; first.value.xid, Xid(700));
     assert_eq!(rt; first.value.main.as_slice(), [0; 8].as_slice());
 
-    let second = record_of(reader.next(alloc)?).ok_or("another commit was written")?;
+    let second = record_of(reader.next(alloc, &mut disk))?;
     assert_eq!(rt; second.start, Lsn(0x10_0050));
     assert_eq!(rt; second.prev, Lsn(0x10_0028));
 
     for _ in 0..2 {
-        let end = Answer::End { at: Lsn(0x10_0078) };
-        assert_eq!(rt; answer_of(reader.next(alloc)?), Some(end));
+        assert_eq!(rt; end_of(reader.next(alloc, &mut disk)), Some(Lsn(0x10_0078)));
     }
     Ok(())
 }
 
 #[test]
-fn a_changed_byte_is_told_by_the_crc(rt: HostRuntime) -> Result<(), Fail> {
+fn records_before_the_start_and_from_the_end_on_are_not_given(rt: HostRuntime) -> Result<(), Fail> {
     let alloc = rt.alloc();
-    let mut page = page_of_commits(alloc, 1)?;
-    page[70] = 1;
-    let mut reader = PageReader::open(alloc, smallest(), &mut disk_with(alloc, &page)?)?;
-    let damaged = Answer::Damaged {
-        at: Lsn(0x10_0028),
-        kind: DamageKind::Crc,
-    };
-    assert_eq!(rt; answer_of(reader.next(alloc)?), Some(damaged));
+    let mut disk = disk_with(alloc, &two_commits(alloc)?)?;
+
+    let mut late = Reader::new(smallest(), Lsn(0x10_0029), None);
+    let second = record_of(late.next(alloc, &mut disk))?;
+    assert_eq!(rt; second.start, Lsn(0x10_0050));
+
+    let mut short = Reader::new(smallest(), START, Some(Lsn(0x10_0050)));
+    let first = record_of(short.next(alloc, &mut disk))?;
+    assert_eq!(rt; first.start, Lsn(0x10_0028));
+    assert_eq!(rt; end_of(short.next(alloc, &mut disk)), Some(Lsn(0x10_0050)));
+    Ok(())
+}
+
+#[test]
+fn a_record_goes_on_in_the_next_page(rt: HostRuntime) -> Result<(), Fail> {
+    let alloc = rt.alloc();
+    let mut disk = disk_with(alloc, &crossing_commit(alloc)?)?;
+    let mut reader = Reader::new(smallest(), START, None);
+
+    let large = record_of(reader.next(alloc, &mut disk))?;
+    assert_eq!(rt; large.total, 8144);
+    assert_eq!(rt; large.end, Lsn(0x10_1ff8));
+
+    let crossing = record_of(reader.next(alloc, &mut disk))?;
+    assert_eq!(rt; crossing.start, Lsn(0x10_1ff8));
+    assert_eq!(rt; crossing.end, Lsn(0x10_2038));
+    assert_eq!(rt; crossing.prev, Lsn(0x10_0028));
+    assert_eq!(rt; crossing.total, 34);
+    assert_eq!(rt; crossing.value.rmid, 1);
+    Ok(())
+}
+
+#[test]
+fn reading_begins_behind_what_is_continued(rt: HostRuntime) -> Result<(), Fail> {
+    let alloc = rt.alloc();
+    let mut disk = disk_with(alloc, &crossing_commit(alloc)?)?;
+    let mut reader = Reader::new(smallest(), Lsn(0x10_2000), None);
+
+    let last = record_of(reader.next(alloc, &mut disk))?;
+    assert_eq!(rt; last.start, Lsn(0x10_2038));
+    assert_eq!(rt; last.prev, Lsn(0x10_1ff8));
+    assert_eq!(rt; end_of(reader.next(alloc, &mut disk)), Some(Lsn(0x10_2060)));
+    Ok(())
+}
+
+#[test]
+fn damage_is_told_again(rt: HostRuntime) -> Result<(), Fail> {
+    let alloc = rt.alloc();
+    let mut pages = two_commits(alloc)?;
+    pages.first[70] = 1;
+    let mut disk = disk_with(alloc, &pages)?;
+    let mut reader = Reader::new(smallest(), START, None);
+    for _ in 0..2 {
+        let damaged = ReadErr::Damaged {
+            at: Lsn(0x10_0028),
+            kind: DamageKind::Crc,
+        };
+        assert_eq!(rt; reader.next(alloc, &mut disk).err(), Some(damaged));
+    }
     assert_eq!(rt; DamageKind::Crc.name(), "crc");
     Ok(())
 }
 
 #[test]
-fn where_the_page_is_not_there_the_log_ends(rt: HostRuntime) -> Result<(), Fail> {
+fn a_page_of_zeros_behind_a_record_that_goes_on_is_damage(rt: HostRuntime) -> Result<(), Fail> {
     let alloc = rt.alloc();
-    let mut disk = MemDisk::new(alloc, 1, 10, Vec::new(alloc), vec![in alloc; 2]?)?;
-    let mut reader = PageReader::open(alloc, smallest(), &mut disk)?;
-    let end = Answer::End { at: Lsn(0x10_0000) };
-    assert_eq!(rt; answer_of(reader.next(alloc)?), Some(end));
+    let mut pages = no_records();
+    put(&mut pages, &heap_insert(alloc, 8124)?, 0, Lsn(0));
+    pages.second = [0; 8192];
+    let mut disk = disk_with(alloc, &pages)?;
+    let damaged = ReadErr::Damaged {
+        at: Lsn(0x10_2000),
+        kind: DamageKind::Page(PageErr::Magic),
+    };
+    let mut reader = Reader::new(smallest(), START, None);
+    assert_eq!(rt; reader.next(alloc, &mut disk).err(), Some(damaged));
+    Ok(())
+}
 
-    let again = PageReader::open(alloc, smallest(), &mut disk).err();
-    assert_eq!(rt; again, Some(OpenError::Failed));
+#[test]
+fn after_a_failed_read_the_reader_goes_on(rt: HostRuntime) -> Result<(), Fail> {
+    let alloc = rt.alloc();
+    let mut disk = MemDisk::new(alloc, 1, 10, Vec::new(alloc), vec![in alloc; 1]?)?;
+    let mut reader = Reader::new(smallest(), START, None);
+    assert_eq!(rt;
+        reader.next(alloc, &mut disk).err(),
+        Some(ReadErr::Disk { faults: 1 })
+    );
+    assert_eq!(rt; end_of(reader.next(alloc, &mut disk)), Some(START));
     Ok(())
 }

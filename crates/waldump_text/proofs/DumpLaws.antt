@@ -9,24 +9,25 @@ use Rattle.wal_types.specs.declared.lsn.Lsn.{Lsn}
 use Rattle.wal_reader.specs.Cache.{log_of}
 use Rattle.wal_reader.specs.Cursor.{IsLogOf}
 use Rattle.wal_reader.specs.LogReader.{ReadState, Gives, IsNext, Knows, state_of}
-use Rattle.wal_reader.specs.Pages.{Pages, pages_in}
+use Rattle.wal_reader.specs.Pages.{Pages}
 use Rattle.wal_reader.specs.declared.found.Answer.{Answer}
 use Rattle.wal_reader.specs.declared.found.Answer.TheVariants as answers
 use Rattle.wal_reader.specs.declared.found.FoundRecord.{FoundRecord}
 use Rattle.wal_reader.specs.declared.log_reader.Reader.{Reader}
 use Rattle.wal_reader.specs.declared.standing.ReadErr.{ReadErr}
 use Rattle.wal_reader.specs.declared.standing.ReadErr.TheVariants.{Memory, Disk, Damaged, Compressed, Overwritten}
-use Rattle.wal_reader.specs.declared.standing.ReadStep.{ReadStep}
-use Rattle.wal_reader.specs.declared.standing.ReadStep.TheVariants.{Record, End}
+use Rattle.wal_reader.specs.declared.standing.Step.{Step}
+use Rattle.wal_reader.specs.declared.standing.Step.TheVariants.{Record, End}
 use Rattle.wal_reader.specs.declared.standing.Standing.TheVariants.{NotBegun}
+use Rattle.wal_reader.specs.Settled.{IsSettled}
 use Rattle.wal_reader.proofs.SettledLaws.{decoding_is_settled, gives_something}
-use Rattle.waldump_text.specs.Dump.{DecodesOnDisk, IsDump, IsSettled, PutsListing, PutsListingFront, failure_of}
+use Rattle.waldump_text.specs.Dump.{DecodesOnDisk, IsDump, PutsListing, PutsListingFront, failure_of}
 use Rattle.waldump_text.specs.Listing.{line_text, listed_of, listing}
 use Rattle.waldump_text.specs.declared.dumping.DumpErr.TheVariants as errors
 use Rattle.waldump_text.proofs.ListingLaws.{IsUnderway, IsUnderway-none, IsUnderway-more, listed_all, listed_front, listed_front_of_next}
 
 -- there is one thing that a disk's log decodes to
-pub decoding_of_disk_is_settled : (size : ℕ) (t : Tape) → IsSegmentSize size → IsSettled size t
+pub decoding_of_disk_is_settled : (size : ℕ) (t : Tape) → IsSegmentSize size → IsSettled size (log_of t size) size None
 decoding_of_disk_is_settled size t valid = decoding_is_settled size (image_as_read (state_now t)) size None valid
 
 -- a reader from segment 1 on, before it has begun
@@ -34,7 +35,7 @@ abbrev pub unread : ℕ → ReadState
 unread size = record { size = size; start = size; end = None; standing = NotBegun }
 
 -- a step of a reader of a disk's log
-abbrev pub Steps : Option Tape → Reader → Reader → Result ReadStep ReadErr → Type 0
+abbrev pub Steps : Option Tape → Reader → Reader → Result Step ReadErr → Type 0
 Steps tape old new result = (pages : Pages) → IsLogOf tape (state_of old).size pages → Knows old pages → Knows new pages × IsNext pages (state_of old) (state_of new) result
 
 -- the log of a disk that tells is listed as far as the reader has come
@@ -48,7 +49,7 @@ module _ (size : ℕ) (valid : IsSegmentSize size) (old : Option (List ℕ)) whe
 
   module _ (reader : Reader) (sized : (state_of reader).size ≡ size) (mid : Option (List ℕ)) where
     -- a step of it, of the log
-    step_of : (t : Tape) (next : Reader) (result : Result ReadStep ReadErr) → Steps (Some t) reader next result → Knows reader (log_of t size) → Knows next (log_of t size) × IsNext (log_of t size) (state_of reader) (state_of next) result
+    step_of : (t : Tape) (next : Reader) (result : Result Step ReadErr) → Steps (Some t) reader next result → Knows reader (log_of t size) → Knows next (log_of t size) × IsNext (log_of t size) (state_of reader) (state_of next) result
     step_of t next result steps knows = steps (log_of t size) (ap (log_of t) (sym sized)) knows
 
     -- what it gives still

@@ -1,16 +1,13 @@
 -- A reader whose records are listed one after another.
-use Rattle.std.proofs.Common.{◌≡◌, ℕ, List, [], ◌∷◌, ◌++◌, take, Option, Some, None, Result, Ok, Err, refl, sym, ap, subst, ◌∙◌, append_assoc}
-use Rattle.std.specs.Prelude.{IfSome}
+use Rattle.std.proofs.Common.{◌≡◌, ℕ, List, [], ◌∷◌, ◌++◌, take, Option, Ok, refl, sym, ap, subst, ◌∙◌, append_assoc}
 use Rattle.std.proofs.lemmas.Grind.{flat_map-append}
 use Rattle.std.proofs.lemmas.List.{append-nil}
-use Rattle.byte_position.specs.Geometry.{IsSegmentSize}
-use Rattle.segment_disk.specs.Image.{Image}
 use Rattle.segment_disk.specs.Stream.{with_behind}
 use Rattle.wal_reader.specs.LogReader.{ReadState, Gives, IsNext}
-use Rattle.wal_reader.specs.Pages.{Pages, pages_in}
+use Rattle.wal_reader.specs.Pages.{Pages}
 use Rattle.wal_reader.specs.declared.found.FoundRecord.{FoundRecord}
 use Rattle.wal_reader.specs.declared.found.Answer.{Answer}
-use Rattle.wal_reader.specs.declared.standing.ReadStep.TheVariants.{Record}
+use Rattle.wal_reader.specs.declared.standing.Step.TheVariants.{Record}
 use Rattle.waldump_text.specs.Listing.{line_text, listed_of, listing}
 use Rattle.waldump_text.specs.Put.{HasPut}
 use Rattle.waldump_text.proofs.SinkLaws.{HasPut-front, HasPut-front_of_next, with_behind-append, with_behind-nil}

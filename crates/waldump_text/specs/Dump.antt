@@ -1,11 +1,10 @@
 -- What a listing of the disk's log puts, and how it ends.
 use Rattle.std.specs.Prelude.{◌≡◌, ℕ, List, take, Option, None, Result, Ok, Err}
 use Rattle.segment_disk.specs.Cause.{Rose}
-use Rattle.segment_disk.specs.Image.{image_as_read}
 use Rattle.segment_disk.specs.Stream.{with_behind}
-use Rattle.segment_disk.specs.Tape.{Tape, state_now}
+use Rattle.segment_disk.specs.Tape.{Tape}
 use Rattle.wal_types.specs.declared.lsn.Lsn.{Lsn}
-use Rattle.wal_reader.specs.Pages.{pages_in}
+use Rattle.wal_reader.specs.Cache.{log_of}
 use Rattle.wal_reader.specs.Decodes.{Decodes}
 use Rattle.wal_reader.specs.declared.found.FoundRecord.{FoundRecord}
 use Rattle.wal_reader.specs.declared.found.Answer.{Answer}
@@ -19,11 +18,7 @@ use Rattle.waldump_text.specs.declared.dumping.DumpErr.TheVariants.{Memory, Disk
 
 -- what the disk's log decodes to, from segment 1 on
 abbrev pub DecodesOnDisk : ℕ → Tape → List FoundRecord → Answer → Type 0
-DecodesOnDisk size t found answer = Decodes size (pages_in size (image_as_read (state_now t))) size None found answer
-
--- there is one thing that it decodes to
-abbrev pub IsSettled : ℕ → Tape → Type 0
-IsSettled size t = (found : List FoundRecord) × (answer : Answer) × DecodesOnDisk size t found answer × ((others : List FoundRecord) (other : Answer) → DecodesOnDisk size t others other → (others ≡ found) × (other ≡ answer))
+DecodesOnDisk size t found answer = Decodes size (log_of t size) size None found answer
 
 -- a sink took the listing of what the disk's log decodes to, and this stands behind the records
 abbrev pub PutsListing : ℕ → Tape → Option (List ℕ) → Option (List ℕ) → Answer → Type 0

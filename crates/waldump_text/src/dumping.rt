@@ -9,7 +9,7 @@ use byte_position::Geometry;
 use segment_disk::{Disk, Sink};
 use std::alloc::Global;
 use thiserror::Error;
-use wal_reader::{Answer, ReadErr, ReadStep, Reader};
+use wal_reader::{Answer, ReadErr, Reader, Step};
 use wal_types::Lsn;
 
 /// Why a log was not listed to a clean end.
@@ -74,8 +74,8 @@ pub fn dump<D: Disk, O: Sink>(
     let mut buffer = LineBuffer::new();
     'records: loop {
         match reader.next(alloc, disk)? {
-            ReadStep::Record(found) => put_line(&mut buffer, &Listed::from(found), out)?,
-            ReadStep::End { .. } => return Ok(()),
+            Step::Record(found) => put_line(&mut buffer, &Listed::from(found), out)?,
+            Step::End { .. } => return Ok(()),
         }
     }
 }

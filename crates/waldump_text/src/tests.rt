@@ -1,4 +1,4 @@
-ghost use Rattle.std.specs.Prelude.{◌≡◌, IfOk, IsTrue, [], not};
+ghost use Rattle.std.specs.Prelude.{◌≡◌, ◌%◌, IfOk, IsTrue, [], not};
 ghost use Rattle.wal_record.specs.Record.{is_free_manager};
 ghost use Rattle.waldump_text.specs.Listing.{IsListable};
 
@@ -11,13 +11,16 @@ use segment_disk::{Disk, MemDisk, MemSink};
 use std::alloc::{AllocError, Global};
 use std::process::Abort;
 use std::test::Fail;
-use wal_page::{FirstPage, first_header};
+use wal_page::Placed;
 use wal_reader::{Answer, DamageKind};
 use wal_record::Body;
 use wal_types::{Block, BlockList, Bytes, Image, Lsn, Record, Rel, Xid};
 
 const COMMIT_LINE: &[u8; 133] =
     b"rmgr: Transaction len (rec/tot):     34/    34, tx:        700, lsn: 0/00100028, prev 0/00000000, desc: COMMIT data 0000000000000000\n";
+
+// The byte position of segment 1's first record.
+const FIRST: u64 = 128 * 8168 - 16;
 
 // A record of transaction 700.
 fn record(alloc: Global, rmid: u8, info: u8, main: &[u8]) -> Result<Record, AllocError>
@@ -101,33 +104,75 @@ fn smallest() -> Geometry
     }
 }
 
-fn push(rt: &impl Abort, page: &mut FirstPage, alloc: Global, r: &Record) -> Result<(), Fail> {
+// The first two pages of segment 1.
+#[derive(Drop)]
+struct TwoPages {
+    first: [u8; 8192],
+    second: [u8; 8192],
+}
+
+fn no_records() -> TwoPages {
+    TwoPages {
+        first: [0; 8192],
+        second: [0; 8192],
+    }
+}
+
+// Puts a record behind those that take up so many bytes.
+fn put_record(
+    pages: &mut TwoPages,
+    alloc: Global,
+    r: &Record,
+    passed: u32,
+    prev: Lsn,
+) -> Result<(), Fail>
+    requires { passed % 8 ≡ 0 }
+{
     let body = Body::assemble(alloc, r)?;
-    assert!(rt; body.room() <= page.free());
-    page.push(&body);
+    let _room = body.room();
+    let start = FIRST + u64::from(passed);
+    let mut words = Placed::new(smallest(), 1, &body, start, prev);
+    for _word in 0..2048 {
+        if let Some((lsn, word)) = words.next_word() {
+            if lsn.0 / 8192 == 128 {
+                put_word(&mut pages.first, lsn, word);
+            } else {
+                put_word(&mut pages.second, lsn, word);
+            }
+        }
+    }
     Ok(())
 }
 
-// A page with a commit and a record of a custom manager.
-fn page_of_two(rt: &impl Abort, alloc: Global) -> Result<FirstPage, Fail> {
-    let mut page = FirstPage::new(alloc, smallest(), 1)?;
-    push(rt, &mut page, alloc, &record(alloc, 1, 0, &[0; 8])?)?;
-    push(rt, &mut page, alloc, &record(alloc, 128, 0x80, &[])?)?;
-    Ok(page)
+fn put_word(page: &mut [u8; 8192], lsn: Lsn, word: u64) {
+    let at = (lsn.0 % 8192) as usize;
+    if at <= 8184 {
+        page[at..at + 8].copy_from_slice(&word.to_le_bytes());
+    }
 }
 
-// A disk with this first page of segment 1, of which the second read fails.
-fn disk_of(alloc: Global, page: &[u8; 8192]) -> Result<MemDisk, Fail> {
-    let mut disk = MemDisk::new(alloc, 1, 2, Vec::new(alloc), vec![in alloc; 2]?)?;
+// A commit and a record of a custom manager.
+fn two_records(alloc: Global) -> Result<TwoPages, Fail> {
+    let mut pages = no_records();
+    put_record(&mut pages, alloc, &record(alloc, 1, 0, &[0; 8])?, 0, Lsn(0))?;
+    let custom = record(alloc, 128, 0x80, &[])?;
+    put_record(&mut pages, alloc, &custom, 40, Lsn(0x10_0028))?;
+    Ok(pages)
+}
+
+// A disk with these pages, on which such reads fail.
+fn disk_of(alloc: Global, pages: &TwoPages, failing: Vec<u64>) -> Result<MemDisk, Fail> {
+    let mut disk = MemDisk::new(alloc, 1, 3, Vec::new(alloc), failing)?;
     disk.create(smallest(), 1)?;
-    disk.write_page(smallest(), 1, 0, page)?;
+    disk.write_page(smallest(), 1, 0, &pages.first)?;
+    disk.write_page(smallest(), 1, 1, &pages.second)?;
     Ok(disk)
 }
 
 #[test]
 fn a_log_is_listed_to_its_end(rt: HostRuntime) -> Result<(), Fail> {
     let alloc = rt.alloc();
-    let mut disk = disk_of(alloc, page_of_two(&rt, alloc)?.bytes())?;
+    let mut disk = disk_of(alloc, &two_records(alloc)?, vec![in alloc; 2]?)?;
     let mut out = sink(alloc)?;
     assert_eq!(rt; dump(alloc, &mut disk, smallest(), &mut out), Ok(()));
     assert_eq!(rt;
@@ -148,9 +193,9 @@ fn a_log_is_listed_to_its_end(rt: HostRuntime) -> Result<(), Fail> {
 #[test]
 fn a_listing_stops_at_a_damaged_record(rt: HostRuntime) -> Result<(), Fail> {
     let alloc = rt.alloc();
-    let mut page = *page_of_two(&rt, alloc)?.bytes();
-    page[100] ^= 1;
-    let mut disk = disk_of(alloc, &page)?;
+    let mut pages = two_records(alloc)?;
+    pages.first[100] ^= 1;
+    let mut disk = disk_of(alloc, &pages, Vec::new(alloc))?;
     let mut out = sink(alloc)?;
     let damaged = Answer::Damaged {
         at: Lsn(0x10_0050),
@@ -193,11 +238,11 @@ fn heap_insert(alloc: Global, xid: u32, blocks: Vec<Block>) -> Record {
     }
 }
 
-// What is listed of a page with one record.
+// What is listed of a log with one record.
 fn dumped(rt: &impl Abort, alloc: Global, r: &Record, out: &mut MemSink) -> Result<(), Fail> {
-    let mut page = FirstPage::new(alloc, smallest(), 1)?;
-    push(rt, &mut page, alloc, r)?;
-    let mut disk = disk_of(alloc, page.bytes())?;
+    let mut pages = no_records();
+    put_record(&mut pages, alloc, r, 0, Lsn(0))?;
+    let mut disk = disk_of(alloc, &pages, Vec::new(alloc))?;
     assert_eq!(rt; dump(alloc, &mut disk, smallest(), out), Ok(()));
     Ok(())
 }
@@ -238,45 +283,6 @@ fn an_image_is_told_and_not_counted(rt: HostRuntime) -> Result<(), Fail> {
     Ok(())
 }
 
-// A log of one record that continues on a second page, where so many bytes of it are still to come.
-fn log_of_two_pages(
-    rt: &impl Abort,
-    alloc: Global,
-    r: &Record,
-    remaining: u8,
-) -> Result<MemDisk, Fail> {
-    let body = Body::assemble(alloc, r)?;
-    let mut bytes = vec![in alloc; 0; 8152 + 8168]?;
-    let room = body.room() as usize;
-    assert!(rt; room <= bytes.len());
-    body.put(Lsn(0), &mut bytes[..room]);
-
-    let mut first = [0; 8192];
-    first[..40].copy_from_slice(&first_header(smallest(), 1));
-    fill(&mut first[40..], &bytes, 0);
-    #[rattlefmt::skip]
-    let header = [
-        0x13, 0xd1, 5, 0, 1, 0, 0, 0, 0, 0x20, 0x10, 0, 0, 0, 0, 0,
-        remaining, 0, 0, 0, 0, 0, 0, 0,
-    ];
-    let mut second = [0; 8192];
-    second[..24].copy_from_slice(&header);
-    fill(&mut second[24..], &bytes, 8152);
-
-    let mut disk = MemDisk::new(alloc, 1, 3, Vec::new(alloc), Vec::new(alloc))?;
-    disk.create(smallest(), 1)?;
-    disk.write_page(smallest(), 1, 0, &first)?;
-    disk.write_page(smallest(), 1, 1, &second)?;
-    Ok(disk)
-}
-
-// Fills a piece with bytes from an offset on.
-fn fill(piece: &mut [u8], bytes: &[u8], from: usize) {
-    for (byte, written) in piece.iter_mut().zip(bytes.iter().skip(from)) {
-        *byte = *written;
-    }
-}
-
 #[test]
 fn a_fork_is_named_and_an_image_may_be_for_verification(rt: HostRuntime) -> Result<(), Fail> {
     let alloc = rt.alloc();
@@ -292,8 +298,7 @@ fn a_fork_is_named_and_an_image_may_be_for_verification(rt: HostRuntime) -> Resu
     });
     let mut blocks = Vec::new(alloc);
     blocks.push(verified)?;
-    let mut disk = log_of_two_pages(&rt, alloc, &heap_insert(alloc, 2, blocks), 89)?;
-    assert_eq!(rt; dump(alloc, &mut disk, smallest(), &mut out), Ok(()));
+    dumped(&rt, alloc, &heap_insert(alloc, 2, blocks), &mut out)?;
     assert_eq!(rt;
         out.taken(),
         b"rmgr: Heap        len (rec/tot):     49/  8241, tx:          2, lsn: 0/00100028, prev 0/00000000, desc: INSERT data -, blkref #0: rel 1663/5/16384 fork fsm blk 3 FPW for WAL verification\n".as_slice()
@@ -314,7 +319,7 @@ fn an_empty_log_has_no_lines(rt: HostRuntime) -> Result<(), Fail> {
 #[test]
 fn a_sink_that_fails_ends_the_listing(rt: HostRuntime) -> Result<(), Fail> {
     let alloc = rt.alloc();
-    let mut disk = disk_of(alloc, page_of_two(&rt, alloc)?.bytes())?;
+    let mut disk = disk_of(alloc, &two_records(alloc)?, Vec::new(alloc))?;
     let mut out = MemSink::new(alloc, 400, vec![in alloc; 2]?)?;
     assert_eq!(rt;
         dump(alloc, &mut disk, smallest(), &mut out),

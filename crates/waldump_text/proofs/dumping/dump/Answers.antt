@@ -1,11 +1,10 @@
 use Rattle.std.proofs.Common.{◌≡◌, ℕ, Option, Ok, Err, ap, refl, subst, sym, ◌∙◌}
 use Rattle.std.proofs.lemmas.Result.{err_from_is_err_and}
-use Rattle.byte_position.specs.Geometry.{IsSegmentSize}
 use Rattle.segment_disk.specs.Tape.{Tape}
 use Rattle.wal_reader.specs.LogReader.{Leaves, ReadState, state_of}
 use Rattle.wal_reader.specs.Spelled.{GivesSpelled}
-use Rattle.wal_reader.specs.declared.standing.ReadStep.{ReadStep}
-use Rattle.wal_reader.specs.declared.standing.ReadStep.TheVariants.{Record, End}
+use Rattle.wal_reader.specs.declared.standing.Step.{Step}
+use Rattle.wal_reader.specs.declared.standing.Step.TheVariants.{Record, End}
 use Rattle.waldump_text.specs.Listing.{IsListable}
 use Rattle.waldump_text.proofs.DumpLaws.{ListsLog-none, ListsLog-more, Steps, dump_cut, dump_ended, dump_failed, unread}
 use Rattle.waldump_text.proofs.SpelledLaws.{IsListable-from_spelled}
@@ -38,12 +37,12 @@ returns-in_err-found-clause-listed g c =
 -- the step to a record
 steps_on : (g : _) (c : In-Record g) → Steps (g.D.Disk.tape c.args.disk.now) c.records.reader c.next.new.self (Ok (Record c.in-Record.found))
 steps_on g c =
-    let gives = subst (λ (step : ReadStep). Steps (g.D.Disk.tape c.records.disk) c.records.reader c.next.new.self (Ok step)) c.in-Record.is c.in_ok-found.ensures.gives in
+    let gives = subst (λ (step : Step). Steps (g.D.Disk.tape c.records.disk) c.records.reader c.next.new.self (Ok step)) c.in-Record.is c.in_ok-found.ensures.gives in
     subst (λ (tape : Option Tape). Steps tape c.records.reader c.next.new.self (Ok (Record c.in-Record.found))) c.records.invariant.tape gives
 
 sized_on : (g : _) (c : In-Record g) → (state_of c.next.new.self).size ≡ c.args.geometry
 sized_on g c =
-    let leaves = subst (λ (step : ReadStep). Leaves (state_of c.records.reader) (state_of c.next.new.self) (Ok step)) c.in-Record.is c.in_ok-found.ensures.leaves in
+    let leaves = subst (λ (step : Step). Leaves (state_of c.records.reader) (state_of c.next.new.self) (Ok step)) c.in-Record.is c.in_ok-found.ensures.leaves in
     ap (λ (s : ReadState). s.size) leaves.0 ∙ c.records.invariant.sized
 
 pub put_line-requires : goal.put_line-requires
@@ -82,6 +81,6 @@ pub returns-in-End-clause-listed : goal.returns-in-End-clause-listed
 returns-in-End-clause-listed g c =
     let valid = rw c.segment_size.ensures.value at c.segment_size.ensures.valid in
     let before = c.records.invariant in
-    let gives = subst (λ (step : ReadStep). Steps (g.D.Disk.tape c.records.disk) c.records.reader c.next.new.self (Ok step)) c.in-End.is c.in_ok-found.ensures.gives in
+    let gives = subst (λ (step : Step). Steps (g.D.Disk.tape c.records.disk) c.records.reader c.next.new.self (Ok step)) c.in-End.is c.in_ok-found.ensures.gives in
     let steps = subst (λ (tape : Option Tape). Steps tape c.records.reader c.next.new.self (Ok (End c.in-End.at))) before.tape gives in
     dump_ended c.args.geometry valid _ c.records.reader before.sized _ _ c.next.new.self c.in-End.at before.lists steps
