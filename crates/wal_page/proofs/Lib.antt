@@ -4,7 +4,6 @@ mod PlacedSteps
 pub mod OrderLaws
 pub mod PageLaws
 pub mod StreamLaws
-pub mod FirstPageLaws
 pub mod WordPositions
 pub mod OwnerLaws
 pub mod LogByteLaws

@@ -1,14 +1,7 @@
 -- Laws of page headers, for the proofs of this crate and of those above.
-use Rattle.std.proofs.Common.{◌≡◌, ℕ, ◌+◌, ◌%◌, Bool, true, false, List, [], ◌++◌, length, if◌then◌else◌, refl, ap, ◌∙◌, arith}
+use Rattle.std.proofs.Common.{◌≡◌, ℕ, ◌+◌, Bool, true, false, List, [], ◌++◌, length, if◌then◌else◌, refl, arith}
 use Rattle.std.specs.Int.{w32, w64, to_le_bytes}
-use Rattle.std.proofs.lemmas.Bool.{eq-eqb}
-use Rattle.std.proofs.Math.Nat.{mod_self}
-use Rattle.byte_position.specs.Geometry.{pages_of}
 use Rattle.wal_page.specs.Page.{is_first_page, header_size, page_header}
-
--- segment 1 begins with a first page
-pub is_first_page-pages_of : (size : ℕ) → is_first_page size (pages_of size) ≡ true
-is_first_page-pages_of size = eq-eqb (pages_of size % pages_of size) 0 (mod_self (pages_of size))
 
 -- a header is as long as its page says
 pub length-page_header : (size sysid page remaining : ℕ) → length (page_header size sysid page remaining) ≡ header_size size page
@@ -16,6 +9,3 @@ length-page_header size sysid page remaining =
     let long : List ℕ = to_le_bytes w64 sysid ++ to_le_bytes w32 size ++ to_le_bytes w32 8192 in
     let parts = elim (is_first_page size page) as (λ (b : Bool). length (if b then long else []) + 24 ≡ (if b then 40 else 24)) [ true ↦ refl | false ↦ refl ] in
     omega (arith, parts)
-
-pub length-page_header-long : (size sysid remaining : ℕ) → length (page_header size sysid (pages_of size) remaining) ≡ 40
-length-page_header-long size sysid remaining = length-page_header size sysid (pages_of size) remaining ∙ ap (λ (b : Bool). if b then 40 else 24) (is_first_page-pages_of size)

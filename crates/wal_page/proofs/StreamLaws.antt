@@ -1,16 +1,12 @@
 -- Laws of the records' bytes, for the proofs of this crate and of those above.
-use Rattle.std.proofs.Common.{◌≡◌, ℕ, ◌-◌, ◌≤◌, List, [], ◌∷◌, ◌++◌, length, replicate, sym, refl, ap, ◌∙◌, arith}
-use Rattle.std.proofs.lemmas.List.{append_assoc, append-nil, length-append, length-replicate}
+use Rattle.std.proofs.Common.{◌≡◌, ℕ, List, [], ◌∷◌, ◌++◌, length, sym, refl, ap, ◌∙◌, arith}
+use Rattle.std.proofs.lemmas.List.{append_assoc, append-nil, length-append}
 use Rattle.byte_position.specs.Position.{address_of}
-use Rattle.byte_position.specs.Geometry.{pages_of}
 use Rattle.wal_record.specs.Spelling.{assembled, filled}
 use Rattle.wal_record.proofs.SpellingLaws.{length-filled}
 use Rattle.wal_page.specs.Order.{Entry, rooms_of, prev_of}
 use Rattle.wal_page.specs.Log.{stream_from, stream_of}
-use Rattle.wal_page.specs.Page.{page_header}
-use Rattle.wal_page.specs.FirstPage.{first_page}
 use Rattle.wal_page.proofs.OrderLaws.{rooms_of_cons}
-use Rattle.wal_page.proofs.PageLaws.{length-page_header-long}
 
 -- the bytes of an entry that follows
 pub stream_from_push : (size prev : ℕ) (es : List Entry) (e : Entry) → stream_from size prev (es ++ e ∷ []) ≡ stream_from size prev es ++ filled (assembled e.value) (prev_of size prev es)
@@ -33,10 +29,3 @@ length-stream_from size prev (e ∷ es) =
 
 pub length-stream_of : (size : ℕ) (es : List Entry) → length (stream_of size es) ≡ rooms_of es
 length-stream_of size es = length-stream_from size 0 es
-
--- the first page has 8192 bytes
-pub length-first_page : (size sysid : ℕ) (es : List Entry) → rooms_of es ≤ 8152 → length (first_page size sysid es) ≡ 8192
-length-first_page size sysid es within =
-    let header = page_header size sysid (pages_of size) 0 in
-    let zeros : List ℕ = replicate (8152 - rooms_of es) 0 in
-    omega (arith, length-append (header ++ stream_of size es) zeros, length-append header (stream_of size es), length-page_header-long size sysid 0, length-stream_of size es, length-replicate {A = ℕ} (8152 - rooms_of es) 0)

@@ -3,5 +3,4 @@ pub mod Page
 pub mod Log
 pub mod LogPage
 pub mod Lawful
-pub mod FirstPage
 pub mod Placed

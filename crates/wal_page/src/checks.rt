@@ -149,14 +149,13 @@ fn u64_at(page: &[u8; 8192], at: usize) -> u64
 #[cfg(test)]
 mod tests {
     use super::*;
-    use crate::header::first_header;
     use std::test::Fail;
 
     #[test]
     fn each_fault_is_found(rt: HostRuntime) -> Result<(), Fail> {
         let geometry = Geometry::new(1 << 20).ok_or("1 MiB is a segment's size")?;
         let mut page = [0; 8192];
-        page[..40].copy_from_slice(&first_header(geometry, 1));
+        page[..40].copy_from_slice(&FIRST_HEADER);
         let whole = PageInfo {
             info: 6,
             timeline: 1,

@@ -1,7 +1,6 @@
 //! The header that a page is given.
 
 ghost use Rattle.std.specs.Prelude.{◌≡◌, ◌+◌, ◌*◌, ◌^◌, ◌<◌, nat_lt, if◌then◌else◌};
-ghost use Rattle.byte_position.specs.Geometry.{pages_of};
 ghost use Rattle.byte_position.specs.Position.{is_in_header};
 ghost use Rattle.wal_record.specs.Spelling.{word_at};
 ghost use Rattle.wal_page.specs.Page.{header_size, is_first_page, page_header};
@@ -11,29 +10,8 @@ use byte_position::Geometry;
 
 const TIMELINE: u32 = 1;
 
-/// The header of a log's first page, that of segment 1 (PostgreSQL's XLogLongPageHeaderData of xlog_internal.h).
-pub fn first_header(geometry: Geometry, sysid: u64) -> [u8; 40]
-    ensures { result ≡ page_header geometry sysid (pages_of geometry) 0 }
-{
-    let magic = MAGIC.to_le_bytes();
-    let info = (LONG | BACKUP_REMOVABLE).to_le_bytes();
-    let timeline = TIMELINE.to_le_bytes();
-    let address = (u64::from(geometry.pages()) * PAGE_SIZE as u64).to_le_bytes();
-    let sysid = sysid.to_le_bytes();
-    let segment_size = (geometry.segment_size() as u32).to_le_bytes();
-    let page_size = (PAGE_SIZE as u32).to_le_bytes();
-    #[rattlefmt::skip]
-    let header = [
-        magic[0], magic[1], info[0], info[1], timeline[0], timeline[1], timeline[2], timeline[3],
-        address[0], address[1], address[2], address[3], address[4], address[5], address[6], address[7],
-        0, 0, 0, 0, 0, 0, 0, 0, // no record continues into the page
-        sysid[0], sysid[1], sysid[2], sysid[3], sysid[4], sysid[5], sysid[6], sysid[7],
-        segment_size[0], segment_size[1], segment_size[2], segment_size[3], page_size[0], page_size[1], page_size[2], page_size[3],
-    ];
-    header
-}
-
-/// The n-th word of the header of a page into which a record continues with `remaining` bytes still to come (0: none does).
+/// The n-th word of a page's header (PostgreSQL's XLogLongPageHeaderData of xlog_internal.h), where a record continues into
+/// the page with `remaining` bytes still to come (0: none does).
 pub(crate) fn page_header_word(
     geometry: Geometry,
     sysid: u64,
@@ -74,23 +52,4 @@ pub(crate) fn is_in_header(geometry: Geometry, address: u64) -> bool
     in_page < SHORT_HEADER_LEN as u64
         || (in_page < LONG_HEADER_LEN as u64
             && address % geometry.segment_size() < LONG_HEADER_LEN as u64)
-}
-
-#[cfg(test)]
-mod tests {
-    use super::*;
-    use std::test::Fail;
-
-    #[test]
-    fn the_first_header_names_its_segment(rt: HostRuntime) -> Result<(), Fail> {
-        let geometry = Geometry::new(1 << 20).ok_or("1 MiB is a segment's size")?;
-        assert_eq!(rt;
-            first_header(geometry, 1),
-            [
-                0x13, 0xd1, 6, 0, 1, 0, 0, 0, 0, 0, 0x10, 0, 0, 0, 0, 0, 0, 0, 0, 0, 0, 0, 0, 0, 1,
-                0, 0, 0, 0, 0, 0, 0, 0, 0, 0x10, 0, 0, 0x20, 0, 0
-            ]
-        );
-        Ok(())
-    }
 }

@@ -10,7 +10,6 @@ ghost use Rattle.wal_page.specs.Page.{header_size};
 ghost use Rattle.wal_page.specs.Log.{log_byte, log_word, owner_at, stream_of};
 ghost use Rattle.wal_page.specs.LogPage.{IsLogPage};
 ghost use Rattle.wal_page.specs.Placed.{Owns, entry_word, header_word};
-ghost use Rattle.wal_page.specs.FirstPage.{first_page};
 
 /// What an entry adds to the order that it follows: its room, its start as the next record's one before, its bytes.
 pub fn law_of_entry_that_follows()
@@ -27,10 +26,9 @@ pub fn law_of_starts()
     ensures rise { (position : ℕ) (es : List Entry) → FollowsFrom position es → (i j : ℕ) (d : Entry) → i < j → j < length es → (slice_index_or es i d).start < (slice_index_or es j d).start }
 {}
 
-/// Records take up just their rooms, and a first page that holds them has 8192 bytes.
+/// Records take up just their rooms.
 pub fn law_of_lengths()
-    ensures stream { (size : ℕ) (es : List Entry) → length (stream_of size es) ≡ rooms_of es }
-    ensures page { (size sysid : ℕ) (es : List Entry) → rooms_of es ≤ 8152 → length (first_page size sysid es) ≡ 8192 }
+    ensures { (size : ℕ) (es : List Entry) → length (stream_of size es) ≡ rooms_of es }
 {}
 
 /// Who owns an address: each entry those from its start's end form up to its finish, and so all entries together those from

@@ -248,13 +248,18 @@ mod tests {
         let alloc = rt.alloc();
         let geometry = Geometry::new(1 << 20).ok_or("1 MiB is a segment's size")?;
         let commit = body(alloc, 700, 1, vec![in alloc; 0; 8]?)?;
-        let words = placed(geometry, &commit, 8144, 0x10_0028);
+        let first = placed(geometry, &commit, 0, 0);
+        for n in 0..5 {
+            let word = header_word(geometry, 1, 128, &first, n).to_le_bytes();
+            let at = 8 * n as usize;
+            assert_eq!(rt; word.as_slice(), &FIRST_HEADER[at..at + 8], "word {n}");
+        }
+        let crossing = placed(geometry, &commit, 8144, 0x10_0028);
         assert_eq!(rt;
-            header_word(geometry, SYSTEM_ID, 129, &words, 0),
+            header_word(geometry, SYSTEM_ID, 129, &crossing, 0),
             0x1_0005_d113
         );
-        assert_eq!(rt; header_word(geometry, SYSTEM_ID, 129, &words, 1), 0x10_2000);
-        assert_eq!(rt; header_word(geometry, SYSTEM_ID, 129, &words, 2), 26);
+        assert_eq!(rt; header_word(geometry, SYSTEM_ID, 129, &crossing, 2), 26);
         Ok(())
     }
 }

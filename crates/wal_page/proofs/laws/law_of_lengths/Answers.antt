@@ -1,5 +1,5 @@
-use Rattle.wal_page.proofs.StreamLaws.{length-stream_of, length-first_page}
+use Rattle.wal_page.proofs.StreamLaws.{length-stream_of}
 use Rattle.wal_page.proofs.laws.law_of_lengths.Goals as goal
 
 pub returns : goal.returns
-returns c = record { stream = length-stream_of; page = length-first_page }
+returns c = length-stream_of
