@@ -3,6 +3,7 @@ pub mod StepCases
 pub mod PlayedEntries
 pub mod PlayedAnswers
 pub mod PlayedTells
+pub mod PlayedDown
 pub mod AnswerCounts
 pub mod TaskLaws
 pub mod ScriptLaws

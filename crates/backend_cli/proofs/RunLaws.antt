@@ -39,6 +39,7 @@ use Rattle.backend_cli.specs.Prepared.{MeansLines}
 use Rattle.backend_cli.specs.Tasks.{AreTasks}
 use Rattle.backend_cli.proofs.PlayedEntries.{counted, played_order, played_chained, played_rises}
 use Rattle.backend_cli.proofs.PlayedTells.{played_tells_order}
+use Rattle.backend_cli.proofs.PlayedDown.{played_stays_down}
 use Rattle.backend_cli.proofs.LastFlush.{IsBehindFlush, still_down}
 use Rattle.backend_cli.proofs.PlayedAnswers.{played_refusals, played_full, SomeTold-one}
 use Rattle.backend_cli.proofs.TaskLaws.{task_lines_are}
@@ -161,6 +162,7 @@ module _ (D : Type 0) (tape : D → Option Tape) (moment faults : D → ℕ) (di
         record {
           means = means;
           told = played_tells_order size capacity (faults disk) (faults (log_disk log)) lines told after valid plays (still_down (faults (log_disk log)) after.down last.down behind.down (last_of (faults disk) (faults (log_disk log)) last.down since));
+          stays_down = (played_stays_down size capacity (faults disk) lines told after plays, tt);
           gapless = subst (IsChained size) (sym order) (played_chained size capacity (faults disk) lines told after plays);
           in_line_order = played_rises size capacity (faults disk) lines told after valid plays;
           moments = (rises, tt);

@@ -3,6 +3,7 @@ pub mod Told
 pub mod Texts
 pub mod Rises
 pub mod Moments
+pub mod Tracked
 pub mod Steps
 pub mod Outcome
 pub mod Outside

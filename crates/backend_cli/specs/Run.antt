@@ -16,7 +16,7 @@ use Rattle.wal_reader.specs.Written.{found_of}
 use Rattle.backend_cli.specs.declared.outcome.Outcome.{Outcome}
 use Rattle.backend_cli.specs.declared.outcome.Outcome.TheVariants.{Done, OutOfMemory, Usage, SourceFault, ScriptRefused, NotEmpty, DiskFault, Stopped, LogFull, SinkFault}
 use Rattle.backend_cli.specs.declared.told.Told.{Told}
-use Rattle.backend_cli.specs.Told.{TellsAll, order_of, RiseInLineOrder, IsFullAnswer, IsRefused, SomeTold}
+use Rattle.backend_cli.specs.Told.{TellsAll, EachStaysDown, order_of, RiseInLineOrder, IsFullAnswer, IsRefused, SomeTold}
 use Rattle.backend_cli.specs.Moments.{EachRises}
 use Rattle.backend_cli.specs.Texts.{run_text}
 use Rattle.backend_cli.specs.Rises.{HasRisen}
@@ -79,6 +79,7 @@ all_rooms_asked (lines ∷ script) = rooms_asked lines + all_rooms_asked script
 pub record HoldsOpened (outside : Outside) (size capacity : ℕ) (list : Bool) (outcome : Outcome) (script : List (List Line)) (lists : List (List Told)) : Type 0 where
   pub means : IfSome outside.source (λ bytes. meaning_of bytes ≡ Ok script)
   pub told : TellsAll (record { size = size; capacity = capacity; order = order_of size script lists; opened = outside.disk_before; last = outside.disk_after }) 0 script lists
+  pub stays_down : EachStaysDown lists
   pub gapless : IsChained size (order_of size script lists)
   pub in_line_order : RiseInLineOrder size 0 script lists
   pub moments : EachRises outside.moment_before lists outside.moment_after

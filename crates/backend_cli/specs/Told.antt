@@ -166,3 +166,23 @@ SomeAnswer P (told ∷ others) = P told ⊎ SomeAnswer P others
 abbrev pub SomeTold : (Told → Type 0) → List (List Told) → Type 0
 SomeTold P [] = ⊥
 SomeTold P (told ∷ others) = SomeAnswer P told ⊎ SomeTold P others
+
+-- each answer tells that the disk had failed, at this count of faults, and that nothing is reserved
+abbrev pub AllDown : ℕ → List Told → Type 0
+AllDown faults [] = Unit {0}
+AllDown faults (told ∷ others) = (told ≡ Refused (Down faults) None) × AllDown faults others
+
+-- behind an answer that tells a fault of the disk, each answer tells that fault
+abbrev pub StaysDown : List Told → Type 0
+StaysDown [] = Unit {0}
+StaysDown (Wrote start end ∷ others) = StaysDown others
+StaysDown (Hard start end moment ∷ others) = StaysDown others
+StaysDown (Flushed upto moment ∷ others) = StaysDown others
+StaysDown (Refused (Full free) reserved ∷ others) = StaysDown others
+StaysDown (Refused (Disk faults) reserved ∷ others) = AllDown faults others
+StaysDown (Refused (Down faults) reserved ∷ others) = AllDown faults others
+
+-- it does so for each backend
+abbrev pub EachStaysDown : List (List Told) → Type 0
+EachStaysDown [] = Unit {0}
+EachStaysDown (told ∷ others) = StaysDown told × EachStaysDown others

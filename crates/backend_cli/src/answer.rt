@@ -1,11 +1,12 @@
-ghost use Rattle.std.specs.Prelude.{◌≡◌, ◌≤◌, ℕ, Option};
+ghost use Rattle.std.specs.Prelude.{ℕ, Option};
 ghost use Rattle.segment_disk.specs.Tape.{Tape};
 ghost use Rattle.wal_script.specs.declared.line.Action.{Action};
-ghost use Rattle.wal_log.specs.LogState.{IsLog, IsSameLog, log_disk};
+ghost use Rattle.wal_log.specs.LogState.{IsLog, IsSameLog};
 ghost use Rattle.wal_log.specs.Standing.{Standing};
-ghost use Rattle.backend_cli.specs.Moments.{MomentStep};
+ghost use Rattle.backend_cli.specs.Moments.{LastTold, MomentStep};
 ghost use Rattle.backend_cli.specs.Steps.{Steps};
 ghost use Rattle.backend_cli.specs.Tasks.{IsWork};
+ghost use Rattle.backend_cli.specs.Tracked.{IsTracked};
 
 use crate::tasks::Work;
 use crate::told::Told;
@@ -17,7 +18,7 @@ pub(crate) fn answer<D: Disk>(log: &mut Log<D>, work: &Work) -> Told
     ensures steps { (before : Option Tape) (opened : ℕ) (s : Standing) (action : Action) → IsLog D.tape D.faults before opened log.old s → IsWork action work.now
         → (after : Standing) × Steps log.old.size log.old.capacity opened s action result after × IsLog D.tape D.faults before opened log.new after }
     ensures same { IsSameLog log.old log.new }
-    ensures moments { log.old.moment ≤ D.moment (log_disk log.old) → MomentStep log.old.moment result log.new.moment × (log.new.moment ≤ D.moment (log_disk log.new)) }
+    ensures moments { (last : LastTold) → IsTracked D.moment last log.old → (next : LastTold) × MomentStep last result next × IsTracked D.moment next log.new }
 {
     match work {
         Work::Insert(body) => Told::of_insert(log.insert(body)),

@@ -5,7 +5,7 @@ ghost use Rattle.byte_position.specs.Geometry.{IsSegmentSize};
 ghost use Rattle.wal_page.specs.Order.{IsChained};
 ghost use Rattle.wal_script.specs.declared.line.Line.{Line};
 ghost use Rattle.backend_cli.specs.declared.told.Told.{Told};
-ghost use Rattle.backend_cli.specs.Told.{IsFullAnswer, IsRefused, RiseInLineOrder, SomeAnswer, TellsAll, entries_of, order_of};
+ghost use Rattle.backend_cli.specs.Told.{IsFullAnswer, IsRefused, RiseInLineOrder, SomeAnswer, StaysDown, TellsAll, entries_of, order_of};
 ghost use Rattle.wal_log.specs.Standing.{Standing, at_opening};
 ghost use Rattle.backend_cli.specs.Steps.{Plays};
 ghost use Rattle.backend_cli.specs.Run.{rooms_asked};
@@ -23,6 +23,11 @@ pub fn law_of_played_entries()
 pub fn law_of_played_full()
     ensures refusals { (size capacity opened : ℕ) (lines : List Line) (told : List Told) (after : Standing) → Plays size capacity opened (at_opening size) lines told after → after.down ≡ None → SomeAnswer IsRefused told → SomeAnswer IsFullAnswer told }
     ensures full { (size capacity opened : ℕ) (lines : List Line) (told : List Told) (after : Standing) → Plays size capacity opened (at_opening size) lines told after → SomeAnswer IsFullAnswer told → capacity < rooms_asked lines }
+{}
+
+/// Once a line is told a fault of the disk, each later one is told that fault.
+pub fn law_of_played_down()
+    ensures { (size capacity opened : ℕ) (lines : List Line) (told : List Told) (after : Standing) → Plays size capacity opened (at_opening size) lines told after → StaysDown told }
 {}
 
 /// Each line is told what it may be told, where the disk's last count of faults is the one at which it failed.

@@ -14,7 +14,10 @@ mod tasks;
 mod told;
 mod words;
 
-pub use laws::{law_of_played_entries, law_of_played_full, law_of_played_tells, law_of_whole};
+pub use laws::{
+    law_of_played_down, law_of_played_entries, law_of_played_full, law_of_played_tells,
+    law_of_whole,
+};
 pub use outcome::Outcome;
 pub use program::{Ended, Gate, pgwal};
 pub use told::{Told, ToldLists};

@@ -1,11 +1,12 @@
 ghost use Rattle.std.specs.Prelude.{◌≡◌, ◌≤◌, ℕ, List, [], length, vec_capacity, Option};
 ghost use Rattle.segment_disk.specs.Tape.{Tape};
 ghost use Rattle.wal_script.specs.declared.line.Line.{Line};
-ghost use Rattle.wal_log.specs.LogState.{IsLog, IsSameLog, log_disk};
+ghost use Rattle.wal_log.specs.LogState.{IsLog, IsSameLog};
 ghost use Rattle.wal_log.specs.Standing.{Standing, at_opening};
-ghost use Rattle.backend_cli.specs.Moments.{MomentsReach};
+ghost use Rattle.backend_cli.specs.Moments.{LastTold, MomentsReach};
 ghost use Rattle.backend_cli.specs.Steps.{Plays};
 ghost use Rattle.backend_cli.specs.Tasks.{AreTasks};
+ghost use Rattle.backend_cli.specs.Tracked.{IsTracked};
 
 use crate::answer::answer;
 use crate::program::Gate;
@@ -27,7 +28,7 @@ pub(crate) fn play<D: Disk, G: Gate>(
     ensures plays { (before : Option Tape) (opened : ℕ) (lines : List Line) → IsLog D.tape D.faults before opened log.old (at_opening log.old.size) → AreTasks lines tasks.now
         → (after : Standing) × Plays log.old.size log.old.capacity opened (at_opening log.old.size) lines told.new.items after × IsLog D.tape D.faults before opened log.new after }
     ensures same { IsSameLog log.old log.new }
-    ensures moments { log.old.moment ≤ D.moment (log_disk log.old) → MomentsReach log.old.moment told.new.items log.new.moment × (log.new.moment ≤ D.moment (log_disk log.new)) }
+    ensures moments { (last : LastTold) → IsTracked D.moment last log.old → (after : LastTold) × MomentsReach last told.new.items after × IsTracked D.moment after log.new }
     ensures each { length told.new.items ≡ length tasks.now }
 {
     for task in tasks {

@@ -36,7 +36,7 @@ word_of-zeros : (m k : ℕ) → k + 8 ≤ m → take 8 (drop k (replicate {A = �
 word_of-zeros m k within = ap (take 8) (drop-replicate {X = ℕ} k m 0) ∙ take-replicate {X = ℕ} 8 (m - k) 0 (omega arith)
 
 -- where a log begins and ends
-end_behind-none : (size : ℕ) → IsSegmentSize size → end_behind size 0 ≡ size
+pub end_behind-none : (size : ℕ) → IsSegmentSize size → end_behind size 0 ≡ size
 end_behind-none size valid = ap (end_address_of size) (add-zero (first_position size)) ∙ end_address_of-first_position size valid
 
 module _ (D : Type 0) (size pages : ℕ) (ring : RingState) (writer : Writer D) (valid : IsSegmentSize size) (pages_are : ring.pages ≡ pages) (mapped : ring.mapped ≡ pages_of size + pages) (written : written_of writer ≡ size) (synced : is_unsynced writer ≡ false) where

@@ -6,5 +6,6 @@ pub mod Room
 pub mod Standing
 pub mod Steps
 pub mod LogState
+pub mod Refusing
 pub mod LogImage
 pub mod Opening

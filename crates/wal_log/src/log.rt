@@ -1,4 +1,4 @@
-ghost use Rattle.std.specs.Prelude.{◌≡◌, ◌≢◌, ℕ, ◌+◌, ◌<◌, ◌≤◌, None, Option, IfOk, IfErr, IfSome, IsSome, OnErr, OnOk};
+ghost use Rattle.std.specs.Prelude.{◌≡◌, ◌≢◌, ℕ, ◌+◌, ◌<◌, ◌≤◌, None, Option, Err, IfOk, IfErr, IfSome, OnErr, OnOk};
 ghost use Rattle.segment_disk.specs.Tape.{Tape, page_of_segment, state_now};
 ghost use Rattle.wal_record.specs.Spelling.{assembled, assembled_room, IsWritable};
 ghost use Rattle.wal_types.specs.declared.record.Record.{Record};
@@ -7,6 +7,7 @@ ghost use Rattle.flush_core.specs.Writer.{fault_of};
 ghost use Rattle.wal_log.specs.LogImage.{HoldsLog};
 ghost use Rattle.wal_log.specs.LogState.{IsLog, IsSameLog, HasUnwritten, end_behind, log_disk};
 ghost use Rattle.wal_log.specs.Opening.{IsUncalled, RefusesToOpen};
+ghost use Rattle.wal_log.specs.Refusing.{HasFailed, IsLeftBy, down_again};
 ghost use Rattle.wal_log.specs.Standing.{Standing, at_opening, capacity_of, end_of};
 ghost use Rattle.wal_log.specs.Steps.{Commits, Flushes, Inserts};
 
@@ -136,8 +137,9 @@ impl<D: Disk> Log<D> {
     pub fn insert(&mut self, body: &Body) -> Result<Receipt, Refused>
         ensures inserts { (before : Option Tape) (opened : ℕ) (s : Standing) (value : Record) → IsLog D.tape D.faults before opened self.old s → body.now ≡ assembled value → IsWritable value
             → (after : Standing) × Inserts self.old.size self.old.capacity opened s value result after × IsLog D.tape D.faults before opened self.new after }
-        ensures down { IsSome (fault_of self.old.writer) → self.new ≡ self.old }
+        ensures down { IfSome (fault_of self.old.writer) (λ faults. (result ≡ Err (down_again faults)) × (self.new ≡ self.old)) }
         ensures same { IsSameLog self.old self.new }
+        ensures refused { IfErr result (λ refused. IsLeftBy refused.cause self.old self.new) }
         ensures moment { self.new.moment ≡ self.old.moment }
         ensures unflushed { OnOk result (HasUnwritten self.new) }
         ensures not_earlier { D.moment (log_disk self.old) ≤ D.moment (log_disk self.new) }
@@ -157,8 +159,10 @@ impl<D: Disk> Log<D> {
     pub fn flush(&mut self) -> Result<Hard, Refused>
         ensures flushes { (before : Option Tape) (opened : ℕ) (s : Standing) → IsLog D.tape D.faults before opened self.old s
             → (after : Standing) × Flushes self.old.size opened s result after × IsLog D.tape D.faults before opened self.new after }
-        ensures down { IsSome (fault_of self.old.writer) → self.new ≡ self.old }
+        ensures down { IfSome (fault_of self.old.writer) (λ faults. (result ≡ Err (down_again faults)) × (self.new ≡ self.old)) }
         ensures same { IsSameLog self.old self.new }
+        ensures refused { IfErr result (λ refused. HasFailed refused.cause self.new) }
+        ensures flushed { OnOk result (self.new.flushed ≡ end_behind self.new.size self.new.bytes) }
         ensures told { IfOk result (λ hard. hard.moment ≡ self.new.moment) }
         ensures idle { self.old.flushed ≡ end_behind self.old.size self.old.bytes → self.new ≡ self.old }
         ensures moment { OnOk result (self.old.flushed ≢ end_behind self.old.size self.old.bytes → self.new.moment ≡ D.moment (log_disk self.new)) }
@@ -181,8 +185,10 @@ impl<D: Disk> Log<D> {
     pub fn commit(&mut self, body: &Body) -> Result<Sealed, Refused>
         ensures commits { (before : Option Tape) (opened : ℕ) (s : Standing) (value : Record) → IsLog D.tape D.faults before opened self.old s → body.now ≡ assembled value → IsWritable value
             → (after : Standing) × Commits self.old.size self.old.capacity opened s value result after × IsLog D.tape D.faults before opened self.new after }
-        ensures down { IsSome (fault_of self.old.writer) → self.new ≡ self.old }
+        ensures down { IfSome (fault_of self.old.writer) (λ faults. (result ≡ Err (down_again faults)) × (self.new ≡ self.old)) }
         ensures same { IsSameLog self.old self.new }
+        ensures refused { IfErr result (λ refused. IsLeftBy refused.cause self.old self.new) }
+        ensures flushed { OnOk result (self.new.flushed ≡ end_behind self.new.size self.new.bytes) }
         ensures told { IfOk result (λ sealed. (sealed.moment ≡ self.new.moment) × (sealed.moment ≡ D.moment (log_disk self.new))) }
         ensures kept { OnErr result (self.new.moment ≡ self.old.moment) }
         ensures later { OnOk result (D.moment (log_disk self.old) < D.moment (log_disk self.new)) }
@@ -205,7 +211,7 @@ impl<D: Disk> Log<D> {
     // The fault again, where the disk has failed.
     fn check(&self) -> Result<(), Refused>
         ensures up { OnOk result (fault_of self.now.writer ≡ None) }
-        ensures down { IfErr result (λ e. (faults : ℕ) × (e ≡ record { cause = Cause.Down faults; reserved = None }) × (fault_of self.now.writer ≡ Some faults)) }
+        ensures down { IfErr result (λ e. (faults : ℕ) × (e ≡ down_again faults) × (fault_of self.now.writer ≡ Some faults)) }
     {
         match self.down() {
             None => Ok(()),
@@ -223,6 +229,7 @@ impl<D: Disk> Log<D> {
         ensures inserts { (before : Option Tape) (opened : ℕ) (s : Standing) (value : Record) → IsLog D.tape D.faults before opened self.old s → body.now ≡ assembled value → IsWritable value
             → (after : Standing) × Inserts self.old.size self.old.capacity opened s value result after × IsLog D.tape D.faults before opened self.new after }
         ensures same { IsSameLog self.old self.new }
+        ensures refused { IfErr result (λ refused. IsLeftBy refused.cause self.old self.new) }
         ensures moment { self.new.moment ≡ self.old.moment }
         ensures unflushed { OnOk result (HasUnwritten self.new) }
         ensures not_earlier { D.moment (log_disk self.old) ≤ D.moment (log_disk self.new) }
@@ -249,6 +256,8 @@ impl<D: Disk> Log<D> {
         ensures flushes { (before : Option Tape) (opened : ℕ) (s : Standing) → IsLog D.tape D.faults before opened self.old s
             → (after : Standing) × Flushes self.old.size opened s result after × IsLog D.tape D.faults before opened self.new after }
         ensures same { IsSameLog self.old self.new }
+        ensures refused { IfErr result (λ refused. HasFailed refused.cause self.new) }
+        ensures flushed { OnOk result (self.new.flushed ≡ end_behind self.new.size self.new.bytes) }
         ensures told { IfOk result (λ hard. hard.moment ≡ self.new.moment) }
         ensures moment { OnOk result (self.new.moment ≡ D.moment (log_disk self.new)) }
         ensures kept { OnErr result (self.new.moment ≡ self.old.moment) }

@@ -13,10 +13,10 @@ loop-task-preserved g c =
       plays = IsPlayed_more g.row.D.Denot g.D.Disk.tape g.D.Disk.faults c.args.log.now c.args.tasks.now now.log c.answer-answer.new.log now.task-index now.told.items c.push_reserved.new.self.items c.task-item.result c.answer-answer.result
           now.invariant.plays now.invariant.same (omega arith) c.task-item.is c.push_reserved.ensures.items c.answer-answer.ensures.steps;
       same = IsSameLog-trans c.args.log.now now.log c.answer-answer.new.log now.invariant.same c.answer-answer.ensures.same;
-      moments = λ low.
-          let so_far = now.invariant.moments low in
-          let step = c.answer-answer.ensures.moments so_far.1 in
-          (subst (λ (told : List Told). MomentsReach c.args.log.now.moment told c.answer-answer.new.log.moment) (sym c.push_reserved.ensures.items) (MomentsReach_push _ _ _ now.told.items c.answer-answer.result so_far.0 step.0), step.1);
+      moments = λ last tracked.
+          let so_far = now.invariant.moments last tracked in
+          let step = c.answer-answer.ensures.moments so_far.0 so_far.2 in
+          (step.0, subst (λ (told : List Told). MomentsReach last told step.0) (sym c.push_reserved.ensures.items) (MomentsReach_push last so_far.0 step.0 now.told.items c.answer-answer.result so_far.1 step.1), step.2);
       each = omega arith;
       room = omega arith;
     }

@@ -1,6 +1,7 @@
 use Rattle.std.proofs.Common.{◌≡◌, ◌≤◌, length, vec_len, vec_capacity}
-use Rattle.wal_log.specs.LogState.{IsSameLog, log_disk}
-use Rattle.backend_cli.specs.Moments.{MomentsReach}
+use Rattle.wal_log.specs.LogState.{IsSameLog}
+use Rattle.backend_cli.specs.Moments.{LastTold, MomentsReach}
+use Rattle.backend_cli.specs.Tracked.{IsTracked}
 use Rattle.backend_cli.proofs.PlayLaws.{IsPlayed}
 use Rattle.backend_cli.proofs.play.play.Given as goal
 
@@ -9,7 +10,7 @@ abbrev pub invariant-loop-task : goal.invariant-loop-task
 invariant-loop-task g l = record {
   plays : IsPlayed g.D.Disk.tape g.D.Disk.faults l.fn.log l.log l.tasks l.task-index l.told.items;
   same : IsSameLog l.fn.log l.log;
-  moments : l.fn.log.moment ≤ g.D.Disk.moment (log_disk l.fn.log) → MomentsReach l.fn.log.moment l.told.items l.log.moment × (l.log.moment ≤ g.D.Disk.moment (log_disk l.log));
+  moments : (last : LastTold) → IsTracked g.D.Disk.moment last l.fn.log → (after : LastTold) × MomentsReach last l.told.items after × IsTracked g.D.Disk.moment after l.log;
   each : vec_len l.told ≡ l.task-index;
   room : length l.tasks ≤ vec_capacity l.told;
 }

@@ -11,9 +11,10 @@ use Rattle.backend_cli.specs.Tasks.{AreTasks}
 use Rattle.backend_cli.specs.Printing.{Summarizes, printed_text}
 use Rattle.backend_cli.specs.Concluding.{Concludes}
 use Rattle.backend_cli.specs.Steps.{Plays}
-use Rattle.backend_cli.specs.Moments.{MomentsReach, MomentsRise}
+use Rattle.backend_cli.specs.Moments.{MomentsRise}
 use Rattle.waldump_text.specs.Put.{Puts}
 use Rattle.backend_cli.proofs.LastFlush.{behind_flush}
+use Rattle.backend_cli.proofs.MomentLaws.{tracked_at_opening}
 use Rattle.backend_cli.proofs.PlayLaws.{IsSameLog-trans}
 use Rattle.backend_cli.proofs.RunLaws.{opened_holds, no_memory}
 use Rattle.backend_cli.proofs.run.run_prepared.Goals as goal
@@ -47,9 +48,8 @@ returns-clause-holds g c = λ source count lines means ready.
     (subst (λ t. Puts (g.O.Sink.taken c.args.out.now) (g.O.Sink.taken c.print.new.out) (g.O.Sink.faults c.args.out.now) (g.O.Sink.faults c.print.new.out) (printed_text c.args.list t c.deref-in-Ok-3.result.now c.summary_of-summary.result) c.print.result) c.deref-in-Ok-2.ensures.value c.print.ensures) in
     let concludes = subst (λ b. Concludes c.down.result told (not b) c.conclusion.result) c.is_ok-is_printed.ensures.value
     (subst (λ t. Concludes c.down.result t (not c.is_ok-is_printed.result) c.conclusion.result) c.deref-in-Ok-4.ensures.value c.conclusion.ensures) in
-    let at_first = c.in-Ok.ensures.moment in
-    let reached = c.play.ensures.moments (omega (arith, at_first, c.in-Ok.ensures.uncalled.same_moment)) in
-    let rises : MomentsRise (moment disk) told (moment (log_disk log)) = (played_log.moment, subst (λ (n : ℕ). MomentsReach n told played_log.moment) at_first reached.0, omega (arith, reached.1, c.flush.ensures.not_earlier)) in
+    let reached = c.play.ensures.moments _ (tracked_at_opening _ tape moment faults disk opened c.in-Ok.ensures.ok c.in-Ok.ensures.moment c.in-Ok.ensures.uncalled.same_moment) in
+    let rises : MomentsRise (moment disk) told (moment (log_disk log)) = (reached.0, reached.1, omega (arith, reached.2.kept, reached.2.within, c.flush.ensures.not_earlier)) in
     opened_holds _ tape moment faults disk log played.0 flushed.0 flushed.2 behind size capacity c.args.list c.conclusion.result lines c.args.prepared.tasks.items told c.summary_of-summary.result _ _ _ _ c.print.result source count c.down.result c.into_disk.result c.one.result
     (same.size ∙ size_is) (same.capacity ∙ capacity_is) small (same.sysid ∙ made.2) c.into_disk.ensures.disk c.one.ensures plays means ready.tasks summarizes puts c.down.ensures concludes rises
     (c.into_disk.ensures.settled (tape disk) (faults disk) flushed.0 flushed.2)
