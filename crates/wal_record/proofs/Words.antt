@@ -1,8 +1,8 @@
--- The words of a record, and its bytes put down piece by piece.
+-- The words of a record.
 use Rattle.std.proofs.Common.{◌≡◌, ℕ, ◌+◌, ◌-◌, ◌*◌, ◌^◌, ◌<◌, ◌≤◌, List, ◌++◌, length, get_or, take, drop, replicate, refl, sym, ap, ◌∙◌, arith, inl, inr}
 use Rattle.std.specs.Int.{w32, w64, from_le_bytes, to_le_bytes}
 use Rattle.std.proofs.lemmas.Bool.{cases_lt}
-use Rattle.std.proofs.lemmas.List.{length-append, length-take, get_or-take, get_or_past, get_or_append_left, get_or-append_right, get_or-replicate, length-replicate, drop-append-le, drop-drop, drop_at, take_all, take-replicate}
+use Rattle.std.proofs.lemmas.List.{length-append, length-take, get_or-take, get_or_past, get_or_append_left, get_or-append_right, get_or-replicate, length-replicate, drop-append-le, drop-drop, drop_at}
 use Rattle.std.proofs.lemmas.Nat.{from_le_bytes-to_le_bytes_8}
 use Rattle.wal_record.specs.Spelling.{Assembled, assembled_size, assembled_room, header_front, crc_of, spelled, filled, word_at}
 
@@ -36,8 +36,6 @@ front_read xs ys n i h =
 padded_word : (xs : List ℕ) (k : ℕ) → from_le_bytes w64 (take 8 (xs ++ replicate k 0)) ≡ from_le_bytes w64 (take 8 xs)
 padded_word xs k = same_word _ _ (λ i. front_read (xs ++ replicate k 0) xs 8 i (padded_read xs k))
 
--- ---- the words
-
 pub second_word : (a : Assembled) (prev n : ℕ) → n ≡ 1 → prev < 2 ^ 64 → prev ≡ word_at (filled a prev) n
 second_word a prev n e lt = rw e (sym (from_le_bytes-to_le_bytes_8 prev lt))
 
@@ -50,15 +48,3 @@ carried_word a prev n m e within =
     let front = drop-append-le (8 * n) (spelled a prev) (replicate (assembled_room a - assembled_size a) 0) inside in
     let rest : drop (8 * n) (spelled a prev) ≡ drop m a.carried = rw e (behind_header (header_front a prev) (to_le_bytes w32 (crc_of a prev)) a.carried m refl refl) in
     ap (λ (l : List ℕ). from_le_bytes w64 (take 8 l)) (front ∙ ap (λ (l : List ℕ). l ++ replicate (assembled_room a - assembled_size a) 0) rest) ∙ padded_word (drop m a.carried) (assembled_room a - assembled_size a)
-
--- ---- the bytes, put down in four pieces
-
--- what is left behind the record is filled up with zeros
-pub padding_is : (left room size : ℕ) → left ≡ room - size → room < size + 8 → take {A = ℕ} left (replicate 7 0) ≡ replicate (room - size) 0
-padding_is left room size e short = rw e (take-replicate (room - size) 7 0 (omega arith))
-
-pub put_down : (w1 w2 w3 w4 front crc carried padding : List ℕ) (len size room : ℕ) → take 20 w1 ≡ front → take 24 w2 ≡ take 20 w1 ++ crc → take size w3 ≡ take 24 w2 ++ carried
-    → take (len + length padding) w4 ≡ take len w3 ++ padding → len ≡ size → padding ≡ replicate (room - size) 0 → size ≤ room → length w4 ≡ room → w4 ≡ front ++ crc ++ carried ++ replicate (room - size) 0
-put_down w1 w2 w3 w4 front crc carried padding len size room a b c d same zeros fits all =
-    let end : length w4 ≤ len + length padding = omega (arith, ap length zeros, length-replicate {A = ℕ} (room - size) 0) in
-    sym (take_all (len + length padding) w4 end) ∙ d ∙ rw (same, zeros, c, b, a) refl

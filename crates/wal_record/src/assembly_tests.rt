@@ -1,6 +1,7 @@
 ghost use Rattle.std.specs.Prelude.{OnOk};
 ghost use Rattle.wal_record.specs.Spelling.{IsWritable};
 
+use crate::tests::spelled_by;
 use crate::{Body, BodyErr, refusal, spell_plainly};
 use std::alloc::{AllocError, Global};
 use std::test::*;
@@ -44,10 +45,7 @@ fn spelled(alloc: Global, r: &Record) -> Result<Vec<u8>, BodyErr>
     ensures { OnOk result (IsWritable r.now) }
 {
     let body = Body::assemble(alloc, r)?;
-    let mut bytes = vec![in alloc; 1; body.room() as usize]?;
-    body.put(PREV, &mut bytes);
-    bytes.truncate(body.len() as usize);
-    Ok(bytes)
+    Ok(spelled_by(alloc, &body, PREV)?)
 }
 
 fn no_bytes(alloc: Global) -> Bytes {

@@ -8,7 +8,7 @@ ghost use Rattle.wal_record.specs.Spelling.{IsReady, IsWritable, assembled, asse
 
 use crate::assembly::carried;
 use crate::fault::BodyErr;
-use crate::layout::{CRC_AT, HEADER_LEN};
+use crate::layout::HEADER_LEN;
 use crate::refusing::refusal;
 use std::alloc::Global;
 use std::marker::Model;
@@ -109,19 +109,6 @@ impl Body {
         }
     }
 
-    /// Puts all bytes, filled up with zeros to the record's room, into a piece of just that length.
-    pub fn put(&self, prev: Lsn, into: &mut [u8])
-        requires { length into.old ≡ assembled_room self.now }
-        ensures { into.new ≡ filled self.now prev.0 }
-    {
-        put_at(into, 0, &self.header_front(prev));
-        put_at(into, CRC_AT, &self.crc(prev).to_le_bytes());
-        put_at(into, HEADER_LEN, &self.carried);
-        let len = self.len() as usize;
-        let padding = into.len() - len;
-        put_at(into, len, &[0; 7][..padding]);
-    }
-
     // The first 20 bytes.
     fn header_front(&self, prev: Lsn) -> [u8; 20]
         ensures { result ≡ header_front self.now prev.0 }
@@ -156,12 +143,4 @@ fn first_word(bytes: &[u8]) -> u64
             u64::from_le_bytes(padded)
         }
     }
-}
-
-// Puts bytes in, and leaves those before them.
-fn put_at(into: &mut [u8], at: usize, bytes: &[u8])
-    requires { at + length bytes.now ≤ length into.old }
-    ensures { take (at + length bytes.now) into.new ≡ take at into.old ++ bytes.now }
-{
-    into[at..at + bytes.len()].copy_from_slice(bytes);
 }

@@ -22,8 +22,6 @@ pub(crate) const TOP_XID: u8 = 252;
 
 /// The longest record that is assembled.
 pub(crate) const MAX_LEN: u64 = 1_048_576;
-/// The header's part that its own CRC covers.
-pub(crate) const CRC_AT: usize = 20;
 
 /// XLR_MAX_BLOCK_ID
 pub(crate) const MAX_BLOCK_ID: u8 = 32;

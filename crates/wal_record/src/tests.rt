@@ -20,6 +20,16 @@ fn record(alloc: Global, rmid: u8, info: u8, main: &[u8]) -> Result<Record, Allo
     })
 }
 
+// The bytes of a record's words, without the padding behind them.
+pub(crate) fn spelled_by(alloc: Global, body: &Body, prev: Lsn) -> Result<Vec<u8>, AllocError> {
+    let mut bytes = Vec::new(alloc);
+    for n in 0..body.words() {
+        bytes.extend_from_slice(&body.word(prev, n).to_le_bytes())?;
+    }
+    bytes.truncate(body.len() as usize);
+    Ok(bytes)
+}
+
 // A commit of transaction 700, as PostgreSQL's XactLogCommitRecord writes it: eight bytes of time.
 #[test]
 fn commit_is_spelled(rt: HostRuntime) -> Result<(), Fail> {
@@ -44,9 +54,6 @@ fn commit_is_spelled(rt: HostRuntime) -> Result<(), Fail> {
     for n in 0..5 {
         assert_eq!(rt; body.word(Lsn(0), n).to_le_bytes(), words[n as usize]);
     }
-    let mut bytes = vec![in alloc; 0; 40]?;
-    body.put(Lsn(0), &mut bytes);
-    assert_eq!(rt; bytes.as_slice(), words.as_flattened());
     Ok(())
 }
 
@@ -59,12 +66,12 @@ fn records_are_read_again(rt: HostRuntime) -> Result<(), Fail> {
     rich.top_xid = Some(Xid(699));
     for r in [plain, rich] {
         let prev = Lsn(0x10_0028);
-        let body = Body::assemble(alloc, &r)?;
-        let mut bytes = vec![in alloc; 1; body.room() as usize]?;
-        body.put(prev, &mut bytes);
-        let spelled = &bytes[..body.len() as usize];
-        assert_eq!(rt; spelled, spell_plainly(alloc, &r, prev)?.as_slice());
-        let read = decode(alloc, spelled)?;
+        let spelled = spelled_by(alloc, &Body::assemble(alloc, &r)?, prev)?;
+        assert_eq!(rt;
+            spelled.as_slice(),
+            spell_plainly(alloc, &r, prev)?.as_slice()
+        );
+        let read = decode(alloc, &spelled)?;
         assert_eq!(rt; (read.xid, read.rmid, read.info), (r.xid, r.rmid, r.info));
         assert_eq!(rt; (read.origin, read.top_xid), (r.origin, r.top_xid));
         assert!(rt; read.blocks.as_slice().is_empty());
