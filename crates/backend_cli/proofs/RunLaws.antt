@@ -5,7 +5,7 @@ use Rattle.std.specs.Fmt.{decimal}
 use Rattle.std.proofs.lemmas.List.{append-nil}
 use Rattle.byte_position.specs.Position.{first_position, end_address_of}
 use Rattle.byte_position.specs.Geometry.{IsSegmentSize}
-use Rattle.segment_disk.specs.Tape.{Tape}
+use Rattle.segment_disk.specs.Tape.{Tape, page_of_segment, state_now}
 use Rattle.wal_types.specs.LsnText.{lsn_text}
 use Rattle.wal_record.specs.Spelling.{assembled}
 use Rattle.wal_record.proofs.SpellingLaws.{room_is}
@@ -137,10 +137,10 @@ module _ (D : Type 0) (tape : D → Option Tape) (moment faults : D → ℕ) (di
   -- a run that opened the log holds what it promises
   pub opened_holds : (size capacity : ℕ) (list : Bool) (outcome : Outcome) (lines : List Line) (tasks : List Task) (told : List Told) (summary : Summary) (taken_before taken_after : Option (List ℕ)) (sink_before sink_after : ℕ) (printed : Result (Unit {0}) SinkFault) (source : Option (List ℕ)) (count : ℕ) (down : Option ℕ) (result : D) (lists : List (List Told))
       → log.size ≡ size → log.capacity ≡ capacity → capacity ≤ 2 ^ 42 → log.sysid ≡ 1 → result ≡ log_disk log → lists ≡ told ∷ [] → Plays size capacity (faults disk) (at_opening size) lines told after → MeansLines source lines → AreTasks lines tasks
-      → Summarizes size log.bytes told summary → Puts taken_before taken_after sink_before sink_after (printed_text list tasks told summary) printed → down ≡ fault_of log.writer → Concludes down told (not (is_ok printed)) outcome → MomentsRise (moment disk) told (moment (log_disk log))
+      → Summarizes size log.bytes told summary → Puts taken_before taken_after sink_before sink_after (printed_text list tasks told summary) printed → down ≡ fault_of log.writer → Concludes down told (not (is_ok printed)) outcome → MomentsRise (moment disk) told (moment (log_disk log)) → IfSome (tape disk) (λ t. page_of_segment (state_now t 1) 0 ≡ None)
       → (HoldsNothing (tape disk) → last.down ≡ None → last.flushed ≡ end_of log.size last.entries → IfSome (tape result) (λ t. HoldsLog log.size log.sysid last.entries t))
       → RunHolds (record { source = source; source_before = count; source_after = count; tape_before = tape disk; tape_after = tape result; moment_before = moment disk; moment_after = moment result; disk_before = faults disk; disk_after = faults result; taken_before = taken_before; taken_after = taken_after; sink_before = sink_before; sink_after = sink_after }) size capacity list outcome lists
-  opened_holds size capacity list outcome lines tasks told summary taken_before taken_after sink_before sink_after printed source count down result lists same_size same_capacity small sysid same_disk same_lists plays means are summarizes puts told_down concludes rises settled =
+  opened_holds size capacity list outcome lines tasks told summary taken_before taken_after sink_before sink_after printed source count down result lists same_size same_capacity small sysid same_disk same_lists plays means are summarizes puts told_down concludes rises empty settled =
       let outside_of : D → Outside = λ d. record { source = source; source_before = count; source_after = count; tape_before = tape disk; tape_after = tape d; moment_before = moment disk; moment_after = moment d; disk_before = faults disk; disk_after = faults d; taken_before = taken_before; taken_after = taken_after; sink_before = sink_before; sink_after = sink_after } in
       let outside : Outside = outside_of (log_disk log) in
       let valid : IsSegmentSize size = subst IsSegmentSize same_size is_log.valid in
@@ -149,9 +149,9 @@ module _ (D : Type 0) (tape : D → Option Tape) (moment faults : D → ℕ) (di
       let used : Summarizes size (rooms_of after.entries) told summary = subst (λ (n : ℕ). Summarizes size n told summary) (is_log.bytes ∙ ap (λ (es : List Entry). rooms_of es) behind.same) summarizes in
       let text = text_is size list lines tasks told after.entries summary are used (counted size capacity (faults disk) lines told after plays) in
       let order_text : printed_text list tasks told summary ≡ run_text size list (lines ∷ []) (told ∷ []) (order_of size (lines ∷ []) (told ∷ [])) = text ∙ ap (run_text size list (lines ∷ []) (told ∷ [])) (sym order) in
-      let whole_at_end : faults (log_disk log) ≡ faults disk → faults disk < 2 ^ 64 - 1 → HoldsNothing (tape disk) → IsWhole size (tape (log_disk log)) after.entries = λ same low empty.
+      let whole_at_end : faults (log_disk log) ≡ faults disk → faults disk < 2 ^ 64 - 1 → HoldsNothing (tape disk) → IsWhole size (tape (log_disk log)) after.entries = λ same low nothing.
       (let none = quiet_is_up (faults disk) (faults (log_disk log)) last.down since same low in
-      let held : IfSome (tape (log_disk log)) (HoldsLog log.size log.sysid last.entries) = subst (λ (d : D). IfSome (tape d) (HoldsLog log.size log.sysid last.entries)) same_disk (settled empty none (behind.flushed none)) in
+      let held : IfSome (tape (log_disk log)) (HoldsLog log.size log.sysid last.entries) = subst (λ (d : D). IfSome (tape d) (HoldsLog log.size log.sysid last.entries)) same_disk (settled nothing none (behind.flushed none)) in
       let by_size : IfSome (tape (log_disk log)) (HoldsLog size log.sysid last.entries) = subst (λ (n : ℕ). IfSome (tape (log_disk log)) (HoldsLog n log.sysid last.entries)) same_size held in
       let by_sysid : IfSome (tape (log_disk log)) (HoldsLog size 1 last.entries) = subst (λ (n : ℕ). IfSome (tape (log_disk log)) (HoldsLog size n last.entries)) sysid by_size in
       let by_entries : IfSome (tape (log_disk log)) (HoldsLog size 1 after.entries) = subst (λ (es : List Entry). IfSome (tape (log_disk log)) (HoldsLog size 1 es)) behind.same by_sysid in
@@ -161,12 +161,13 @@ module _ (D : Type 0) (tape : D → Option Tape) (moment faults : D → ℕ) (di
         lines ∷ [],
         record {
           means = means;
+          empty = empty;
           told = played_tells_order size capacity (faults disk) (faults (log_disk log)) lines told after valid plays (still_down (faults (log_disk log)) after.down last.down behind.down (last_of (faults disk) (faults (log_disk log)) last.down since));
           stays_down = (played_stays_down size capacity (faults disk) lines told after plays, tt);
           gapless = subst (IsChained size) (sym order) (played_chained size capacity (faults disk) lines told after plays);
           in_line_order = played_rises size capacity (faults disk) lines told after valid plays;
           moments = (rises, tt);
-          whole = λ same low empty. subst (IsWhole size (tape (log_disk log))) (sym order) (whole_at_end same low empty);
+          whole = λ same low nothing. subst (IsWhole size (tape (log_disk log))) (sym order) (whole_at_end same low nothing);
           printed = subst (Took taken_before taken_after sink_before sink_after) order_text (took taken_before taken_after sink_before sink_after (printed_text list tasks told summary) printed puts);
           ends = ends_opened outside told last.down (not (is_ok printed)) outcome (subst (λ (d : Option ℕ). Concludes d told (not (is_ok printed)) outcome) (told_down ∙ is_log.down) concludes) since (quiet D tape faults (tape disk) (faults disk) log last is_log)
               (λ none refused. played_refusals size capacity (faults disk) lines told after plays (behind.up none) refused)

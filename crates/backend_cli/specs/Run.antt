@@ -78,6 +78,7 @@ all_rooms_asked (lines ∷ script) = rooms_asked lines + all_rooms_asked script
 -- a run that opened the log, of a script with these lines: what it told and made of them
 pub record HoldsOpened (outside : Outside) (size capacity : ℕ) (list : Bool) (outcome : Outcome) (script : List (List Line)) (lists : List (List Told)) : Type 0 where
   pub means : IfSome outside.source (λ bytes. meaning_of bytes ≡ Ok script)
+  pub empty : IfSome outside.tape_before (λ t. page_of_segment (state_now t 1) 0 ≡ None)
   pub told : TellsAll (record { size = size; capacity = capacity; order = order_of size script lists; opened = outside.disk_before; last = outside.disk_after }) 0 script lists
   pub stays_down : EachStaysDown lists
   pub gapless : IsChained size (order_of size script lists)

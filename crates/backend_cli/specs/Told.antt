@@ -87,11 +87,11 @@ pub record IsFull (logged : Logged) (behind : ℕ) (value : Record) (free : ℕ)
   pub left : free + rooms_of (take front logged.order) ≡ logged.capacity
   pub short : free < room_of value
 
--- why an insert or a commit may be refused
+-- why an insert or a commit may be refused: a fault in its own device calls comes once its record is reserved
 abbrev pub RefusesRecord : Logged → ℕ → Record → Cause → Option Lsn → Type 0
 RefusesRecord logged behind value (Full free) None = IsFull logged behind value free
 RefusesRecord logged behind value (Full free) (Some start) = ⊥
-RefusesRecord logged behind value (Disk faults) None = IsFault logged faults
+RefusesRecord logged behind value (Disk faults) None = ⊥
 RefusesRecord logged behind value (Disk faults) (Some start) = IsFault logged faults × (start.0 ≡ address_of logged.size (position_of logged.size start.0))
 RefusesRecord logged behind value (Down faults) None = IsFault logged faults
 RefusesRecord logged behind value (Down faults) (Some start) = IsFault logged faults × (start.0 ≡ address_of logged.size (position_of logged.size start.0))
