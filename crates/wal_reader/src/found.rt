@@ -83,7 +83,7 @@ fn page_name(fault: PageErr) -> &'static str
 /// What stands where no record does.
 #[derive(Clone, Copy, Debug, PartialEq, Eq)]
 pub enum Answer {
-    /// A clean end of the log: the end of the last record, or where reading began.
+    /// A clean end of the log: where the last record ends, or how far reading came where there is none.
     End { at: Lsn },
     /// Damage: a page's address, or the start of the record that fails.
     Damaged { at: Lsn, kind: DamageKind },

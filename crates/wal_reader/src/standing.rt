@@ -39,7 +39,7 @@ impl Standing {
 pub enum Step {
     /// The next record.
     Record(FoundRecord),
-    /// A clean end of the log: the end of the last record, or where reading began.
+    /// A clean end of the log: where the last record ends, or how far reading came where there is none.
     End { at: Lsn },
 }
 
