@@ -1,9 +1,9 @@
 -- Bytes read off a source, piece by piece.
-use Rattle.std.proofs.Common.{◌≡◌, ℕ, ◌+◌, ◌≤◌, List, [], ◌++◌, length, take, Option, Some, None, IfSome, refl, ap, sym, ◌∙◌, append_assoc, length-append, arith}
-use Rattle.std.proofs.lemmas.List.{append-nil, take_all, length-take-le}
+use Rattle.std.proofs.Common.{◌≡◌, ℕ, ◌+◌, ◌≤◌, List, [], ◌++◌, length, take, drop, Option, Some, None, IfSome, refl, ap, sym, ◌∙◌, append_assoc, length-append, arith}
+use Rattle.std.proofs.lemmas.List.{append-nil, take_all, drop_all, drop_at, length-take-le}
 use Rattle.std.proofs.Math.Seq.{take-append_seam}
 use Rattle.segment_disk.specs.Stream.{Takes}
-use Rattle.backend_cli.specs.Reading.{ReadOff, HasRead, IsFront}
+use Rattle.backend_cli.specs.Reading.{ReadOff, HasRead, IsFront, IsReadUpto}
 
 ReadOff-none : (left : Option (List ℕ)) → ReadOff left left []
 ReadOff-none None = tt
@@ -43,10 +43,29 @@ IsFront-full most None (Some now) bytes off full = absurd off
 IsFront-full most (Some left) None bytes off full = absurd off
 IsFront-full most (Some left) (Some now) bytes off full = sym (take-append_seam bytes now) ∙ ap (λ (n : ℕ). take n (bytes ++ now)) full ∙ ap (take most) (sym off)
 
+IsReadUpto-end : (most : ℕ) (left now last : Option (List ℕ)) (bytes into : List ℕ) → ReadOff left now bytes → length bytes ≤ most → IfSome now (λ rest. rest ≡ []) → Takes now last 0 into → IsReadUpto most left last
+IsReadUpto-end most None None None bytes into off within ends takes = refl
+IsReadUpto-end most None None (Some last) bytes into off within ends takes = absurd takes
+IsReadUpto-end most None (Some now) last bytes into off within ends takes = absurd off
+IsReadUpto-end most (Some left) None last bytes into off within ends takes = absurd off
+IsReadUpto-end most (Some left) (Some now) None bytes into off within ends takes = absurd takes
+IsReadUpto-end most (Some left) (Some now) (Some last) bytes into off within ends takes =
+    let same : left ≡ bytes = off ∙ ap (λ (rest : List ℕ). bytes ++ rest) ends ∙ append-nil bytes in
+    ap (λ (rest : List ℕ). Some rest) (sym takes ∙ ends ∙ sym (drop_all most bytes within) ∙ ap (drop most) (sym same))
+
+IsReadUpto-full : (most : ℕ) (left now : Option (List ℕ)) (bytes : List ℕ) → ReadOff left now bytes → length bytes ≡ most → IsReadUpto most left now
+IsReadUpto-full most None None bytes off full = refl
+IsReadUpto-full most None (Some now) bytes off full = absurd off
+IsReadUpto-full most (Some left) None bytes off full = absurd off
+IsReadUpto-full most (Some left) (Some now) bytes off full = ap (λ (rest : List ℕ). Some rest) (sym (drop_at bytes now most full) ∙ ap (drop most) (sym off))
+
 -- nothing is left of the source
-pub HasRead-end : (most : ℕ) (left now : Option (List ℕ)) (before between after : ℕ) (bytes : List ℕ) → HasRead most left now before between bytes → IfSome now (λ rest. rest ≡ []) → after ≡ between → (after ≡ before) × (length bytes ≤ most) × IsFront most left bytes
-HasRead-end most left now before between after bytes h ends same = (same ∙ h.faults, h.within, IsFront-end most left now bytes h.off h.within ends)
+pub HasRead-end : (most : ℕ) (left now last : Option (List ℕ)) (before between after : ℕ) (bytes into : List ℕ) → HasRead most left now before between bytes → IfSome now (λ rest. rest ≡ []) → Takes now last 0 into → after ≡ between
+    → (after ≡ before) × (length bytes ≤ most) × IsFront most left bytes × IsReadUpto most left last
+HasRead-end most left now last before between after bytes into h ends takes same = (same ∙ h.faults, h.within, IsFront-end most left now bytes h.off h.within ends, IsReadUpto-end most left now last bytes into h.off h.within ends takes)
 
 -- as many bytes are read as were asked for
-pub HasRead-full : (most : ℕ) (left now : Option (List ℕ)) (before after : ℕ) (bytes : List ℕ) → HasRead most left now before after bytes → most ≤ length bytes → (after ≡ before) × (length bytes ≤ most) × IsFront most left bytes
-HasRead-full most left now before after bytes h full = (h.faults, h.within, IsFront-full most left now bytes h.off (let within : length bytes ≤ most = h.within in omega arith))
+pub HasRead-full : (most : ℕ) (left now : Option (List ℕ)) (before after : ℕ) (bytes : List ℕ) → HasRead most left now before after bytes → most ≤ length bytes → (after ≡ before) × (length bytes ≤ most) × IsFront most left bytes × IsReadUpto most left now
+HasRead-full most left now before after bytes h full =
+    let whole : length bytes ≡ most = let within : length bytes ≤ most = h.within in omega arith in
+    (h.faults, h.within, IsFront-full most left now bytes h.off whole, IsReadUpto-full most left now bytes h.off whole)

@@ -16,6 +16,7 @@ pub record IsUsage (outside : Outside) (outcome : Outcome) (lists : List (List T
   pub untouched : IsUntouched outside
   pub disk : outside.disk_after ≡ outside.disk_before
   pub source : outside.source_after ≡ outside.source_before
+  pub unread : outside.source_left ≡ outside.source
   pub nothing_told : lists ≡ []
 
 -- what is asked for is done

@@ -8,9 +8,10 @@ use Rattle.backend_cli.specs.Rises.{HasRisen}
 abbrev pub Took : Option (List ℕ) → Option (List ℕ) → ℕ → ℕ → List ℕ → Type 0
 Took old new before after text = (new ≡ with_behind old text) ⊎ (HasRisen before after × ((n : ℕ) × (new ≡ with_behind old (take n text))))
 
--- the outside of a command as clauses see it: the source's bytes where it tells them and its counts of faults before and after; the same of the disk's tape, moment and count, and of the sink's bytes and count
+-- the outside of a command as clauses see it: the bytes that the source had left and has, where it tells them, and its counts of faults before and after; the same of the disk's tape, moment and count, and of the sink's bytes and count
 pub record Outside : Type 0 where
   pub source : Option (List ℕ)
+  pub source_left : Option (List ℕ)
   pub source_before : ℕ
   pub source_after : ℕ
   pub tape_before : Option Tape

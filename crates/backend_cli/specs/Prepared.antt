@@ -8,6 +8,7 @@ use Rattle.wal_log.specs.declared.shape.Shape.{Shape}
 use Rattle.backend_cli.specs.declared.run.Prepared.{Prepared}
 use Rattle.backend_cli.specs.declared.outcome.Outcome.{Outcome}
 use Rattle.backend_cli.specs.declared.outcome.Outcome.TheVariants.{Done, OutOfMemory, Usage, SourceFault, ScriptRefused, NotEmpty, DiskFault, Stopped, LogFull, SinkFault}
+use Rattle.backend_cli.specs.Reading.{IsReadAll}
 use Rattle.backend_cli.specs.Rises.{HasRisen}
 use Rattle.backend_cli.specs.Tasks.{AreTasks}
 
@@ -25,24 +26,24 @@ abbrev pub MeansLines : Option (List ℕ) → List Line → Type 0
 MeansLines source lines = IfSome source (λ bytes. meaning_of bytes ≡ Ok (lines ∷ []))
 
 -- why nothing was made ready: memory, the source, or the script
-abbrev pub IsUnprepared : Option (List ℕ) → ℕ → ℕ → Outcome → Type 0
-IsUnprepared source before after Done = ⊥
-IsUnprepared source before after OutOfMemory = after ≡ before
-IsUnprepared source before after Usage = ⊥
-IsUnprepared source before after SourceFault = HasRisen before after
-IsUnprepared source before after (ScriptRefused refusal) = (after ≡ before) × IfSome source (λ bytes. meaning_of bytes ≡ Err refusal)
-IsUnprepared source before after NotEmpty = ⊥
-IsUnprepared source before after DiskFault = ⊥
-IsUnprepared source before after (Stopped answer) = ⊥
-IsUnprepared source before after LogFull = ⊥
-IsUnprepared source before after SinkFault = ⊥
+abbrev pub IsUnprepared : Option (List ℕ) → Option (List ℕ) → ℕ → ℕ → Outcome → Type 0
+IsUnprepared source left before after Done = ⊥
+IsUnprepared source left before after OutOfMemory = after ≡ before
+IsUnprepared source left before after Usage = ⊥
+IsUnprepared source left before after SourceFault = HasRisen before after
+IsUnprepared source left before after (ScriptRefused refusal) = (after ≡ before) × IfSome source (λ bytes. meaning_of bytes ≡ Err refusal) × IsReadAll source left
+IsUnprepared source left before after NotEmpty = ⊥
+IsUnprepared source left before after DiskFault = ⊥
+IsUnprepared source left before after (Stopped answer) = ⊥
+IsUnprepared source left before after LogFull = ⊥
+IsUnprepared source left before after SinkFault = ⊥
 
 -- reading the lines of a script
-abbrev pub ReadsLines : Option (List ℕ) → ℕ → ℕ → Result (Vec Line Global) Outcome → Type 0
-ReadsLines source before after (Ok lines) = MeansLines source lines.items × All (λ line. AsksWritable line.action) lines.items × (after ≡ before)
-ReadsLines source before after (Err outcome) = IsUnprepared source before after outcome
+abbrev pub ReadsLines : Option (List ℕ) → Option (List ℕ) → ℕ → ℕ → Result (Vec Line Global) Outcome → Type 0
+ReadsLines source left before after (Ok lines) = MeansLines source lines.items × All (λ line. AsksWritable line.action) lines.items × (after ≡ before) × IsReadAll source left
+ReadsLines source left before after (Err outcome) = IsUnprepared source left before after outcome
 
 -- making all ready
-abbrev pub Prepares : Option (List ℕ) → Shape → ℕ → ℕ → Result Prepared Outcome → Type 0
-Prepares source shape before after (Ok prepared) = ((lines : List Line) × MeansLines source lines × IsReady shape lines prepared) × (after ≡ before)
-Prepares source shape before after (Err outcome) = IsUnprepared source before after outcome
+abbrev pub Prepares : Option (List ℕ) → Option (List ℕ) → Shape → ℕ → ℕ → Result Prepared Outcome → Type 0
+Prepares source left shape before after (Ok prepared) = ((lines : List Line) × MeansLines source lines × IsReady shape lines prepared) × (after ≡ before) × IsReadAll source left
+Prepares source left shape before after (Err outcome) = IsUnprepared source left before after outcome

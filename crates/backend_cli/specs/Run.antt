@@ -19,6 +19,7 @@ use Rattle.backend_cli.specs.declared.told.Told.{Told}
 use Rattle.backend_cli.specs.Told.{TellsAll, EachStaysDown, order_of, RiseInLineOrder, IsFullAnswer, IsRefused, SomeTold}
 use Rattle.backend_cli.specs.Moments.{EachRises}
 use Rattle.backend_cli.specs.Texts.{run_text}
+use Rattle.backend_cli.specs.Reading.{IsReadAll}
 use Rattle.backend_cli.specs.Rises.{HasRisen}
 use Rattle.backend_cli.specs.Outside.{Outside, Took, IsUntouched}
 
@@ -32,9 +33,9 @@ EndsUnopened outside Done = ⊥
 EndsUnopened outside OutOfMemory = outside.disk_after ≡ outside.disk_before
 EndsUnopened outside Usage = ⊥
 EndsUnopened outside SourceFault = HasRisen outside.source_before outside.source_after × (outside.disk_after ≡ outside.disk_before)
-EndsUnopened outside (ScriptRefused refusal) = IfSome outside.source (λ bytes. meaning_of bytes ≡ Err refusal) × (outside.source_after ≡ outside.source_before) × (outside.disk_after ≡ outside.disk_before)
-EndsUnopened outside NotEmpty = MeansSome outside.source × IfSome outside.tape_before (λ t. IsSome (page_of_segment (state_now t 1) 0)) × (outside.source_after ≡ outside.source_before) × (outside.disk_after ≡ outside.disk_before)
-EndsUnopened outside DiskFault = MeansSome outside.source × HasRisen outside.disk_before outside.disk_after × (outside.source_after ≡ outside.source_before)
+EndsUnopened outside (ScriptRefused refusal) = IfSome outside.source (λ bytes. meaning_of bytes ≡ Err refusal) × IsReadAll outside.source outside.source_left × (outside.source_after ≡ outside.source_before) × (outside.disk_after ≡ outside.disk_before)
+EndsUnopened outside NotEmpty = MeansSome outside.source × IsReadAll outside.source outside.source_left × IfSome outside.tape_before (λ t. IsSome (page_of_segment (state_now t 1) 0)) × (outside.source_after ≡ outside.source_before) × (outside.disk_after ≡ outside.disk_before)
+EndsUnopened outside DiskFault = MeansSome outside.source × IsReadAll outside.source outside.source_left × HasRisen outside.disk_before outside.disk_after × (outside.source_after ≡ outside.source_before)
 EndsUnopened outside (Stopped answer) = ⊥
 EndsUnopened outside LogFull = ⊥
 EndsUnopened outside SinkFault = ⊥
@@ -88,7 +89,7 @@ pub record HoldsOpened (outside : Outside) (size capacity : ℕ) (list : Bool) (
   pub printed : Took outside.taken_before outside.taken_after outside.sink_before outside.sink_after (run_text size list script lists (order_of size script lists))
   pub ends : EndsOpened outside lists outcome
   pub full : SomeTold IsFullAnswer lists → capacity < all_rooms_asked script
-  pub source_read : outside.source_after ≡ outside.source_before
+  pub source_read : IsReadAll outside.source outside.source_left × (outside.source_after ≡ outside.source_before)
 
 -- a run: without told lists the log was not opened, and nothing was touched
 abbrev pub RunHolds : Outside → ℕ → ℕ → Bool → Outcome → List (List Told) → Type 0

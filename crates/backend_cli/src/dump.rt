@@ -18,6 +18,7 @@ pub(crate) fn list<O: Sink, D: Disk>(
 ) -> Finished<D>
     ensures { (source : Option (List ℕ)) (count : ℕ) → DumpHolds (record {
       source = source;
+      source_left = source;
       source_before = count;
       source_after = count;
       tape_before = D.tape disk;

@@ -41,6 +41,7 @@ fn obey<S: Source, O: Sink, D: Disk, G: Gate>(
     requires in_range { AsksInRange command }
     ensures obeys { Obeys command (record {
       source = S.left script.old;
+      source_left = S.left script.new;
       source_before = S.faults script.old;
       source_after = S.faults script.new;
       tape_before = D.tape disk;
@@ -89,6 +90,7 @@ pub fn pgwal<R: Threads + Wait + Sync, S: Source, O: Sink, E: Sink, D: Disk + Se
         × Took (E.taken err.old) (E.taken err.new) (E.faults err.old) (E.faults err.new) (joined (outcome_text outcome))
         × Obeys (asks (map (λ w. string_bytes w) words.now)) (record {
           source = S.left script.old;
+          source_left = S.left script.new;
           source_before = S.faults script.old;
           source_after = S.faults script.new;
           tape_before = D.tape disk;

@@ -28,7 +28,7 @@ const PIECE: usize = 65_536;
 
 /// Reads a script to its end, or to one byte past its limit.
 pub(crate) fn read_script<S: Source>(alloc: Global, source: &mut S) -> Result<Vec<u8>, ReadFailure>
-    ensures { ReadsAll (S.left source.old) (S.faults source.old) (S.faults source.new) result }
+    ensures { ReadsAll (S.left source.old) (S.left source.new) (S.faults source.old) (S.faults source.new) result }
 {
     let mut piece = vec![in alloc; 0u8; PIECE]?;
     read_upto(alloc, source, &mut piece, SCRIPT_LIMIT + 1)
@@ -42,7 +42,7 @@ fn read_upto<S: Source>(
     most: usize,
 ) -> Result<Vec<u8>, ReadFailure>
     requires { 0 < length piece.old }
-    ensures { ReadsUpto most (S.left source.old) (S.faults source.old) (S.faults source.new) result }
+    ensures { ReadsUpto most (S.left source.old) (S.left source.new) (S.faults source.old) (S.faults source.new) result }
 {
     let mut bytes = Vec::new(alloc);
     while bytes.len() < most {

@@ -9,6 +9,7 @@ ghost use Rattle.backend_cli.specs.Printing.{printed_text, Summarizes};
 ghost use Rattle.backend_cli.specs.Concluding.{Concludes};
 ghost use Rattle.backend_cli.specs.Run.{RunHolds};
 ghost use Rattle.backend_cli.specs.Prepared.{Prepares, ReadsLines, IsReady, MeansLines};
+ghost use Rattle.backend_cli.specs.Reading.{IsReadAll};
 
 use crate::outcome::Outcome;
 use crate::play::play;
@@ -47,7 +48,7 @@ struct Prepared {
 const SYSTEM_ID: u64 = 1;
 
 fn lines_of<S: Source>(alloc: Global, source: &mut S) -> Result<Vec<Line>, Outcome>
-    ensures { ReadsLines (S.left source.old) (S.faults source.old) (S.faults source.new) result }
+    ensures { ReadsLines (S.left source.old) (S.left source.new) (S.faults source.old) (S.faults source.new) result }
 {
     let script = match read_script(alloc, source) {
         Ok(script) => script,
@@ -77,7 +78,7 @@ fn room_for(alloc: Global, shape: Shape, lines: &[Line]) -> Result<Prepared, All
 
 // Reads the script and takes all room.
 fn prepare<S: Source>(alloc: Global, shape: &Shape, source: &mut S) -> Result<Prepared, Outcome>
-    ensures { Prepares (S.left source.old) shape.now (S.faults source.old) (S.faults source.new) result }
+    ensures { Prepares (S.left source.old) (S.left source.new) shape.now (S.faults source.old) (S.faults source.new) result }
 {
     let lines = lines_of(alloc, source)?;
     match room_for(alloc, *shape, &lines) {
@@ -187,9 +188,10 @@ fn run_prepared<O: Sink, D: Disk, G: Gate>(
     gate: &G,
 ) -> Finished<D>
     requires { (lines : List Line) × IsReady shape lines prepared }
-    ensures holds { (source : Option (List ℕ)) (count : ℕ) (lines : List Line) → MeansLines source lines → IsReady shape lines prepared
+    ensures holds { (source left : Option (List ℕ)) (count : ℕ) (lines : List Line) → IsReadAll source left → MeansLines source lines → IsReady shape lines prepared
         → RunHolds (record {
           source = source;
+          source_left = left;
           source_before = count;
           source_after = count;
           tape_before = D.tape disk;
@@ -250,6 +252,7 @@ pub(crate) fn run<S: Source, O: Sink, D: Disk, G: Gate>(
 ) -> Finished<D>
     ensures holds { RunHolds (record {
       source = S.left source.old;
+      source_left = S.left source.new;
       source_before = S.faults source.old;
       source_after = S.faults source.new;
       tape_before = D.tape disk;

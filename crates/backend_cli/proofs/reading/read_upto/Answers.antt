@@ -1,4 +1,5 @@
-use Rattle.std.proofs.Common.{◌<◌, ◌≤◌, ◌+◌, ◌++◌, List, ℕ, length, take, drop, ap, ◌∙◌, arith}
+use Rattle.std.proofs.Common.{◌<◌, ◌≤◌, ◌+◌, ◌++◌, List, ℕ, length, take, drop, ap, subst, ◌∙◌, arith}
+use Rattle.segment_disk.specs.Stream.{Takes}
 use Rattle.std.proofs.lemmas.List.{length-take-le, take-append-le}
 use Rattle.backend_cli.proofs.ReadLaws.{HasRead-none, HasRead-more, HasRead-end, HasRead-full}
 use Rattle.backend_cli.proofs.reading.read_upto.Goals as goal
@@ -10,7 +11,8 @@ pub returns-in-Ok-eq0 : goal.returns-in-Ok-eq0
 returns-in-Ok-eq0 g c =
     let within : c.min-wanted.result ≤ length c.loop-bytes.piece = omega arith in
     let some : 0 < length (take c.min-wanted.result c.loop-bytes.piece) = omega (arith, length-take-le c.min-wanted.result c.loop-bytes.piece within) in
-    HasRead-end _ _ _ _ _ _ _ c.loop-bytes.invariant (c.in-Ok-eq0.ensures.end c.in-Ok-eq0.field-0-test some) c.in-Ok-eq0.ensures.cause
+    let none_taken = subst (λ (n : ℕ). Takes (g.S.Source.left c.loop-bytes.source) (g.S.Source.left c.read.new.self) n c.read.new.into) c.in-Ok-eq0.field-0-test c.in-Ok-eq0.ensures.taken in
+    HasRead-end _ _ _ _ _ _ _ _ c.read.new.into c.loop-bytes.invariant (c.in-Ok-eq0.ensures.end c.in-Ok-eq0.field-0-test some) none_taken c.in-Ok-eq0.ensures.cause
 
 pub loop-bytes-preserved : goal.loop-bytes-preserved
 loop-bytes-preserved g c =

@@ -14,6 +14,7 @@ returns-in-Ok-parse g c =
       MeansLines_read (g.S.Source.left c.args.source.now) c.in-Ok.script.items c.deref.result.now lines read.2 c.deref.ensures.value c.in-Ok-parse.ensures,
       lines_writable c.deref.result.now lines c.in-Ok-parse.ensures,
       read.0,
+      read.3,
     )
 
 pub returns : goal.returns
@@ -21,4 +22,4 @@ returns g c =
     let read = c.in-Ok.ensures in
     let parsed = c.deref.result.now in
     let refused = subst (λ (error : ParseError). Refuses error (backend_meaning parsed)) c.in-Err-Refused.field-0-is c.in-Err-Refused.ensures in
-    (read.0, refused_read (g.S.Source.left c.args.source.now) c.in-Ok.script.items parsed c.in-Err-Refused.refusal read.2 c.deref.ensures.value refused)
+    (read.0, refused_read (g.S.Source.left c.args.source.now) c.in-Ok.script.items parsed c.in-Err-Refused.refusal read.2 c.deref.ensures.value refused, read.3)

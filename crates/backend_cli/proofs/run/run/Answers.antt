@@ -7,9 +7,10 @@ use Rattle.backend_cli.proofs.run.run.Goals as goal
 pub returns-in-Ok-clause-holds : goal.returns-in-Ok-clause-holds
 returns-in-Ok-clause-holds g c =
     let prepared = c.in-Ok.ensures in
-    let holds = c.run_prepared.ensures.holds (g.S.Source.left c.args.source.now) (g.S.Source.faults c.args.source.now) prepared.0.0 prepared.0.1 prepared.0.2 in
+    let holds = c.run_prepared.ensures.holds (g.S.Source.left c.args.source.now) (g.S.Source.left c.prepare.new.source) (g.S.Source.faults c.args.source.now) prepared.0.0 prepared.2 prepared.0.1 prepared.0.2 in
     subst (λ (count : ℕ). RunHolds (record {
       source = g.S.Source.left c.args.source.now;
+      source_left = g.S.Source.left c.prepare.new.source;
       source_before = g.S.Source.faults c.args.source.now;
       source_after = count;
       tape_before = g.D.Disk.tape c.args.disk;
