@@ -3,8 +3,8 @@ use Rattle.std.proofs.Common.{ℕ, ◌*◌, ◌^◌, ◌≤◌, refl, arith}
 use Rattle.std.proofs.Math.Nat.{mul-le-mul_right}
 use Rattle.byte_position.specs.Geometry.{IsSegmentSize}
 use Rattle.byte_position.specs.Position.{first_position}
-use Rattle.wal_log.specs.Standing.{capacity_of}
-use Rattle.wal_log.proofs.ShapeLaws.{IsFirst-of, capacity_of-first}
+use Rattle.serial_log.specs.History.{capacity_of}
+use Rattle.serial_log.proofs.ShapeLaws.{IsFirst-of, capacity_of-first}
 
 pub capacity_of-le : (size segments : ℕ) → IsSegmentSize size → segments ≤ 4096 → capacity_of size segments ≤ 2 ^ 42
 capacity_of-le size segments valid few =

@@ -1,16 +1,16 @@
 -- How a log stands behind its last flush.
 use Rattle.std.proofs.Common.{◌≡◌, ℕ, Option, Some, None, Result, Ok, Err, refl, sym, subst}
 use Rattle.std.specs.Prelude.{IfSome}
-use Rattle.wal_log.specs.declared.told.Hard.{Hard}
-use Rattle.wal_log.specs.declared.told.Refused.{Refused}
-use Rattle.wal_log.specs.declared.told.Cause.{Cause}
-use Rattle.wal_log.specs.declared.told.Cause.TheVariants.{Full, Disk, Down}
+use Rattle.serial_log.specs.declared.told.Hard.{Hard}
+use Rattle.serial_log.specs.declared.told.Refused.{Refused}
+use Rattle.serial_log.specs.declared.told.Cause.{Cause}
+use Rattle.serial_log.specs.declared.told.Cause.TheVariants.{Full, Disk, Down}
 use Rattle.wal_types.specs.declared.lsn.Lsn.{Lsn}
-use Rattle.wal_log.specs.Standing.{Standing, end_of}
-use Rattle.wal_log.specs.Steps.{Flushes, RefusesFlush}
+use Rattle.serial_log.specs.History.{LogHistory, end_of}
+use Rattle.serial_log.specs.Steps.{Flushes, RefusesFlush}
 
 -- the entries are those before it, a disk that had failed still has, and one that has not is flushed to the log's end
-pub record IsBehindFlush (size : ℕ) (before after : Standing) : Type 0 where
+pub record IsBehindFlush (size : ℕ) (before after : LogHistory) : Type 0 where
   pub same : after.entries ≡ before.entries
   pub down : (faults : ℕ) → before.down ≡ Some faults → after.down ≡ Some faults
   pub up : after.down ≡ None → before.down ≡ None
@@ -20,8 +20,8 @@ not_both : (down : Option ℕ) (faults : ℕ) → down ≡ None → down ≡ Som
 not_both None faults none some = cc
 not_both (Some other) faults none some = cc
 
-module _ (size opened : ℕ) (before : Standing) where
-  behind_refused : (cause : Cause) (reserved : Option Lsn) (after : Standing) → RefusesFlush opened before cause reserved after → IsBehindFlush size before after
+module _ (size opened : ℕ) (before : LogHistory) where
+  behind_refused : (cause : Cause) (reserved : Option Lsn) (after : LogHistory) → RefusesFlush opened before cause reserved after → IsBehindFlush size before after
   behind_refused (Full free) reserved after refuses = absurd refuses
   behind_refused (Disk faults) None after refuses = subst (IsBehindFlush size before) (sym refuses.after_is) (record {
     same = refl;
@@ -38,7 +38,7 @@ module _ (size opened : ℕ) (before : Standing) where
   })
   behind_refused (Down faults) (Some start) after refuses = absurd refuses
 
-  pub behind_flush : (answer : Result Hard Refused) (after : Standing) → Flushes size opened before answer after → IsBehindFlush size before after
+  pub behind_flush : (answer : Result Hard Refused) (after : LogHistory) → Flushes size opened before answer after → IsBehindFlush size before after
   behind_flush (Ok done) after flushes = subst (IsBehindFlush size before) (sym flushes.after_is) (record {
     same = refl;
     down = λ faults some. some;

@@ -1,18 +1,18 @@
 -- Moments that are told one after another.
 use Rattle.std.proofs.Common.{◌≡◌, ◌<◌, ◌≤◌, ℕ, Bool, true, false, List, [], ◌∷◌, ◌++◌, Option, Some, None, Result, Ok, Err, sym, ap, ◌∙◌, subst, refl, arith}
 use Rattle.std.specs.Prelude.{IfSome, IfOk, IfErr, OnOk, OnErr}
-use Rattle.flush_core.specs.Writer.{fault_of}
-use Rattle.wal_log.specs.declared.told.Receipt.{Receipt}
-use Rattle.wal_log.specs.declared.told.Hard as hard
-use Rattle.wal_log.specs.declared.told.Sealed.{Sealed}
-use Rattle.wal_log.specs.declared.told.Refused as refused
-use Rattle.wal_log.specs.declared.told.Cause.{Cause}
-use Rattle.wal_log.specs.declared.told.Cause.TheVariants.{Full, Disk, Down}
+use Rattle.flush_core.specs.Writer.{writer_fault}
+use Rattle.serial_log.specs.declared.told.Receipt.{Receipt}
+use Rattle.serial_log.specs.declared.told.Hard as hard
+use Rattle.serial_log.specs.declared.told.Sealed.{Sealed}
+use Rattle.serial_log.specs.declared.told.Refused as refused
+use Rattle.serial_log.specs.declared.told.Cause.{Cause}
+use Rattle.serial_log.specs.declared.told.Cause.TheVariants.{Full, Disk, Down}
 use Rattle.segment_disk.specs.Tape.{Tape}
-use Rattle.wal_log.specs.LogState.{LogState, IsLog, HasUnwritten, end_behind, log_disk}
-use Rattle.wal_log.specs.Standing.{at_opening}
-use Rattle.wal_log.proofs.OpeningLaws.{end_behind-none}
-use Rattle.wal_log.specs.Refusing.{HasFailed, IsLeftBy, down_again}
+use Rattle.serial_log.specs.LogState.{LogState, IsLog, HasUnwritten, end_behind, log_disk}
+use Rattle.serial_log.specs.History.{at_opening}
+use Rattle.serial_log.proofs.OpeningLaws.{end_behind-none}
+use Rattle.serial_log.specs.Refusing.{HasFailed, IsLeftBy, down_again}
 use Rattle.backend_cli.specs.declared.told.Told.{Told}
 use Rattle.backend_cli.specs.Moments.{FlushMoment, LastTold, MomentStep, MomentsReach}
 use Rattle.backend_cli.specs.Steps.{told_of_insert, told_of_commit, told_of_flush}
@@ -34,11 +34,11 @@ not_up (Some other) faults some none = cc
 
 module _ (D : Type 0) (moment : D → ℕ) (last : LastTold) (old new : LogState D) (tracked : IsTracked moment last old) (rises : moment (log_disk old) ≤ moment (log_disk new)) where
   -- a log that failed
-  tracked_failed : (faults : ℕ) → new.moment ≡ old.moment → fault_of new.writer ≡ Some faults → IsTracked moment last new
+  tracked_failed : (faults : ℕ) → new.moment ≡ old.moment → writer_fault new.writer ≡ Some faults → IsTracked moment last new
   tracked_failed faults same failed = record {
     kept = same ∙ tracked.kept;
     within = omega (arith, same, tracked.within, rises);
-    latest = λ up. absurd (not_up (fault_of new.writer) faults failed up);
+    latest = λ up. absurd (not_up (writer_fault new.writer) faults failed up);
   }
 
   -- a refusal leaves the moment told last
@@ -84,11 +84,11 @@ module _ (D : Type 0) (moment : D → ℕ) (last : LastTold) (old new : LogState
   flushed_up None done down = refl
   flushed_up (Some faults) done down = let no = down.0 in cc
 
-  pub flush_moments : (answer : Result hard.Hard refused.Refused) → IfSome (fault_of old.writer) (λ faults. (answer ≡ Err (down_again faults)) × (new ≡ old)) → IfOk answer (λ done. done.moment ≡ new.moment) → (old.flushed ≡ end_behind old.size old.bytes → new ≡ old)
+  pub flush_moments : (answer : Result hard.Hard refused.Refused) → IfSome (writer_fault old.writer) (λ faults. (answer ≡ Err (down_again faults)) × (new ≡ old)) → IfOk answer (λ done. done.moment ≡ new.moment) → (old.flushed ≡ end_behind old.size old.bytes → new ≡ old)
       → OnOk answer ((old.flushed ≡ end_behind old.size old.bytes → ⊥) → new.moment ≡ moment (log_disk new)) → OnOk answer (HasUnwritten old → moment (log_disk old) < moment (log_disk new)) → OnOk answer (new.flushed ≡ end_behind new.size new.bytes)
       → OnErr answer (new.moment ≡ old.moment) → IfErr answer (λ refusal. HasFailed refusal.cause new) → StepsOn moment last (told_of_flush answer) new
   flush_moments (Ok done) down told idle latter later flushed kept failed =
-      let step = flush_told last.is_latest done.moment (tracked.latest (flushed_up (fault_of old.writer) done down)) told idle latter later in (
+      let step = flush_told last.is_latest done.moment (tracked.latest (flushed_up (writer_fault old.writer) done down)) told idle latter later in (
         record { moment = done.moment; is_latest = true },
         (step.0, refl),
         record { kept = sym told; within = step.1; latest = λ up. flushed },

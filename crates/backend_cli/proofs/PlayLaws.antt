@@ -4,17 +4,17 @@ use Rattle.std.proofs.lemmas.List.{take_all}
 use Rattle.segment_disk.specs.Tape.{Tape}
 use Rattle.wal_script.specs.declared.line.Line.{Line}
 use Rattle.wal_script.specs.declared.line.Action.{Action}
-use Rattle.wal_log.specs.LogState.{LogState, IsLog, IsSameLog}
-use Rattle.wal_log.specs.Standing.{Standing, at_opening}
+use Rattle.serial_log.specs.LogState.{LogState, IsLog, IsSameLog}
+use Rattle.serial_log.specs.History.{LogHistory, at_opening}
 use Rattle.backend_cli.specs.declared.tasks.Task.{Task}
 use Rattle.backend_cli.specs.declared.told.Told.{Told}
 use Rattle.backend_cli.specs.Steps.{Steps, Plays}
 use Rattle.backend_cli.specs.Tasks.{IsWork, AreTasks}
 
 -- one line more at the end
-pub Plays_push : (size capacity opened : ℕ) (before mid after : Standing) (lines : List Line) (told : List Told) (line : Line) (answer : Told) → Plays size capacity opened before lines told mid → Steps size capacity opened mid line.action answer after
+pub Plays_push : (size capacity opened : ℕ) (before mid after : LogHistory) (lines : List Line) (told : List Told) (line : Line) (answer : Told) → Plays size capacity opened before lines told mid → Steps size capacity opened mid line.action answer after
     → Plays size capacity opened before (lines ++ line ∷ []) (told ++ answer ∷ []) after
-Plays_push size capacity opened before mid after [] [] line answer plays step = (after, subst (λ (s : Standing). Steps size capacity opened s line.action answer after) plays step, refl)
+Plays_push size capacity opened before mid after [] [] line answer plays step = (after, subst (λ (s : LogHistory). Steps size capacity opened s line.action answer after) plays step, refl)
 Plays_push size capacity opened before mid after [] (t ∷ told) line answer plays step = absurd plays
 Plays_push size capacity opened before mid after (l ∷ lines) [] line answer plays step = absurd plays
 Plays_push size capacity opened before mid after (l ∷ lines) (t ∷ told) line answer plays step =
@@ -40,12 +40,12 @@ line_of_task (line ∷ lines) (t ∷ tasks) (suc i) task are within is =
 abbrev pub IsPlayed : {D : Type 0} → (D → Option Tape) → (D → ℕ) → LogState D → LogState D → List Task → ℕ → List Told → Type 0
 IsPlayed tape faults old new tasks i told =
     (before : Option Tape) (opened : ℕ) (lines : List Line) → IsLog tape faults before opened old (at_opening old.size) → AreTasks lines tasks
-    → (s : Standing) × Plays old.size old.capacity opened (at_opening old.size) (take i lines) told s × IsLog tape faults before opened new s
+    → (s : LogHistory) × Plays old.size old.capacity opened (at_opening old.size) (take i lines) told s × IsLog tape faults before opened new s
 
 module _ (D : Type 0) (tape : D → Option Tape) (faults : D → ℕ) (old : LogState D) (tasks : List Task) where
   -- one line more, whose work a log did
   pub IsPlayed_more : (mid new : LogState D) (i : ℕ) (told all : List Told) (task : Task) (answer : Told) → IsPlayed tape faults old mid tasks i told → IsSameLog old mid → i < length tasks → task ≡ get_or tasks i task → all ≡ told ++ answer ∷ []
-      → ((before : Option Tape) (opened : ℕ) (s : Standing) (action : Action) → IsLog tape faults before opened mid s → IsWork action task.work → (after : Standing) × Steps mid.size mid.capacity opened s action answer after × IsLog tape faults before opened new after)
+      → ((before : Option Tape) (opened : ℕ) (s : LogHistory) (action : Action) → IsLog tape faults before opened mid s → IsWork action task.work → (after : LogHistory) × Steps mid.size mid.capacity opened s action answer after × IsLog tape faults before opened new after)
       → IsPlayed tape faults old new tasks (i + 1) all
   IsPlayed_more mid new i told all task answer played same within is pushed steps before opened lines is_log are =
       let size = old.size in
@@ -62,7 +62,7 @@ module _ (D : Type 0) (tape : D → Option Tape) (faults : D → ℕ) (old : Log
 
   -- all lines
   pub IsPlayed_all : (new : LogState D) (i : ℕ) (told : List Told) → IsPlayed tape faults old new tasks i told → length tasks ≤ i → (before : Option Tape) (opened : ℕ) (lines : List Line) → IsLog tape faults before opened old (at_opening old.size) → AreTasks lines tasks
-      → (s : Standing) × Plays old.size old.capacity opened (at_opening old.size) lines told s × IsLog tape faults before opened new s
+      → (s : LogHistory) × Plays old.size old.capacity opened (at_opening old.size) lines told s × IsLog tape faults before opened new s
   IsPlayed_all new i told played end before opened lines is_log are =
       let so_far = played before opened lines is_log are in
       let whole : take i lines ≡ lines = take_all i lines (omega (arith, length-AreTasks lines tasks are)) in

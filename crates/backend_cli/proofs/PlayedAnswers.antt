@@ -9,12 +9,12 @@ use Rattle.wal_script.specs.declared.line.Action.{Action}
 use Rattle.backend_cli.specs.declared.told.Told.{Told}
 use Rattle.backend_cli.specs.Told.{IsFullAnswer, IsRefused, SomeAnswer, SomeTold}
 use Rattle.backend_cli.specs.Run.{room_asked, rooms_asked}
-use Rattle.wal_log.specs.Standing.{Standing, at_opening, next_entry, with_next}
+use Rattle.serial_log.specs.History.{LogHistory, at_opening, next_entry, with_entry}
 use Rattle.backend_cli.specs.Steps.{Plays}
 use Rattle.backend_cli.proofs.StepCases.{StepFact, HoldsOfSteps, fact-Steps}
 
 -- a disk that is still up afterwards was up before, and refused nothing but for want of room
-record IsUpStep (before : Standing) (told : Told) : Type 0 where
+record IsUpStep (before : LogHistory) (told : Told) : Type 0 where
   up : before.down ≡ None
   refuses : IsRefused told → IsFullAnswer told
 
@@ -41,14 +41,14 @@ steps_up size capacity opened = record {
   flush_down = λ s faults down up. absurd (is_down s.down faults down up);
 }
 
-pub plays_up : (size capacity opened : ℕ) (lines : List Line) (told : List Told) (before after : Standing) → Plays size capacity opened before lines told after → after.down ≡ None → before.down ≡ None
-plays_up size capacity opened [] [] before after plays up = ap (λ (s : Standing). s.down) (sym plays) ∙ up
+pub plays_up : (size capacity opened : ℕ) (lines : List Line) (told : List Told) (before after : LogHistory) → Plays size capacity opened before lines told after → after.down ≡ None → before.down ≡ None
+plays_up size capacity opened [] [] before after plays up = ap (λ (s : LogHistory). s.down) (sym plays) ∙ up
 plays_up size capacity opened [] (answer ∷ told) before after plays up = absurd plays
 plays_up size capacity opened (line ∷ lines) [] before after plays up = absurd plays
 plays_up size capacity opened (line ∷ lines) (answer ∷ told) before after plays up =
     (fact-Steps size capacity opened StaysUp (steps_up size capacity opened) before line.action answer plays.0 plays.1 (plays_up size capacity opened lines told plays.0 after plays.2 up)).up
 
-pub plays_refusals : (size capacity opened : ℕ) (lines : List Line) (told : List Told) (before after : Standing) → Plays size capacity opened before lines told after → after.down ≡ None → SomeAnswer IsRefused told → SomeAnswer IsFullAnswer told
+pub plays_refusals : (size capacity opened : ℕ) (lines : List Line) (told : List Told) (before after : LogHistory) → Plays size capacity opened before lines told after → after.down ≡ None → SomeAnswer IsRefused told → SomeAnswer IsFullAnswer told
 plays_refusals size capacity opened [] [] before after plays up refused = absurd refused
 plays_refusals size capacity opened [] (answer ∷ told) before after plays up refused = absurd plays
 plays_refusals size capacity opened (line ∷ lines) [] before after plays up refused = absurd plays
@@ -56,18 +56,18 @@ plays_refusals size capacity opened (line ∷ lines) (answer ∷ told) before af
     inl ((fact-Steps size capacity opened StaysUp (steps_up size capacity opened) before line.action answer plays.0 plays.1 (plays_up size capacity opened lines told plays.0 after plays.2 up)).refuses here)
 plays_refusals size capacity opened (line ∷ lines) (answer ∷ told) before after plays up (inr later) = inr (plays_refusals size capacity opened lines told plays.0 after plays.2 up later)
 
-pub played_refusals : (size capacity opened : ℕ) (lines : List Line) (told : List Told) (after : Standing) → Plays size capacity opened (at_opening size) lines told after → after.down ≡ None → SomeAnswer IsRefused told → SomeAnswer IsFullAnswer told
+pub played_refusals : (size capacity opened : ℕ) (lines : List Line) (told : List Told) (after : LogHistory) → Plays size capacity opened (at_opening size) lines told after → after.down ≡ None → SomeAnswer IsRefused told → SomeAnswer IsFullAnswer told
 played_refusals size capacity opened lines told after plays = plays_refusals size capacity opened lines told (at_opening size) after plays
 
 -- a step takes up no more than its line asks for, and one that finds the log full asks for more than is left
-record AsksFor (capacity : ℕ) (before : Standing) (action : Action) (told : Told) (after : Standing) : Type 0 where
+record AsksFor (capacity : ℕ) (before : LogHistory) (action : Action) (told : Told) (after : LogHistory) : Type 0 where
   taken : rooms_of after.entries ≤ rooms_of before.entries + room_asked action
   full : IsFullAnswer told → capacity < rooms_of before.entries + room_asked action
 
 abbrev TakesRoom : ℕ → StepFact
 TakesRoom capacity before action told after = AsksFor capacity before action told after
 
-next_rooms : (size : ℕ) (s : Standing) (value : Record) → rooms_of (with_next size s.entries value) ≤ rooms_of s.entries + room_of value
+next_rooms : (size : ℕ) (s : LogHistory) (value : Record) → rooms_of (with_entry size s.entries value) ≤ rooms_of s.entries + room_of value
 next_rooms size s value = omega (arith, rooms_of_push s.entries (next_entry size s.entries value))
 
 steps_room : (size capacity opened : ℕ) → HoldsOfSteps size capacity opened (TakesRoom capacity)
@@ -85,7 +85,7 @@ steps_room size capacity opened = record {
   flush_down = λ s faults down. record { taken = omega arith; full = λ no. absurd no };
 }
 
-pub plays_full : (size capacity opened : ℕ) (lines : List Line) (told : List Told) (before after : Standing) → Plays size capacity opened before lines told after → SomeAnswer IsFullAnswer told → capacity < rooms_of before.entries + rooms_asked lines
+pub plays_full : (size capacity opened : ℕ) (lines : List Line) (told : List Told) (before after : LogHistory) → Plays size capacity opened before lines told after → SomeAnswer IsFullAnswer told → capacity < rooms_of before.entries + rooms_asked lines
 plays_full size capacity opened [] [] before after plays full = absurd full
 plays_full size capacity opened [] (answer ∷ told) before after plays full = absurd plays
 plays_full size capacity opened (line ∷ lines) [] before after plays full = absurd plays
@@ -96,7 +96,7 @@ plays_full size capacity opened (line ∷ lines) (answer ∷ told) before after 
     let room = fact-Steps size capacity opened (TakesRoom capacity) (steps_room size capacity opened) before line.action answer plays.0 plays.1 in
     omega (arith, room.taken, plays_full size capacity opened lines told plays.0 after plays.2 later)
 
-pub played_full : (size capacity opened : ℕ) (lines : List Line) (told : List Told) (after : Standing) → Plays size capacity opened (at_opening size) lines told after → SomeAnswer IsFullAnswer told → capacity < rooms_asked lines
+pub played_full : (size capacity opened : ℕ) (lines : List Line) (told : List Told) (after : LogHistory) → Plays size capacity opened (at_opening size) lines told after → SomeAnswer IsFullAnswer told → capacity < rooms_asked lines
 played_full size capacity opened lines told after plays full = omega (arith, plays_full size capacity opened lines told (at_opening size) after plays full)
 
 -- some answer of the one backend

@@ -1,8 +1,8 @@
 -- Once the disk has failed, each line is told so.
 use Rattle.std.proofs.Common.{◌≡◌, ℕ, List, [], ◌∷◌, Some, None, Option, refl, sym, ap, ◌∙◌}
 use Rattle.wal_script.specs.declared.line.Line.{Line}
-use Rattle.wal_log.specs.declared.told.Cause.TheVariants.{Full, Disk, Down}
-use Rattle.wal_log.specs.Standing.{Standing, at_opening}
+use Rattle.serial_log.specs.declared.told.Cause.TheVariants.{Full, Disk, Down}
+use Rattle.serial_log.specs.History.{LogHistory, at_opening}
 use Rattle.backend_cli.specs.declared.told.Told.{Told}
 use Rattle.backend_cli.specs.declared.told.Told.TheVariants.{Wrote, Hard, Flushed, Refused}
 use Rattle.backend_cli.specs.Steps.{Plays}
@@ -10,7 +10,7 @@ use Rattle.backend_cli.specs.Told.{AllDown, StaysDown}
 use Rattle.backend_cli.proofs.StepCases.{StepFact, HoldsOfSteps, fact-Steps}
 
 -- an answer that tells a fault leaves the disk failed
-abbrev LeavesDown : Told → Standing → Type 0
+abbrev LeavesDown : Told → LogHistory → Type 0
 LeavesDown (Wrote start end) after = Unit {0}
 LeavesDown (Hard start end moment) after = Unit {0}
 LeavesDown (Flushed upto moment) after = Unit {0}
@@ -19,7 +19,7 @@ LeavesDown (Refused (Disk faults) reserved) after = after.down ≡ Some faults
 LeavesDown (Refused (Down faults) reserved) after = after.down ≡ Some faults
 
 -- a disk that had failed has, and that is all that is told
-record IsDownStep (before : Standing) (told : Told) (after : Standing) : Type 0 where
+record IsDownStep (before : LogHistory) (told : Told) (after : LogHistory) : Type 0 where
   again : (faults : ℕ) → before.down ≡ Some faults → (told ≡ Refused (Down faults) None) × (after.down ≡ Some faults)
   leaves : LeavesDown told after
 
@@ -48,7 +48,7 @@ steps_down size capacity opened = record {
   flush_down = λ s faults is. record { again = λ others down. (same_fault s.down faults others is down, down); leaves = is };
 }
 
-plays_all_down : (size capacity opened faults : ℕ) (lines : List Line) (told : List Told) (before after : Standing) → Plays size capacity opened before lines told after → before.down ≡ Some faults → AllDown faults told
+plays_all_down : (size capacity opened faults : ℕ) (lines : List Line) (told : List Told) (before after : LogHistory) → Plays size capacity opened before lines told after → before.down ≡ Some faults → AllDown faults told
 plays_all_down size capacity opened faults [] [] before after plays down = tt
 plays_all_down size capacity opened faults [] (answer ∷ told) before after plays down = absurd plays
 plays_all_down size capacity opened faults (line ∷ lines) [] before after plays down = absurd plays
@@ -57,7 +57,7 @@ plays_all_down size capacity opened faults (line ∷ lines) (answer ∷ told) be
     (step.0, plays_all_down size capacity opened faults lines told plays.0 after plays.2 step.1)
 
 -- one answer more in front
-stays_down_behind : (answer : Told) (others : List Told) (mid : Standing) → LeavesDown answer mid → StaysDown others → ((faults : ℕ) → mid.down ≡ Some faults → AllDown faults others) → StaysDown (answer ∷ others)
+stays_down_behind : (answer : Told) (others : List Told) (mid : LogHistory) → LeavesDown answer mid → StaysDown others → ((faults : ℕ) → mid.down ≡ Some faults → AllDown faults others) → StaysDown (answer ∷ others)
 stays_down_behind (Wrote start end) others mid leaves stays down = stays
 stays_down_behind (Hard start end moment) others mid leaves stays down = stays
 stays_down_behind (Flushed upto moment) others mid leaves stays down = stays
@@ -65,7 +65,7 @@ stays_down_behind (Refused (Full free) reserved) others mid leaves stays down = 
 stays_down_behind (Refused (Disk faults) reserved) others mid leaves stays down = down faults leaves
 stays_down_behind (Refused (Down faults) reserved) others mid leaves stays down = down faults leaves
 
-plays_stay_down : (size capacity opened : ℕ) (lines : List Line) (told : List Told) (before after : Standing) → Plays size capacity opened before lines told after → StaysDown told
+plays_stay_down : (size capacity opened : ℕ) (lines : List Line) (told : List Told) (before after : LogHistory) → Plays size capacity opened before lines told after → StaysDown told
 plays_stay_down size capacity opened [] [] before after plays = tt
 plays_stay_down size capacity opened [] (answer ∷ told) before after plays = absurd plays
 plays_stay_down size capacity opened (line ∷ lines) [] before after plays = absurd plays
@@ -73,5 +73,5 @@ plays_stay_down size capacity opened (line ∷ lines) (answer ∷ told) before a
     let step = fact-Steps size capacity opened KeepsDown (steps_down size capacity opened) before line.action answer plays.0 plays.1 in
     stays_down_behind answer told plays.0 step.leaves (plays_stay_down size capacity opened lines told plays.0 after plays.2) (λ faults down. plays_all_down size capacity opened faults lines told plays.0 after plays.2 down)
 
-pub played_stays_down : (size capacity opened : ℕ) (lines : List Line) (told : List Told) (after : Standing) → Plays size capacity opened (at_opening size) lines told after → StaysDown told
+pub played_stays_down : (size capacity opened : ℕ) (lines : List Line) (told : List Told) (after : LogHistory) → Plays size capacity opened (at_opening size) lines told after → StaysDown told
 played_stays_down size capacity opened lines told after plays = plays_stay_down size capacity opened lines told (at_opening size) after plays

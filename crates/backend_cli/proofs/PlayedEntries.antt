@@ -12,7 +12,7 @@ use Rattle.wal_script.specs.declared.line.Line.{Line}
 use Rattle.backend_cli.specs.declared.told.Told.{Told}
 use Rattle.backend_cli.specs.Told.{entry_of, entries_of, order_of, IsRising, RiseInLineOrder, sorted_by_start}
 use Rattle.backend_cli.specs.Texts.{is_reserved, reserved_count}
-use Rattle.wal_log.specs.Standing.{Standing, at_opening, next_entry, with_next}
+use Rattle.serial_log.specs.History.{LogHistory, at_opening, next_entry, with_entry}
 use Rattle.backend_cli.specs.Steps.{Plays}
 use Rattle.backend_cli.proofs.Orders.{IsRising-FollowsFrom, sorted_by_start-rising}
 use Rattle.backend_cli.proofs.StepCases.{StepFact, HoldsOfSteps, Reserves, fact-Steps}
@@ -43,8 +43,8 @@ steps_entries size capacity opened valid = record {
   flush_down = λ s faults down. sym (append-nil s.entries);
 }
 
-pub plays_entries : (size capacity opened : ℕ) (lines : List Line) (told : List Told) (before after : Standing) → IsSegmentSize size → Plays size capacity opened before lines told after → after.entries ≡ before.entries ++ entries_of size 0 lines told
-plays_entries size capacity opened [] [] before after valid plays = ap (λ (s : Standing). s.entries) plays ∙ sym (append-nil before.entries)
+pub plays_entries : (size capacity opened : ℕ) (lines : List Line) (told : List Told) (before after : LogHistory) → IsSegmentSize size → Plays size capacity opened before lines told after → after.entries ≡ before.entries ++ entries_of size 0 lines told
+plays_entries size capacity opened [] [] before after valid plays = ap (λ (s : LogHistory). s.entries) plays ∙ sym (append-nil before.entries)
 plays_entries size capacity opened [] (answer ∷ told) before after valid plays = absurd plays
 plays_entries size capacity opened (line ∷ lines) [] before after valid plays = absurd plays
 plays_entries size capacity opened (line ∷ lines) (answer ∷ told) before after valid plays =
@@ -55,14 +55,14 @@ plays_entries size capacity opened (line ∷ lines) (answer ∷ told) before aft
     ∙ append_assoc before.entries new (entries_of size 0 lines told)
 
 -- from the opening on, they are all that were told
-pub played_entries : (size capacity opened : ℕ) (lines : List Line) (told : List Told) (after : Standing) → IsSegmentSize size → Plays size capacity opened (at_opening size) lines told after → entries_of size 0 lines told ≡ after.entries
+pub played_entries : (size capacity opened : ℕ) (lines : List Line) (told : List Told) (after : LogHistory) → IsSegmentSize size → Plays size capacity opened (at_opening size) lines told after → entries_of size 0 lines told ≡ after.entries
 played_entries size capacity opened lines told after valid plays = sym (plays_entries size capacity opened lines told (at_opening size) after valid plays)
 
 -- entries stay chained
 abbrev KeepsChain : ℕ → StepFact
 KeepsChain size before action told after = IsChained size before.entries → IsChained size after.entries
 
-next_chained : (size capacity : ℕ) (s : Standing) (value : Record) (start : ℕ) → Reserves size capacity s value start → IsChained size s.entries → IsChained size (with_next size s.entries value)
+next_chained : (size capacity : ℕ) (s : LogHistory) (value : Record) (start : ℕ) → Reserves size capacity s value start → IsChained size s.entries → IsChained size (with_entry size s.entries value)
 next_chained size capacity s value start reserves chained = IsChained_push size s.entries (next_entry size s.entries value) chained refl reserves.writable
 
 steps_chained : (size capacity opened : ℕ) → HoldsOfSteps size capacity opened (KeepsChain size)
@@ -80,23 +80,23 @@ steps_chained size capacity opened = record {
   flush_down = λ s faults down chained. chained;
 }
 
-pub plays_chained : (size capacity opened : ℕ) (lines : List Line) (told : List Told) (before after : Standing) → Plays size capacity opened before lines told after → IsChained size before.entries → IsChained size after.entries
-plays_chained size capacity opened [] [] before after plays chained = subst (λ (s : Standing). IsChained size s.entries) (sym plays) chained
+pub plays_chained : (size capacity opened : ℕ) (lines : List Line) (told : List Told) (before after : LogHistory) → Plays size capacity opened before lines told after → IsChained size before.entries → IsChained size after.entries
+plays_chained size capacity opened [] [] before after plays chained = subst (λ (s : LogHistory). IsChained size s.entries) (sym plays) chained
 plays_chained size capacity opened [] (answer ∷ told) before after plays chained = absurd plays
 plays_chained size capacity opened (line ∷ lines) [] before after plays chained = absurd plays
 plays_chained size capacity opened (line ∷ lines) (answer ∷ told) before after plays chained =
     plays_chained size capacity opened lines told plays.0 after plays.2 (fact-Steps size capacity opened (KeepsChain size) (steps_chained size capacity opened) before line.action answer plays.0 plays.1 chained)
 
-pub played_chained : (size capacity opened : ℕ) (lines : List Line) (told : List Told) (after : Standing) → Plays size capacity opened (at_opening size) lines told after → IsChained size after.entries
+pub played_chained : (size capacity opened : ℕ) (lines : List Line) (told : List Told) (after : LogHistory) → Plays size capacity opened (at_opening size) lines told after → IsChained size after.entries
 played_chained size capacity opened lines told after plays = plays_chained size capacity opened lines told (at_opening size) after plays tt
 
 -- the reserved order is that of the entries
-pub played_order : (size capacity opened : ℕ) (lines : List Line) (told : List Told) (after : Standing) → IsSegmentSize size → Plays size capacity opened (at_opening size) lines told after → order_of size (lines ∷ []) (told ∷ []) ≡ after.entries
+pub played_order : (size capacity opened : ℕ) (lines : List Line) (told : List Told) (after : LogHistory) → IsSegmentSize size → Plays size capacity opened (at_opening size) lines told after → order_of size (lines ∷ []) (told ∷ []) ≡ after.entries
 played_order size capacity opened lines told after valid plays =
     let rising = IsRising-FollowsFrom (first_position size) after.entries (played_chained size capacity opened lines told after plays) in
     ap sorted_by_start (append-nil (entries_of size 0 lines told) ∙ played_entries size capacity opened lines told after valid plays) ∙ sorted_by_start-rising after.entries rising
 
-pub played_rises : (size capacity opened : ℕ) (lines : List Line) (told : List Told) (after : Standing) → IsSegmentSize size → Plays size capacity opened (at_opening size) lines told after → RiseInLineOrder size 0 (lines ∷ []) (told ∷ [])
+pub played_rises : (size capacity opened : ℕ) (lines : List Line) (told : List Told) (after : LogHistory) → IsSegmentSize size → Plays size capacity opened (at_opening size) lines told after → RiseInLineOrder size 0 (lines ∷ []) (told ∷ [])
 played_rises size capacity opened lines told after valid plays =
     let rising = IsRising-FollowsFrom (first_position size) after.entries (played_chained size capacity opened lines told after plays) in
     (subst IsRising (sym (played_entries size capacity opened lines told after valid plays)) rising, tt)
@@ -120,12 +120,12 @@ steps_counted size capacity opened = record {
   flush_down = λ s faults down. omega arith;
 }
 
-pub plays_counted : (size capacity opened : ℕ) (lines : List Line) (told : List Told) (before after : Standing) → Plays size capacity opened before lines told after → length after.entries ≡ length before.entries + reserved_count told
-plays_counted size capacity opened [] [] before after plays = omega (arith, ap (λ (s : Standing). length s.entries) plays)
+pub plays_counted : (size capacity opened : ℕ) (lines : List Line) (told : List Told) (before after : LogHistory) → Plays size capacity opened before lines told after → length after.entries ≡ length before.entries + reserved_count told
+plays_counted size capacity opened [] [] before after plays = omega (arith, ap (λ (s : LogHistory). length s.entries) plays)
 plays_counted size capacity opened [] (answer ∷ told) before after plays = absurd plays
 plays_counted size capacity opened (line ∷ lines) [] before after plays = absurd plays
 plays_counted size capacity opened (line ∷ lines) (answer ∷ told) before after plays =
     omega (arith, plays_counted size capacity opened lines told plays.0 after plays.2, fact-Steps size capacity opened CountsEntry (steps_counted size capacity opened) before line.action answer plays.0 plays.1)
 
-pub counted : (size capacity opened : ℕ) (lines : List Line) (told : List Told) (after : Standing) → Plays size capacity opened (at_opening size) lines told after → length after.entries ≡ reserved_count told
+pub counted : (size capacity opened : ℕ) (lines : List Line) (told : List Told) (after : LogHistory) → Plays size capacity opened (at_opening size) lines told after → length after.entries ≡ reserved_count told
 counted size capacity opened lines told after plays = omega (arith, plays_counted size capacity opened lines told (at_opening size) after plays)

@@ -14,8 +14,8 @@ use Rattle.wal_page.proofs.OrderLaws.{rooms_of_push, rooms_of-append}
 use Rattle.wal_script.specs.declared.line.Line.{Line}
 use Rattle.wal_script.specs.declared.line.Action.{Action}
 use Rattle.backend_cli.specs.declared.told.Told.{Told}
-use Rattle.backend_cli.specs.Told.{Logged, IsFault, IsFull, IsPlaced, FitsLine, TellsFrom, TellsAll, behind_or, entry_of, entries_of, order_of}
-use Rattle.wal_log.specs.Standing.{Standing, at_opening, next_entry, end_of}
+use Rattle.backend_cli.specs.Told.{Logged, IsFault, MayBeFull, IsPlaced, FitsLine, TellsFrom, TellsAll, behind_or, entry_of, entries_of, order_of}
+use Rattle.serial_log.specs.History.{LogHistory, at_opening, next_entry, end_of}
 use Rattle.backend_cli.specs.Steps.{Plays}
 use Rattle.backend_cli.proofs.StepCases.{StepFact, HoldsOfSteps, Reserves, fact-Steps}
 use Rattle.backend_cli.proofs.PlayedEntries.{plays_entries, played_order}
@@ -52,8 +52,8 @@ steps_down size capacity opened = record {
   flush_down = λ s faults down others failed. failed;
 }
 
-plays_down : (size capacity opened : ℕ) (lines : List Line) (told : List Told) (before after : Standing) → Plays size capacity opened before lines told after → (faults : ℕ) → before.down ≡ Some faults → after.down ≡ Some faults
-plays_down size capacity opened [] [] before after plays faults failed = ap (λ (s : Standing). s.down) plays ∙ failed
+plays_down : (size capacity opened : ℕ) (lines : List Line) (told : List Told) (before after : LogHistory) → Plays size capacity opened before lines told after → (faults : ℕ) → before.down ≡ Some faults → after.down ≡ Some faults
+plays_down size capacity opened [] [] before after plays faults failed = ap (λ (s : LogHistory). s.down) plays ∙ failed
 plays_down size capacity opened [] (answer ∷ told) before after plays faults failed = absurd plays
 plays_down size capacity opened (line ∷ lines) [] before after plays faults failed = absurd plays
 plays_down size capacity opened (line ∷ lines) (answer ∷ told) before after plays faults failed =
@@ -63,7 +63,7 @@ abbrev logged_of : ℕ → ℕ → List Entry → ℕ → ℕ → Logged
 logged_of size capacity order opened last = record { size = size; capacity = capacity; order = order; opened = opened; last = last }
 
 -- an answer as it may be behind some entries, and what is known for the next line
-record TellsLine (size capacity opened last : ℕ) (order es : List Entry) (action : Action) (told : Told) (after : Standing) : Type 0 where
+record TellsLine (size capacity opened last : ℕ) (order es : List Entry) (action : Action) (told : Told) (after : LogHistory) : Type 0 where
   fits : FitsLine (logged_of size capacity order opened last) (first_position size + rooms_of es) action told
   behind : behind_or (first_position size + rooms_of es) (entry_of size 0 action told) ≡ first_position size + rooms_of after.entries
   failed : HasFailed opened after.down
@@ -84,7 +84,7 @@ behind_at_end : (size : ℕ) → IsSegmentSize size → (es : List Entry) (value
 behind_at_end size valid es value start at = omega (arith, position_at_end size valid es start at, rooms_of_push es (next_entry size es value))
 
 full_line : (size capacity opened last : ℕ) (order es more : List Entry) (value : Record) (free : ℕ) → order ≡ es ++ more → free + rooms_of es ≡ capacity → free < room_of value
-    → IsFull (logged_of size capacity order opened last) (first_position size + rooms_of es) value free
+    → MayBeFull (logged_of size capacity order opened last) (first_position size + rooms_of es) value free
 full_line size capacity opened last order es more value free parts left short =
     let front : take (length es) order ≡ es = ap (take (length es)) parts ∙ take-append_seam es more in
     let rooms : rooms_of (take (length es) order) ≡ rooms_of es = ap rooms_of front in
@@ -104,7 +104,7 @@ flushed_line size capacity opened last valid order es more upto parts at =
     (omega (arith, at), omega (arith, at, rises))
 
 -- a record that was reserved stands at its place
-placed_line : (size capacity : ℕ) → IsSegmentSize size → (s : Standing) (value : Record) (start end : Lsn) → Reserves size capacity s value start.0 → end.0 ≡ finish_of size (next_entry size s.entries value) → IsPlaced size value start.0 end.0
+placed_line : (size capacity : ℕ) → IsSegmentSize size → (s : LogHistory) (value : Record) (start end : Lsn) → Reserves size capacity s value start.0 → end.0 ≡ finish_of size (next_entry size s.entries value) → IsPlaced size value start.0 end.0
 placed_line size capacity valid s value start end reserves ends =
     let position = position_at_end size valid s.entries start reserves.reserved.start_is in
     record {
@@ -178,7 +178,7 @@ steps_tell size capacity opened last order valid = record {
   };
 }
 
-plays_tell : (size capacity opened last : ℕ) (order : List Entry) → IsSegmentSize size → (lines : List Line) (told : List Told) (before after : Standing) → Plays size capacity opened before lines told after → order ≡ after.entries
+plays_tell : (size capacity opened last : ℕ) (order : List Entry) → IsSegmentSize size → (lines : List Line) (told : List Told) (before after : LogHistory) → Plays size capacity opened before lines told after → order ≡ after.entries
     → HasFailed opened before.down → IsLast last after.down → TellsFrom (logged_of size capacity order opened last) 0 (first_position size + rooms_of before.entries) lines told
 plays_tell size capacity opened last order valid [] [] before after plays all failed is_last = tt
 plays_tell size capacity opened last order valid [] (answer ∷ told) before after plays all failed is_last = absurd plays
@@ -195,7 +195,7 @@ IsLast-IfSome last None known = λ faults down. absurd (let no : ⊥ = cc in no)
 IsLast-IfSome last (Some other) known = λ faults down. let same : other ≡ faults = cc in sym same ∙ known
 
 -- over any name for the order
-tells_over : (size capacity opened last : ℕ) (order : List Entry) (lines : List Line) (told : List Told) (after : Standing) → IsSegmentSize size → Plays size capacity opened (at_opening size) lines told after → IfSome after.down (λ faults. faults ≡ last) → order ≡ after.entries
+tells_over : (size capacity opened last : ℕ) (order : List Entry) (lines : List Line) (told : List Told) (after : LogHistory) → IsSegmentSize size → Plays size capacity opened (at_opening size) lines told after → IfSome after.down (λ faults. faults ≡ last) → order ≡ after.entries
     → TellsAll (record { size = size; capacity = capacity; order = order; opened = opened; last = last }) 0 (lines ∷ []) (told ∷ [])
 tells_over size capacity opened last order lines told after valid plays known all =
     let failed : HasFailed opened None = λ faults down. absurd (let no : ⊥ = cc in no) in
@@ -203,11 +203,11 @@ tells_over size capacity opened last order lines told after valid plays known al
     let from : first_position size + rooms_of [] ≡ first_position size = omega arith in
     (subst (λ (n : ℕ). TellsFrom (logged_of size capacity order opened last) 0 n lines told) from tells, tt)
 
-pub played_tells : (size capacity opened last : ℕ) (lines : List Line) (told : List Told) (after : Standing) → IsSegmentSize size → Plays size capacity opened (at_opening size) lines told after → IfSome after.down (λ faults. faults ≡ last)
+pub played_tells : (size capacity opened last : ℕ) (lines : List Line) (told : List Told) (after : LogHistory) → IsSegmentSize size → Plays size capacity opened (at_opening size) lines told after → IfSome after.down (λ faults. faults ≡ last)
     → TellsAll (record { size = size; capacity = capacity; order = after.entries; opened = opened; last = last }) 0 (lines ∷ []) (told ∷ [])
 played_tells size capacity opened last lines told after valid plays known = tells_over size capacity opened last after.entries lines told after valid plays known refl
 
 -- with the order that the answers themselves give
-pub played_tells_order : (size capacity opened last : ℕ) (lines : List Line) (told : List Told) (after : Standing) → IsSegmentSize size → Plays size capacity opened (at_opening size) lines told after → IfSome after.down (λ faults. faults ≡ last)
+pub played_tells_order : (size capacity opened last : ℕ) (lines : List Line) (told : List Told) (after : LogHistory) → IsSegmentSize size → Plays size capacity opened (at_opening size) lines told after → IfSome after.down (λ faults. faults ≡ last)
     → TellsAll (record { size = size; capacity = capacity; order = order_of size (lines ∷ []) (told ∷ []); opened = opened; last = last }) 0 (lines ∷ []) (told ∷ [])
 played_tells_order size capacity opened last lines told after valid plays known = tells_over size capacity opened last (order_of size (lines ∷ []) (told ∷ [])) lines told after valid plays known (played_order size capacity opened lines told after valid plays)

@@ -14,23 +14,22 @@ use Rattle.wal_page.proofs.OrderLaws.{rooms_of_cons}
 use Rattle.wal_script.specs.declared.line.Line.{Line}
 use Rattle.waldump_text.specs.declared.putting.SinkFault.{SinkFault}
 use Rattle.waldump_text.specs.Put.{Puts, joined}
-use Rattle.waldump_text.specs.Put as put
 use Rattle.backend_cli.specs.declared.outcome.Outcome.{Outcome}
 use Rattle.backend_cli.specs.declared.outcome.Outcome.TheVariants.{OutOfMemory}
 use Rattle.backend_cli.specs.declared.told.Told.{Told}
 use Rattle.backend_cli.specs.declared.tasks.Task.{Task}
 use Rattle.flush_core.specs.Pages.{HoldsNothing}
-use Rattle.flush_core.specs.Writer.{fault_of}
-use Rattle.wal_log.specs.LogImage.{HoldsLog}
-use Rattle.wal_log.specs.LogState.{LogState, IsLog, IsUpOrDown, log_disk}
-use Rattle.wal_log.specs.Standing.{Standing, at_opening, end_of}
+use Rattle.flush_core.specs.Writer.{writer_fault}
+use Rattle.serial_log.specs.LogImage.{HoldsLog}
+use Rattle.serial_log.specs.LogState.{LogState, IsLog, IsUpOrDown, log_disk}
+use Rattle.serial_log.specs.History.{LogHistory, at_opening, end_of}
 use Rattle.backend_cli.specs.declared.printing.Summary.{Summary}
 use Rattle.backend_cli.specs.Told.{IsFullAnswer, IsRefused, SomeAnswer}
 use Rattle.backend_cli.specs.Texts.{run_text, summary_text, segments_upto, commits_of, all_commits_of, reserved_count, told_lines_of}
 use Rattle.backend_cli.specs.Printing.{task_lines, summary_line, printed_text, Summarizes}
 use Rattle.backend_cli.specs.Concluding.{Concludes}
 use Rattle.backend_cli.specs.Moments.{MomentsRise}
-use Rattle.backend_cli.specs.Rises.{HasRisen}
+use Rattle.segment_disk.specs.Cause.{Rose, RoseByOne}
 use Rattle.backend_cli.specs.Steps.{Plays}
 use Rattle.backend_cli.specs.Outside.{Outside, Took}
 use Rattle.backend_cli.specs.Reading.{IsReadAll}
@@ -47,7 +46,7 @@ use Rattle.backend_cli.proofs.TaskLaws.{task_lines_are}
 use Rattle.backend_cli.proofs.WholeLaws.{whole}
 
 -- a count that rose by one, or stands at its last value, rose
-pub rose : (old new : ℕ) → put.HasRisen old new → HasRisen old new
+pub rose : (old new : ℕ) → RoseByOne old new → Rose old new
 rose old new (inl more) = inl (omega arith)
 rose old new (inr last) = inr last.1
 
@@ -60,18 +59,18 @@ pub quiet_where_printed : (old new : Option (List ℕ)) (before after : ℕ) (te
 quiet_where_printed old new before after text (Ok done) puts is = puts.1
 quiet_where_printed old new before after text (Err fault) puts is = cc
 
-pub risen_where_not_printed : (old new : Option (List ℕ)) (before after : ℕ) (text : List ℕ) (result : Result (Unit {0}) SinkFault) → Puts old new before after text result → not (is_ok result) ≡ true → HasRisen before after
+pub risen_where_not_printed : (old new : Option (List ℕ)) (before after : ℕ) (text : List ℕ) (result : Result (Unit {0}) SinkFault) → Puts old new before after text result → not (is_ok result) ≡ true → Rose before after
 risen_where_not_printed old new before after text (Ok done) puts is = cc
 risen_where_not_printed old new before after text (Err fault) puts is = rose before after puts.1
 
 -- a disk whose count of faults did not rise is up
-quiet_is_up : (opened last : ℕ) (down : Option ℕ) → IfSome down (λ f. (f ≡ last) × HasRisen opened f) → last ≡ opened → opened < 2 ^ 64 - 1 → down ≡ None
+quiet_is_up : (opened last : ℕ) (down : Option ℕ) → IfSome down (λ f. (f ≡ last) × Rose opened f) → last ≡ opened → opened < 2 ^ 64 - 1 → down ≡ None
 quiet_is_up opened last None fell same low = refl
 quiet_is_up opened last (Some f) fell same low =
     absurd (⊎_elim (λ (more : opened < f). omega (arith, fell.0, same)) (λ (most : f ≡ 2 ^ 64 - 1). omega (arith, fell.0, same, most)) fell.1)
 
 module _ (D : Type 0) (tape : D → Option Tape) (faults : D → ℕ) (before : Option Tape) (opened : ℕ) (log : LogState D) (es : List Entry) where
-  fell_for : (down : Option ℕ) → IsUpOrDown tape faults before opened log es down → IfSome down (λ f. (f ≡ faults (log_disk log)) × HasRisen opened f)
+  fell_for : (down : Option ℕ) → IsUpOrDown tape faults before opened log es down → IfSome down (λ f. (f ≡ faults (log_disk log)) × Rose opened f)
   fell_for None state = tt
   fell_for (Some f) state = (state.told, state.rose)
 
@@ -79,25 +78,25 @@ module _ (D : Type 0) (tape : D → Option Tape) (faults : D → ℕ) (before : 
   quiet_for None state none = state.quiet
   quiet_for (Some f) state none = cc
 
-module _ (D : Type 0) (tape : D → Option Tape) (faults : D → ℕ) (before : Option Tape) (opened : ℕ) (log : LogState D) (after : Standing) (is_log : IsLog tape faults before opened log after) where
+module _ (D : Type 0) (tape : D → Option Tape) (faults : D → ℕ) (before : Option Tape) (opened : ℕ) (log : LogState D) (after : LogHistory) (is_log : IsLog tape faults before opened log after) where
   -- where the disk failed, its count of faults is the one told, and rose
-  pub fell : IfSome after.down (λ f. (f ≡ faults (log_disk log)) × HasRisen opened f)
+  pub fell : IfSome after.down (λ f. (f ≡ faults (log_disk log)) × Rose opened f)
   fell = fell_for D tape faults before opened log after.entries after.down is_log.state
 
   pub quiet : after.down ≡ None → faults (log_disk log) ≡ opened
   quiet none = quiet_for D tape faults before opened log after.entries after.down is_log.state none
 
 -- the count at which the disk fell is its last
-pub last_of : (opened last : ℕ) (down : Option ℕ) → IfSome down (λ f. (f ≡ last) × HasRisen opened f) → IfSome down (λ f. f ≡ last)
+pub last_of : (opened last : ℕ) (down : Option ℕ) → IfSome down (λ f. (f ≡ last) × Rose opened f) → IfSome down (λ f. f ≡ last)
 last_of opened last None since = tt
 last_of opened last (Some f) since = since.0
 
 -- how a run ends, by what it concluded
 pub ends_opened : (outside : Outside) (told : List Told) (down : Option ℕ) (failed : Bool) (outcome : Outcome) → Concludes down told failed outcome
-    → IfSome down (λ f. (f ≡ outside.disk_after) × HasRisen outside.disk_before f) → (down ≡ None → outside.disk_after ≡ outside.disk_before) → (down ≡ None → SomeAnswer IsRefused told → SomeAnswer IsFullAnswer told)
-    → (failed ≡ false → outside.sink_after ≡ outside.sink_before) → (failed ≡ true → HasRisen outside.sink_before outside.sink_after) → EndsOpened outside (told ∷ []) outcome
+    → IfSome down (λ f. (f ≡ outside.disk_after) × Rose outside.disk_before f) → (down ≡ None → outside.disk_after ≡ outside.disk_before) → (down ≡ None → SomeAnswer IsRefused told → SomeAnswer IsFullAnswer told)
+    → (failed ≡ false → outside.sink_after ≡ outside.sink_before) → (failed ≡ true → Rose outside.sink_before outside.sink_after) → EndsOpened outside (told ∷ []) outcome
 ends_opened outside told (Some f) failed outcome concludes since up full printed unprinted =
-    subst (EndsOpened outside (told ∷ [])) (sym concludes) (subst (HasRisen outside.disk_before) since.0 since.1)
+    subst (EndsOpened outside (told ∷ [])) (sym concludes) (subst (Rose outside.disk_before) since.0 since.1)
 ends_opened outside told None failed outcome (inl found) since up full printed unprinted =
     subst (EndsOpened outside (told ∷ [])) (sym found.1) (up refl, inl found.0)
 ends_opened outside told None true outcome (inr room) since up full printed unprinted =
@@ -134,11 +133,11 @@ text_is size list lines tasks told es s are is count =
     ap (λ (text : List ℕ). (if list then text else []) ++ summary_line s) lines_are
     ∙ ap (λ (text : List ℕ). (if list then told_lines_of 0 lines told ++ [] else []) ++ text) (line ∙ ap (summary_text size es) commits)
 
-module _ (D : Type 0) (tape : D → Option Tape) (moment faults : D → ℕ) (disk : D) (log : LogState D) (after last : Standing) (is_log : IsLog tape faults (tape disk) (faults disk) log last) (behind : IsBehindFlush log.size after last) where
+module _ (D : Type 0) (tape : D → Option Tape) (moment faults : D → ℕ) (disk : D) (log : LogState D) (after last : LogHistory) (is_log : IsLog tape faults (tape disk) (faults disk) log last) (behind : IsBehindFlush log.size after last) where
   -- a run that opened the log holds what it promises
   pub opened_holds : (size capacity : ℕ) (list : Bool) (outcome : Outcome) (lines : List Line) (tasks : List Task) (told : List Told) (summary : Summary) (taken_before taken_after : Option (List ℕ)) (sink_before sink_after : ℕ) (printed : Result (Unit {0}) SinkFault) (source left : Option (List ℕ)) (count : ℕ) (down : Option ℕ) (result : D) (lists : List (List Told))
       → log.size ≡ size → log.capacity ≡ capacity → capacity ≤ 2 ^ 42 → log.sysid ≡ 1 → result ≡ log_disk log → lists ≡ told ∷ [] → Plays size capacity (faults disk) (at_opening size) lines told after → MeansLines source lines → AreTasks lines tasks
-      → Summarizes size log.bytes told summary → Puts taken_before taken_after sink_before sink_after (printed_text list tasks told summary) printed → down ≡ fault_of log.writer → Concludes down told (not (is_ok printed)) outcome → MomentsRise (moment disk) told (moment (log_disk log)) → IfSome (tape disk) (λ t. page_of_segment (state_now t 1) 0 ≡ None) → IsReadAll source left
+      → Summarizes size log.bytes told summary → Puts taken_before taken_after sink_before sink_after (printed_text list tasks told summary) printed → down ≡ writer_fault log.writer → Concludes down told (not (is_ok printed)) outcome → MomentsRise (moment disk) told (moment (log_disk log)) → IfSome (tape disk) (λ t. page_of_segment (state_now t 1) 0 ≡ None) → IsReadAll source left
       → (HoldsNothing (tape disk) → last.down ≡ None → last.flushed ≡ end_of log.size last.entries → IfSome (tape result) (λ t. HoldsLog log.size log.sysid last.entries t))
       → RunHolds (record { source = source; source_left = left; source_before = count; source_after = count; tape_before = tape disk; tape_after = tape result; moment_before = moment disk; moment_after = moment result; disk_before = faults disk; disk_after = faults result; taken_before = taken_before; taken_after = taken_after; sink_before = sink_before; sink_after = sink_after }) size capacity list outcome lists
   opened_holds size capacity list outcome lines tasks told summary taken_before taken_after sink_before sink_after printed source left count down result lists same_size same_capacity small sysid same_disk same_lists plays means are summarizes puts told_down concludes rises empty read settled =

@@ -9,9 +9,9 @@ use Rattle.byte_position.proofs.EndAddresses.{end_address_of-le_address_of}
 use Rattle.byte_position.proofs.Rising.{position_of-le_self, address_of-bound}
 use Rattle.byte_position.proofs.SegmentSizes.{segment_size_tests}
 use Rattle.segment_disk.specs.Tape.{Tape}
-use Rattle.segment_disk.specs.Image.{Image, ImageSegment}
+use Rattle.segment_disk.specs.DiskImage.{DiskImage, ImageSegment}
 use Rattle.wal_page.specs.Order.{Entry, IsChained, rooms_of}
-use Rattle.wal_log.specs.LogImage.{IsLogImage, HoldsLog, HoldsLogSegment, last_segment}
+use Rattle.serial_log.specs.LogImage.{IsLogImage, HoldsLog, HoldsLogSegment, last_segment}
 use Rattle.wal_reader.specs.Pages.{pages_in}
 use Rattle.wal_reader.specs.WrittenLog.{last_position}
 use Rattle.wal_reader.specs.LogSegments.{HoldsSegments, IsLogSegment}
@@ -27,7 +27,7 @@ module _ (size sysid : ℕ) (es : List Entry) (valid : IsSegmentSize size) (know
       let p = first_position size + rooms_of es in
       omega (arith, end_address_of-le_address_of size valid p, address_of-bound size valid p, position_of-le_self size size, (segment_size_tests size valid).2)
 
-  module _ (image : Image) (is : IsLogImage size sysid es image) where
+  module _ (image : DiskImage) (is : IsLogImage size sysid es image) where
     held_segment : (segment : ℕ) (s : Option ImageSegment) → HoldsLogSegment size sysid es segment s → IfSome s (IsLogSegment size sysid es segment)
     held_segment segment None holds = absurd holds
     held_segment segment (Some i) holds = holds

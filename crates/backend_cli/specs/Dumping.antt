@@ -7,7 +7,7 @@ use Rattle.waldump_text.specs.Dump.{PutsListing, PutsListingFront, IsStop}
 use Rattle.backend_cli.specs.declared.outcome.Outcome.{Outcome}
 use Rattle.backend_cli.specs.declared.outcome.Outcome.TheVariants.{Done, OutOfMemory, Usage, SourceFault, ScriptRefused, NotEmpty, DiskFault, Stopped, LogFull, SinkFault}
 use Rattle.backend_cli.specs.declared.told.Told.{Told}
-use Rattle.backend_cli.specs.Rises.{HasRisen}
+use Rattle.segment_disk.specs.Cause.{Rose}
 use Rattle.backend_cli.specs.Outside.{Outside}
 
 -- what a listing printed, by how it ended: the lines of the records that the disk's log decodes to, or a front of them
@@ -31,10 +31,10 @@ ListingEnds outside Usage = ⊥
 ListingEnds outside SourceFault = ⊥
 ListingEnds outside (ScriptRefused refusal) = ⊥
 ListingEnds outside NotEmpty = ⊥
-ListingEnds outside DiskFault = HasRisen outside.disk_before outside.disk_after × (outside.sink_after ≡ outside.sink_before)
+ListingEnds outside DiskFault = Rose outside.disk_before outside.disk_after × (outside.sink_after ≡ outside.sink_before)
 ListingEnds outside (Stopped answer) = IsStop answer × (outside.disk_after ≡ outside.disk_before) × (outside.sink_after ≡ outside.sink_before)
 ListingEnds outside LogFull = ⊥
-ListingEnds outside SinkFault = (outside.disk_after ≡ outside.disk_before) × HasRisen outside.sink_before outside.sink_after
+ListingEnds outside SinkFault = (outside.disk_after ≡ outside.disk_before) × Rose outside.sink_before outside.sink_after
 
 -- a listing: what it printed, no counted call of the disk, the script not read, and nothing told
 pub record DumpHolds (outside : Outside) (size : ℕ) (outcome : Outcome) (lists : List (List Told)) : Type 0 where

@@ -1,7 +1,6 @@
 pub mod Words
 pub mod Told
 pub mod Texts
-pub mod Rises
 pub mod Moments
 pub mod Tracked
 pub mod Steps

@@ -1,6 +1,6 @@
 -- What a command line promises.
 use Rattle.std.specs.Prelude.{◌≡◌, List, [], Option, Some, None}
-use Rattle.wal_log.specs.Standing.{capacity_of}
+use Rattle.serial_log.specs.History.{capacity_of}
 use Rattle.backend_cli.specs.declared.outcome.Outcome.{Outcome}
 use Rattle.backend_cli.specs.declared.outcome.Outcome.TheVariants.{Usage}
 use Rattle.backend_cli.specs.declared.told.Told.{Told}

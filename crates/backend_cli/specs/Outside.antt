@@ -2,11 +2,11 @@
 use Rattle.std.specs.Prelude.{◌≡◌, ℕ, ◌⊎◌, List, take, Option}
 use Rattle.segment_disk.specs.Stream.{with_behind}
 use Rattle.segment_disk.specs.Tape.{Tape}
-use Rattle.backend_cli.specs.Rises.{HasRisen}
+use Rattle.segment_disk.specs.Cause.{Rose}
 
 -- a sink took a text; where its count of faults rose, a front of it
 abbrev pub Took : Option (List ℕ) → Option (List ℕ) → ℕ → ℕ → List ℕ → Type 0
-Took old new before after text = (new ≡ with_behind old text) ⊎ (HasRisen before after × ((n : ℕ) × (new ≡ with_behind old (take n text))))
+Took old new before after text = (new ≡ with_behind old text) ⊎ (Rose before after × ((n : ℕ) × (new ≡ with_behind old (take n text))))
 
 -- the outside of a command as clauses see it: the bytes that the source had left and has, where it tells them, and its counts of faults before and after; the same of the disk's tape, moment and count, and of the sink's bytes and count
 pub record Outside : Type 0 where

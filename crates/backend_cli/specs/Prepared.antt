@@ -4,16 +4,16 @@ use Rattle.std.specs.declared.alloc.Global.{Global}
 use Rattle.wal_script.specs.declared.line.Line.{Line}
 use Rattle.wal_script.specs.Meaning.{meaning_of}
 use Rattle.wal_script.specs.Writable.{AsksWritable}
-use Rattle.wal_log.specs.declared.shape.Shape.{Shape}
+use Rattle.serial_log.specs.declared.shape.Shape.{Shape}
 use Rattle.backend_cli.specs.declared.run.Prepared.{Prepared}
 use Rattle.backend_cli.specs.declared.outcome.Outcome.{Outcome}
 use Rattle.backend_cli.specs.declared.outcome.Outcome.TheVariants.{Done, OutOfMemory, Usage, SourceFault, ScriptRefused, NotEmpty, DiskFault, Stopped, LogFull, SinkFault}
 use Rattle.backend_cli.specs.Reading.{IsReadAll}
-use Rattle.backend_cli.specs.Rises.{HasRisen}
+use Rattle.segment_disk.specs.Cause.{Rose}
 use Rattle.backend_cli.specs.Tasks.{AreTasks}
 
 -- tasks for these lines, room for a log, and room for what the lines are told
-pub record IsReady (shape : Shape) (lines : List Line) (prepared : Prepared) : Type 0 where
+pub record IsPrepared (shape : Shape) (lines : List Line) (prepared : Prepared) : Type 0 where
   pub tasks : AreTasks lines prepared.tasks.items
   pub room : prepared.room ≡ shape
   pub told : prepared.told.items ≡ []
@@ -30,7 +30,7 @@ abbrev pub IsUnprepared : Option (List ℕ) → Option (List ℕ) → ℕ → �
 IsUnprepared source left before after Done = ⊥
 IsUnprepared source left before after OutOfMemory = after ≡ before
 IsUnprepared source left before after Usage = ⊥
-IsUnprepared source left before after SourceFault = HasRisen before after
+IsUnprepared source left before after SourceFault = Rose before after
 IsUnprepared source left before after (ScriptRefused refusal) = (after ≡ before) × IfSome source (λ bytes. meaning_of bytes ≡ Err refusal) × IsReadAll source left
 IsUnprepared source left before after NotEmpty = ⊥
 IsUnprepared source left before after DiskFault = ⊥
@@ -45,5 +45,5 @@ ReadsLines source left before after (Err outcome) = IsUnprepared source left bef
 
 -- making all ready
 abbrev pub Prepares : Option (List ℕ) → Option (List ℕ) → Shape → ℕ → ℕ → Result Prepared Outcome → Type 0
-Prepares source left shape before after (Ok prepared) = ((lines : List Line) × MeansLines source lines × IsReady shape lines prepared) × (after ≡ before) × IsReadAll source left
+Prepares source left shape before after (Ok prepared) = ((lines : List Line) × MeansLines source lines × IsPrepared shape lines prepared) × (after ≡ before) × IsReadAll source left
 Prepares source left shape before after (Err outcome) = IsUnprepared source left before after outcome

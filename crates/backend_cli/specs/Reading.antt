@@ -3,6 +3,7 @@ use Rattle.std.specs.Prelude.{◌≡◌, ℕ, ◌+◌, ◌-◌, ◌^◌, ◌≤�
 use Rattle.std.specs.declared.alloc.Global.{Global}
 use Rattle.backend_cli.specs.declared.reading.ReadFailure.{ReadFailure}
 use Rattle.backend_cli.specs.declared.reading.ReadFailure.TheVariants.{Memory, Source}
+use Rattle.segment_disk.specs.Cause.{RoseByOne}
 use Rattle.wal_script.specs.Meaning.{script_limit}
 
 -- all that a source had left, or its first bytes up to a number of them
@@ -22,7 +23,7 @@ IsReadAll left now = IsReadUpto (script_limit + 1) left now
 abbrev pub ReadsUpto : ℕ → Option (List ℕ) → Option (List ℕ) → ℕ → ℕ → Result (Vec ℕ Global) ReadFailure → Type 0
 ReadsUpto most left now before after (Ok v) = (after ≡ before) × (length v.items ≤ most) × IsFront most left v.items × IsReadUpto most left now
 ReadsUpto most left now before after (Err Memory) = after ≡ before
-ReadsUpto most left now before after (Err Source) = (after ≡ before + 1) ⊎ ((after ≡ before) × (after ≡ 2 ^ 64 - 1))
+ReadsUpto most left now before after (Err Source) = RoseByOne before after
 
 -- a script is read up to one byte past its limit
 abbrev pub ReadsAll : Option (List ℕ) → Option (List ℕ) → ℕ → ℕ → Result (Vec ℕ Global) ReadFailure → Type 0

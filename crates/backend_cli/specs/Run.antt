@@ -2,7 +2,7 @@
 use Rattle.std.specs.Prelude.{◌≡◌, ℕ, ◌+◌, ◌-◌, ◌^◌, ◌<◌, Bool, List, [], ◌∷◌, Option, Some, None, Ok, Err, IfSome, IsSome}
 use Rattle.byte_position.specs.Position.{first_position}
 use Rattle.segment_disk.specs.Tape.{Tape, state_now, page_of_segment}
-use Rattle.segment_disk.specs.Image.{Image, Leaves, image_as_read}
+use Rattle.segment_disk.specs.DiskImage.{DiskImage, MayLeave, image_as_read}
 use Rattle.flush_core.specs.Pages.{HoldsNothing}
 use Rattle.wal_record.specs.Spelling.{room_of}
 use Rattle.wal_page.specs.Order.{Entry, IsChained, rooms_of}
@@ -20,7 +20,7 @@ use Rattle.backend_cli.specs.Told.{TellsAll, EachStaysDown, order_of, RiseInLine
 use Rattle.backend_cli.specs.Moments.{EachRises}
 use Rattle.backend_cli.specs.Texts.{run_text}
 use Rattle.backend_cli.specs.Reading.{IsReadAll}
-use Rattle.backend_cli.specs.Rises.{HasRisen}
+use Rattle.segment_disk.specs.Cause.{Rose}
 use Rattle.backend_cli.specs.Outside.{Outside, Took, IsUntouched}
 
 -- the script that a source has means some lines
@@ -32,10 +32,10 @@ abbrev pub EndsUnopened : Outside → Outcome → Type 0
 EndsUnopened outside Done = ⊥
 EndsUnopened outside OutOfMemory = outside.disk_after ≡ outside.disk_before
 EndsUnopened outside Usage = ⊥
-EndsUnopened outside SourceFault = HasRisen outside.source_before outside.source_after × (outside.disk_after ≡ outside.disk_before)
+EndsUnopened outside SourceFault = Rose outside.source_before outside.source_after × (outside.disk_after ≡ outside.disk_before)
 EndsUnopened outside (ScriptRefused refusal) = IfSome outside.source (λ bytes. meaning_of bytes ≡ Err refusal) × IsReadAll outside.source outside.source_left × (outside.source_after ≡ outside.source_before) × (outside.disk_after ≡ outside.disk_before)
 EndsUnopened outside NotEmpty = MeansSome outside.source × IsReadAll outside.source outside.source_left × IfSome outside.tape_before (λ t. IsSome (page_of_segment (state_now t 1) 0)) × (outside.source_after ≡ outside.source_before) × (outside.disk_after ≡ outside.disk_before)
-EndsUnopened outside DiskFault = MeansSome outside.source × IsReadAll outside.source outside.source_left × HasRisen outside.disk_before outside.disk_after × (outside.source_after ≡ outside.source_before)
+EndsUnopened outside DiskFault = MeansSome outside.source × IsReadAll outside.source outside.source_left × Rose outside.disk_before outside.disk_after × (outside.source_after ≡ outside.source_before)
 EndsUnopened outside (Stopped answer) = ⊥
 EndsUnopened outside LogFull = ⊥
 EndsUnopened outside SinkFault = ⊥
@@ -48,19 +48,19 @@ EndsOpened outside told Usage = ⊥
 EndsOpened outside told SourceFault = ⊥
 EndsOpened outside told (ScriptRefused refusal) = ⊥
 EndsOpened outside told NotEmpty = ⊥
-EndsOpened outside told DiskFault = HasRisen outside.disk_before outside.disk_after
+EndsOpened outside told DiskFault = Rose outside.disk_before outside.disk_after
 EndsOpened outside told (Stopped answer) = ⊥
 EndsOpened outside told LogFull = (outside.disk_after ≡ outside.disk_before) × SomeTold IsFullAnswer told
-EndsOpened outside told SinkFault = (outside.disk_after ≡ outside.disk_before) × (SomeTold IsFullAnswer told → ⊥) × HasRisen outside.sink_before outside.sink_after
+EndsOpened outside told SinkFault = (outside.disk_after ≡ outside.disk_before) × (SomeTold IsFullAnswer told → ⊥) × Rose outside.sink_before outside.sink_after
 
 -- pages decode to all of an order, and then to a clean end at its end
-abbrev pub DecodesTo : ℕ → Image → List Entry → Type 0
+abbrev pub DecodesTo : ℕ → DiskImage → List Entry → Type 0
 DecodesTo size image es = Decodes size (pages_in size image) size None (found_of size es) (ended size (first_position size + rooms_of es))
 
 -- where the disk told nothing but an empty log at the start and did not fail, every image that a crash may leave at the last moment, and the disk as it is read, decode to the whole order
 abbrev pub IsWhole : ℕ → Option Tape → List Entry → Type 0
 IsWhole size None es = Unit {0}
-IsWhole size (Some t) es = ((image : Image) → Leaves (state_now t) image → DecodesTo size image es) × DecodesTo size (image_as_read (state_now t)) es
+IsWhole size (Some t) es = ((image : DiskImage) → MayLeave (state_now t) image → DecodesTo size image es) × DecodesTo size (image_as_read (state_now t)) es
 
 -- the bytes that the records of a script take up together
 abbrev pub room_asked : Action → ℕ

@@ -1,12 +1,12 @@
 -- Lines done by a log, step by step: `capacity` is how many bytes its records may take up, `opened` the disk's count of faults when it was opened.
 use Rattle.std.specs.Prelude.{◌≡◌, ℕ, List, [], ◌∷◌, Result, Ok, Err}
 use Rattle.wal_record.specs.Spelling.{IsWritable}
-use Rattle.wal_log.specs.declared.told.Receipt.{Receipt}
-use Rattle.wal_log.specs.declared.told.Hard as hard
-use Rattle.wal_log.specs.declared.told.Sealed.{Sealed}
-use Rattle.wal_log.specs.declared.told.Refused as refused
-use Rattle.wal_log.specs.Standing.{Standing}
-use Rattle.wal_log.specs.Steps.{Inserts, Commits, Flushes}
+use Rattle.serial_log.specs.declared.told.Receipt.{Receipt}
+use Rattle.serial_log.specs.declared.told.Hard as hard
+use Rattle.serial_log.specs.declared.told.Sealed.{Sealed}
+use Rattle.serial_log.specs.declared.told.Refused as refused
+use Rattle.serial_log.specs.History.{LogHistory}
+use Rattle.serial_log.specs.Steps.{Inserts, Commits, Flushes}
 use Rattle.wal_script.specs.declared.line.Line.{Line}
 use Rattle.wal_script.specs.declared.line.Action.{Action}
 use Rattle.wal_script.specs.declared.line.Action.TheVariants.{Insert, Commit, Flush}
@@ -27,7 +27,7 @@ told_of_flush (Ok done) = Flushed done.upto done.moment
 told_of_flush (Err refusal) = Refused refusal.cause refusal.reserved
 
 -- one line: the standing before it, what it asks for, what it is told, and the standing after it
-abbrev pub Steps : ℕ → ℕ → ℕ → Standing → Action → Told → Standing → Type 0
+abbrev pub Steps : ℕ → ℕ → ℕ → LogHistory → Action → Told → LogHistory → Type 0
 Steps size capacity opened before (Insert value) told after =
     (answer : Result Receipt refused.Refused) × (told ≡ told_of_insert answer) × IsWritable value × Inserts size capacity opened before value answer after
 Steps size capacity opened before (Commit value) told after =
@@ -36,9 +36,9 @@ Steps size capacity opened before Flush told after =
     (answer : Result hard.Hard refused.Refused) × (told ≡ told_of_flush answer) × Flushes size opened before answer after
 
 -- lines in order, each told as it may be
-abbrev pub Plays : ℕ → ℕ → ℕ → Standing → List Line → List Told → Standing → Type 0
+abbrev pub Plays : ℕ → ℕ → ℕ → LogHistory → List Line → List Told → LogHistory → Type 0
 Plays size capacity opened before [] [] after = after ≡ before
 Plays size capacity opened before [] (told ∷ others) after = ⊥
 Plays size capacity opened before (line ∷ lines) [] after = ⊥
 Plays size capacity opened before (line ∷ lines) (told ∷ others) after =
-    (mid : Standing) × Steps size capacity opened before line.action told mid × Plays size capacity opened mid lines others after
+    (mid : LogHistory) × Steps size capacity opened before line.action told mid × Plays size capacity opened mid lines others after

@@ -1,5 +1,6 @@
 -- What lines are told, and the order that it makes.
 use Rattle.std.specs.Prelude.{◌≡◌, ℕ, ◌+◌, ◌-◌, ◌^◌, ◌<◌, ◌≤◌, ◌⊎◌, List, [], ◌∷◌, ◌++◌, length, take, Option, Some, None, option_to_list, nat_le, if◌then◌else◌}
+use Rattle.segment_disk.specs.Cause.{Rose}
 use Rattle.wal_types.specs.declared.lsn.Lsn.{Lsn}
 use Rattle.wal_types.specs.declared.record.Record.{Record}
 use Rattle.byte_position.specs.Position.{position_of, address_of, end_address_of, first_position}
@@ -10,8 +11,8 @@ use Rattle.wal_script.specs.declared.line.Action.{Action}
 use Rattle.wal_script.specs.declared.line.Action.TheVariants.{Insert, Commit, Flush}
 use Rattle.backend_cli.specs.declared.told.Told.{Told}
 use Rattle.backend_cli.specs.declared.told.Told.TheVariants.{Wrote, Hard, Flushed, Refused}
-use Rattle.wal_log.specs.declared.told.Cause.{Cause}
-use Rattle.wal_log.specs.declared.told.Cause.TheVariants.{Full, Disk, Down}
+use Rattle.serial_log.specs.declared.told.Cause.{Cause}
+use Rattle.serial_log.specs.declared.told.Cause.TheVariants.{Full, Disk, Down}
 
 -- the start that was reserved for a line's record
 abbrev pub reserved_by : Told → Option Lsn
@@ -76,11 +77,11 @@ pub record IsPlaced (size : ℕ) (value : Record) (start end : ℕ) : Type 0 whe
 
 -- the disk failed since the opening, and this was its count of faults then
 pub record IsFault (logged : Logged) (faults : ℕ) : Type 0 where
-  pub rose : (logged.opened < faults) ⊎ (faults ≡ 2 ^ 64 - 1)
+  pub rose : Rose logged.opened faults
   pub upto : faults ≤ logged.last
 
 -- too few bytes were left for the record behind some front of the order, which has the backend's earlier entries (they end at byte position `behind`)
-pub record IsFull (logged : Logged) (behind : ℕ) (value : Record) (free : ℕ) : Type 0 where
+pub record MayBeFull (logged : Logged) (behind : ℕ) (value : Record) (free : ℕ) : Type 0 where
   pub front : ℕ
   pub within : front ≤ length logged.order
   pub earlier : behind ≤ first_position logged.size + rooms_of (take front logged.order)
@@ -88,34 +89,34 @@ pub record IsFull (logged : Logged) (behind : ℕ) (value : Record) (free : ℕ)
   pub short : free < room_of value
 
 -- why an insert or a commit may be refused: a fault in its own device calls comes once its record is reserved
-abbrev pub RefusesRecord : Logged → ℕ → Record → Cause → Option Lsn → Type 0
-RefusesRecord logged behind value (Full free) None = IsFull logged behind value free
-RefusesRecord logged behind value (Full free) (Some start) = ⊥
-RefusesRecord logged behind value (Disk faults) None = ⊥
-RefusesRecord logged behind value (Disk faults) (Some start) = IsFault logged faults × (start.0 ≡ address_of logged.size (position_of logged.size start.0))
-RefusesRecord logged behind value (Down faults) None = IsFault logged faults
-RefusesRecord logged behind value (Down faults) (Some start) = IsFault logged faults × (start.0 ≡ address_of logged.size (position_of logged.size start.0))
+abbrev pub MayRefuseRecord : Logged → ℕ → Record → Cause → Option Lsn → Type 0
+MayRefuseRecord logged behind value (Full free) None = MayBeFull logged behind value free
+MayRefuseRecord logged behind value (Full free) (Some start) = ⊥
+MayRefuseRecord logged behind value (Disk faults) None = ⊥
+MayRefuseRecord logged behind value (Disk faults) (Some start) = IsFault logged faults × (start.0 ≡ address_of logged.size (position_of logged.size start.0))
+MayRefuseRecord logged behind value (Down faults) None = IsFault logged faults
+MayRefuseRecord logged behind value (Down faults) (Some start) = IsFault logged faults × (start.0 ≡ address_of logged.size (position_of logged.size start.0))
 
 -- why a flush may be refused: it reserves nothing, and needs no room
-abbrev pub RefusesFlush : Logged → Cause → Option Lsn → Type 0
-RefusesFlush logged (Full free) reserved = ⊥
-RefusesFlush logged (Disk faults) reserved = IsFault logged faults × (reserved ≡ None)
-RefusesFlush logged (Down faults) reserved = IsFault logged faults × (reserved ≡ None)
+abbrev pub MayRefuseFlush : Logged → Cause → Option Lsn → Type 0
+MayRefuseFlush logged (Full free) reserved = ⊥
+MayRefuseFlush logged (Disk faults) reserved = IsFault logged faults × (reserved ≡ None)
+MayRefuseFlush logged (Down faults) reserved = IsFault logged faults × (reserved ≡ None)
 
 -- what a line may be told, where its backend's earlier entries end at byte position `behind`: an insert that its record is written, a commit that it is durable, a flush that all is up to there at least and no further than the log goes
 abbrev pub FitsLine : Logged → ℕ → Action → Told → Type 0
 FitsLine logged behind (Insert value) (Wrote start end) = IsPlaced logged.size value start.0 end.0
 FitsLine logged behind (Insert value) (Hard start end moment) = ⊥
 FitsLine logged behind (Insert value) (Flushed upto moment) = ⊥
-FitsLine logged behind (Insert value) (Refused cause reserved) = RefusesRecord logged behind value cause reserved
+FitsLine logged behind (Insert value) (Refused cause reserved) = MayRefuseRecord logged behind value cause reserved
 FitsLine logged behind (Commit value) (Wrote start end) = ⊥
 FitsLine logged behind (Commit value) (Hard start end moment) = IsPlaced logged.size value start.0 end.0
 FitsLine logged behind (Commit value) (Flushed upto moment) = ⊥
-FitsLine logged behind (Commit value) (Refused cause reserved) = RefusesRecord logged behind value cause reserved
+FitsLine logged behind (Commit value) (Refused cause reserved) = MayRefuseRecord logged behind value cause reserved
 FitsLine logged behind Flush (Wrote start end) = ⊥
 FitsLine logged behind Flush (Hard start end moment) = ⊥
 FitsLine logged behind Flush (Flushed upto moment) = (end_address_of logged.size behind ≤ upto.0) × (upto.0 ≤ end_address_of logged.size (first_position logged.size + rooms_of logged.order))
-FitsLine logged behind Flush (Refused cause reserved) = RefusesFlush logged cause reserved
+FitsLine logged behind Flush (Refused cause reserved) = MayRefuseFlush logged cause reserved
 
 -- the byte position at which a backend's entries end after one more line
 abbrev pub behind_or : ℕ → Option Entry → ℕ

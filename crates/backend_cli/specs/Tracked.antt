@@ -1,7 +1,7 @@
 -- A log and the moment that was told of it last.
 use Rattle.std.specs.Prelude.{◌≡◌, ℕ, ◌≤◌, Bool, true, false, None}
-use Rattle.flush_core.specs.Writer.{fault_of}
-use Rattle.wal_log.specs.LogState.{LogState, HasUnwritten, end_behind, log_disk}
+use Rattle.flush_core.specs.Writer.{writer_fault}
+use Rattle.serial_log.specs.LogState.{LogState, HasUnwritten, end_behind, log_disk}
 use Rattle.backend_cli.specs.Moments.{LastTold}
 
 -- nothing was written since it was flushed, or something is still to be written
@@ -13,4 +13,4 @@ IsLatest false log = HasUnwritten log
 pub record IsTracked {D : Type 0} (moment : D → ℕ) (last : LastTold) (log : LogState D) : Type 0 where
   pub kept : log.moment ≡ last.moment
   pub within : log.moment ≤ moment (log_disk log)
-  pub latest : fault_of log.writer ≡ None → IsLatest last.is_latest log
+  pub latest : writer_fault log.writer ≡ None → IsLatest last.is_latest log

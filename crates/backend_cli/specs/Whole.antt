@@ -3,7 +3,7 @@ use Rattle.std.specs.Prelude.{ℕ, ◌^◌, ◌<◌, ◌≤◌, List, Option, If
 use Rattle.byte_position.specs.Geometry.{IsSegmentSize}
 use Rattle.segment_disk.specs.Tape.{Tape}
 use Rattle.wal_page.specs.Order.{Entry, IsChained, rooms_of}
-use Rattle.wal_log.specs.LogImage.{HoldsLog}
+use Rattle.serial_log.specs.LogImage.{HoldsLog}
 use Rattle.backend_cli.specs.Run.{IsWhole}
 
 -- an order whose log a disk holds for good is what every image that a crash may leave, and the disk as it is read, decode to

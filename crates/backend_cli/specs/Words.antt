@@ -2,7 +2,7 @@
 use Rattle.std.specs.Prelude.{ℕ, ◌-◌, ◌^◌, Bool, true, false, ◌&&◌, not, List, [], ◌∷◌, Option, Some, None, codes, option_and_then, unwrap_or, is_none, nat_le, if◌then◌else◌}
 use Rattle.std.specs.Str.{bytes_eq}
 use Rattle.byte_position.specs.Geometry.{is_segment_size}
-use Rattle.wal_log.specs.Shape.{AreInRange}
+use Rattle.serial_log.specs.Shape.{AreInRange}
 use Rattle.wal_script.specs.Numbers.{number_of}
 use Rattle.backend_cli.specs.declared.words.Valued.{Valued}
 use Rattle.backend_cli.specs.declared.words.Valued.TheVariants.{SegmentSize, RingPages, CapSegments}
@@ -37,12 +37,12 @@ with_option is_run given word =
     else (if is_run && bytes_eq word (codes "--list") && not given.list then Some (record given { list = true }) else None)))
 
 -- one word: a value where one is awaited, else an option
-abbrev pub with_next : Bool → Option Valued → GivenOptions → List ℕ → Option GivenOptions
-with_next is_run (Some option) given word = with_value option given word
-with_next is_run None given word = with_option is_run given word
+abbrev pub with_following : Bool → Option Valued → GivenOptions → List ℕ → Option GivenOptions
+with_following is_run (Some option) given word = with_value option given word
+with_following is_run None given word = with_option is_run given word
 
 abbrev pub with_word : Bool → GivenOptions → List ℕ → Option GivenOptions
-with_word is_run given word = with_next is_run given.awaited given word
+with_word is_run given word = with_following is_run given.awaited given word
 
 -- options in any order; none of them lacks its value
 abbrev pub unless_awaiting : Option Valued → GivenOptions → Option GivenOptions

@@ -1,8 +1,8 @@
 ghost use Rattle.std.specs.Prelude.{ℕ, Option};
 ghost use Rattle.segment_disk.specs.Tape.{Tape};
 ghost use Rattle.wal_script.specs.declared.line.Action.{Action};
-ghost use Rattle.wal_log.specs.LogState.{IsLog, IsSameLog};
-ghost use Rattle.wal_log.specs.Standing.{Standing};
+ghost use Rattle.serial_log.specs.LogState.{IsLog, IsSameLog};
+ghost use Rattle.serial_log.specs.History.{LogHistory};
 ghost use Rattle.backend_cli.specs.Moments.{LastTold, MomentStep};
 ghost use Rattle.backend_cli.specs.Steps.{Steps};
 ghost use Rattle.backend_cli.specs.Tasks.{IsWork};
@@ -11,12 +11,12 @@ ghost use Rattle.backend_cli.specs.Tracked.{IsTracked};
 use crate::tasks::Work;
 use crate::told::Told;
 use segment_disk::Disk;
-use wal_log::Log;
+use serial_log::Log;
 
 /// Does what a line asks for.
 pub(crate) fn answer<D: Disk>(log: &mut Log<D>, work: &Work) -> Told
-    ensures steps { (before : Option Tape) (opened : ℕ) (s : Standing) (action : Action) → IsLog D.tape D.faults before opened log.old s → IsWork action work.now
-        → (after : Standing) × Steps log.old.size log.old.capacity opened s action result after × IsLog D.tape D.faults before opened log.new after }
+    ensures steps { (before : Option Tape) (opened : ℕ) (s : LogHistory) (action : Action) → IsLog D.tape D.faults before opened log.old s → IsWork action work.now
+        → (after : LogHistory) × Steps log.old.size log.old.capacity opened s action result after × IsLog D.tape D.faults before opened log.new after }
     ensures same { IsSameLog log.old log.new }
     ensures moments { (last : LastTold) → IsTracked D.moment last log.old → (next : LastTold) × MomentStep last result next × IsTracked D.moment next log.new }
 {

@@ -2,13 +2,13 @@ ghost use Rattle.std.specs.Prelude.{◌≡◌, ◌≤◌, ◌<◌, ℕ, All, Lis
 ghost use Rattle.wal_script.specs.declared.line.Line.{Line};
 ghost use Rattle.wal_script.specs.Writable.{AsksWritable};
 ghost use Rattle.waldump_text.specs.Put.{Puts};
-ghost use Rattle.wal_log.specs.Standing.{capacity_of};
+ghost use Rattle.serial_log.specs.History.{capacity_of};
 ghost use Rattle.backend_cli.specs.Told.{SomeAnswer, IsFullAnswer};
 ghost use Rattle.backend_cli.specs.Texts.{reserved_count, commits_of};
 ghost use Rattle.backend_cli.specs.Printing.{printed_text, Summarizes};
 ghost use Rattle.backend_cli.specs.Concluding.{Concludes};
 ghost use Rattle.backend_cli.specs.Run.{RunHolds};
-ghost use Rattle.backend_cli.specs.Prepared.{Prepares, ReadsLines, IsReady, MeansLines};
+ghost use Rattle.backend_cli.specs.Prepared.{Prepares, ReadsLines, IsPrepared, MeansLines};
 ghost use Rattle.backend_cli.specs.Reading.{IsReadAll};
 
 use crate::outcome::Outcome;
@@ -20,8 +20,8 @@ use crate::tasks::{Task, tasks_of};
 use crate::told::{Told, ToldLists};
 use byte_position::Geometry;
 use segment_disk::{Disk, Sink, Source};
+use serial_log::{Log, OpenFailure, Room, Shape};
 use std::alloc::{AllocError, Global};
-use wal_log::{Log, OpenFailure, Room, Shape};
 use wal_script::{Line, ParseError, parse};
 use waldump_text::SinkFault;
 
@@ -64,7 +64,7 @@ fn lines_of<S: Source>(alloc: Global, source: &mut S) -> Result<Vec<Line>, Outco
 
 fn room_for(alloc: Global, shape: Shape, lines: &[Line]) -> Result<Prepared, AllocError>
     requires { All (λ line. AsksWritable line.action) lines.now }
-    ensures { IfOk result (λ prepared. IsReady shape lines.now prepared) }
+    ensures { IfOk result (λ prepared. IsPrepared shape lines.now prepared) }
 {
     let tasks = tasks_of(alloc, lines)?;
     let told = Vec::with_capacity(alloc, tasks.len())?;
@@ -187,8 +187,8 @@ fn run_prepared<O: Sink, D: Disk, G: Gate>(
     out: &mut O,
     gate: &G,
 ) -> Finished<D>
-    requires { (lines : List Line) × IsReady shape lines prepared }
-    ensures holds { (source left : Option (List ℕ)) (count : ℕ) (lines : List Line) → IsReadAll source left → MeansLines source lines → IsReady shape lines prepared
+    requires { (lines : List Line) × IsPrepared shape lines prepared }
+    ensures holds { (source left : Option (List ℕ)) (count : ℕ) (lines : List Line) → IsReadAll source left → MeansLines source lines → IsPrepared shape lines prepared
         → RunHolds (record {
           source = source;
           source_left = left;

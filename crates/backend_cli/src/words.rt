@@ -1,9 +1,9 @@
 ghost use Rattle.std.specs.Prelude.{◌≡◌, ◌↔◌, map, string_bytes, true, false, IfSome, IsSome, unwrap_or, option_and_then};
-ghost use Rattle.wal_log.specs.Shape.{AreInRange};
+ghost use Rattle.serial_log.specs.Shape.{AreInRange};
 ghost use Rattle.backend_cli.specs.Words.{AsksInRange, asks, segment_size_of, count_of, options_from, no_options, default_segment_size, run_with, dump_with, with_option, with_value, with_word};
 
 use byte_position::Geometry;
-use wal_log::Shape;
+use serial_log::Shape;
 use wal_script::number;
 
 /// What `run` is asked to do.

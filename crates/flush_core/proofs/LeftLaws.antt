@@ -8,10 +8,10 @@ use Rattle.segment_disk.specs.declared.disk.Call.{Call}
 use Rattle.segment_disk.specs.declared.disk.CallKind.{CallKind}
 use Rattle.segment_disk.specs.declared.disk.CallKind.TheVariants.{Create, Write, Sync}
 use Rattle.segment_disk.specs.Tape.{Segment, DiskState, Tape, zero_page, after_writes, segment_after, after_call, after_calls, state_now, with_call, IsMade, IsNotMade}
-use Rattle.segment_disk.specs.Image.{Image, ImageSegment, word_of, IsWritten, LeavesSegment, Leaves, when_done}
+use Rattle.segment_disk.specs.DiskImage.{DiskImage, ImageSegment, word_of, IsWritten, MayLeaveSegment, MayLeave, when_done}
 use Rattle.segment_disk.proofs.Reading.{after_calls-push}
 use Rattle.flush_core.specs.Calls.{store_calls, with_calls, failed_call, BreaksOff}
-use Rattle.flush_core.specs.Left.{SegmentFits, ImageFits, SegmentAssures, StateAssures, TapeAssures}
+use Rattle.flush_core.specs.Left.{SegmentFits, DiskImageFits, SegmentAssures, StateAssures, TapeAssures}
 use Rattle.flush_core.proofs.StateLaws.{after_each}
 
 take_none : {A : Type 0} (m : ℕ) → take {A = A} m [] ≡ []
@@ -54,16 +54,16 @@ at_end (c ∷ calls) zero behind = absurd (omega arith)
 at_end (c ∷ calls) (suc m) behind = ap (λ (l : List Call). c ∷ l) (at_end calls m (omega arith))
 
 -- what a crash leaves behind these calls, where this one is next
-abbrev LeftBehind : DiskState → Image → List Call → Option Call → Type 0
-LeftBehind at_first image front next = Leaves (after_calls at_first front) image ⊎ IsSomeAnd next (λ call. IsSomeAnd (when_done call) (λ whole. Leaves (after_call (after_calls at_first front) whole) image))
+abbrev LeftBehind : DiskState → DiskImage → List Call → Option Call → Type 0
+LeftBehind at_first image front next = MayLeave (after_calls at_first front) image ⊎ IsSomeAnd next (λ call. IsSomeAnd (when_done call) (λ whole. MayLeave (after_call (after_calls at_first front) whole) image))
 
-left_moved : (at_first : DiskState) (image : Image) (front other : List Call) (next last : Option Call) → front ≡ other → next ≡ last → LeftBehind at_first image front next → LeftBehind at_first image other last
+left_moved : (at_first : DiskState) (image : DiskImage) (front other : List Call) (next last : Option Call) → front ≡ other → next ≡ last → LeftBehind at_first image front next → LeftBehind at_first image other last
 left_moved at_first image front other next last same_front same_next leaves = subst (λ (n : Option Call). LeftBehind at_first image other n) same_next (subst (λ (f : List Call). LeftBehind at_first image f next) same_front leaves)
 
 module _ (size : ℕ) (IsThere : ℕ → Type 0) (Fits : ℕ → ℕ → List ℕ → Type 0) where
   -- ---- states
 
-  left_fits : (segment : ℕ) (s : Option Segment) (i : Option ImageSegment) → SegmentAssures size IsThere Fits segment s → LeavesSegment s i → SegmentFits size IsThere Fits segment i
+  left_fits : (segment : ℕ) (s : Option Segment) (i : Option ImageSegment) → SegmentAssures size IsThere Fits segment s → MayLeaveSegment s i → SegmentFits size IsThere Fits segment i
   left_fits segment None None assures leaves = assures
   left_fits segment None (Some i) assures leaves = absurd leaves
   left_fits segment (Some s) None assures leaves = absurd leaves
@@ -73,7 +73,7 @@ module _ (size : ℕ) (IsThere : ℕ → Type 0) (Fits : ℕ → ℕ → List �
   )
 
   -- a crash leaves what a state assures
-  pub ImageFits-left : (state : DiskState) (image : Image) → StateAssures size IsThere Fits state → Leaves state image → ImageFits size IsThere Fits image
+  pub ImageFits-left : (state : DiskState) (image : DiskImage) → StateAssures size IsThere Fits state → MayLeave state image → DiskImageFits size IsThere Fits image
   ImageFits-left state image assures leaves = λ n. left_fits n (state n) (image n) (assures n) (leaves n)
 
   -- a call fits: the zeros that it makes, and the page that it writes
@@ -119,8 +119,8 @@ module _ (size : ℕ) (IsThere : ℕ → Type 0) (Fits : ℕ → ℕ → List �
       λ n. after_each state call (SegmentAssures size IsThere Fits n) n (λ same. assured_after n call.geometry call.kind call.done (state n) (subst (λ (m : ℕ). KindFits call.geometry m call.kind) (sym same) fits) (assures n)) (λ _. assures n)
 
   -- a call that the crash cut short
-  ImageFits-cut_short : (geometry segment : ℕ) (kind : CallKind) (done : Bool) (state : DiskState) (image : Image) → KindFits geometry segment kind → StateAssures size IsThere Fits state
-      → (let call : Call = record { geometry = geometry; segment = segment; kind = kind; done = done } in IsSomeAnd (when_done call) (λ whole. Leaves (after_call state whole) image)) → ImageFits size IsThere Fits image
+  ImageFits-cut_short : (geometry segment : ℕ) (kind : CallKind) (done : Bool) (state : DiskState) (image : DiskImage) → KindFits geometry segment kind → StateAssures size IsThere Fits state
+      → (let call : Call = record { geometry = geometry; segment = segment; kind = kind; done = done } in IsSomeAnd (when_done call) (λ whole. MayLeave (after_call state whole) image)) → DiskImageFits size IsThere Fits image
   ImageFits-cut_short geometry segment (Create made) done state image fits assures leaves =
       ImageFits-left _ image (StateAssures-after state (record { geometry = geometry; segment = segment; kind = Create true; done = true }) fits assures) leaves
   ImageFits-cut_short geometry segment (Write page bytes) done state image fits assures leaves =

@@ -7,11 +7,11 @@ use Rattle.byte_position.specs.Geometry.{IsSegmentSize, pages_of}
 use Rattle.byte_position.proofs.SegmentSizes.{segment_size_in_pages}
 use Rattle.segment_disk.specs.declared.disk.Call.{Call}
 use Rattle.segment_disk.specs.Tape.{Segment, DiskState, Tape, zero_page, after_writes, state_now}
-use Rattle.segment_disk.specs.Image.{word_of, image_as_read}
+use Rattle.segment_disk.specs.DiskImage.{word_of, image_as_read}
 use Rattle.flush_core.specs.declared.writer.Writer.{Writer}
 use Rattle.flush_core.specs.Calls.{put_calls}
-use Rattle.flush_core.specs.Pages.{Pages, made_upto, HoldsSegment, HoldsPut, HoldsNothing, unsynced_writes}
-use Rattle.flush_core.specs.Left.{IsMadeUpto, IsKeptWord, SameBelow, Puts, no_puts, with_put, IsWordOf, IsWordPut, IsNowhere, SegmentAssures, StateAssures, TapeAssures}
+use Rattle.flush_core.specs.Pages.{PutPages, made_upto, HoldsSegment, HoldsPut, HoldsNothing, unsynced_writes}
+use Rattle.flush_core.specs.Left.{IsMadeUpto, IsKeptWord, SameBelow, PutHistory, no_puts, with_put, IsWordOf, IsWordPut, IsNowhere, SegmentAssures, StateAssures, TapeAssures}
 use Rattle.flush_core.specs.Writer.{IsKept, IsWriter}
 use Rattle.flush_core.proofs.Words.{durable_word}
 use Rattle.flush_core.proofs.LeftLaws.{AllFit, store_fits, TapeAssures-now, TapeAssures-weaker}
@@ -27,10 +27,10 @@ div_rises a b n rises = elim (cases_lt 0 n) [
 
 -- what was put, with one page more
 module _ (page : ℕ) (bytes : List ℕ) where
-  put_before : (puts : Puts) (n word : ℕ) (found : List ℕ) → IsWordPut puts n word found → IsWordPut (with_put puts page bytes) n word found
+  put_before : (puts : PutHistory) (n word : ℕ) (found : List ℕ) → IsWordPut puts n word found → IsWordPut (with_put puts page bytes) n word found
   put_before puts n word found put = elim (cases_eq n page) [ inl same ↦ rw (eq-eqb n page same) (inr put) | inr other ↦ rw (ne_eqb n page other) put ]
 
-  pub HoldsOnly-more : (size : ℕ) (puts : Puts) (moment : ℕ) (tape : Option Tape) → IfSome tape (TapeAssures size IsNowhere (IsWordPut puts) moment) → IfSome tape (TapeAssures size IsNowhere (IsWordPut (with_put puts page bytes)) moment)
+  pub HoldsOnly-more : (size : ℕ) (puts : PutHistory) (moment : ℕ) (tape : Option Tape) → IfSome tape (TapeAssures size IsNowhere (IsWordPut puts) moment) → IfSome tape (TapeAssures size IsNowhere (IsWordPut (with_put puts page bytes)) moment)
   HoldsOnly-more size puts moment tape assures = IfSome_then tape assures (λ t only. TapeAssures-weaker size IsNowhere (IsWordPut puts) (IsWordPut (with_put puts page bytes)) (put_before puts) moment t only)
 
 module _ (size written upto page : ℕ) (bytes : List ℕ) (stored : List Call) (are : stored ≡ put_calls size written page upto bytes) (valid : IsSegmentSize size) (at : page ≡ written / 8192) where
@@ -48,7 +48,7 @@ module _ (size written upto page : ℕ) (bytes : List ℕ) (stored : List Call) 
       omega arith
 
   -- the calls that put a page fit what is kept below a position that is written
-  pub put_keeps : (position : ℕ) (pages : Pages) → position ≤ written → SameBelow position page bytes (pages page) → AllFit size (IsMadeUpto size position) (IsKeptWord position pages) stored
+  pub put_keeps : (position : ℕ) (pages : PutPages) → position ≤ written → SameBelow position page bytes (pages page) → AllFit size (IsMadeUpto size position) (IsKeptWord position pages) stored
   put_keeps position pages low same =
       let count = pages_of size in
       subst (AllFit size (IsMadeUpto size position) (IsKeptWord position pages)) (sym are)
@@ -60,11 +60,11 @@ module _ (size written upto page : ℕ) (bytes : List ℕ) (stored : List Call) 
   zeros_put [] word = refl
   zeros_put (p ∷ puts) word = inr (zeros_put puts word)
 
-  put_now : (puts : Puts) (word : ℕ) → IsWordOf (with_put puts page bytes page) word (word_of bytes word)
+  put_now : (puts : PutHistory) (word : ℕ) → IsWordOf (with_put puts page bytes page) word (word_of bytes word)
   put_now puts word = rw (eq-eqb page page refl) (inl refl)
 
   -- they fit what was put, with this page
-  pub put_adds : (puts : Puts) → AllFit size IsNowhere (IsWordPut (with_put puts page bytes)) stored
+  pub put_adds : (puts : PutHistory) → AllFit size IsNowhere (IsWordPut (with_put puts page bytes)) stored
   put_adds puts =
       let count = pages_of size in
       subst (AllFit size IsNowhere (IsWordPut (with_put puts page bytes))) (sym are)
@@ -73,7 +73,7 @@ module _ (size written upto page : ℕ) (bytes : List ℕ) (stored : List Call) 
       (subst (λ (n : ℕ). (word : ℕ) → word < 1024 → IsWordOf (with_put puts page bytes n) word (word_of bytes word)) number (λ word _. put_now puts word)))
 
 -- what a disk holds and has synced is kept
-module _ (size : ℕ) (pages : Pages) where
+module _ (size : ℕ) (pages : PutPages) where
   segment_kept : (position segment : ℕ) (s : Option Segment) → HoldsSegment size pages segment (image_as_read (λ (n : ℕ). s) segment) → unsynced_writes s ≡ [] → SegmentAssures size (IsMadeUpto size position) (IsKeptWord position pages) segment s
   segment_kept position segment None holds synced = absurd holds
   segment_kept position segment (Some s) holds synced = (
@@ -100,7 +100,7 @@ module _ (size : ℕ) (pages : Pages) where
       ]
 
 -- a writer for which nothing waits for a sync
-pub IsKept-synced : (D : Type 0) (tape : D → Option Tape) (moment_of : D → ℕ) → ((disk : D) → IfSome (tape disk) (λ t. moment_of disk ≡ length t.calls)) → (writer : Writer D) (position moment : ℕ) (pages : Pages) → writer.unsynced ≡ false
+pub IsKept-synced : (D : Type 0) (tape : D → Option Tape) (moment_of : D → ℕ) → ((disk : D) → IfSome (tape disk) (λ t. moment_of disk ≡ length t.calls)) → (writer : Writer D) (position moment : ℕ) (pages : PutPages) → writer.unsynced ≡ false
     → position ≤ writer.written.0 → moment ≡ moment_of writer.disk → IsWriter tape writer pages → IsKept tape writer moment position pages
 IsKept-synced D tape moment_of counts writer position moment pages synced low now is = by_tape (tape writer.disk) is.holds (counts writer.disk)
   where

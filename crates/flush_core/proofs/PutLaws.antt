@@ -6,9 +6,9 @@ use Rattle.std.proofs.Math.Nat.{div-add-mod, div-div-eq-div-mul}
 use Rattle.byte_position.specs.Geometry.{IsSegmentSize, pages_of}
 use Rattle.byte_position.proofs.SegmentSizes.{segment_size_in_pages}
 use Rattle.segment_disk.specs.Tape.{Segment, DiskState, zero_page, after_call, after_calls, after_writes}
-use Rattle.segment_disk.specs.Image.{Image, ImageSegment, Leaves, LeavesSegment, image_as_read}
+use Rattle.segment_disk.specs.DiskImage.{DiskImage, ImageSegment, MayLeave, MayLeaveSegment, image_as_read}
 use Rattle.flush_core.specs.Calls.{sync_call, store_calls, put_calls}
-use Rattle.flush_core.specs.Pages.{Pages, with_page, made_upto, HoldsSegment, HoldsPages, HoldsPut, ArePutUpto, unsynced_writes}
+use Rattle.flush_core.specs.Pages.{PutPages, with_page, made_upto, HoldsSegment, HoldsPages, HoldsPut, ArePutUpto, unsynced_writes}
 use Rattle.flush_core.proofs.StateLaws.{Stands, stands_created, stands_written, stands_synced}
 use Rattle.flush_core.proofs.Words.{left_page}
 
@@ -35,14 +35,14 @@ made_at_start size n positive begun start =
 positive_from_test : (n : ℕ) → (n == 0) ≡ false → 0 < n
 positive_from_test n test = elim (cases_eq n 0) [ inl none ↦ absurd (both_ways _ test (eq-eqb n 0 none)) | inr some ↦ omega arith ]
 
-module _ (size segment page : ℕ) (state : DiskState) (pages : Pages) (bytes : List ℕ) (positive : 0 < segment) (within : page < pages_of size) where
+module _ (size segment page : ℕ) (state : DiskState) (pages : PutPages) (bytes : List ℕ) (positive : 0 < segment) (within : page < pages_of size) where
   -- what stands before a page is stored
   pub record StandsBefore (is_new : Bool) : Type 0 where
     pub anew : is_new ≡ true → Stands size (segment - 1) segment state pages
     pub zeros : is_new ≡ true → (k : ℕ) → k < pages_of size → pages (segment * pages_of size + k) ≡ zero_page
     pub there : is_new ≡ false → Stands size segment segment state pages
 
-  abbrev stored : Pages
+  abbrev stored : PutPages
   stored = with_page pages (segment * pages_of size + page) bytes
 
   -- it is stored, and nothing waits for a sync where its segment is full
@@ -93,7 +93,7 @@ module _ (size written upto page : ℕ) (valid : IsSegmentSize size) (begun : si
         starts = λ start. (let product : size * (written / size) ≡ 8192 * count * segment = ap (λ (m : ℕ). m * (written / size)) whole.0 ∙ ap (λ (m : ℕ). 8192 * count * m) of_written in omega arith);
       }
 
-  module _ (state : DiskState) (pages : Pages) (bytes : List ℕ) (unsynced : Bool) (put : ArePutUpto written pages) (holds : HoldsPut size written unsynced state pages) where
+  module _ (state : DiskState) (pages : PutPages) (bytes : List ℕ) (unsynced : Bool) (put : ArePutUpto written pages) (holds : HoldsPut size written unsynced state pages) where
     before : (is_new : Bool) → is_new ≡ (written % size == 0) → StandsBefore size (page / pages_of size) (page % pages_of size) state pages bytes placed.positive placed.within is_new
     before is_new is =
         let standing = λ (last : ℕ) (same : made_upto size written ≡ last). let stands : Stands size last (page / pages_of size) state pages = record {
@@ -130,14 +130,14 @@ module _ (size written upto page : ℕ) (valid : IsSegmentSize size) (begun : si
     pub HoldsPut-put : HoldsPut size upto (not (upto % size == 0)) (after_calls state (put_calls size written page upto bytes)) (with_page pages page bytes)
     HoldsPut-put = held (upto % size == 0) refl
 
-  pub ArePutUpto-put : (pages : Pages) (bytes : List ℕ) → ArePutUpto written pages → length bytes ≡ 8192 → written ≤ upto → ArePutUpto upto (with_page pages page bytes)
+  pub ArePutUpto-put : (pages : PutPages) (bytes : List ℕ) → ArePutUpto written pages → length bytes ≡ 8192 → written ≤ upto → ArePutUpto upto (with_page pages page bytes)
   ArePutUpto-put pages bytes put whole rises = record {
     whole = λ n. elim (cases_eq n page) [ inl same ↦ rw (eq-eqb n page same) whole | inr other ↦ rw (ne_eqb n page other) (put.whole n) ];
     behind = λ n high. let other : n ≢ page = (λ same. absurd (omega arith)) in rw (ne_eqb n page other) (put.behind n (omega arith));
   }
 
 -- what waits for a sync is synced
-pub HoldsPut-synced : (size written : ℕ) (state : DiskState) (pages : Pages) → HoldsPut size written true state pages → HoldsPut size written false (after_call state (sync_call size (written / size))) pages
+pub HoldsPut-synced : (size written : ℕ) (state : DiskState) (pages : PutPages) → HoldsPut size written true state pages → HoldsPut size written false (after_call state (sync_call size (written / size))) pages
 HoldsPut-synced size written state pages holds =
     let stands : Stands size (made_upto size written) (written / size) state pages = record { read = holds.read; synced = λ n other. holds.synced n (inl other) } in
     record {
@@ -148,8 +148,8 @@ HoldsPut-synced size written state pages holds =
 -- ---- images
 
 -- a crash leaves a segment to which no write waits for a sync as it is
-left_segment : (size segment : ℕ) (pages : Pages) (s : Option Segment) (i : Option ImageSegment) → ((page : ℕ) → length (pages page) ≡ 8192) → HoldsSegment size pages segment (image_as_read (λ (n : ℕ). s) segment)
-    → unsynced_writes s ≡ [] → LeavesSegment s i → HoldsSegment size pages segment i
+left_segment : (size segment : ℕ) (pages : PutPages) (s : Option Segment) (i : Option ImageSegment) → ((page : ℕ) → length (pages page) ≡ 8192) → HoldsSegment size pages segment (image_as_read (λ (n : ℕ). s) segment)
+    → unsynced_writes s ≡ [] → MayLeaveSegment s i → HoldsSegment size pages segment i
 left_segment size segment pages None i whole holds synced leaves = absurd holds
 left_segment size segment pages (Some s) None whole holds synced leaves = absurd leaves
 left_segment size segment pages (Some s) (Some i) whole holds synced leaves = (
@@ -160,12 +160,12 @@ left_segment size segment pages (Some s) (Some i) whole holds synced leaves = (
       left_page s page (i.page page) synced (ap length durable ∙ whole (segment * pages_of size + page)) (leaves.1 page low) ∙ durable,
 )
 
-left_absent : (s : Option Segment) (i : Option ImageSegment) → image_as_read (λ (n : ℕ). s) 0 ≡ None → LeavesSegment s i → i ≡ None
+left_absent : (s : Option Segment) (i : Option ImageSegment) → image_as_read (λ (n : ℕ). s) 0 ≡ None → MayLeaveSegment s i → i ≡ None
 left_absent None None absent leaves = refl
 left_absent None (Some i) absent leaves = absurd leaves
 left_absent (Some s) i absent leaves = (cc)
 
-pub HoldsPages-left : (size written : ℕ) (state : DiskState) (pages : Pages) (image : Image) → ArePutUpto written pages → HoldsPut size written false state pages → Leaves state image → HoldsPages size (made_upto size written) image pages
+pub HoldsPages-left : (size written : ℕ) (state : DiskState) (pages : PutPages) (image : DiskImage) → ArePutUpto written pages → HoldsPut size written false state pages → MayLeave state image → HoldsPages size (made_upto size written) image pages
 HoldsPages-left size written state pages image put holds leaves = record {
   there = λ n low high. left_segment size n pages (state n) (image n) put.whole (holds.read.there n low high) (holds.synced n (inr refl)) (leaves n);
   others = λ n none. left_absent (state n) (image n) (holds.read.others n none) (leaves n);

@@ -6,17 +6,17 @@ use Rattle.byte_position.specs.Geometry.{pages_of}
 use Rattle.segment_disk.specs.declared.disk.Call.{Call}
 use Rattle.segment_disk.specs.declared.disk.CallKind.TheVariants.{Write, Sync}
 use Rattle.segment_disk.specs.Tape.{Segment, DiskState, zero_page, after_writes, segment_after, after_call}
-use Rattle.segment_disk.specs.Image.{image_as_read}
+use Rattle.segment_disk.specs.DiskImage.{image_as_read}
 use Rattle.flush_core.specs.Calls.{create_call, write_call, sync_call}
-use Rattle.flush_core.specs.Pages.{Pages, with_page, HoldsSegment, HoldsPages, unsynced_writes}
+use Rattle.flush_core.specs.Pages.{PutPages, with_page, HoldsSegment, HoldsPages, unsynced_writes}
 
 -- what a disk holds while only one segment may have writes that wait for a sync
-pub record Stands (size last under_way : ℕ) (state : DiskState) (pages : Pages) : Type 0 where
+pub record Stands (size last under_way : ℕ) (state : DiskState) (pages : PutPages) : Type 0 where
   pub read : HoldsPages size last (image_as_read state) pages
   pub synced : (segment : ℕ) → segment ≢ under_way → unsynced_writes (state segment) ≡ []
 
 -- a segment of a disk, as it is read, is as it was put
-abbrev ReadsAsPut : ℕ → Pages → ℕ → Option Segment → Type 0
+abbrev ReadsAsPut : ℕ → PutPages → ℕ → Option Segment → Type 0
 ReadsAsPut size pages segment s = HoldsSegment size pages segment (image_as_read (λ (n : ℕ). s) segment)
 
 -- a segment of a disk is not there
@@ -40,7 +40,7 @@ module _ (state : DiskState) (call : Call) where
       ]
 
 -- a segment of zeros is made
-pub stands_created : (size segment : ℕ) (state : DiskState) (pages : Pages) → 0 < segment → ((page : ℕ) → page < pages_of size → pages (segment * pages_of size + page) ≡ zero_page) → Stands size (segment - 1) segment state pages
+pub stands_created : (size segment : ℕ) (state : DiskState) (pages : PutPages) → 0 < segment → ((page : ℕ) → page < pages_of size → pages (segment * pages_of size + page) ≡ zero_page) → Stands size (segment - 1) segment state pages
     → Stands size segment segment (after_call state (create_call size segment)) pages
 stands_created size segment state pages positive zeros stands = record {
   read = record {
@@ -61,7 +61,7 @@ same_place : (count a b j k : ℕ) → j < count → k < count → a * count + j
 same_place count a b j k low high same =
     sym (div-mul-add a count j low) ∙ ap (λ (n : ℕ). n / count) same ∙ div-mul-add b count k high
 
-module _ (size segment page : ℕ) (pages : Pages) (bytes : List ℕ) (within : page < pages_of size) where
+module _ (size segment page : ℕ) (pages : PutPages) (bytes : List ℕ) (within : page < pages_of size) where
   -- the page's number in the log
   abbrev number : ℕ
   number = segment * pages_of size + page
@@ -109,7 +109,7 @@ no_writes size None = refl
 no_writes size (Some s) = refl
 
 -- the segment under way is synced: nothing waits any more
-pub stands_synced : (size last segment other : ℕ) (state : DiskState) (pages : Pages) → Stands size last segment state pages → Stands size last other (after_call state (sync_call size segment)) pages
+pub stands_synced : (size last segment other : ℕ) (state : DiskState) (pages : PutPages) → Stands size last segment state pages → Stands size last other (after_call state (sync_call size segment)) pages
 stands_synced size last segment other state pages stands =
     let call = sync_call size segment in
     let same = λ (n : ℕ). after_each state call (λ (s : Option Segment). image_as_read (λ (m : ℕ). s) n ≡ image_as_read state n) n (λ _. synced_reads size n (state n)) (λ _. refl) in

@@ -2,7 +2,7 @@
 use Rattle.std.proofs.Common.{◌≡◌, ℕ, zero, suc, ◌+◌, ◌*◌, ◌<◌, ◌⊎◌, inl, inr, List, [], ◌∷◌, ◌++◌, length, take, drop, refl, sym, ap, subst, ◌∙◌, arith, length-drop, take-append-drop}
 use Rattle.std.proofs.lemmas.List.{drop-drop}
 use Rattle.segment_disk.specs.Tape.{Segment}
-use Rattle.segment_disk.specs.Image.{word_of, IsWritten, LeavesPage}
+use Rattle.segment_disk.specs.DiskImage.{word_of, IsWritten, MayLeavePage}
 
 no_bytes : (bytes : List ℕ) → length bytes ≡ 0 → bytes ≡ []
 no_bytes [] none = refl
@@ -28,6 +28,6 @@ durable_word writes page k word old none (inl same) = same
 durable_word writes page k word old none (inr written) = absurd (subst (λ (ws : List (ℕ × List ℕ)). IsWritten ws page k word) none written)
 
 -- a crash leaves a page to which no write waits for a sync as it is
-pub left_page : (s : Segment) (page : ℕ) (bytes : List ℕ) → s.writes ≡ [] → length (s.durable page) ≡ 8192 → LeavesPage s page bytes → bytes ≡ s.durable page
+pub left_page : (s : Segment) (page : ℕ) (bytes : List ℕ) → s.writes ≡ [] → length (s.durable page) ≡ 8192 → MayLeavePage s page bytes → bytes ≡ s.durable page
 left_page s page bytes synced whole left =
     same_words 1024 bytes (s.durable page) left.length whole (λ k below. durable_word s.writes page k (word_of bytes k) (word_of (s.durable page) k) synced (left.words k below))

@@ -7,7 +7,7 @@ use Rattle.segment_disk.specs.declared.disk.Call.{Call}
 use Rattle.segment_disk.specs.Tape.{DiskState, Tape, state_now, with_call, IsMade, IsNotMade}
 use Rattle.flush_core.specs.declared.writer.Writer.{Writer}
 use Rattle.flush_core.specs.Calls.{sync_call, store_calls, put_calls, harden_calls, with_calls}
-use Rattle.flush_core.specs.Pages.{Pages, with_page, HoldsPut}
+use Rattle.flush_core.specs.Pages.{PutPages, with_page, HoldsPut}
 use Rattle.flush_core.specs.Writer.{IsWriter, TellsFault}
 use Rattle.flush_core.proofs.CallLaws.{holds-with_calls, breaks_off, fails_whole}
 use Rattle.flush_core.proofs.PutLaws.{HoldsPut-put, HoldsPut-synced, ArePutUpto-put}
@@ -20,7 +20,7 @@ put_calls_are size written page upto segment number size_1 size_2 bytes of_segme
 module _ (D : Type 0) (tape : D → Option Tape) (old : Writer D) (disk : D) where
   -- a page was put
   pub IsWriter-put : (page : ℕ) (upto : Lsn) (bytes : List ℕ) (size : ℕ) (stored : List Call) → IsSegmentSize old.geometry → page ≡ old.written.0 / 8192 → old.written.0 ≤ upto.0 → page * 8192 < upto.0 → upto.0 ≤ (page + 1) * 8192 → length bytes ≡ 8192
-      → tape disk ≡ with_calls (tape old.disk) stored → stored ≡ put_calls old.geometry old.written.0 page upto.0 bytes → size ≡ old.geometry → (pages : Pages) → IsWriter tape old pages
+      → tape disk ≡ with_calls (tape old.disk) stored → stored ≡ put_calls old.geometry old.written.0 page upto.0 bytes → size ≡ old.geometry → (pages : PutPages) → IsWriter tape old pages
       → IsWriter tape (record { disk = disk; geometry = old.geometry; written = upto; unsynced = not (upto.0 % size == 0); fault = old.fault }) (with_page pages page bytes)
   IsWriter-put page upto bytes size stored valid at rises above below whole made are same pages is =
       let calls = put_calls old.geometry old.written.0 page upto.0 bytes in
@@ -35,7 +35,7 @@ module _ (D : Type 0) (tape : D → Option Tape) (old : Writer D) (disk : D) whe
       }
 
   -- what waited for a sync was synced
-  pub IsWriter-synced : old.unsynced ≡ true → tape disk ≡ with_call (tape old.disk) (sync_call old.geometry (old.written.0 / old.geometry)) → (pages : Pages) → IsWriter tape old pages → IsWriter tape (record old { disk = disk; unsynced = false }) pages
+  pub IsWriter-synced : old.unsynced ≡ true → tape disk ≡ with_call (tape old.disk) (sync_call old.geometry (old.written.0 / old.geometry)) → (pages : PutPages) → IsWriter tape old pages → IsWriter tape (record old { disk = disk; unsynced = false }) pages
   IsWriter-synced waits made pages is =
       let size = old.geometry in
       let written = old.written.0 in

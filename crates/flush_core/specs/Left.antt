@@ -2,8 +2,8 @@
 use Rattle.std.specs.Prelude.{◌≡◌, ℕ, ◌+◌, ◌*◌, ◌<◌, ◌≤◌, ◌⊎◌, List, [], ◌∷◌, Option, Some, None, ◌==◌, if◌then◌else◌}
 use Rattle.byte_position.specs.Geometry.{pages_of}
 use Rattle.segment_disk.specs.Tape.{Segment, DiskState, Tape, state_now, zero_page}
-use Rattle.segment_disk.specs.Image.{Image, ImageSegment, word_of, IsWritten, LeftAt}
-use Rattle.flush_core.specs.Pages.{Pages, made_upto}
+use Rattle.segment_disk.specs.DiskImage.{DiskImage, ImageSegment, word_of, IsWritten, LeftAt}
+use Rattle.flush_core.specs.Pages.{PutPages, made_upto}
 
 -- ---- what may be asked of an image: which segments are there, and what a word may be, by its page's number in the log and its own in the page
 
@@ -11,8 +11,8 @@ abbrev pub SegmentFits : ℕ → (ℕ → Type 0) → (ℕ → ℕ → List ℕ 
 SegmentFits size IsThere Fits segment None = IsThere segment → ⊥
 SegmentFits size IsThere Fits segment (Some i) = (i.pages ≡ pages_of size) × ((page word : ℕ) → page < pages_of size → word < 1024 → Fits (segment * pages_of size + page) word (word_of (i.page page) word))
 
-abbrev pub ImageFits : ℕ → (ℕ → Type 0) → (ℕ → ℕ → List ℕ → Type 0) → Image → Type 0
-ImageFits size IsThere Fits image = (segment : ℕ) → SegmentFits size IsThere Fits segment (image segment)
+abbrev pub DiskImageFits : ℕ → (ℕ → Type 0) → (ℕ → ℕ → List ℕ → Type 0) → DiskImage → Type 0
+DiskImageFits size IsThere Fits image = (segment : ℕ) → SegmentFits size IsThere Fits segment (image segment)
 
 -- a disk's state assures it: so is each word that is durable or of a write since the last sync
 abbrev pub SegmentAssures : ℕ → (ℕ → Type 0) → (ℕ → ℕ → List ℕ → Type 0) → ℕ → Option Segment → Type 0
@@ -26,7 +26,7 @@ StateAssures size IsThere Fits state = (segment : ℕ) → SegmentAssures size I
 -- every crash from a moment on has left an image of which it holds, and a disk's state assures it now
 pub record TapeAssures (size : ℕ) (IsThere : ℕ → Type 0) (Fits : ℕ → ℕ → List ℕ → Type 0) (moment : ℕ) (tape : Tape) : Type 0 where
   pub now : StateAssures size IsThere Fits (state_now tape)
-  pub left : (m : ℕ) → moment ≤ m → (image : Image) → LeftAt tape m image → ImageFits size IsThere Fits image
+  pub left : (m : ℕ) → moment ≤ m → (image : DiskImage) → LeftAt tape m image → DiskImageFits size IsThere Fits image
 
 -- ---- the pages below a position are kept
 
@@ -35,7 +35,7 @@ abbrev pub IsMadeUpto : ℕ → ℕ → ℕ → Type 0
 IsMadeUpto size position segment = (1 ≤ segment) × (segment ≤ made_upto size position)
 
 -- a word that ends at the position or below is as it was put
-abbrev pub IsKeptWord : ℕ → Pages → ℕ → ℕ → List ℕ → Type 0
+abbrev pub IsKeptWord : ℕ → PutPages → ℕ → ℕ → List ℕ → Type 0
 IsKeptWord position pages page word bytes = page * 8192 + 8 * word + 8 ≤ position → bytes ≡ word_of (pages page) word
 
 -- two pages of this number have the same words below the position
@@ -45,13 +45,13 @@ SameBelow position page one other = (word : ℕ) → word < 1024 → page * 8192
 -- ---- nothing is left but what was put
 
 -- all that was put in each page, the last first
-abbrev pub Puts : Type 0
-Puts = ℕ → List (List ℕ)
+abbrev pub PutHistory : Type 0
+PutHistory = ℕ → List (List ℕ)
 
-abbrev pub no_puts : Puts
+abbrev pub no_puts : PutHistory
 no_puts page = []
 
-abbrev pub with_put : Puts → ℕ → List ℕ → Puts
+abbrev pub with_put : PutHistory → ℕ → List ℕ → PutHistory
 with_put puts number bytes page = if page == number then bytes ∷ puts page else puts page
 
 -- a word is that of one of these pages, or of zeros
@@ -64,5 +64,5 @@ abbrev pub IsNowhere : ℕ → Type 0
 IsNowhere segment = ⊥
 
 -- a word of a page was put there, or is zeros
-abbrev pub IsWordPut : Puts → ℕ → ℕ → List ℕ → Type 0
+abbrev pub IsWordPut : PutHistory → ℕ → ℕ → List ℕ → Type 0
 IsWordPut puts page word bytes = IsWordOf (puts page) word bytes

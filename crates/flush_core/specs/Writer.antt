@@ -5,16 +5,16 @@ use Rattle.segment_disk.specs.Cause.{Rose}
 use Rattle.segment_disk.specs.Tape.{Tape, state_now}
 use Rattle.flush_core.specs.declared.writer.Writer.{Writer}
 use Rattle.flush_core.specs.Calls.{AreMade, BreaksOff}
-use Rattle.flush_core.specs.Left.{Puts, IsMadeUpto, IsKeptWord, IsNowhere, IsWordPut, TapeAssures}
-use Rattle.flush_core.specs.Pages.{Pages, HoldsPut, ArePutUpto}
+use Rattle.flush_core.specs.Left.{PutHistory, IsMadeUpto, IsKeptWord, IsNowhere, IsWordPut, TapeAssures}
+use Rattle.flush_core.specs.Pages.{PutPages, HoldsPut, ArePutUpto}
 
 -- the disk that a writer writes to
 abbrev pub disk_of : {D : Type 0} → Writer D → D
 disk_of writer = writer.disk
 
 -- the size of its segments
-abbrev pub size_of : {D : Type 0} → Writer D → ℕ
-size_of writer = writer.geometry
+abbrev pub writer_segment_size : {D : Type 0} → Writer D → ℕ
+writer_segment_size writer = writer.geometry
 
 -- up to where the log is written
 abbrev pub written_of : {D : Type 0} → Writer D → ℕ
@@ -25,22 +25,22 @@ abbrev pub is_unsynced : {D : Type 0} → Writer D → Bool
 is_unsynced writer = writer.unsynced
 
 -- the disk's count of faults when it failed
-abbrev pub fault_of : {D : Type 0} → Writer D → Option ℕ
-fault_of writer = writer.fault
+abbrev pub writer_fault : {D : Type 0} → Writer D → Option ℕ
+writer_fault writer = writer.fault
 
 -- a writer on a disk that has not failed and, where it tells what it holds, holds just these pages
-pub record IsWriter {D : Type 0} (tape : D → Option Tape) (writer : Writer D) (pages : Pages) : Type 0 where
+pub record IsWriter {D : Type 0} (tape : D → Option Tape) (writer : Writer D) (pages : PutPages) : Type 0 where
   pub up : writer.fault ≡ None
   pub begun : writer.geometry ≤ writer.written.0
   pub put : ArePutUpto writer.written.0 pages
   pub holds : IfSome (tape writer.disk) (λ t. HoldsPut writer.geometry writer.written.0 writer.unsynced (state_now t) pages)
 
 -- each crash from a moment on leaves the pages below a position: their segments, and in them each word below it as it was put
-abbrev pub IsKept : {D : Type 0} → (D → Option Tape) → Writer D → ℕ → ℕ → Pages → Type 0
+abbrev pub IsKept : {D : Type 0} → (D → Option Tape) → Writer D → ℕ → ℕ → PutPages → Type 0
 IsKept tape writer moment position pages = IfSome (tape writer.disk) (TapeAssures writer.geometry (IsMadeUpto writer.geometry position) (IsKeptWord position pages) moment)
 
 -- each crash from a moment on leaves nothing but what was put: in whatever segment is there, each word is zeros or was put there
-abbrev pub HoldsOnly : {D : Type 0} → (D → Option Tape) → Writer D → ℕ → Puts → Type 0
+abbrev pub HoldsOnly : {D : Type 0} → (D → Option Tape) → Writer D → ℕ → PutHistory → Type 0
 HoldsOnly tape writer moment puts = IfSome (tape writer.disk) (TapeAssures writer.geometry IsNowhere (IsWordPut puts) moment)
 
 -- a call during which the disk did not fail: the disk has made these calls and nothing else
@@ -51,7 +51,7 @@ pub record HasDone {D : Type 0} (tape : D → Option Tape) (moment faults : D �
   pub quiet : faults new.disk ≡ faults old.disk
 
 -- a call during which the disk failed: a front of these calls was made, and its count of faults is told from now on
-pub record HasFailed {D : Type 0} (tape : D → Option Tape) (moment faults : D → ℕ) (old new : Writer D) (told : ℕ) (calls : List Call) : Type 0 where
+pub record FailsNow {D : Type 0} (tape : D → Option Tape) (moment faults : D → ℕ) (old new : Writer D) (told : ℕ) (calls : List Call) : Type 0 where
   pub was_up : old.fault ≡ None
   pub is_down : new.fault ≡ Some told
   pub is_told : told ≡ faults new.disk
@@ -65,4 +65,4 @@ pub record FailsAgain {D : Type 0} (old new : Writer D) (told : ℕ) : Type 0 wh
 
 -- why a call told a fault: the disk failed, or had failed before
 abbrev pub TellsFault : {D : Type 0} → (D → Option Tape) → (D → ℕ) → (D → ℕ) → Writer D → Writer D → ℕ → List Call → Type 0
-TellsFault tape moment faults old new told calls = HasFailed tape moment faults old new told calls ⊎ FailsAgain old new told
+TellsFault tape moment faults old new told calls = FailsNow tape moment faults old new told calls ⊎ FailsAgain old new told

@@ -2,11 +2,11 @@
 
 ghost use Rattle.std.specs.Prelude.{ℕ, Bool, false};
 ghost use Rattle.segment_disk.specs.Tape.{DiskState};
-ghost use Rattle.segment_disk.specs.Image.{Image, Leaves, image_as_read};
-ghost use Rattle.flush_core.specs.Pages.{ArePutUpto, HoldsPages, HoldsPut, Pages, made_upto};
+ghost use Rattle.segment_disk.specs.DiskImage.{DiskImage, MayLeave, image_as_read};
+ghost use Rattle.flush_core.specs.Pages.{ArePutUpto, HoldsPages, HoldsPut, PutPages, made_upto};
 
 /// A law: where nothing waits for a sync, every image that a crash leaves holds just the pages that were put.
 pub fn synced_images_hold_what_was_put()
-    ensures { (size written : ℕ) (state : DiskState) (pages : Pages) (image : Image) → ArePutUpto written pages → HoldsPut size written false state pages → Leaves state image
+    ensures { (size written : ℕ) (state : DiskState) (pages : PutPages) (image : DiskImage) → ArePutUpto written pages → HoldsPut size written false state pages → MayLeave state image
         → HoldsPages size (made_upto size written) image pages }
 {}

@@ -1,8 +1,8 @@
 ghost use Rattle.std.specs.Prelude.{◌≡◌, ℕ, ◌+◌, ◌*◌, ◌/◌, ◌%◌, ◌<◌, ◌≤◌, false, not, ◌==◌, OnOk, IfOk, IfErr, MatchResult};
 ghost use Rattle.flush_core.specs.Calls.{harden_calls, put_calls};
-ghost use Rattle.flush_core.specs.Left.{Puts, SameBelow, no_puts, with_put};
-ghost use Rattle.flush_core.specs.Pages.{HoldsNothing, Pages, no_pages, with_page};
-ghost use Rattle.flush_core.specs.Writer.{HasDone, HoldsOnly, IsKept, IsWriter, TellsFault, disk_of, fault_of, is_unsynced, size_of, written_of};
+ghost use Rattle.flush_core.specs.Left.{PutHistory, SameBelow, no_puts, with_put};
+ghost use Rattle.flush_core.specs.Pages.{HoldsNothing, PutPages, no_pages, with_page};
+ghost use Rattle.flush_core.specs.Writer.{HasDone, HoldsOnly, IsKept, IsWriter, TellsFault, disk_of, writer_fault, is_unsynced, writer_segment_size, written_of};
 
 use crate::store::{place_of, store_page};
 use byte_position::Geometry;
@@ -34,10 +34,10 @@ impl<D: Disk> Writer<D> {
     /// A writer of a new log, which begins with segment 1. It makes no device call.
     pub fn new(disk: D, geometry: Geometry) -> Writer<D>
         ensures disk { disk_of result ≡ disk }
-        ensures size { size_of result ≡ geometry }
+        ensures size { writer_segment_size result ≡ geometry }
         ensures written { written_of result ≡ geometry }
         ensures synced { is_unsynced result ≡ false }
-        ensures up { fault_of result ≡ None }
+        ensures up { writer_fault result ≡ None }
         ensures holds { HoldsNothing (D.tape disk) → IsWriter D.tape result no_pages }
         ensures only { HoldsNothing (D.tape disk) → HoldsOnly D.tape result (D.moment disk) no_puts }
     {
@@ -78,7 +78,7 @@ impl<D: Disk> Writer<D> {
 
     /// The disk's count of faults when it failed.
     pub fn fault(&self) -> Option<u64>
-        ensures { result ≡ fault_of self.now }
+        ensures { result ≡ writer_fault self.now }
     {
         self.fault
     }
@@ -90,14 +90,14 @@ impl<D: Disk> Writer<D> {
         requires rises { written_of self.old ≤ upto.0 }
         requires begun { page * 8192 < upto.0 }
         requires within { upto.0 ≤ (page + 1) * 8192 }
-        ensures put { OnOk result ((pages : Pages) → IsWriter D.tape self.old pages → IsWriter D.tape self.new (with_page pages page bytes.now)) }
-        ensures keeps { (moment position : ℕ) (pages : Pages) → position ≤ written_of self.old → SameBelow position page bytes.now (pages page) → IsKept D.tape self.old moment position pages → IsKept D.tape self.new moment position pages }
-        ensures only { (moment : ℕ) (puts : Puts) → HoldsOnly D.tape self.old moment puts → HoldsOnly D.tape self.new moment (with_put puts page bytes.now) }
-        ensures done { OnOk result (HasDone D.tape D.moment D.faults self.old self.new (put_calls (size_of self.old) (written_of self.old) page upto.0 bytes.now)) }
+        ensures put { OnOk result ((pages : PutPages) → IsWriter D.tape self.old pages → IsWriter D.tape self.new (with_page pages page bytes.now)) }
+        ensures keeps { (moment position : ℕ) (pages : PutPages) → position ≤ written_of self.old → SameBelow position page bytes.now (pages page) → IsKept D.tape self.old moment position pages → IsKept D.tape self.new moment position pages }
+        ensures only { (moment : ℕ) (puts : PutHistory) → HoldsOnly D.tape self.old moment puts → HoldsOnly D.tape self.new moment (with_put puts page bytes.now) }
+        ensures done { OnOk result (HasDone D.tape D.moment D.faults self.old self.new (put_calls (writer_segment_size self.old) (written_of self.old) page upto.0 bytes.now)) }
         ensures written { MatchResult result (λ _. written_of self.new ≡ upto.0) (λ _. written_of self.new ≡ written_of self.old) }
-        ensures synced { OnOk result (is_unsynced self.new ≡ not (upto.0 % size_of self.old == 0)) }
-        ensures failed { IfErr result (λ e. TellsFault D.tape D.moment D.faults self.old self.new e.faults (put_calls (size_of self.old) (written_of self.old) page upto.0 bytes.now)) }
-        ensures size { size_of self.new ≡ size_of self.old }
+        ensures synced { OnOk result (is_unsynced self.new ≡ not (upto.0 % writer_segment_size self.old == 0)) }
+        ensures failed { IfErr result (λ e. TellsFault D.tape D.moment D.faults self.old self.new e.faults (put_calls (writer_segment_size self.old) (written_of self.old) page upto.0 bytes.now)) }
+        ensures size { writer_segment_size self.new ≡ writer_segment_size self.old }
         ensures later { OnOk result (D.moment (disk_of self.old) < D.moment (disk_of self.new)) }
         ensures not_earlier { D.moment (disk_of self.old) ≤ D.moment (disk_of self.new) }
     {
@@ -119,17 +119,17 @@ impl<D: Disk> Writer<D> {
     /// Makes durable what is written, and answers the disk's moment, from which on it is. It asks for a position that is written.
     pub fn harden(&mut self, upto: Lsn) -> Result<u64, DiskFault>
         requires { upto.0 ≤ written_of self.old }
-        ensures holds { OnOk result ((pages : Pages) → IsWriter D.tape self.old pages → IsWriter D.tape self.new pages) }
-        ensures hardened { IfOk result (λ moment. (pages : Pages) → IsWriter D.tape self.old pages → IsKept D.tape self.new moment upto.0 pages) }
-        ensures keeps { (moment position : ℕ) (pages : Pages) → IsKept D.tape self.old moment position pages → IsKept D.tape self.new moment position pages }
-        ensures only { (moment : ℕ) (puts : Puts) → HoldsOnly D.tape self.old moment puts → HoldsOnly D.tape self.new moment puts }
+        ensures holds { OnOk result ((pages : PutPages) → IsWriter D.tape self.old pages → IsWriter D.tape self.new pages) }
+        ensures hardened { IfOk result (λ moment. (pages : PutPages) → IsWriter D.tape self.old pages → IsKept D.tape self.new moment upto.0 pages) }
+        ensures keeps { (moment position : ℕ) (pages : PutPages) → IsKept D.tape self.old moment position pages → IsKept D.tape self.new moment position pages }
+        ensures only { (moment : ℕ) (puts : PutHistory) → HoldsOnly D.tape self.old moment puts → HoldsOnly D.tape self.new moment puts }
         ensures moment { IfOk result (λ moment. moment ≡ D.moment (disk_of self.new)) }
-        ensures done { OnOk result (HasDone D.tape D.moment D.faults self.old self.new (harden_calls (size_of self.old) (written_of self.old) (is_unsynced self.old))) }
+        ensures done { OnOk result (HasDone D.tape D.moment D.faults self.old self.new (harden_calls (writer_segment_size self.old) (written_of self.old) (is_unsynced self.old))) }
         ensures synced { OnOk result (is_unsynced self.new ≡ false) }
         ensures written { written_of self.new ≡ written_of self.old }
-        ensures failed { IfErr result (λ e. TellsFault D.tape D.moment D.faults self.old self.new e.faults (harden_calls (size_of self.old) (written_of self.old) (is_unsynced self.old))) }
+        ensures failed { IfErr result (λ e. TellsFault D.tape D.moment D.faults self.old self.new e.faults (harden_calls (writer_segment_size self.old) (written_of self.old) (is_unsynced self.old))) }
         ensures same { is_unsynced self.old ≡ false → self.new ≡ self.old }
-        ensures size { size_of self.new ≡ size_of self.old }
+        ensures size { writer_segment_size self.new ≡ writer_segment_size self.old }
         ensures not_earlier { D.moment (disk_of self.old) ≤ D.moment (disk_of self.new) }
     {
         prove!(upto.0 <= self.written.0);

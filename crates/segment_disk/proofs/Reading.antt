@@ -5,7 +5,7 @@ use Rattle.std.proofs.lemmas.List.{take_more}
 use Rattle.segment_disk.specs.declared.disk.Call.{Call}
 use Rattle.segment_disk.specs.declared.disk.CallKind.TheVariants.{Create, Write, Sync}
 use Rattle.segment_disk.specs.declared.disk.PageBytes.{PageBytes}
-use Rattle.segment_disk.specs.Tape.{Segment, DiskState, zero_page, after_writes, page_as_read, segment_after, after_call, after_calls, page_of_segment, Reads, empty_state}
+use Rattle.segment_disk.specs.Tape.{Segment, DiskState, zero_page, after_writes, page_as_read, segment_after, after_call, after_calls, page_of_segment, IsPageRead, empty_state}
 
 -- the bytes that the last write has, zeros where there is none
 abbrev pub bytes_of : Option (Bor PageBytes) → List ℕ
@@ -76,10 +76,10 @@ module _ (calls : List Call) (i segment page pages : ℕ) (last : Option (Bor Pa
 
 -- what is kept is what a read gives
 pub reads_kept : (s : Option Segment) (page pages : ℕ) (last : Option (Bor PageBytes)) (bytes : List ℕ) → IsKept s page pages last → bytes ≡ bytes_of last
-    → Reads (page_of_segment s page) (nat_lt page pages) bytes
+    → IsPageRead (page_of_segment s page) (nat_lt page pages) bytes
 reads_kept None page pages last bytes kept is = le-ltb page pages (omega arith)
 reads_kept (Some s) page pages last bytes kept is = rw kept.0 (by_test (nat_lt page s.pages))
   where
-    by_test : (b : Bool) → Reads (if b then Some (page_as_read s page) else None) b bytes
+    by_test : (b : Bool) → IsPageRead (if b then Some (page_as_read s page) else None) b bytes
     by_test true = (refl, is ∙ sym kept.1)
     by_test false = refl

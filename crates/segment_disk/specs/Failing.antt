@@ -20,5 +20,5 @@ abbrev pub fails_next : Failing → Bool
 fails_next failing = is_listed failing.numbers (next_number failing)
 
 -- with the next call made
-abbrev pub with_next : Failing → Failing
-with_next failing = record failing { made = next_number failing }
+abbrev pub after_next : Failing → Failing
+after_next failing = record failing { made = next_number failing }

@@ -1,7 +1,7 @@
 pub mod Cause
 pub mod Stream
 pub mod Tape
-pub mod Image
+pub mod DiskImage
 pub mod Failing
 pub mod Present
 pub mod MemStream

@@ -31,8 +31,8 @@ abbrev pub failing_reads : MemDisk → Failing
 failing_reads disk = disk.reads
 
 -- the segments that are there now
-abbrev pub state_of : MemDisk → DiskState
-state_of disk = after_calls empty_state disk.calls.made.items
+abbrev pub disk_state_of : MemDisk → DiskState
+disk_state_of disk = after_calls empty_state disk.calls.made.items
 
 -- how many segments are there
 abbrev pub segment_count : MemDisk → ℕ
@@ -48,7 +48,7 @@ is_next_sound disk = counts_next disk && not (is_listed disk.calls.fail.items (m
 
 -- whether a segment is there
 abbrev pub has_segment : MemDisk → ℕ → Bool
-has_segment disk segment = is_some (state_of disk segment)
+has_segment disk segment = is_some (disk_state_of disk segment)
 
 -- whether a segment is there, or there is room for it
 abbrev pub can_create : MemDisk → ℕ → Bool

@@ -72,9 +72,9 @@ page_of_segment None page = None
 page_of_segment (Some s) page = if nat_lt page s.pages then Some (page_as_read s page) else None
 
 -- the answer of a read, and the bytes that it leaves in the buffer
-abbrev pub Reads : Option (List ℕ) → Bool → List ℕ → Type 0
-Reads None there buffer = there ≡ false
-Reads (Some page) there buffer = (there ≡ true) × (buffer ≡ page)
+abbrev pub IsPageRead : Option (List ℕ) → Bool → List ℕ → Type 0
+IsPageRead None there buffer = there ≡ false
+IsPageRead (Some page) there buffer = (there ≡ true) × (buffer ≡ page)
 
 -- the disk with one call more
 abbrev pub with_call : Option Tape → Call → Option Tape

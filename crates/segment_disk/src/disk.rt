@@ -34,7 +34,7 @@ pub struct Call {
 /// moment. A call of these may also fail without being made; then it is not counted, and only the count of faults changes.
 /// The caller keeps a segment below 2^64 / its size and a page below the segment's pages.
 pub trait Disk {
-    ghost use Rattle.segment_disk.specs.Tape.{Tape, IsMade, IsNotMade, Reads, page_of_segment, state_now};
+    ghost use Rattle.segment_disk.specs.Tape.{Tape, IsMade, IsNotMade, IsPageRead, page_of_segment, state_now};
 
     /// What was there at first and each counted call since, where the disk tells them.
     ghost tape: { Self → Option Tape };
@@ -87,7 +87,7 @@ pub trait Disk {
     ) -> Result<bool, Failed>
         requires segment { segment < 2 ^ 64 / geometry }
         requires page { page < pages_of geometry }
-        ensures reads { IfOk result (λ there. IfSome (tape self.old) (λ t. Reads (page_of_segment (state_now t segment) page) there bytes.new)) }
+        ensures reads { IfOk result (λ there. IfSome (tape self.old) (λ t. IsPageRead (page_of_segment (state_now t segment) page) there bytes.new)) }
         ensures length { length bytes.new ≡ 8192 }
         ensures tape { tape self.new ≡ tape self.old }
         ensures moment { moment self.new ≡ moment self.old }

@@ -16,7 +16,7 @@ use Rattle.wal_page.specs.Log.{stream_of, log_byte}
 use Rattle.wal_page.proofs.OwnerLaws.{owner_of-none_behind}
 use Rattle.wal_page.proofs.LogByteLaws.{log_byte-stream}
 use Rattle.wal_page.proofs.StreamLaws.{length-stream_of}
-use Rattle.wal_reader.specs.Pages.{Pages, byte_of, bytes_from}
+use Rattle.wal_reader.specs.Pages.{Pages, byte_in_page, bytes_from}
 use Rattle.wal_reader.specs.Decodes.{read_at, is_zero_word, opens_page, ended}
 use Rattle.wal_reader.specs.WrittenLog.{HavePagesOfLog, last_position}
 use Rattle.wal_reader.proofs.PagesLaws.{take-bytes_from}
@@ -54,11 +54,11 @@ module _ (size sysid : ℕ) (pages : Pages) (es : List Entry) (holds : HavePages
         let page = address / 8192 in
         let in_log : pages_of size ≤ page = omega (arith, page_of-start size valid) in
         let here = some_is (pages page) (holds.there page in_log (omega arith)) in
-        ap (λ (o : Option (List ℕ)). byte_of o (address % 8192)) here.1 ∙ byte_on address here.0 in_log here.1;
+        ap (λ (o : Option (List ℕ)). byte_in_page o (address % 8192)) here.1 ∙ byte_on address here.0 in_log here.1;
   }
 
   module _ (w : IsWritten size sysid pages es) where
-    byte_behind_on : (p : ℕ) → last_position size es ≤ p → (here : Option (List ℕ)) → pages (address_of size p / 8192) ≡ here → byte_of here (address_of size p % 8192) ≡ 0
+    byte_behind_on : (p : ℕ) → last_position size es ≤ p → (here : Option (List ℕ)) → pages (address_of size p / 8192) ≡ here → byte_in_page here (address_of size p % 8192) ≡ 0
     byte_behind_on p behind None there = refl
     byte_behind_on p behind (Some bytes) there =
         let a = address_of size p in

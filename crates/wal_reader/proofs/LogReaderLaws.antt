@@ -6,7 +6,7 @@ use Rattle.wal_reader.specs.declared.found.Answer.TheVariants.{End, Damaged, Com
 use Rattle.wal_reader.specs.declared.standing.Standing.{Standing}
 use Rattle.wal_reader.specs.declared.standing.Standing.TheVariants.{NotBegun, At}
 use Rattle.wal_reader.specs.declared.standpoint.Standpoint.{Standpoint}
-use Rattle.wal_reader.specs.LogReader.{ReadState, Gives, GivesAt, IsNext, Leaves}
+use Rattle.wal_reader.specs.LogReader.{ReaderState, GivesRecords, GivesAt, IsNext, LeavesReader}
 use Rattle.wal_reader.specs.Pages.{Pages}
 use Rattle.wal_reader.specs.Standings.{standing_after, told}
 use Rattle.wal_reader.specs.Steps.{Comes}
@@ -16,22 +16,22 @@ abbrev pub standing_from : Option Standpoint → Standing
 standing_from None = NotBegun
 standing_from (Some at) = At at
 
-comes_at : (pages : Pages) (state : ReadState) (from : Option Standpoint) (found : List FoundRecord) (answer : Answer) → Comes state.size pages state.start state.end from found answer → GivesAt pages state (standing_from from) found answer
+comes_at : (pages : Pages) (state : ReaderState) (from : Option Standpoint) (found : List FoundRecord) (answer : Answer) → Comes state.size pages state.start state.end from found answer → GivesAt pages state (standing_from from) found answer
 comes_at pages state None found answer comes = comes
 comes_at pages state (Some at) found answer comes = comes
 
 -- a reader gives what comes from where it stands
-pub Gives-comes : (pages : Pages) (state : ReadState) (from : Option Standpoint) (found : List FoundRecord) (answer : Answer) → state.standing ≡ standing_from from → Comes state.size pages state.start state.end from found answer → Gives pages state found answer
+pub Gives-comes : (pages : Pages) (state : ReaderState) (from : Option Standpoint) (found : List FoundRecord) (answer : Answer) → state.standing ≡ standing_from from → Comes state.size pages state.start state.end from found answer → GivesRecords pages state found answer
 Gives-comes pages state from found answer same comes = subst (λ (s : Standing). GivesAt pages state s found answer) (sym same) (comes_at pages state from found answer comes)
 
 -- an answer that is told is the next
-pub IsNext-told : (pages : Pages) (old new : ReadState) (answer : Answer) → Gives pages old [] answer → IsNext pages old new (told answer)
+pub IsNext-told : (pages : Pages) (old new : ReaderState) (answer : Answer) → GivesRecords pages old [] answer → IsNext pages old new (told answer)
 IsNext-told pages old new (End at) gives = gives
 IsNext-told pages old new (Damaged at kind) gives = gives
 IsNext-told pages old new (Compressed at) gives = gives
 IsNext-told pages old new (Overwritten at) gives = gives
 
-pub Leaves-told : (old : ReadState) (answer : Answer) → Leaves old (record old { standing = standing_after old.standing answer }) (told answer)
+pub Leaves-told : (old : ReaderState) (answer : Answer) → LeavesReader old (record old { standing = standing_after old.standing answer }) (told answer)
 Leaves-told old (End at) = refl
 Leaves-told old (Damaged at kind) = refl
 Leaves-told old (Compressed at) = refl

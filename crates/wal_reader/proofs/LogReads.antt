@@ -17,7 +17,7 @@ use Rattle.wal_page.proofs.OwnerLaws.{owner_of-entry}
 use Rattle.wal_reader.specs.declared.found.Answer.{Answer}
 use Rattle.wal_reader.specs.declared.found.FoundRecord.{FoundRecord}
 use Rattle.wal_reader.specs.Pages.{Pages}
-use Rattle.wal_reader.specs.Decodes.{Place, Reads, read_at, place_behind, is_right_prev, opens_page, continuation_rows, continuation_rows_of, rows_of_pages, found_or}
+use Rattle.wal_reader.specs.Decodes.{Place, ReadsRecords, read_at, place_behind, is_right_prev, opens_page, continuation_rows, continuation_rows_of, rows_of_pages, found_or}
 use Rattle.wal_reader.specs.Written.{found_entry, found_from}
 use Rattle.wal_reader.specs.WrittenLog.{last_position}
 use Rattle.wal_reader.proofs.Tables.{NoneHolds, NoneHolds-append}
@@ -180,10 +180,10 @@ module _ (size sysid : ℕ) (pages : Pages) (es : List Entry) (w : IsWritten siz
 
   -- entries are read where they stand, and then what stands behind them
   pub entries_are_read : (rest : List Entry) (k prev : ℕ) (before : Option ℕ) (found : List FoundRecord) (answer : Answer) → StandFrom size es k prev rest → is_right_prev before (address_of size (first_position size + k)) prev ≡ true
-      → Reads size pages None (log_place size (rooms_of es) (last_start size before rest)) found answer → Reads size pages None (log_place size k before) (found_from size prev rest ++ found) answer
+      → ReadsRecords size pages None (log_place size (rooms_of es) (last_start size before rest)) found answer → ReadsRecords size pages None (log_place size k before) (found_from size prev rest ++ found) answer
   entries_are_read [] k prev before found answer stand right behind =
-      subst (λ (n : ℕ). Reads size pages None (log_place size n before) found answer) (omega (arith, stand.rooms)) behind
+      subst (λ (n : ℕ). ReadsRecords size pages None (log_place size n before) found answer) (omega (arith, stand.rooms)) behind
   entries_are_read (e ∷ others) k prev before found answer stand right behind =
       let next = address_of size e.start in
       let rest = entries_are_read others (k + room_of e.value) next (Some next) found answer (others_stand e others k prev stand before) (eq-eqb next next refl) behind in
-      (entry_is_read e others k prev stand before right, subst (λ (place : Place). Reads size pages None place (found_from size next others ++ found) answer) (sym (place_behind_entry e others k prev stand before)) rest)
+      (entry_is_read e others k prev stand before right, subst (λ (place : Place). ReadsRecords size pages None place (found_from size next others ++ found) answer) (sym (place_behind_entry e others k prev stand before)) rest)

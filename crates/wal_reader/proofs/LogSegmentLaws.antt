@@ -6,14 +6,14 @@ use Rattle.std.proofs.Math.Nat.{div-add-mod, mul_assoc, mul_comm}
 use Rattle.byte_position.specs.Geometry.{IsSegmentSize, pages_of}
 use Rattle.byte_position.specs.Position.{end_address_of}
 use Rattle.byte_position.proofs.SegmentSizes.{segment_size_in_pages}
-use Rattle.segment_disk.specs.Image.{Image, ImageSegment}
+use Rattle.segment_disk.specs.DiskImage.{DiskImage, ImageSegment}
 use Rattle.wal_page.specs.Order.{Entry}
 use Rattle.wal_page.specs.LogPage.{IsLogPage}
 use Rattle.wal_reader.specs.Pages.{page_of_image, pages_in}
 use Rattle.wal_reader.specs.WrittenLog.{HavePagesOfLog, last_position}
 use Rattle.wal_reader.specs.LogSegments.{IsLogSegment, HoldsSegments, SegmentsHoldLog}
 
-module _ (size sysid : ℕ) (image : Image) (es : List Entry) (valid : IsSegmentSize size) (bounded : end_address_of size (last_position size es) ≤ 2 ^ 60) (holds : HoldsSegments size sysid image es) where
+module _ (size sysid : ℕ) (image : DiskImage) (es : List Entry) (valid : IsSegmentSize size) (bounded : end_address_of size (last_position size es) ≤ 2 ^ 60) (holds : HoldsSegments size sysid image es) where
   module _ (page : ℕ) (from : pages_of size ≤ page) where
     -- the segment of the page, and its number there
     abbrev segment : ℕ

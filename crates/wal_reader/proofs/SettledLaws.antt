@@ -5,7 +5,7 @@ use Rattle.std.proofs.lemmas.Bool.{cases_Bool, cases_lt, cond-true, cond-false, 
 use Rattle.byte_position.specs.Geometry.{IsSegmentSize}
 use Rattle.byte_position.specs.Position.{address_of}
 use Rattle.byte_position.proofs.Rising.{le-address_of}
-use Rattle.segment_disk.specs.Image.{Image}
+use Rattle.segment_disk.specs.DiskImage.{DiskImage}
 use Rattle.wal_crc32c.specs.Crc32c.{crc32c}
 use Rattle.wal_record.specs.Record.{is_free_manager}
 use Rattle.wal_record.specs.Reading.{number_at, reading_of}
@@ -17,8 +17,8 @@ use Rattle.wal_reader.specs.declared.found.FoundRecord.{FoundRecord}
 use Rattle.wal_reader.specs.declared.found.Answer.{Answer}
 use Rattle.wal_reader.specs.declared.found.Answer.TheVariants as answers
 use Rattle.wal_reader.specs.declared.found.DamageKind.TheVariants as damages
-use Rattle.wal_reader.specs.Decodes.{Place, Reads, ReadsFrom, answer_or, beginning, damaged, ended, found_or, is_at_end, is_right_prev, is_zero_word, opens_page, page_answers, page_of_byte, place_behind, read_at, read_in, record_rows, rows_of_pages}
-use Rattle.wal_reader.specs.LogReader.{ReadState, Gives, GivesAt, IsNext}
+use Rattle.wal_reader.specs.Decodes.{Place, ReadsRecords, ReadsFrom, answer_or, beginning, damaged, ended, found_or, is_at_end, is_right_prev, is_zero_word, opens_page, page_answers, page_of_byte, place_behind, read_at, read_in, record_rows, rows_of_pages}
+use Rattle.wal_reader.specs.LogReader.{ReaderState, GivesRecords, GivesAt, IsNext}
 use Rattle.wal_reader.specs.declared.standing.Standing.{Standing}
 use Rattle.wal_reader.specs.declared.standing.Standing.TheVariants.{NotBegun, At, Stopped}
 use Rattle.wal_reader.specs.Standpoint.{place_of}
@@ -41,13 +41,13 @@ same_read found other e = cc
 
 -- ---- there is one reading
 
-Reads-same : (size : ℕ) (pages : Pages) (end : Option ℕ) (place : Place) (found others : List FoundRecord) (answer other : Answer) → Reads size pages end place found answer → Reads size pages end place others other → (found ≡ others) × (answer ≡ other)
+Reads-same : (size : ℕ) (pages : Pages) (end : Option ℕ) (place : Place) (found others : List FoundRecord) (answer other : Answer) → ReadsRecords size pages end place found answer → ReadsRecords size pages end place others other → (found ≡ others) × (answer ≡ other)
 Reads-same size pages end place [] [] answer other a b = (refl, cc)
 Reads-same size pages end place [] (g ∷ others) answer other a b = absurd (cc (a, b.0))
 Reads-same size pages end place (f ∷ found) [] answer other a b = absurd (cc (a.0, b))
 Reads-same size pages end place (f ∷ found) (g ∷ others) answer other a b =
     let same = same_read f g (sym a.0 ∙ b.0) in
-    let left = subst (λ (h : FoundRecord). Reads size pages end (place_behind size pages place h) found answer) same a.1 in
+    let left = subst (λ (h : FoundRecord). ReadsRecords size pages end (place_behind size pages place h) found answer) same a.1 in
     let behind = Reads-same size pages end (place_behind size pages place g) found others answer other left b.1 in
     (ap (λ (h : FoundRecord). h ∷ found) same ∙ ap (λ (hs : List FoundRecord). g ∷ hs) behind.0, behind.1)
 
@@ -161,7 +161,7 @@ module _ (size : ℕ) (valid : IsSegmentSize size) (pages : Pages) (bounded : Is
             absurd ((record_read size pages end place found e).1 (bounded (address_of size place.position / 8192) page)))
       ]
 
-  reading_from : (turns : ℕ) (place : Place) → 2 ^ 60 ≤ place.position + turns → (found : List FoundRecord) × (answer : Answer) × Reads size pages end place found answer
+  reading_from : (turns : ℕ) (place : Place) → 2 ^ 60 ≤ place.position + turns → (found : List FoundRecord) × (answer : Answer) × ReadsRecords size pages end place found answer
   reading_from zero place near =
       elim (cases_Result (read_at size pages end place)) [
         | inl (f, e) ↦ (let below = starts_below place f e in
@@ -195,7 +195,7 @@ module _ (size : ℕ) (valid : IsSegmentSize size) (pages : Pages) (bounded : Is
 
 -- ---- the pages of an image
 
-pub pages_in-bounded : (size : ℕ) (image : Image) → IsBounded (pages_in size image)
+pub pages_in-bounded : (size : ℕ) (image : DiskImage) → IsBounded (pages_in size image)
 pages_in-bounded size image page high =
     let above : leb ((page + 1) * 8192) (2 ^ 60) ≡ false = lt-leb ((page + 1) * 8192) (2 ^ 60) (omega arith) in
     cond-false _ _ None above
@@ -205,13 +205,13 @@ decoding_is_settled size image start end valid = settled size valid (pages_in si
 
 -- ---- a reader's steps
 
-gives_told : (pages : Pages) (old new : ReadState) (answer : Answer) → IsNext pages old new (told answer) → Gives pages old [] answer
+gives_told : (pages : Pages) (old new : ReaderState) (answer : Answer) → IsNext pages old new (told answer) → GivesRecords pages old [] answer
 gives_told pages old new (answers.End at) next = next
 gives_told pages old new (answers.Damaged at kind) next = next
 gives_told pages old new (answers.Compressed at) next = next
 gives_told pages old new (answers.Overwritten at) next = next
 
-Tells-gives : (pages : Pages) {state : ReadState} {found : List FoundRecord} {answer : Answer} → Tells pages state found answer → Gives pages state found answer
+Tells-gives : (pages : Pages) {state : ReaderState} {found : List FoundRecord} {answer : Answer} → Tells pages state found answer → GivesRecords pages state found answer
 Tells-gives pages (stop {old = old} {answer = answer} new next) = gives_told pages old new answer next
 Tells-gives pages (step {others = others} {answer = answer} new next rest) = next others answer (Tells-gives pages rest)
 
@@ -229,5 +229,5 @@ gives_at size valid pages bounded start end (At standpoint) =
 gives_at size valid pages bounded start end (Stopped told) = ([], told, (refl, refl))
 
 -- a reader of an image's pages gives something, wherever it stands
-pub gives_something : (image : Image) (state : ReadState) → IsSegmentSize state.size → (found : List FoundRecord) × (answer : Answer) × Gives (pages_in state.size image) state found answer
+pub gives_something : (image : DiskImage) (state : ReaderState) → IsSegmentSize state.size → (found : List FoundRecord) × (answer : Answer) × GivesRecords (pages_in state.size image) state found answer
 gives_something image state valid = gives_at state.size valid (pages_in state.size image) (pages_in-bounded state.size image) state.start state.end state.standing

@@ -16,7 +16,7 @@ use Rattle.wal_reader.specs.declared.found.FoundRecord.{FoundRecord}
 use Rattle.wal_reader.specs.declared.found.Answer.{Answer}
 use Rattle.wal_reader.specs.declared.found.Answer.TheVariants.{End}
 use Rattle.wal_reader.specs.Pages.{Pages}
-use Rattle.wal_reader.specs.Decodes.{Place, Decodes, Reads, ReadsFrom, beginning, ended}
+use Rattle.wal_reader.specs.Decodes.{Place, Decodes, ReadsRecords, ReadsFrom, beginning, ended}
 use Rattle.wal_reader.specs.Written.{found_entry, found_from, found_of}
 use Rattle.wal_reader.specs.WrittenLog.{HavePagesOfLog, last_position, OwnPagesHoldLog, WrittenLogDecodes}
 use Rattle.wal_reader.proofs.PagesLaws.{end_address_of-first_position}
@@ -77,7 +77,7 @@ module _ (size sysid : ℕ) (pages : Pages) (e : Entry) (es : List Entry) (w : I
       ∙ ap (λ (p : ℕ). Ok (record { position = p; prev = None; timeline = 1 })) (sym (add-zero (first_position size)))
 
   -- they are read from the log's start on, and then what stands behind them
-  pub entries_are_read_first : (found : List FoundRecord) (answer : Answer) → Reads size pages None (log_place size (rooms_of (e ∷ es)) (last_start size None (e ∷ es))) found answer
+  pub entries_are_read_first : (found : List FoundRecord) (answer : Answer) → ReadsRecords size pages None (log_place size (rooms_of (e ∷ es)) (last_start size None (e ∷ es))) found answer
       → ReadsFrom size pages None (beginning size pages size) (found_of size (e ∷ es) ++ found) answer
   entries_are_read_first found answer behind =
       let all = e ∷ es in

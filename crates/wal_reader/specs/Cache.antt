@@ -1,6 +1,6 @@
 -- The page that a reader holds, beside the pages of the log.
 use Rattle.std.specs.Prelude.{◌≡◌, ℕ, Bool, true, false, List, Option, Some, None, IfSome}
-use Rattle.segment_disk.specs.Image.{image_as_read}
+use Rattle.segment_disk.specs.DiskImage.{image_as_read}
 use Rattle.segment_disk.specs.Tape.{Tape, state_now}
 use Rattle.wal_reader.specs.declared.page_cache.PageCache.{PageCache}
 use Rattle.wal_reader.specs.Pages.{Pages, pages_in}

@@ -132,9 +132,9 @@ place_behind size pages place found = record {
 }
 
 -- from a place on these records are read, one behind another, and then this answer comes
-abbrev pub Reads : ℕ → Pages → Option ℕ → Place → List FoundRecord → Answer → Type 0
-Reads size pages end place [] answer = read_at size pages end place ≡ Err answer
-Reads size pages end place (found ∷ others) answer = (read_at size pages end place ≡ Ok found) × Reads size pages end (place_behind size pages place found) others answer
+abbrev pub ReadsRecords : ℕ → Pages → Option ℕ → Place → List FoundRecord → Answer → Type 0
+ReadsRecords size pages end place [] answer = read_at size pages end place ≡ Err answer
+ReadsRecords size pages end place (found ∷ others) answer = (read_at size pages end place ≡ Ok found) × ReadsRecords size pages end (place_behind size pages place found) others answer
 
 -- a place before any record is read
 abbrev pub first_place : ℕ → ℕ → Result Place Answer
@@ -164,7 +164,7 @@ beginning size pages start = begin_at (2 ^ 47) size pages (start / 8192) 0
 -- from where reading begins these records are read, and then this answer comes
 abbrev pub ReadsFrom : ℕ → Pages → Option ℕ → Result Place Answer → List FoundRecord → Answer → Type 0
 ReadsFrom size pages end (Err stopped) found answer = (found ≡ []) × (answer ≡ stopped)
-ReadsFrom size pages end (Ok place) found answer = Reads size pages end place found answer
+ReadsFrom size pages end (Ok place) found answer = ReadsRecords size pages end place found answer
 
 -- what pages decode to: the records that start at or behind `start`, and the first thing that is no record
 pub record Decodes (size : ℕ) (pages : Pages) (start : ℕ) (end : Option ℕ) (found : List FoundRecord) (answer : Answer) : Type 0 where

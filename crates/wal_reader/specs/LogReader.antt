@@ -18,50 +18,50 @@ use Rattle.wal_reader.specs.Standpoint.{place_of}
 use Rattle.wal_reader.specs.Steps.{GivesFrom}
 
 -- the segment size of the log, the addresses between which records are given, and where the reader stands
-pub record ReadState : Type 0 where
+pub record ReaderState : Type 0 where
   pub size : ℕ
   pub start : ℕ
   pub end : Option ℕ
   pub standing : Standing
 
-abbrev pub state_of : Reader → ReadState
-state_of reader = record { size = reader.geometry; start = reader.start.0; end = option_map (λ address. address.0) reader.end; standing = reader.standing }
+abbrev pub reader_state : Reader → ReaderState
+reader_state reader = record { size = reader.geometry; start = reader.start.0; end = option_map (λ address. address.0) reader.end; standing = reader.standing }
 
 -- the page that a reader holds is one of these
 abbrev pub Knows : Reader → Pages → Type 0
 Knows reader pages = HoldsPageOf reader.geometry reader.buffers pages
 
-abbrev pub GivesAt : Pages → ReadState → Standing → List FoundRecord → Answer → Type 0
+abbrev pub GivesAt : Pages → ReaderState → Standing → List FoundRecord → Answer → Type 0
 GivesAt pages state NotBegun found answer = Decodes state.size pages state.start state.end found answer
 GivesAt pages state (At standpoint) found answer = GivesFrom state.size pages state.start state.end (place_of standpoint) found answer
 GivesAt pages state (Stopped stop) found answer = (found ≡ []) × (answer ≡ stop)
 
 -- what a reader still gives of these pages: before it has begun all that they decode to, and once it has stopped that answer alone
-abbrev pub Gives : Pages → ReadState → List FoundRecord → Answer → Type 0
-Gives pages state found answer = GivesAt pages state state.standing found answer
+abbrev pub GivesRecords : Pages → ReaderState → List FoundRecord → Answer → Type 0
+GivesRecords pages state found answer = GivesAt pages state state.standing found answer
 
 -- a step is the next of what a reader gives of these pages
-abbrev pub IsNext : Pages → ReadState → ReadState → Result Step ReadErr → Type 0
-IsNext pages old new (Ok (Record found)) = (others : List FoundRecord) (answer : Answer) → Gives pages new others answer → Gives pages old (found ∷ others) answer
-IsNext pages old new (Ok (End at)) = Gives pages old [] (answers.End at)
-IsNext pages old new (Err (Damaged at kind)) = Gives pages old [] (answers.Damaged at kind)
-IsNext pages old new (Err (Compressed at)) = Gives pages old [] (answers.Compressed at)
-IsNext pages old new (Err (Overwritten at)) = Gives pages old [] (answers.Overwritten at)
+abbrev pub IsNext : Pages → ReaderState → ReaderState → Result Step ReadErr → Type 0
+IsNext pages old new (Ok (Record found)) = (others : List FoundRecord) (answer : Answer) → GivesRecords pages new others answer → GivesRecords pages old (found ∷ others) answer
+IsNext pages old new (Ok (End at)) = GivesRecords pages old [] (answers.End at)
+IsNext pages old new (Err (Damaged at kind)) = GivesRecords pages old [] (answers.Damaged at kind)
+IsNext pages old new (Err (Compressed at)) = GivesRecords pages old [] (answers.Compressed at)
+IsNext pages old new (Err (Overwritten at)) = GivesRecords pages old [] (answers.Overwritten at)
 IsNext pages old new (Err Memory) = Unit {0}
 IsNext pages old new (Err (Disk faults)) = Unit {0}
 
-abbrev pub left_of : ReadState → ℕ
+abbrev pub left_of : ReaderState → ℕ
 left_of state = left_at state.standing
 
-abbrev pub stopped_at : ReadState → Answer → ReadState
+abbrev pub stopped_at : ReaderState → Answer → ReaderState
 stopped_at state answer = record state { standing = Stopped answer }
 
 -- where a step leaves a reader: behind its record, stopped by damage for good, and else where it was
-abbrev pub Leaves : ReadState → ReadState → Result Step ReadErr → Type 0
-Leaves old new (Ok (Record found)) = (new ≡ record old { standing = new.standing }) × (left_of new < left_of old)
-Leaves old new (Ok (End at)) = new ≡ old
-Leaves old new (Err (Damaged at kind)) = new ≡ stopped_at old (answers.Damaged at kind)
-Leaves old new (Err (Compressed at)) = new ≡ stopped_at old (answers.Compressed at)
-Leaves old new (Err (Overwritten at)) = new ≡ stopped_at old (answers.Overwritten at)
-Leaves old new (Err Memory) = new ≡ old
-Leaves old new (Err (Disk faults)) = new ≡ old
+abbrev pub LeavesReader : ReaderState → ReaderState → Result Step ReadErr → Type 0
+LeavesReader old new (Ok (Record found)) = (new ≡ record old { standing = new.standing }) × (left_of new < left_of old)
+LeavesReader old new (Ok (End at)) = new ≡ old
+LeavesReader old new (Err (Damaged at kind)) = new ≡ stopped_at old (answers.Damaged at kind)
+LeavesReader old new (Err (Compressed at)) = new ≡ stopped_at old (answers.Compressed at)
+LeavesReader old new (Err (Overwritten at)) = new ≡ stopped_at old (answers.Overwritten at)
+LeavesReader old new (Err Memory) = new ≡ old
+LeavesReader old new (Err (Disk faults)) = new ≡ old

@@ -2,7 +2,7 @@
 use Rattle.std.specs.Prelude.{ℕ, zero, suc, ◌+◌, ◌*◌, ◌/◌, ◌%◌, ◌^◌, List, [], ◌∷◌, slice_index, Option, Some, None, nat_lt, nat_le, if◌then◌else◌}
 use Rattle.byte_position.specs.Geometry.{pages_of}
 use Rattle.byte_position.specs.Position.{address_of}
-use Rattle.segment_disk.specs.Image.{Image, ImageSegment}
+use Rattle.segment_disk.specs.DiskImage.{DiskImage, ImageSegment}
 
 abbrev pub Pages : Type 0
 Pages = ℕ → Option (List ℕ)
@@ -13,16 +13,16 @@ page_of_image None page = None
 page_of_image (Some i) page = if nat_lt page i.pages then Some (i.page page) else None
 
 -- an image's pages; one that ends above address 2 ^ 60 counts as not there
-abbrev pub pages_in : ℕ → Image → Pages
+abbrev pub pages_in : ℕ → DiskImage → Pages
 pages_in size image page = if nat_le ((page + 1) * 8192) (2 ^ 60) then page_of_image (image (page / pages_of size)) (page % pages_of size) else None
 
 -- the byte at an address; 0 where its page is not there
-abbrev pub byte_of : Option (List ℕ) → ℕ → ℕ
-byte_of None k = 0
-byte_of (Some bytes) k = slice_index bytes k
+abbrev pub byte_in_page : Option (List ℕ) → ℕ → ℕ
+byte_in_page None k = 0
+byte_in_page (Some bytes) k = slice_index bytes k
 
 abbrev pub byte_at : Pages → ℕ → ℕ
-byte_at pages address = byte_of (pages (address / 8192)) (address % 8192)
+byte_at pages address = byte_in_page (pages (address / 8192)) (address % 8192)
 
 -- n bytes from a byte position on, each at its own address: those of headers are left out
 unfoldable pub bytes_from : ℕ → Pages → ℕ → ℕ → List ℕ

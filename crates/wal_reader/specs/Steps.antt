@@ -5,7 +5,7 @@ use Rattle.wal_reader.specs.declared.found.Answer.{Answer}
 use Rattle.wal_reader.specs.declared.standpoint.Standpoint.{Standpoint}
 use Rattle.wal_reader.specs.declared.stop.Stop.{Stop}
 use Rattle.wal_reader.specs.declared.stop.Stop.TheVariants as stops
-use Rattle.wal_reader.specs.Decodes.{Place, Reads, Decodes}
+use Rattle.wal_reader.specs.Decodes.{Place, ReadsRecords, Decodes}
 use Rattle.wal_reader.specs.Pages.{Pages}
 use Rattle.wal_reader.specs.RecordRows.{GoesOn}
 use Rattle.wal_reader.specs.Standpoint.{IsReachable, place_of}
@@ -13,7 +13,7 @@ use Rattle.wal_reader.specs.Standpoint.{IsReachable, place_of}
 -- from a place on these records at or behind `start` are read, and then this answer comes
 pub record GivesFrom (size : ℕ) (pages : Pages) (start : ℕ) (end : Option ℕ) (place : Place) (found : List FoundRecord) (answer : Answer) : Type 0 where
   pub read : List FoundRecord
-  pub reads : Reads size pages end place read answer
+  pub reads : ReadsRecords size pages end place read answer
   pub given : found ≡ filter (λ f. nat_le start f.start.0) read
 
 -- what comes from a standpoint on, or where reading has not begun from where it begins

@@ -29,13 +29,13 @@ impl Reader {
     ghost use Rattle.wal_reader.specs.declared.standing.Standing.TheVariants.{NotBegun};
     ghost use Rattle.wal_reader.specs.Pages.{Pages};
     ghost use Rattle.wal_reader.specs.Cursor.{IsLogOf};
-    ghost use Rattle.wal_reader.specs.LogReader.{IsNext, Knows, Leaves, state_of};
+    ghost use Rattle.wal_reader.specs.LogReader.{IsNext, Knows, LeavesReader, reader_state};
     ghost use Rattle.wal_reader.specs.Spelled.{GivesSpelled};
     ghost use Rattle.wal_reader.specs.Standings.{HasReadCause, IsToldAgain};
 
     /// A reader of the records from the address `start` on, up to `end` where one is given. It takes no memory and reads nothing yet.
     pub fn new(geometry: Geometry, start: Lsn, end: Option<Lsn>) -> Reader
-        ensures state { state_of result ≡ record { size = geometry; start = start.0; end = option_map (λ address. address.0) end; standing = NotBegun } }
+        ensures state { reader_state result ≡ record { size = geometry; start = start.0; end = option_map (λ address. address.0) end; standing = NotBegun } }
         ensures knows { (pages : Pages) → Knows result pages }
     {
         Reader {
@@ -50,10 +50,10 @@ impl Reader {
     /// The next record that starts at `start` or behind it, where the log goes on; records before it are read and checked as any
     /// other. Damage is told again from then on. At an end, on want of memory or where the disk failed the reader stays where it is.
     pub fn next<D: Disk>(&mut self, alloc: Global, disk: &mut D) -> Result<Step, ReadErr>
-        ensures gives { (pages : Pages) → IsLogOf (D.tape disk.old) (state_of self.old).size pages → Knows self.old pages → Knows self.new pages × IsNext pages (state_of self.old) (state_of self.new) result }
-        ensures leaves { Leaves (state_of self.old) (state_of self.new) result }
+        ensures gives { (pages : Pages) → IsLogOf (D.tape disk.old) (reader_state self.old).size pages → Knows self.old pages → Knows self.new pages × IsNext pages (reader_state self.old) (reader_state self.new) result }
+        ensures leaves { LeavesReader (reader_state self.old) (reader_state self.new) result }
         ensures spelled { IfOk result GivesSpelled }
-        ensures stopped { IsToldAgain (state_of self.old).standing result disk.old disk.new }
+        ensures stopped { IsToldAgain (reader_state self.old).standing result disk.old disk.new }
 
         ensures tape { D.tape disk.new ≡ D.tape disk.old }
         ensures moment { D.moment disk.new ≡ D.moment disk.old }

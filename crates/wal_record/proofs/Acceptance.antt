@@ -9,7 +9,7 @@ use Rattle.wal_record.specs.declared.fault.BodyErr.{BodyErr}
 use Rattle.wal_record.specs.declared.fault.BodyErr.TheVariants.{TooLong, BadBlock, Switch, BadRmgr}
 use Rattle.wal_record.specs.Record.{BlockFits, Fits, IsWellFormed, is_free_manager, is_switch}
 use Rattle.wal_record.specs.Refusal.{first_bad_block, refusal_of, too_long}
-use Rattle.wal_record.specs.Spelling.{IsReady, IsWritable, assembled, size_of}
+use Rattle.wal_record.specs.Spelling.{AssembledFits, IsWritable, assembled, size_of}
 use Rattle.wal_record.proofs.RightBlocks.{none_bad, right_none_bad}
 
 -- a test of a table's row that did not hold
@@ -50,7 +50,7 @@ not_refused r w =
     rw (not-true (is_free_manager r.rmid) w.well_formed.manager, not-true (is_switch r) w.well_formed.no_switch, right_none_bad 0 r.blocks w.well_formed.blocks, le-ltb 1048576 (size_of r) w.size) refl
 
 -- what was made of an accepted record shows that the record could be written
-pub writable : (r : Record) → IsAccepted r → IsReady (assembled r) → IfSome r.origin (λ n. n < 2 ^ 16) → IfSome r.top_xid (λ x. x.0 < 2 ^ 32) → All (λ b. b < 256) r.main → All BlockFits r.blocks → IsWritable r
+pub writable : (r : Record) → IsAccepted r → AssembledFits (assembled r) → IfSome r.origin (λ n. n < 2 ^ 16) → IfSome r.top_xid (λ x. x.0 < 2 ^ 32) → All (λ b. b < 256) r.main → All BlockFits r.blocks → IsWritable r
 writable r accepted ready origin top main blocks = record {
   well_formed = accepted.well_formed;
   fits = record { xid = ready.xid; manager = ready.manager; info = ready.info; origin = origin; top_xid = top; blocks = blocks; main = main };

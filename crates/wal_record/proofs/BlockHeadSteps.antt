@@ -8,35 +8,35 @@ use Rattle.wal_record.specs.declared.head.ForkFlags.{ForkFlags}
 use Rattle.wal_record.specs.declared.head.ImageHead.{ImageHead}
 use Rattle.wal_record.specs.declared.fault.RecErr.{RecErr}
 use Rattle.wal_record.specs.declared.fault.RecErr.TheVariants.{Memory, Malformed, Compressed}
-use Rattle.wal_record.specs.Reading.{FailsWith, After, Standing, skip, number_at, begins_block, fork_flags, fork_item, image_head_of, image_item, is_wrong_hole, relation_item, number_item, block_item, block_items, has_header, least_id, payload_len}
+use Rattle.wal_record.specs.Reading.{FailsWith, After, HeaderCursor, skip, number_at, begins_block, fork_flags, fork_item, image_head_of, image_item, is_wrong_hole, relation_item, number_item, block_item, block_items, has_header, least_id, payload_len}
 use Rattle.wal_record.proofs.Steps.{bind_ok, not_refused, ok_is}
 
-pub block_items-more : (n : ℕ) (before : Option BlockHead) (heads : List BlockHead) (s : Standing) (x : After BlockHead) → (has_header s && begins_block s.rest) ≡ true → block_item before s ≡ Ok x → block_items (suc n) before heads s ≡ block_items n (Some x.value) (heads ++ x.value ∷ []) x.next
+pub block_items-more : (n : ℕ) (before : Option BlockHead) (heads : List BlockHead) (s : HeaderCursor) (x : After BlockHead) → (has_header s && begins_block s.rest) ≡ true → block_item before s ≡ Ok x → block_items (suc n) before heads s ≡ block_items n (Some x.value) (heads ++ x.value ∷ []) x.next
 unfolding block_items
 block_items-more n before heads s x more e = rw (more, e) refl
 
-pub block_items-fails : (n : ℕ) (before : Option BlockHead) (heads : List BlockHead) (s : Standing) (e : RecErr) → (has_header s && begins_block s.rest) ≡ true → block_item before s ≡ Err e → block_items (suc n) before heads s ≡ Err e
+pub block_items-fails : (n : ℕ) (before : Option BlockHead) (heads : List BlockHead) (s : HeaderCursor) (e : RecErr) → (has_header s && begins_block s.rest) ≡ true → block_item before s ≡ Err e → block_items (suc n) before heads s ≡ Err e
 unfolding block_items
 block_items-fails n before heads s e more fails = rw (more, fails) refl
 
-pub block_items-ends : (n : ℕ) (before : Option BlockHead) (heads : List BlockHead) (s : Standing) → (has_header s && begins_block s.rest) ≡ false → block_items n before heads s ≡ Ok (record { value = heads; next = s })
+pub block_items-ends : (n : ℕ) (before : Option BlockHead) (heads : List BlockHead) (s : HeaderCursor) → (has_header s && begins_block s.rest) ≡ false → block_items n before heads s ≡ Ok (record { value = heads; next = s })
 unfolding block_items
 block_items-ends zero before heads s over = refl
 block_items-ends (suc n) before heads s over = rw over refl
 
 -- where there is another header, bytes are left
-pub bytes_left : (s : Standing) → (has_header s && begins_block s.rest) ≡ true → s.owed < length s.rest
+pub bytes_left : (s : HeaderCursor) → (has_header s && begins_block s.rest) ≡ true → s.owed < length s.rest
 bytes_left s more = ltb-true _ _ (and_parts (has_header s) (begins_block s.rest) more).0
 
 -- ---- each header is at least a byte long
 
-record Shrinks (s next : Standing) : Type 0 where
+record Shrinks (s next : HeaderCursor) : Type 0 where
   pub left : length next.rest ≤ length s.rest
 
-skip_shrinks : (n : ℕ) (s : Standing) → Shrinks s (skip n s)
+skip_shrinks : (n : ℕ) (s : HeaderCursor) → Shrinks s (skip n s)
 skip_shrinks n s = record { left = omega (arith, length-drop n s.rest) }
 
-fork_shrinks : (s : Standing) (x : After (ForkFlags × ℕ)) → fork_item s ≡ Ok x → Shrinks s x.next
+fork_shrinks : (s : HeaderCursor) (x : After (ForkFlags × ℕ)) → fork_item s ≡ Ok x → Shrinks s x.next
 unfolding fork_item
 fork_shrinks s x e =
     let byte = get_or s.rest 0 0 in
@@ -47,7 +47,7 @@ fork_shrinks s x e =
     let made : After (ForkFlags × ℕ) = record { value = (fork_flags byte, len); next = skip 3 s } in
     subst (λ (y : After (ForkFlags × ℕ)). Shrinks s y.next) (ok_is made x c.1) (skip_shrinks 3 s)
 
-image_shrinks : (has : Bool) (id : ℕ) (s : Standing) (x : After (Option ImageHead)) → image_item has id s ≡ Ok x → Shrinks s x.next
+image_shrinks : (has : Bool) (id : ℕ) (s : HeaderCursor) (x : After (Option ImageHead)) → image_item has id s ≡ Ok x → Shrinks s x.next
 unfolding image_item
 image_shrinks true id s x e =
     let len = number_at w16 s.rest 0 in
@@ -63,7 +63,7 @@ image_shrinks false id s x e =
     let made : After (Option ImageHead) = record { value = None; next = s } in
     subst (λ (y : After (Option ImageHead)). Shrinks s y.next) (ok_is made x e) (record { left = omega arith })
 
-relation_shrinks : (same : Bool) (before : Option BlockHead) (s : Standing) (x : After Rel) → relation_item same before s ≡ Ok x → Shrinks s x.next
+relation_shrinks : (same : Bool) (before : Option BlockHead) (s : HeaderCursor) (x : After Rel) → relation_item same before s ≡ Ok x → Shrinks s x.next
 unfolding relation_item
 relation_shrinks true None s x e = absurd cc
 relation_shrinks true (Some b) s x e =
@@ -75,14 +75,14 @@ relation_shrinks false before s x e =
     let made : After Rel = record { value = rel; next = skip 12 s } in
     subst (λ (y : After Rel). Shrinks s y.next) (ok_is made x a.1) (skip_shrinks 12 s)
 
-number_shrinks : (s : Standing) (x : After ℕ) → number_item s ≡ Ok x → Shrinks s x.next
+number_shrinks : (s : HeaderCursor) (x : After ℕ) → number_item s ≡ Ok x → Shrinks s x.next
 unfolding number_item
 number_shrinks s x e =
     let a = not_refused (ltb (length s.rest) 4) _ _ x e in
     let made : After ℕ = record { value = number_at w32 s.rest 0; next = skip 4 s } in
     subst (λ (y : After ℕ). Shrinks s y.next) (ok_is made x a.1) (skip_shrinks 4 s)
 
-pub block_shrinks : (before : Option BlockHead) (s : Standing) (x : After BlockHead) → 0 < length s.rest → block_item before s ≡ Ok x → length x.next.rest < length s.rest
+pub block_shrinks : (before : Option BlockHead) (s : HeaderCursor) (x : After BlockHead) → 0 < length s.rest → block_item before s ≡ Ok x → length x.next.rest < length s.rest
 unfolding block_item
 block_shrinks before s x some e =
     let id = get_or s.rest 0 0 in
@@ -103,18 +103,18 @@ block_shrinks before s x some e =
 -- ---- the loop's answers
 
 -- the loop goes on
-pub goes_on : (n : ℕ) (before : Option BlockHead) (heads : List BlockHead) (s : Standing) (x : After BlockHead) (goal : Result (After (List BlockHead)) RecErr) → length s.rest ≤ n → block_items n before heads s ≡ goal
+pub goes_on : (n : ℕ) (before : Option BlockHead) (heads : List BlockHead) (s : HeaderCursor) (x : After BlockHead) (goal : Result (After (List BlockHead)) RecErr) → length s.rest ≤ n → block_items n before heads s ≡ goal
     → (has_header s && begins_block s.rest) ≡ true → block_item before s ≡ Ok x → (m : ℕ) × ((length x.next.rest ≤ m) × (block_items m (Some x.value) (heads ++ x.value ∷ []) x.next ≡ goal))
 goes_on zero before heads s x goal enough e more read = absurd (omega (arith, bytes_left s more))
 goes_on (suc m) before heads s x goal enough e more read = (m, (omega (arith, block_shrinks before s x (omega (arith, bytes_left s more)) read), sym (block_items-more m before heads s x more read) ∙ e))
 
 -- the loop fails
-pub fails_so : (n : ℕ) (before : Option BlockHead) (heads : List BlockHead) (s : Standing) (d : RecErr) (goal : Result (After (List BlockHead)) RecErr) → length s.rest ≤ n → block_items n before heads s ≡ goal
+pub fails_so : (n : ℕ) (before : Option BlockHead) (heads : List BlockHead) (s : HeaderCursor) (d : RecErr) (goal : Result (After (List BlockHead)) RecErr) → length s.rest ≤ n → block_items n before heads s ≡ goal
     → (has_header s && begins_block s.rest) ≡ true → block_item before s ≡ Err d → goal ≡ Err d
 fails_so zero before heads s d goal enough e more read = absurd (omega (arith, bytes_left s more))
 fails_so (suc m) before heads s d goal enough e more read = sym e ∙ block_items-fails m before heads s d more read
 
-pub fails_here : (n : ℕ) (before : Option BlockHead) (heads : List BlockHead) (s : Standing) (d : RecErr) (goal : Result (After (List BlockHead)) RecErr) → length s.rest ≤ n → block_items n before heads s ≡ goal
+pub fails_here : (n : ℕ) (before : Option BlockHead) (heads : List BlockHead) (s : HeaderCursor) (d : RecErr) (goal : Result (After (List BlockHead)) RecErr) → length s.rest ≤ n → block_items n before heads s ≡ goal
     → (has_header s && begins_block s.rest) ≡ true → FailsWith d (block_item before s) → FailsWith d goal
 fails_here n before heads s Memory goal enough e more read = tt
 fails_here n before heads s (Malformed at kind) goal enough e more read = fails_so n before heads s (Malformed at kind) goal enough e more read

@@ -12,9 +12,9 @@ use Rattle.wal_record.specs.declared.fault.RecErr.TheVariants.{Memory, Malformed
 use Rattle.wal_record.specs.declared.fault.RecKind.TheVariants as kinds
 use Rattle.wal_record.specs.declared.head.BlockHead.{BlockHead}
 use Rattle.wal_record.specs.Record.{is_free_manager}
-use Rattle.wal_record.specs.Reading.{◌>>=◌, After, Gives, Headers, Standing, begins_block, begins_with, has_header, items_of, main_item, number_at, payload_len, reading_of, record_of}
+use Rattle.wal_record.specs.Reading.{◌>>=◌, After, GivesReading, Headers, HeaderCursor, begins_block, begins_with, has_header, items_of, main_item, number_at, payload_len, reading_of, record_of}
 use Rattle.wal_record.specs.Spells.{Items, Spells, SpellsHeads, SpellsItems, StandsBehind, head_text, item_text}
-use Rattle.wal_record.specs.Fails.{BreaksItem, EndsHeaders, FailsAt, FailsSo, HasLength, IsMainHead, LeavesFill, NextBlock, NextOrigin, NextTopXid, Reaches, last_of}
+use Rattle.wal_record.specs.Fails.{BreaksItem, EndsHeaders, FailsAt, FailsSo, HasLength, IsMainHead, LeavesFill, NextBlock, NextOrigin, NextTopXid, ReachesItem, last_of}
 use Rattle.wal_record.proofs.Bytes.{IsBytes, IsBytes-drop, IsBytes-from_All, wide16, wide32}
 use Rattle.wal_record.proofs.HeadsTaken.{BeforeFits}
 use Rattle.wal_record.proofs.HeadsAgain.{standing_at, block_again, head_some, number_again}
@@ -70,7 +70,7 @@ spells_top items text item promised s n = record {
 }
 
 -- the place behind one item more
-reaches_next : (bytes : List ℕ) (items more : Items) (s next : Standing) (text : List ℕ) (promised : ℕ) (r : Reaches bytes items s) → IsBehind s text promised next → SpellsItems more (r.text ++ text) → sum_by payload_len more.blocks ≡ sum_by payload_len items.blocks + promised → has_header next ≡ true → Reaches bytes more next
+reaches_next : (bytes : List ℕ) (items more : Items) (s next : HeaderCursor) (text : List ℕ) (promised : ℕ) (r : ReachesItem bytes items s) → IsBehind s text promised next → SpellsItems more (r.text ++ text) → sum_by payload_len more.blocks ≡ sum_by payload_len items.blocks + promised → has_header next ≡ true → ReachesItem bytes more next
 reaches_next bytes items more s next text promised r b spelled sum left = record {
   text = r.text ++ text;
   spelled = spelled;
@@ -82,7 +82,7 @@ reaches_next bytes items more s next text promised r b spelled sum left = record
 
 -- ---- what the reading tells is the first cause
 
-finish_fails : (blocks : List BlockHead) (origin top : Option ℕ) (end : Standing) (e : RecErr) → finish blocks origin top end ≡ Err e → (length end.rest ≡ end.owed → ⊥) × (e ≡ Malformed end.at kinds.Fill)
+finish_fails : (blocks : List BlockHead) (origin top : Option ℕ) (end : HeaderCursor) (e : RecErr) → finish blocks origin top end ≡ Err e → (length end.rest ≡ end.owed → ⊥) × (e ≡ Malformed end.at kinds.Fill)
 finish_fails blocks origin top end e gives =
     elim (cases_Bool (eqb (length end.rest) end.owed)) [
       | inl all ↦ absurd (ok_no_error _ e (rw all at gives))
@@ -95,7 +95,7 @@ finish_fails blocks origin top end e gives =
     error_is : (d e : RecErr) → (let x : Result Headers RecErr = Err d in x ≡ Err e) → e ≡ d
     error_is d e k = cc
 
-leaves_fill : (bytes : List ℕ) (items : Items) (s end : Standing) (text : List ℕ) (promised : ℕ) (e : RecErr) (blocks : List BlockHead) (origin top : Option ℕ) → Reaches bytes items s → IsBehind s text promised end → EndsHeaders items text promised (length end.rest) (s.owed + promised) → finish blocks origin top end ≡ Err e → LeavesFill bytes e
+leaves_fill : (bytes : List ℕ) (items : Items) (s end : HeaderCursor) (text : List ℕ) (promised : ℕ) (e : RecErr) (blocks : List BlockHead) (origin top : Option ℕ) → ReachesItem bytes items s → IsBehind s text promised end → EndsHeaders items text promised (length end.rest) (s.owed + promised) → finish blocks origin top end ≡ Err e → LeavesFill bytes e
 leaves_fill bytes items s end text promised e blocks origin top r b ends gives =
     let f = finish_fails blocks origin top end e gives in
     record { items = items; place = s; reaches = r; text = text; promised = promised; rest = end.rest; rest_is = b.rest_is; ends = ends; wrong = λ same. f.0 (same ∙ sym b.owed_is); told = f.1 ∙ ap (λ (k : ℕ). Malformed k kinds.Fill) b.at_is }
@@ -104,15 +104,15 @@ abbrev Cause : List ℕ → RecErr → Type 0
 Cause bytes e = BreaksItem bytes e ⊎ LeavesFill bytes e
 
 -- the reading goes on behind an item, or the headers end there
-goes_or_ends : (bytes : List ℕ) (items more : Items) (s next : Standing) (text : List ℕ) (promised : ℕ) (e : RecErr) (r : Reaches bytes items s) → IsBehind s text promised next → SpellsItems more (r.text ++ text) → sum_by payload_len more.blocks ≡ sum_by payload_len items.blocks + promised
-    → (NextBlock items text promised ⊎ (NextOrigin items text promised ⊎ NextTopXid items text promised)) → Resumes more.blocks more.origin more.top_xid next (Err e) → (Reaches bytes more next → Cause bytes e) → Cause bytes e
+goes_or_ends : (bytes : List ℕ) (items more : Items) (s next : HeaderCursor) (text : List ℕ) (promised : ℕ) (e : RecErr) (r : ReachesItem bytes items s) → IsBehind s text promised next → SpellsItems more (r.text ++ text) → sum_by payload_len more.blocks ≡ sum_by payload_len items.blocks + promised
+    → (NextBlock items text promised ⊎ (NextOrigin items text promised ⊎ NextTopXid items text promised)) → Resumes more.blocks more.origin more.top_xid next (Err e) → (ReachesItem bytes more next → Cause bytes e) → Cause bytes e
 goes_or_ends bytes items more s next text promised e r b spelled sum item resumes on =
     elim (cases_Bool (has_header next)) [
       | inl left ↦ on (reaches_next bytes items more s next text promised r b spelled sum left)
       | inr over ↦ inr (leaves_fill bytes items s next text promised e more.blocks more.origin more.top_xid r b (inr (omega (arith, ltb-false next.owed (length next.rest) over, b.owed_is), item)) (to_finish more.blocks more.origin more.top_xid next (Err e) over resumes))
     ]
 
-fails_from : (k : ℕ) (bytes : List ℕ) (items : Items) (s : Standing) (e : RecErr) → Reaches bytes items s → IsBytes s.rest → length s.rest ≤ k → Resumes items.blocks items.origin items.top_xid s (Err e) → Cause bytes e
+fails_from : (k : ℕ) (bytes : List ℕ) (items : Items) (s : HeaderCursor) (e : RecErr) → ReachesItem bytes items s → IsBytes s.rest → length s.rest ≤ k → Resumes items.blocks items.origin items.top_xid s (Err e) → Cause bytes e
 fails_from zero bytes items s e r fits short resumes = absurd (omega (arith, r.more))
 fails_from (suc k) bytes items s e r fits short resumes =
     let more : has_header s ≡ true = lt-ltb _ _ r.more in
@@ -123,15 +123,15 @@ fails_from (suc k) bytes items s e r fits short resumes =
           let more_items : Items = record { blocks = items.blocks ++ g.item.head ∷ []; origin = None; top_xid = None } in
           let sum = sum_by_push payload_len items.blocks g.item.head ∙ ap (λ (n : ℕ). sum_by payload_len items.blocks + n) (sym g.item.promises) in
           goes_or_ends bytes items more_items s g.next g.text g.promised e r g.behind (spells_block items r.text g.text g.promised r.spelled g.item) sum (inl g.item) g.resumes
-          (λ (on : Reaches bytes more_items g.next). fails_from k bytes more_items g.next e on g.behind.fits (omega (arith, short, head_some g.item.same g.item.head, ap length g.item.spelled, ap length g.behind.rest_is, length-append g.text g.next.rest)) g.resumes)
+          (λ (on : ReachesItem bytes more_items g.next). fails_from k bytes more_items g.next e on g.behind.fits (omega (arith, short, head_some g.item.same g.item.head, ap length g.item.spelled, ap length g.behind.rest_is, length-append g.text g.next.rest)) g.resumes)
       | inr (inr (inr (inl g))) ↦
           let more_items : Items = record { blocks = items.blocks; origin = Some g.item.number; top_xid = None } in
           goes_or_ends bytes items more_items s g.next g.text g.promised e r g.behind (spells_origin items r.text g.text g.promised r.spelled g.item) (omega (arith, g.item.promises)) (inr (inl g.item)) g.resumes
-          (λ (on : Reaches bytes more_items g.next). fails_from k bytes more_items g.next e on g.behind.fits (omega (arith, short, ap length g.item.spelled, ap length g.behind.rest_is, length-append g.text g.next.rest)) g.resumes)
+          (λ (on : ReachesItem bytes more_items g.next). fails_from k bytes more_items g.next e on g.behind.fits (omega (arith, short, ap length g.item.spelled, ap length g.behind.rest_is, length-append g.text g.next.rest)) g.resumes)
       | inr (inr (inr (inr g))) ↦
           let more_items : Items = record { blocks = items.blocks; origin = items.origin; top_xid = Some g.item.number } in
           goes_or_ends bytes items more_items s g.next g.text g.promised e r g.behind (spells_top items r.text g.text g.promised r.spelled g.item) (omega (arith, g.item.promises)) (inr (inr g.item)) g.resumes
-          (λ (on : Reaches bytes more_items g.next). fails_from k bytes more_items g.next e on g.behind.fits (omega (arith, short, ap length g.item.spelled, ap length g.behind.rest_is, length-append g.text g.next.rest)) g.resumes)
+          (λ (on : ReachesItem bytes more_items g.next). fails_from k bytes more_items g.next e on g.behind.fits (omega (arith, short, ap length g.item.spelled, ap length g.behind.rest_is, length-append g.text g.next.rest)) g.resumes)
     ]
   where
     same_error : (d e : RecErr) → (let x : Result Headers RecErr = Err e in x ≡ Err d) → d ≡ e
@@ -139,7 +139,7 @@ fails_from (suc k) bytes items s e r fits short resumes =
 
 -- ---- the first cause is what the reading tells
 
-rest_fits : (bytes : List ℕ) (items : Items) (s : Standing) → IsBytes bytes → Reaches bytes items s → IsBytes s.rest
+rest_fits : (bytes : List ℕ) (items : Items) (s : HeaderCursor) → IsBytes bytes → ReachesItem bytes items s → IsBytes s.rest
 rest_fits bytes items s fits r = subst IsBytes (ap (drop (length r.text)) r.rest_is ∙ drop_at r.text s.rest (length r.text) refl) (IsBytes-drop (length r.text) (drop 24 bytes) (IsBytes-drop 24 bytes fits))
 
 pub breaks_told : (bytes : List ℕ) (e : RecErr) → IsBytes bytes → BreaksItem bytes e → reads_headers bytes ≡ Err e
@@ -161,7 +161,7 @@ breaks_told bytes e fits b =
     none_some : (e : RecErr) → (let x : Option RecErr = None in x ≡ Some e) → ⊥
     none_some e k = cc
 
-finish_wrong : (blocks : List BlockHead) (origin top : Option ℕ) (end : Standing) → (length end.rest ≡ end.owed → ⊥) → finish blocks origin top end ≡ Err (Malformed end.at kinds.Fill)
+finish_wrong : (blocks : List BlockHead) (origin top : Option ℕ) (end : HeaderCursor) → (length end.rest ≡ end.owed → ⊥) → finish blocks origin top end ≡ Err (Malformed end.at kinds.Fill)
 finish_wrong blocks origin top end wrong = let some : eqb (length end.rest) end.owed ≡ false = ne_eqb _ _ wrong in rw some refl
 
 main_here : (at owed len : ℕ) (text rest : List ℕ) → has_header (standing_at at owed (text ++ rest)) ≡ true → IsMainHead text len → main_item (standing_at at owed (text ++ rest)) ≡ Ok (standing_at (at + length text) (owed + len) rest)
@@ -189,7 +189,7 @@ main_told : (blocks : List BlockHead) (origin top : Option ℕ) (at owed promise
 main_told blocks origin top at owed promised text rest r more wrong main resumes =
     let s = standing_at at owed (text ++ rest) in
     let gives = to_top blocks origin top s r (main_begins begins_block at owed promised text rest (λ xs. refl) (λ xs. refl) main) (main_begins (begins_with 253) at owed promised text rest (λ xs. refl) (λ xs. refl) main) (main_begins (begins_with 252) at owed promised text rest (λ xs. refl) (λ xs. refl) main) resumes in
-    sym gives ∙ ap (λ (x : Result Standing RecErr). x >>= finish blocks origin top) (main_here at owed promised text rest more main) ∙ finish_wrong blocks origin top (standing_at (at + length text) (owed + promised) rest) wrong
+    sym gives ∙ ap (λ (x : Result HeaderCursor RecErr). x >>= finish blocks origin top) (main_here at owed promised text rest more main) ∙ finish_wrong blocks origin top (standing_at (at + length text) (owed + promised) rest) wrong
 
 -- behind an item no header stands any more
 ended_told : (blocks : List BlockHead) (origin top : Option ℕ) (at owed : ℕ) (rest : List ℕ) (r : Result Headers RecErr) → length rest ≤ owed → (length rest ≡ owed → ⊥) → Resumes blocks origin top (standing_at at owed rest) r → r ≡ Err (Malformed at kinds.Fill)
@@ -217,7 +217,7 @@ top_told blocks origin n at owed rest r more fits few wrong resumes =
     ended_told blocks origin (Some n) (at + 5) owed rest r few wrong on
 
 -- the place of an item, with its text
-place_is : (s : Standing) (text rest : List ℕ) → s.rest ≡ text ++ rest → s ≡ standing_at s.at s.owed (text ++ rest)
+place_is : (s : HeaderCursor) (text rest : List ℕ) → s.rest ≡ text ++ rest → s ≡ standing_at s.at s.owed (text ++ rest)
 place_is s text rest e = ap (λ (l : List ℕ). standing_at s.at s.owed l) e
 
 block_end : (items : Items) (at owed promised : ℕ) (text rest : List ℕ) (r : Result Headers RecErr) → has_header (standing_at at owed (text ++ rest)) ≡ true → (length rest ≡ owed + promised → ⊥) → length rest ≤ owed + promised → NextBlock items text promised → Resumes items.blocks items.origin items.top_xid (standing_at at owed (text ++ rest)) r → r ≡ Err (Malformed (at + length text) kinds.Fill)
@@ -254,7 +254,7 @@ fill_told bytes e f =
     let r = reads_headers bytes in
     let place = place_is s f.text f.rest f.rest_is in
     let more : has_header (standing_at s.at s.owed (f.text ++ f.rest)) ≡ true = ap has_header (sym place) ∙ lt-ltb _ _ f.reaches.more in
-    let resumes = subst (λ (p : Standing). Resumes items.blocks items.origin items.top_xid p r) place (reaches_resumes bytes items s f.reaches) in
+    let resumes = subst (λ (p : HeaderCursor). Resumes items.blocks items.origin items.top_xid p r) place (reaches_resumes bytes items s f.reaches) in
     fill_so items s.at s.owed f.promised f.text f.rest r more f.wrong f.ends resumes ∙ ap (λ (d : RecErr). Err d) (sym f.told)
   where
     fill_so : (items : Items) (at owed promised : ℕ) (text rest : List ℕ) (r : Result Headers RecErr) → has_header (standing_at at owed (text ++ rest)) ≡ true → (length rest ≡ owed + promised → ⊥) → EndsHeaders items text promised (length rest) (owed + promised) → Resumes items.blocks items.origin items.top_xid (standing_at at owed (text ++ rest)) r → r ≡ Err (Malformed (at + length text) kinds.Fill)
@@ -340,7 +340,7 @@ cause_told bytes e fits (inr (inr (h, inr f))) = let right = length_passes bytes
 
 -- ---- what a call answers, and each list of bytes
 
-pub fails_by : (answer : Result Record RecErr) (bytes : List ℕ) → IsBytes bytes → Gives answer (reading_of bytes) → IfErr answer (FailsSo bytes)
+pub fails_by : (answer : Result Record RecErr) (bytes : List ℕ) → IsBytes bytes → GivesReading answer (reading_of bytes) → IfErr answer (FailsSo bytes)
 fails_by (Ok r) bytes fits gives = tt
 fails_by (Err Memory) bytes fits gives = tt
 fails_by (Err (Malformed at kind)) bytes fits gives = cause_of bytes (Malformed at kind) fits gives

@@ -6,7 +6,7 @@ use Rattle.std.specs.Int.{Width, w16, w32, to_le_bytes}
 use Rattle.std.proofs.lemmas.Bool.{eqb-true, eq-eqb, le-ltb, and_left, and_right}
 use Rattle.std.proofs.lemmas.List.{length-append}
 use Rattle.wal_record.specs.declared.head.BlockHead.{BlockHead}
-use Rattle.wal_record.specs.Reading.{Headers, Standing, begins_block, begins_with, block_items, has_header, headers_of, main_item, optional_item, payload_len}
+use Rattle.wal_record.specs.Reading.{Headers, HeaderCursor, begins_block, begins_with, block_items, has_header, headers_of, main_item, optional_item, payload_len}
 use Rattle.wal_record.specs.Fails.{last_of}
 use Rattle.wal_record.specs.Spells.{Items, SpellsHeads, SpellsItems, SpellsMainHead, item_text}
 use Rattle.wal_record.proofs.Bytes.{IsBytes, IsWide, wide16, wide32}
@@ -21,7 +21,7 @@ items_read h = record { blocks = h.blocks; origin = h.origin; top_xid = h.top_xi
 
 -- ---- what is read is spelled so
 
-pub record HeadersTaken (s : Standing) (h : Headers) : Type 0 where
+pub record HeadersTaken (s : HeaderCursor) (h : Headers) : Type 0 where
   pub text : List ℕ
   pub main_head : List ℕ
   pub len : ℕ
@@ -31,7 +31,7 @@ pub record HeadersTaken (s : Standing) (h : Headers) : Type 0 where
   pub owed_is : length h.payload ≡ s.owed + sum_by payload_len h.blocks + len
   pub fits : IsBytes h.payload
 
-pub headers_taken : (s : Standing) (h : Headers) → IsBytes s.rest → headers_of s ≡ Ok h → HeadersTaken s h
+pub headers_taken : (s : HeaderCursor) (h : Headers) → IsBytes s.rest → headers_of s ≡ Ok h → HeadersTaken s h
 unfolding headers_of
 headers_taken s h fits e =
     let a = bind_ok (block_items (length s.rest) None [] s) _ h e in

@@ -11,7 +11,7 @@ use Rattle.wal_record.specs.declared.head.BlockHead.{BlockHead}
 use Rattle.wal_record.specs.declared.head.ForkFlags.{ForkFlags}
 use Rattle.wal_record.specs.declared.head.ImageHead.{ImageHead}
 use Rattle.wal_record.specs.Spelling.{flag, relation_bytes}
-use Rattle.wal_record.specs.Reading.{After, Standing, number_at, fork_flags, fork_item, image_head_of, image_item, is_wrong_hole, relation_item, number_item, block_item, least_id, payload_len}
+use Rattle.wal_record.specs.Reading.{After, HeaderCursor, number_at, fork_flags, fork_item, image_head_of, image_item, is_wrong_hole, relation_item, number_item, block_item, least_id, payload_len}
 use Rattle.wal_record.specs.Spells.{image_flag, image_head_text, head_text, IsPageImage, HasRelation, StandsBehind}
 use Rattle.wal_record.proofs.Bytes.{IsWide, wide16, wide32}
 use Rattle.wal_record.proofs.Flags.{fork_byte, fork_byte-again, info-again}
@@ -21,10 +21,10 @@ pub number_again : (w : Width) (limit : ℕ) → IsWide w limit → (bytes rest 
 number_again w limit wide bytes rest at n lt e = ap (λ (l : List ℕ). from_le_bytes w (take (byte_len w) l)) e ∙ ap (from_le_bytes w) (take_at (to_le_bytes w n) rest (byte_len w) (wide.len n)) ∙ wide.again n lt
 
 -- a reader behind a text
-abbrev pub behind : ℕ → ℕ → List ℕ → List ℕ → Standing
+abbrev pub behind : ℕ → ℕ → List ℕ → List ℕ → HeaderCursor
 behind at owed text rest = record { at = at + length text; rest = rest; owed = owed }
 
-abbrev pub standing_at : ℕ → ℕ → List ℕ → Standing
+abbrev pub standing_at : ℕ → ℕ → List ℕ → HeaderCursor
 standing_at at owed rest = record { at = at; rest = rest; owed = owed }
 
 -- ---- tests that passed

@@ -10,7 +10,7 @@ use Rattle.wal_record.specs.declared.head.BlockHead.{BlockHead}
 use Rattle.wal_record.specs.declared.head.ForkFlags.{ForkFlags}
 use Rattle.wal_record.specs.declared.head.ImageHead.{ImageHead}
 use Rattle.wal_record.specs.Spelling.{flag, relation_bytes}
-use Rattle.wal_record.specs.Reading.{After, Standing, skip, number_at, begins_block, fork_flags, fork_item, image_head_of, image_item, is_wrong_hole, relation_item, number_item, block_item, least_id, payload_len}
+use Rattle.wal_record.specs.Reading.{After, HeaderCursor, skip, number_at, begins_block, fork_flags, fork_item, image_head_of, image_item, is_wrong_hole, relation_item, number_item, block_item, least_id, payload_len}
 use Rattle.wal_record.specs.Spells.{image_flag, image_head_text, head_text, IsPageImage, HasRelation, StandsBehind}
 use Rattle.wal_record.proofs.Bytes.{IsBytes, IsBytes-drop, IsBytes-take, IsWide, wide16, wide32}
 use Rattle.wal_record.proofs.HeaderParts.{piece}
@@ -29,16 +29,16 @@ pub number_below : (w : Width) (limit : ℕ) → IsWide w limit → (bytes : Lis
 number_below w limit wide bytes at fits = wide.below _ (IsBytes-take (byte_len w) (drop at bytes) (IsBytes-drop at bytes fits))
 
 -- what a reader has passed on the way from one place to another
-pub record Passes (s : Standing) (text : List ℕ) (next : Standing) : Type 0 where
+pub record Passes (s : HeaderCursor) (text : List ℕ) (next : HeaderCursor) : Type 0 where
   pub rest_is : s.rest ≡ text ++ next.rest
   pub at_is : next.at ≡ s.at + length text
   pub owed_is : next.owed ≡ s.owed
   pub fits : IsBytes next.rest
 
-pub passes_skip : (n : ℕ) (s : Standing) (text : List ℕ) → IsBytes s.rest → s.rest ≡ text ++ drop n s.rest → length text ≡ n → Passes s text (skip n s)
+pub passes_skip : (n : ℕ) (s : HeaderCursor) (text : List ℕ) → IsBytes s.rest → s.rest ≡ text ++ drop n s.rest → length text ≡ n → Passes s text (skip n s)
 passes_skip n s text fits e len = record { rest_is = e; at_is = rw len refl; owed_is = refl; fits = IsBytes-drop n s.rest fits }
 
-pub passes_both : {s m n : Standing} {xs ys : List ℕ} → Passes s xs m → Passes m ys n → Passes s (xs ++ ys) n
+pub passes_both : {s m n : HeaderCursor} {xs ys : List ℕ} → Passes s xs m → Passes m ys n → Passes s (xs ++ ys) n
 passes_both {s} {m} {n} {xs} {ys} a b = record {
   rest_is = a.rest_is ∙ ap (λ (l : List ℕ). xs ++ l) b.rest_is ∙ sym (append_assoc xs ys n.rest);
   at_is = omega (arith, a.at_is, b.at_is, length-append xs ys);
@@ -48,7 +48,7 @@ passes_both {s} {m} {n} {xs} {ys} a b = record {
 
 -- ---- the fork byte and the data's length
 
-pub record ForkTaken (s : Standing) (x : After (ForkFlags × ℕ)) : Type 0 where
+pub record ForkTaken (s : HeaderCursor) (x : After (ForkFlags × ℕ)) : Type 0 where
   pub passes : Passes s (fork_byte x.value.0 ∷ to_le_bytes w16 x.value.1) x.next
   pub fork : x.value.0.fork ≤ 3
   pub has_data : x.value.0.has_data ≡ ltb 0 x.value.1
@@ -58,7 +58,7 @@ data_agrees : (has : Bool) (len : ℕ) → cond has (eqb len 0) (ltb 0 len) ≡ 
 data_agrees true len e = let some : 0 < len = omega (arith, eqb-false len 0 e) in sym (lt-ltb 0 len some)
 data_agrees false len e = sym e
 
-pub fork_takes : (s : Standing) (x : After (ForkFlags × ℕ)) → IsBytes s.rest → fork_item s ≡ Ok x → ForkTaken s x
+pub fork_takes : (s : HeaderCursor) (x : After (ForkFlags × ℕ)) → IsBytes s.rest → fork_item s ≡ Ok x → ForkTaken s x
 unfolding fork_item
 fork_takes s x fits e =
     let byte = get_or s.rest 0 0 in
@@ -79,7 +79,7 @@ fork_takes s x fits e =
 
 -- ---- an image's header
 
-pub record ImageTaken (has : Bool) (s : Standing) (x : After (Option ImageHead)) : Type 0 where
+pub record ImageTaken (has : Bool) (s : HeaderCursor) (x : After (Option ImageHead)) : Type 0 where
   pub passes : Passes s (image_head_text x.value) x.next
   pub right : IfSome x.value IsPageImage
   pub flag_is : flag has 16 ≡ image_flag x.value
@@ -98,7 +98,7 @@ hole_takes len offset false le e =
     let t : ltb 0 (8192 - len) ≡ false = le-ltb _ _ whole in
     (t, rw t (eqb-true offset 0 a.0))
 
-image_there : (id : ℕ) (s : Standing) (x : After (Option ImageHead)) → IsBytes s.rest → image_item true id s ≡ Ok x → ImageTaken true s x
+image_there : (id : ℕ) (s : HeaderCursor) (x : After (Option ImageHead)) → IsBytes s.rest → image_item true id s ≡ Ok x → ImageTaken true s x
 unfolding image_item
 image_there id s x fits e =
     let len = number_at w16 s.rest 0 in
@@ -124,7 +124,7 @@ image_there id s x fits e =
       flag_is = refl;
     })
 
-image_absent : (id : ℕ) (s : Standing) (x : After (Option ImageHead)) → IsBytes s.rest → image_item false id s ≡ Ok x → ImageTaken false s x
+image_absent : (id : ℕ) (s : HeaderCursor) (x : After (Option ImageHead)) → IsBytes s.rest → image_item false id s ≡ Ok x → ImageTaken false s x
 unfolding image_item
 image_absent id s x fits e =
     let made : After (Option ImageHead) = record { value = None; next = s } in
@@ -134,13 +134,13 @@ image_absent id s x fits e =
       flag_is = refl;
     })
 
-pub image_takes : (has : Bool) (id : ℕ) (s : Standing) (x : After (Option ImageHead)) → IsBytes s.rest → image_item has id s ≡ Ok x → ImageTaken has s x
+pub image_takes : (has : Bool) (id : ℕ) (s : HeaderCursor) (x : After (Option ImageHead)) → IsBytes s.rest → image_item has id s ≡ Ok x → ImageTaken has s x
 image_takes true id s x fits e = image_there id s x fits e
 image_takes false id s x fits e = image_absent id s x fits e
 
 -- ---- the relation
 
-pub record RelationTaken (same : Bool) (before : Option BlockHead) (s : Standing) (x : After Rel) : Type 0 where
+pub record RelationTaken (same : Bool) (before : Option BlockHead) (s : HeaderCursor) (x : After Rel) : Type 0 where
   pub passes : Passes s (cond same [] (relation_bytes x.value)) x.next
   pub tablespace : x.value.spc < 2 ^ 32
   pub database : x.value.db < 2 ^ 32
@@ -156,7 +156,7 @@ pub record RelationFits (rel : Rel) : Type 0 where
 abbrev pub BeforeFits : Option BlockHead → Type 0
 BeforeFits before = IfSome before (λ h. RelationFits h.rel)
 
-relation_spelled : (before : Option BlockHead) (s : Standing) (x : After Rel) → IsBytes s.rest → relation_item false before s ≡ Ok x → RelationTaken false before s x
+relation_spelled : (before : Option BlockHead) (s : HeaderCursor) (x : After Rel) → IsBytes s.rest → relation_item false before s ≡ Ok x → RelationTaken false before s x
 unfolding relation_item
 relation_spelled before s x fits e =
     let a = not_refused (ltb (length s.rest) 12) _ _ x e in
@@ -172,7 +172,7 @@ relation_spelled before s x fits e =
       relation_before = tt;
     })
 
-relation_kept : (b : BlockHead) (s : Standing) (x : After Rel) → IsBytes s.rest → RelationFits b.rel → relation_item true (Some b) s ≡ Ok x → RelationTaken true (Some b) s x
+relation_kept : (b : BlockHead) (s : HeaderCursor) (x : After Rel) → IsBytes s.rest → RelationFits b.rel → relation_item true (Some b) s ≡ Ok x → RelationTaken true (Some b) s x
 unfolding relation_item
 relation_kept b s x fits before e =
     let made : After Rel = record { value = b.rel; next = s } in
@@ -184,22 +184,22 @@ relation_kept b s x fits before e =
       relation_before = refl;
     })
 
-relation_missing : (s : Standing) (x : After Rel) → relation_item true None s ≡ Ok x → ⊥
+relation_missing : (s : HeaderCursor) (x : After Rel) → relation_item true None s ≡ Ok x → ⊥
 unfolding relation_item
 relation_missing s x e = cc
 
-pub relation_takes : (same : Bool) (before : Option BlockHead) (s : Standing) (x : After Rel) → IsBytes s.rest → BeforeFits before → relation_item same before s ≡ Ok x → RelationTaken same before s x
+pub relation_takes : (same : Bool) (before : Option BlockHead) (s : HeaderCursor) (x : After Rel) → IsBytes s.rest → BeforeFits before → relation_item same before s ≡ Ok x → RelationTaken same before s x
 relation_takes true None s x fits before e = absurd (relation_missing s x e)
 relation_takes true (Some b) s x fits before e = relation_kept b s x fits before e
 relation_takes false before s x fits b e = relation_spelled before s x fits e
 
 -- ---- the block's number
 
-pub record NumberTaken (s : Standing) (x : After ℕ) : Type 0 where
+pub record NumberTaken (s : HeaderCursor) (x : After ℕ) : Type 0 where
   pub passes : Passes s (to_le_bytes w32 x.value) x.next
   pub number : x.value < 2 ^ 32
 
-pub number_takes : (s : Standing) (x : After ℕ) → IsBytes s.rest → number_item s ≡ Ok x → NumberTaken s x
+pub number_takes : (s : HeaderCursor) (x : After ℕ) → IsBytes s.rest → number_item s ≡ Ok x → NumberTaken s x
 unfolding number_item
 number_takes s x fits e =
     let a = not_refused (ltb (length s.rest) 4) _ _ x e in
@@ -212,7 +212,7 @@ number_takes s x fits e =
 
 -- ---- a block's header
 
-pub record BlockTaken (before : Option BlockHead) (s : Standing) (x : After BlockHead) : Type 0 where
+pub record BlockTaken (before : Option BlockHead) (s : HeaderCursor) (x : After BlockHead) : Type 0 where
   pub same : Bool
   pub rest_is : s.rest ≡ head_text same x.value ++ x.next.rest
   pub at_is : x.next.at ≡ s.at + length (head_text same x.value)
@@ -224,7 +224,7 @@ begins_id : (bytes : List ℕ) → begins_block bytes ≡ true → (get_or bytes
 begins_id [] e = absurd cc
 begins_id (b ∷ bs) e = (leb-true b 32 e, refl)
 
-block_made : (before : Option BlockHead) (s : Standing) (fork : After (ForkFlags × ℕ)) (image : After (Option ImageHead)) (rel : After Rel) (blk : After ℕ)
+block_made : (before : Option BlockHead) (s : HeaderCursor) (fork : After (ForkFlags × ℕ)) (image : After (Option ImageHead)) (rel : After Rel) (blk : After ℕ)
     → IsBytes s.rest → begins_block s.rest ≡ true → least_id before ≤ get_or s.rest 0 0 → ForkTaken (skip 1 s) fork → ImageTaken fork.value.0.has_image fork.next image → RelationTaken fork.value.0.same before image.next rel → NumberTaken rel.next blk
     → let head : BlockHead = record { id = get_or s.rest 0 0; rel = rel.value; fork = fork.value.0.fork; blk = blk.value; will_init = fork.value.0.will_init; image = image.value; content_len = fork.value.1 } in
     BlockTaken before s (record { value = head; next = record { at = blk.next.at; rest = blk.next.rest; owed = s.owed + payload_len head } })
@@ -246,7 +246,7 @@ block_made before s fork image rel blk fits begins above f i r n =
       stands = record { above = above; id = b.0; fork = f.fork; content = f.content; image = i.right; tablespace = r.tablespace; database = r.database; relation = r.relation; number = n.number; relation_before = r.relation_before };
     }
 
-pub block_takes : (before : Option BlockHead) (s : Standing) (x : After BlockHead) → IsBytes s.rest → begins_block s.rest ≡ true → BeforeFits before → block_item before s ≡ Ok x → BlockTaken before s x
+pub block_takes : (before : Option BlockHead) (s : HeaderCursor) (x : After BlockHead) → IsBytes s.rest → begins_block s.rest ≡ true → BeforeFits before → block_item before s ≡ Ok x → BlockTaken before s x
 unfolding block_item
 block_takes before s x fits begins before_fits e =
     let id = get_or s.rest 0 0 in

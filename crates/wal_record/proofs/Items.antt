@@ -5,7 +5,7 @@ use Rattle.std.specs.Int.{Width, w32, byte_len, to_le_bytes}
 use Rattle.std.proofs.lemmas.Bool.{eqb-true, eq-eqb, ltb-false, le-ltb, lt-ltb, and_parts, and_from}
 use Rattle.std.proofs.lemmas.List.{drop_more, length-append, drop-drop, drop_at}
 use Rattle.wal_record.specs.declared.fault.RecErr.{RecErr}
-use Rattle.wal_record.specs.Reading.{After, Standing, begins_with, has_header, main_item, number_at, optional_item, promising, skip}
+use Rattle.wal_record.specs.Reading.{After, HeaderCursor, begins_with, has_header, main_item, number_at, optional_item, promising, skip}
 use Rattle.wal_record.specs.Spells.{item_text, SpellsMainHead}
 use Rattle.wal_record.proofs.Bytes.{IsBytes, IsBytes-drop, IsWide, wide32}
 use Rattle.wal_record.proofs.Steps.{not_refused, both_refuse, chosen, ok_is}
@@ -18,11 +18,11 @@ begins_true tag (b ∷ bs) e = ap (λ (x : ℕ). x ∷ bs) (eqb-true b tag e)
 
 -- ---- an optional item
 
-pub record ItemTaken (tag : ℕ) (w : Width) (limit : ℕ) (s : Standing) (x : After (Option ℕ)) : Type 0 where
+pub record ItemTaken (tag : ℕ) (w : Width) (limit : ℕ) (s : HeaderCursor) (x : After (Option ℕ)) : Type 0 where
   pub passes : Passes s (item_text tag w x.value) x.next
   pub number : IfSome x.value (λ n. n < limit)
 
-pub optional_takes : (tag : ℕ) (w : Width) (limit : ℕ) → IsWide w limit → (s : Standing) (x : After (Option ℕ)) → IsBytes s.rest → optional_item tag w s ≡ Ok x → ItemTaken tag w limit s x
+pub optional_takes : (tag : ℕ) (w : Width) (limit : ℕ) → IsWide w limit → (s : HeaderCursor) (x : After (Option ℕ)) → IsBytes s.rest → optional_item tag w s ≡ Ok x → ItemTaken tag w limit s x
 unfolding optional_item
 optional_takes tag w limit wide s x fits e =
     elim (chosen (has_header s && begins_with tag s.rest) _ _ _ e) [
@@ -55,13 +55,13 @@ pub item_some_again : (tag : ℕ) (w : Width) (limit : ℕ) → IsWide w limit �
     → optional_item tag w (standing_at at owed (tag ∷ (to_le_bytes w n ++ rest))) ≡ Ok (record { value = Some n; next = standing_at (at + (1 + byte_len w)) owed rest })
 item_some_again tag w limit wide at owed n rest lt few = item_some_here tag w limit wide at owed n rest lt (lt-ltb _ _ (omega (arith, length-append (to_le_bytes w n) rest)))
 
-pub item_none_again : (tag : ℕ) (w : Width) (s : Standing) → (has_header s && begins_with tag s.rest) ≡ false → optional_item tag w s ≡ Ok (record { value = None; next = s })
+pub item_none_again : (tag : ℕ) (w : Width) (s : HeaderCursor) → (has_header s && begins_with tag s.rest) ≡ false → optional_item tag w s ≡ Ok (record { value = None; next = s })
 unfolding optional_item
 item_none_again tag w s e = rw e refl
 
 -- ---- the main data's header
 
-pub record MainTaken (s next : Standing) : Type 0 where
+pub record MainTaken (s next : HeaderCursor) : Type 0 where
   pub text : List ℕ
   pub len : ℕ
   pub spelled : SpellsMainHead text len
@@ -70,7 +70,7 @@ pub record MainTaken (s next : Standing) : Type 0 where
   pub owed_is : next.owed ≡ s.owed + len
   pub fits : IsBytes next.rest
 
-pub short_taken : (s : Standing) → IsBytes s.rest → begins_with 255 s.rest ≡ true → 2 ≤ length s.rest → MainTaken s (promising (get_or s.rest 1 0) (skip 2 s))
+pub short_taken : (s : HeaderCursor) → IsBytes s.rest → begins_with 255 s.rest ≡ true → 2 ≤ length s.rest → MainTaken s (promising (get_or s.rest 1 0) (skip 2 s))
 short_taken s fits begins long = record {
   text = 255 ∷ get_or s.rest 1 0 ∷ [];
   len = get_or s.rest 1 0;
@@ -81,7 +81,7 @@ short_taken s fits begins long = record {
   fits = IsBytes-drop 2 s.rest fits;
 }
 
-pub long_taken : (s : Standing) → IsBytes s.rest → begins_with 254 s.rest ≡ true → 5 ≤ length s.rest → MainTaken s (promising (number_at w32 s.rest 1) (skip 5 s))
+pub long_taken : (s : HeaderCursor) → IsBytes s.rest → begins_with 254 s.rest ≡ true → 5 ≤ length s.rest → MainTaken s (promising (number_at w32 s.rest 1) (skip 5 s))
 long_taken s fits begins long = record {
   text = 254 ∷ to_le_bytes w32 (number_at w32 s.rest 1);
   len = number_at w32 s.rest 1;
@@ -92,10 +92,10 @@ long_taken s fits begins long = record {
   fits = IsBytes-drop 5 s.rest fits;
 }
 
-no_main_taken : (s : Standing) → IsBytes s.rest → MainTaken s s
+no_main_taken : (s : HeaderCursor) → IsBytes s.rest → MainTaken s s
 no_main_taken s fits = record { text = []; len = 0; spelled = inl (refl, refl); rest_is = refl; at_is = omega arith; owed_is = omega arith; fits = fits }
 
-pub main_takes : (s next : Standing) → IsBytes s.rest → main_item s ≡ Ok next → MainTaken s next
+pub main_takes : (s next : HeaderCursor) → IsBytes s.rest → main_item s ≡ Ok next → MainTaken s next
 unfolding main_item
 main_takes s next fits e =
     elim (chosen (not (has_header s)) _ _ _ e) [
@@ -109,7 +109,7 @@ main_takes s next fits e =
       ]
     ]
 
-abbrev done : Standing → Result Standing RecErr
+abbrev done : HeaderCursor → Result HeaderCursor RecErr
 done s = Ok s
 
 same_place : (at owed : ℕ) (rest : List ℕ) → done (standing_at at owed rest) ≡ done (standing_at (at + 0) (owed + 0) rest)

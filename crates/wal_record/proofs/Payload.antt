@@ -8,19 +8,19 @@ use Rattle.wal_types.specs.declared.record.Image.{Image}
 use Rattle.wal_record.specs.declared.head.BlockHead.{BlockHead}
 use Rattle.wal_record.specs.declared.head.ImageHead.{ImageHead}
 use Rattle.wal_record.specs.Spelling.{block_payload, image_bytes}
-use Rattle.wal_record.specs.Reading.{block_of, blocks_of, image_len, image_of, main_of, payload_len}
+use Rattle.wal_record.specs.Reading.{block_of, blocks_read, image_len, image_read, main_of, payload_len}
 use Rattle.wal_record.specs.Spells.{head_of, image_head}
 
 -- what the loop over the headers keeps, where these headers are still to come
 pub record StillToCome (whole : List Block) (last : List ℕ) (heads : List BlockHead) (blocks : List Block) (rest : List ℕ) : Type 0 where
   pub long : sum_by payload_len heads ≤ length rest
-  pub so_far : whole ≡ blocks ++ blocks_of heads rest
+  pub so_far : whole ≡ blocks ++ blocks_read heads rest
   pub main : last ≡ main_of heads rest
 
 one_behind : (whole : List Block) (last : List ℕ) (h : BlockHead) (heads : List BlockHead) (blocks : List Block) (rest : List ℕ) → StillToCome whole last (h ∷ heads) blocks rest → StillToCome whole last heads (blocks ++ block_of h (take (payload_len h) rest) ∷ []) (drop (payload_len h) rest)
 one_behind whole last h heads blocks rest s = record {
   long = omega (arith, s.long, sum_by-cons payload_len h heads, length-drop (payload_len h) rest);
-  so_far = s.so_far ∙ sym (append_assoc blocks (block_of h (take (payload_len h) rest) ∷ []) (blocks_of heads (drop (payload_len h) rest)));
+  so_far = s.so_far ∙ sym (append_assoc blocks (block_of h (take (payload_len h) rest) ∷ []) (blocks_read heads (drop (payload_len h) rest)));
   main = s.main;
 }
 
@@ -43,11 +43,11 @@ pub record IsBlockOf (h : BlockHead) (bytes : List ℕ) : Type 0 where
   pub head_is : head_of (block_of h bytes) ≡ h
   pub payload_is : block_payload (block_of h bytes) ≡ bytes
 
-image_head_back : (image : Option ImageHead) (bytes : List ℕ) → image_len image ≤ length bytes → image_head (image_of image (take (image_len image) bytes)) ≡ image
+image_head_back : (image : Option ImageHead) (bytes : List ℕ) → image_len image ≤ length bytes → image_head (image_read image (take (image_len image) bytes)) ≡ image
 image_head_back None bytes le = refl
 image_head_back (Some i) bytes le = let front : length (take i.len bytes) ≡ i.len = omega (arith, length-take i.len bytes) in ap (λ (n : ℕ). Some (record { apply = i.apply; hole_offset = i.hole_offset; hole_len = i.hole_len; len = n })) front
 
-image_bytes_back : (image : Option ImageHead) (bytes : List ℕ) → image_bytes (image_of image (take (image_len image) bytes)) ≡ take (image_len image) bytes
+image_bytes_back : (image : Option ImageHead) (bytes : List ℕ) → image_bytes (image_read image (take (image_len image) bytes)) ≡ take (image_len image) bytes
 image_bytes_back None bytes = refl
 image_bytes_back (Some i) bytes = refl
 
@@ -62,8 +62,8 @@ is_block_of h bytes len = record {
 
 -- the payload is cut into the blocks of these headers, and main data
 pub record IsPayloadOf (heads : List BlockHead) (payload : List ℕ) : Type 0 where
-  pub heads_are : map head_of (blocks_of heads payload) ≡ heads
-  pub payload_is : payload ≡ flat_map block_payload (blocks_of heads payload) ++ main_of heads payload
+  pub heads_are : map head_of (blocks_read heads payload) ≡ heads
+  pub payload_is : payload ≡ flat_map block_payload (blocks_read heads payload) ++ main_of heads payload
   pub length_is : length payload ≡ sum_by payload_len heads + length (main_of heads payload)
 
 pub is_payload_of : (heads : List BlockHead) (payload : List ℕ) → sum_by payload_len heads ≤ length payload → IsPayloadOf heads payload
@@ -75,7 +75,7 @@ is_payload_of (h ∷ hs) payload le =
     let behind = is_payload_of hs (drop n payload) (omega (arith, length-drop n payload)) in
     record {
       heads_are = rw (first.head_is, behind.heads_are) refl;
-      payload_is = sym (take-append-drop n payload) ∙ ap (λ (l : List ℕ). l ++ drop n payload) (sym first.payload_is) ∙ ap (λ (l : List ℕ). block_payload (block_of h (take n payload)) ++ l) behind.payload_is ∙ sym (append_assoc (block_payload (block_of h (take n payload))) (flat_map block_payload (blocks_of hs (drop n payload))) (main_of hs (drop n payload)));
+      payload_is = sym (take-append-drop n payload) ∙ ap (λ (l : List ℕ). l ++ drop n payload) (sym first.payload_is) ∙ ap (λ (l : List ℕ). block_payload (block_of h (take n payload)) ++ l) behind.payload_is ∙ sym (append_assoc (block_payload (block_of h (take n payload))) (flat_map block_payload (blocks_read hs (drop n payload))) (main_of hs (drop n payload)));
       length_is = omega (arith, behind.length_is, length-drop n payload);
     }
 
@@ -88,7 +88,7 @@ image_length (Some i) = refl
 payload_length : (b : Block) → payload_len (head_of b) ≡ length (block_payload b)
 payload_length b = ap (λ (n : ℕ). n + length b.content) (image_length b.image) ∙ sym (length-append (image_bytes b.image) b.content)
 
-image_back : (image : Option Image) → image_of (image_head image) (image_bytes image) ≡ image
+image_back : (image : Option Image) → image_read (image_head image) (image_bytes image) ≡ image
 image_back None = refl
 image_back (Some i) = refl
 
@@ -99,12 +99,12 @@ block_again : (b : Block) → block_of (head_of b) (block_payload b) ≡ b
 block_again b =
     let n = image_len (image_head b.image) in
     let len : length (image_bytes b.image) ≡ n = sym (image_length b.image) in
-    same_block b _ _ (drop_at (image_bytes b.image) b.content n len) (ap (image_of (image_head b.image)) (take_at (image_bytes b.image) b.content n len) ∙ image_back b.image)
+    same_block b _ _ (drop_at (image_bytes b.image) b.content n len) (ap (image_read (image_head b.image)) (take_at (image_bytes b.image) b.content n len) ∙ image_back b.image)
 
 -- a record's blocks and main data are found in their payload again
 pub record IsFoundAgain (blocks : List Block) (main : List ℕ) : Type 0 where
   pub sum_is : sum_by payload_len (map head_of blocks) ≡ length (flat_map block_payload blocks)
-  pub blocks_are : blocks_of (map head_of blocks) (flat_map block_payload blocks ++ main) ≡ blocks
+  pub blocks_are : blocks_read (map head_of blocks) (flat_map block_payload blocks ++ main) ≡ blocks
   pub main_is : main_of (map head_of blocks) (flat_map block_payload blocks ++ main) ≡ main
 
 pub is_found_again : (blocks : List Block) (main : List ℕ) → IsFoundAgain blocks main
@@ -119,6 +119,6 @@ is_found_again (b ∷ bs) main =
     let rest : drop n (flat_map block_payload (b ∷ bs) ++ main) ≡ behind = ap (drop n) text ∙ drop_at (block_payload b) behind n (sym len) in
     record {
       sum_is = sum_by-cons payload_len (head_of b) (map head_of bs) ∙ ap (λ (k : ℕ). k + sum_by payload_len (map head_of bs)) len ∙ ap (λ (k : ℕ). length (block_payload b) + k) found.sum_is ∙ sym (length-append (block_payload b) (flat_map block_payload bs));
-      blocks_are = ap (λ (l : List ℕ). block_of (head_of b) l ∷ blocks_of (map head_of bs) (drop n (flat_map block_payload (b ∷ bs) ++ main))) front ∙ ap (λ (l : List ℕ). block_of (head_of b) (block_payload b) ∷ blocks_of (map head_of bs) l) rest ∙ ap (λ (x : Block). x ∷ blocks_of (map head_of bs) behind) (block_again b) ∙ ap (λ (xs : List Block). b ∷ xs) found.blocks_are;
+      blocks_are = ap (λ (l : List ℕ). block_of (head_of b) l ∷ blocks_read (map head_of bs) (drop n (flat_map block_payload (b ∷ bs) ++ main))) front ∙ ap (λ (l : List ℕ). block_of (head_of b) (block_payload b) ∷ blocks_read (map head_of bs) l) rest ∙ ap (λ (x : Block). x ∷ blocks_read (map head_of bs) behind) (block_again b) ∙ ap (λ (xs : List Block). b ∷ xs) found.blocks_are;
       main_is = ap (main_of (map head_of bs)) rest ∙ found.main_is;
     }

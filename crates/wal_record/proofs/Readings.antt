@@ -16,7 +16,7 @@ use Rattle.wal_record.specs.declared.fault.RecErr.TheVariants.{Malformed}
 use Rattle.wal_record.specs.declared.fault.RecKind.TheVariants as kinds
 use Rattle.wal_record.specs.Record.{BlockFits, ImageFits, is_free_manager}
 use Rattle.wal_record.specs.Spelling.{block_payload}
-use Rattle.wal_record.specs.Reading.{Gives, Headers, Standing, block_of, blocks_of, headers_of, image_len, image_of, items_of, main_of, number_at, payload_len, reading_of, record_of}
+use Rattle.wal_record.specs.Reading.{GivesReading, Headers, HeaderCursor, block_of, blocks_read, headers_of, image_len, image_read, items_of, main_of, number_at, payload_len, reading_of, record_of}
 use Rattle.wal_record.specs.Spells.{IsPageImage, Items, Spells, SpellsHeads, SpellsItems, SpellsMainHead, StandsBehind, head_of, items_in}
 use Rattle.wal_record.proofs.Bytes.{IsBytes, IsBytes-drop, IsBytes-take, wide32, All-from_IsBytes}
 use Rattle.wal_record.proofs.HeaderParts.{cut, HasParts, put_together}
@@ -48,7 +48,7 @@ parts_spelled bytes behind fits long size e =
     ∙ ap (λ (l : List ℕ). to_le_bytes w32 (length bytes) ++ (to_le_bytes w32 (number_at w32 bytes 4) ++ (take 8 (drop 8 bytes) ++ (fixed ++ (take 4 (drop 20 bytes) ++ l))))) e
 
 -- the numbers of the blocks that are read fit
-image_fits : (image : Option ImageHead) (bytes : List ℕ) → IfSome image IsPageImage → IsBytes bytes → IfSome (image_of image bytes) ImageFits
+image_fits : (image : Option ImageHead) (bytes : List ℕ) → IfSome image IsPageImage → IsBytes bytes → IfSome (image_read image bytes) ImageFits
 image_fits None bytes right fits = tt
 image_fits (Some i) bytes right fits = record { hole_offset = offset_below i right; hole_len = omega (arith, right.page); bytes = All-from_IsBytes bytes fits }
 
@@ -64,7 +64,7 @@ block_fits before same h bytes s fits = record {
   image = image_fits h.image (take (image_len h.image) bytes) s.image (IsBytes-take (image_len h.image) bytes fits);
 }
 
-blocks_fit : (before : Option BlockHead) (heads : List BlockHead) (text payload : List ℕ) → SpellsHeads before heads text → IsBytes payload → AllByRecursion BlockFits (blocks_of heads payload)
+blocks_fit : (before : Option BlockHead) (heads : List BlockHead) (text payload : List ℕ) → SpellsHeads before heads text → IsBytes payload → AllByRecursion BlockFits (blocks_read heads payload)
 blocks_fit before [] text payload spelled fits = tt
 blocks_fit before (h ∷ hs) text payload spelled fits = (block_fits before spelled.0 h (take (payload_len h) payload) spelled.1.1.1.0 (IsBytes-take (payload_len h) payload fits), blocks_fit (Some h) hs spelled.1.0 (drop (payload_len h) payload) spelled.1.1.1.1 (IsBytes-drop (payload_len h) payload fits))
 
@@ -91,7 +91,7 @@ xids-numbers None = refl
 xids-numbers (Some x) = refl
 
 -- what the items of a record that was read say
-items_made : (bytes : List ℕ) (h : Headers) → map head_of (blocks_of h.blocks h.payload) ≡ h.blocks → items_in (record_of bytes h) ≡ items_read h
+items_made : (bytes : List ℕ) (h : Headers) → map head_of (blocks_read h.blocks h.payload) ≡ h.blocks → items_in (record_of bytes h) ≡ items_read h
 unfolding xids
 items_made bytes h heads = ap (λ (hs : List BlockHead). made hs (option_map (λ (x : Xid). x.0) (xids h.top_xid))) heads ∙ ap (made h.blocks) (numbers-xids h.top_xid)
   where
@@ -102,7 +102,7 @@ spells_made : (bytes : List ℕ) (h : Headers) → IsBytes bytes → 24 ≤ leng
 unfolding xids
 spells_made bytes h fits long size manager t =
     let payload = is_payload_of h.blocks h.payload (omega (arith, t.owed_is)) in
-    let blocks = blocks_of h.blocks h.payload in
+    let blocks = blocks_read h.blocks h.payload in
     let main = main_of h.blocks h.payload in
     let behind : drop 24 bytes ≡ t.text ++ (t.main_head ++ (flat_map block_payload blocks ++ main)) = t.rest_is ∙ ap (λ (l : List ℕ). t.text ++ (t.main_head ++ l)) payload.payload_is in
     record {
@@ -133,7 +133,7 @@ spells_made bytes h fits long size manager t =
 items_found : (bytes : List ℕ) (r : Record) → IsBytes bytes → 24 ≤ length bytes → number_at w32 bytes 0 ≡ length bytes → is_free_manager (get_or bytes 17 0) ≡ false → items_of bytes ≡ Ok r → Spells bytes r
 unfolding items_of
 items_found bytes r fits long size manager e =
-    let start : Standing = record { at = 24; rest = drop 24 bytes; owed = 0 } in
+    let start : HeaderCursor = record { at = 24; rest = drop 24 bytes; owed = 0 } in
     let a = bind_ok (headers_of start) (λ (h : Headers). Ok (record_of bytes h)) r e in
     subst (Spells bytes) (ok_is (record_of bytes a.0) r a.2) (spells_made bytes a.0 fits long size manager (headers_taken start a.0 (IsBytes-drop 24 bytes fits) a.1))
 
@@ -147,7 +147,7 @@ found bytes r fits e =
     items_found bytes r fits (ltb-false _ _ tests.0) (eqb-true _ _ (not-false _ tests.1)) b.0 b.1
 
 -- what a call answered is spelled so, if it gives the reading
-pub found_by : (answer : Result Record RecErr) (bytes : List ℕ) → IsBytes bytes → Gives answer (reading_of bytes) → IfOk answer (Spells bytes)
+pub found_by : (answer : Result Record RecErr) (bytes : List ℕ) → IsBytes bytes → GivesReading answer (reading_of bytes) → IfOk answer (Spells bytes)
 found_by (Ok r) bytes fits gives = found bytes r fits gives
 found_by (Err e) bytes fits gives = tt
 

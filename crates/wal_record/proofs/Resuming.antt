@@ -9,9 +9,9 @@ use Rattle.wal_record.specs.declared.fault.RecErr.{RecErr}
 use Rattle.wal_record.specs.declared.fault.RecErr.TheVariants.{Malformed}
 use Rattle.wal_record.specs.declared.fault.RecKind.TheVariants as kinds
 use Rattle.wal_record.specs.declared.head.BlockHead.{BlockHead}
-use Rattle.wal_record.specs.Reading.{◌>>=◌, After, Headers, Standing, begins_block, begins_with, block_items, has_header, headers_of, main_item, optional_item, payload_len}
+use Rattle.wal_record.specs.Reading.{◌>>=◌, After, Headers, HeaderCursor, begins_block, begins_with, block_items, has_header, headers_of, main_item, optional_item, payload_len}
 use Rattle.wal_record.specs.Spells.{Items, SpellsHeads, item_text}
-use Rattle.wal_record.specs.Fails.{Reaches, last_of}
+use Rattle.wal_record.specs.Fails.{ReachesItem, last_of}
 use Rattle.wal_record.proofs.Bytes.{wide16, wide32}
 use Rattle.wal_record.proofs.BlockHeadSteps.{block_items-ends}
 use Rattle.wal_record.proofs.HeadsAgain.{standing_at}
@@ -21,61 +21,61 @@ use Rattle.wal_record.proofs.Items.{item_none_again, item_some_again}
 
 -- ---- the stages of the reading
 
-abbrev pub finish : List BlockHead → Option ℕ → Option ℕ → Standing → Result Headers RecErr
+abbrev pub finish : List BlockHead → Option ℕ → Option ℕ → HeaderCursor → Result Headers RecErr
 finish blocks origin top end = cond (eqb (length end.rest) end.owed) (Ok (record { blocks = blocks; origin = origin; top_xid = top; payload = end.rest })) (Err (Malformed end.at kinds.Fill))
 
-abbrev pub after_top : List BlockHead → Option ℕ → Option ℕ → Standing → Result Headers RecErr
+abbrev pub after_top : List BlockHead → Option ℕ → Option ℕ → HeaderCursor → Result Headers RecErr
 after_top blocks origin top s = main_item s >>= finish blocks origin top
 
-abbrev pub after_origin : List BlockHead → Option ℕ → Standing → Result Headers RecErr
+abbrev pub after_origin : List BlockHead → Option ℕ → HeaderCursor → Result Headers RecErr
 after_origin blocks origin s = optional_item 252 w32 s >>= λ t. after_top blocks origin t.value t.next
 
-abbrev pub after_blocks : List BlockHead → Standing → Result Headers RecErr
+abbrev pub after_blocks : List BlockHead → HeaderCursor → Result Headers RecErr
 after_blocks blocks s = optional_item 253 w16 s >>= λ o. after_origin blocks o.value o.next
 
-abbrev pub from_blocks : ℕ → Option BlockHead → List BlockHead → Standing → Result Headers RecErr
+abbrev pub from_blocks : ℕ → Option BlockHead → List BlockHead → HeaderCursor → Result Headers RecErr
 from_blocks n before blocks s = block_items n before blocks s >>= λ b. after_blocks b.value b.next
 
 -- behind these items the reading goes on here, and gives r
-abbrev pub Resumes : List BlockHead → Option ℕ → Option ℕ → Standing → Result Headers RecErr → Type 0
+abbrev pub Resumes : List BlockHead → Option ℕ → Option ℕ → HeaderCursor → Result Headers RecErr → Type 0
 Resumes blocks origin (Some t) s r = after_top blocks origin (Some t) s ≡ r
 Resumes blocks (Some o) None s r = after_origin blocks (Some o) s ≡ r
 Resumes blocks None None s r = (n : ℕ) × ((length s.rest ≤ n) × (from_blocks n (last_of None blocks) blocks s ≡ r))
 
 -- ---- an item that does not stand here is passed over
 
-pub no_block : (blocks : List BlockHead) (s : Standing) (r : Result Headers RecErr) → (has_header s && begins_block s.rest) ≡ false → Resumes blocks None None s r → after_blocks blocks s ≡ r
+pub no_block : (blocks : List BlockHead) (s : HeaderCursor) (r : Result Headers RecErr) → (has_header s && begins_block s.rest) ≡ false → Resumes blocks None None s r → after_blocks blocks s ≡ r
 no_block blocks s r over resumes = ap (λ (x : Result (After (List BlockHead)) RecErr). x >>= λ (b : After (List BlockHead)). after_blocks b.value b.next) (sym (block_items-ends resumes.0 (last_of None blocks) blocks s over)) ∙ resumes.1.1
 
-pub no_origin : (blocks : List BlockHead) (s : Standing) (r : Result Headers RecErr) → (has_header s && begins_with 253 s.rest) ≡ false → after_blocks blocks s ≡ r → after_origin blocks None s ≡ r
+pub no_origin : (blocks : List BlockHead) (s : HeaderCursor) (r : Result Headers RecErr) → (has_header s && begins_with 253 s.rest) ≡ false → after_blocks blocks s ≡ r → after_origin blocks None s ≡ r
 no_origin blocks s r over e = ap (λ (x : Result (After (Option ℕ)) RecErr). x >>= λ (o : After (Option ℕ)). after_origin blocks o.value o.next) (sym (item_none_again 253 w16 s over)) ∙ e
 
-pub no_top : (blocks : List BlockHead) (origin : Option ℕ) (s : Standing) (r : Result Headers RecErr) → (has_header s && begins_with 252 s.rest) ≡ false → after_origin blocks origin s ≡ r → after_top blocks origin None s ≡ r
+pub no_top : (blocks : List BlockHead) (origin : Option ℕ) (s : HeaderCursor) (r : Result Headers RecErr) → (has_header s && begins_with 252 s.rest) ≡ false → after_origin blocks origin s ≡ r → after_top blocks origin None s ≡ r
 no_top blocks origin s r over e = ap (λ (x : Result (After (Option ℕ)) RecErr). x >>= λ (t : After (Option ℕ)). after_top blocks origin t.value t.next) (sym (item_none_again 252 w32 s over)) ∙ e
 
 -- neither of them stands here
-pub to_origin : (blocks : List BlockHead) (origin : Option ℕ) (s : Standing) (r : Result Headers RecErr) → (has_header s && begins_block s.rest) ≡ false → (has_header s && begins_with 253 s.rest) ≡ false → Resumes blocks origin None s r → after_origin blocks origin s ≡ r
+pub to_origin : (blocks : List BlockHead) (origin : Option ℕ) (s : HeaderCursor) (r : Result Headers RecErr) → (has_header s && begins_block s.rest) ≡ false → (has_header s && begins_with 253 s.rest) ≡ false → Resumes blocks origin None s r → after_origin blocks origin s ≡ r
 to_origin blocks None s r a b resumes = no_origin blocks s r b (no_block blocks s r a resumes)
 to_origin blocks (Some o) s r a b resumes = resumes
 
-pub to_top : (blocks : List BlockHead) (origin top : Option ℕ) (s : Standing) (r : Result Headers RecErr) → (has_header s && begins_block s.rest) ≡ false → (has_header s && begins_with 253 s.rest) ≡ false → (has_header s && begins_with 252 s.rest) ≡ false → Resumes blocks origin top s r → after_top blocks origin top s ≡ r
+pub to_top : (blocks : List BlockHead) (origin top : Option ℕ) (s : HeaderCursor) (r : Result Headers RecErr) → (has_header s && begins_block s.rest) ≡ false → (has_header s && begins_with 253 s.rest) ≡ false → (has_header s && begins_with 252 s.rest) ≡ false → Resumes blocks origin top s r → after_top blocks origin top s ≡ r
 to_top blocks None None s r a b c resumes = no_top blocks None s r c (to_origin blocks None s r a b resumes)
 to_top blocks (Some o) None s r a b c resumes = no_top blocks (Some o) s r c resumes
 to_top blocks None (Some t) s r a b c resumes = resumes
 to_top blocks (Some o) (Some t) s r a b c resumes = resumes
 
-no_main : (s : Standing) → has_header s ≡ false → main_item s ≡ Ok s
+no_main : (s : HeaderCursor) → has_header s ≡ false → main_item s ≡ Ok s
 unfolding main_item
 no_main s over = rw over refl
 
 -- where no header stands any more
-pub to_finish : (blocks : List BlockHead) (origin top : Option ℕ) (s : Standing) (r : Result Headers RecErr) → has_header s ≡ false → Resumes blocks origin top s r → finish blocks origin top s ≡ r
+pub to_finish : (blocks : List BlockHead) (origin top : Option ℕ) (s : HeaderCursor) (r : Result Headers RecErr) → has_header s ≡ false → Resumes blocks origin top s r → finish blocks origin top s ≡ r
 to_finish blocks origin top s r over resumes =
-    ap (λ (x : Result Standing RecErr). x >>= finish blocks origin top) (sym (no_main s over)) ∙ to_top blocks origin top s r (and_left _ _ over) (and_left _ _ over) (and_left _ _ over) resumes
+    ap (λ (x : Result HeaderCursor RecErr). x >>= finish blocks origin top) (sym (no_main s over)) ∙ to_top blocks origin top s r (and_left _ _ over) (and_left _ _ over) (and_left _ _ over) resumes
 
 -- ---- the reading comes to each place behind whole items
 
-pub headers_start : (s : Standing) → headers_of s ≡ from_blocks (length s.rest) None [] s
+pub headers_start : (s : HeaderCursor) → headers_of s ≡ from_blocks (length s.rest) None [] s
 unfolding headers_of
 headers_start s = refl
 
@@ -130,7 +130,7 @@ reach blocks origin (Some t) heads rest spelled fits top_fits more =
 abbrev pub reads_headers : List ℕ → Result Headers RecErr
 reads_headers bytes = headers_of (standing_at 24 0 (drop 24 bytes))
 
-pub reaches_resumes : (bytes : List ℕ) (items : Items) (s : Standing) → Reaches bytes items s → Resumes items.blocks items.origin items.top_xid s (reads_headers bytes)
+pub reaches_resumes : (bytes : List ℕ) (items : Items) (s : HeaderCursor) → ReachesItem bytes items s → Resumes items.blocks items.origin items.top_xid s (reads_headers bytes)
 reaches_resumes bytes items s r =
     let spelled = r.spelled in
     let text = spelled.heads ++ item_text 253 w16 items.origin ++ item_text 252 w32 items.top_xid in
@@ -139,4 +139,4 @@ reaches_resumes bytes items s r =
     let at : 24 + length text ≡ s.at = ap (λ (l : List ℕ). 24 + length l) (sym spelled.spelled) ∙ sym r.at_is in
     let place : standing_at (24 + length text) owed s.rest ≡ s = ap (λ (k : ℕ). standing_at k owed s.rest) at ∙ ap (λ (k : ℕ). standing_at s.at k s.rest) (sym r.owed_is) in
     let bytes_are : text ++ s.rest ≡ drop 24 bytes = ap (λ (l : List ℕ). l ++ s.rest) (sym spelled.spelled) ∙ sym r.rest_is in
-    subst (λ (p : Standing). Resumes items.blocks items.origin items.top_xid p (reads_headers bytes)) place (subst (λ (l : List ℕ). Resumes items.blocks items.origin items.top_xid (standing_at (24 + length text) owed s.rest) (headers_of (standing_at 24 0 l))) bytes_are resumes)
+    subst (λ (p : HeaderCursor). Resumes items.blocks items.origin items.top_xid p (reads_headers bytes)) place (subst (λ (l : List ℕ). Resumes items.blocks items.origin items.top_xid (standing_at (24 + length text) owed s.rest) (headers_of (standing_at 24 0 l))) bytes_are resumes)

@@ -5,7 +5,7 @@ use Rattle.std.proofs.lemmas.List.{length-append, length-take, length-drop, leng
 use Rattle.std.proofs.lemmas.List.Elements.{All-append, All-from_recursion, All-replicate}
 use Rattle.wal_types.specs.declared.record.Record.{Record}
 use Rattle.wal_record.specs.Record.{Fits, IsWellFormed}
-use Rattle.wal_record.specs.Spelling.{Assembled, IsReady, IsWritable, assembled, assembled_size, assembled_room, header_front, crc_of, size_of, spelled, filled, spelling, word_at}
+use Rattle.wal_record.specs.Spelling.{Assembled, AssembledFits, IsWritable, assembled, assembled_size, assembled_room, header_front, crc_of, size_of, spelled, filled, spelling, word_at}
 use Rattle.wal_record.specs.Reading.{reading_of}
 use Rattle.wal_record.specs.Header.{HasHeader}
 use Rattle.wal_record.proofs.Bytes.{wide32, wide64, IsBytes-drop, IsBytes-from_All, IsBytes-take}
@@ -27,7 +27,7 @@ room_is a = (omega arith, omega arith, omega arith, omega arith)
 
 -- ---- bytes
 
-pub ready : (r : Record) → IsWritable r → IsReady (assembled r)
+pub ready : (r : Record) → IsWritable r → AssembledFits (assembled r)
 ready r w = record {
   size = w.size;
   xid = w.fits.xid;
@@ -36,19 +36,19 @@ ready r w = record {
   bytes = (carried_bytes r w.well_formed.blocks w.fits.blocks w.fits.main).each;
 }
 
-front_bytes : (a : Assembled) (prev : ℕ) → IsReady a → AreBytes (header_front a prev)
+front_bytes : (a : Assembled) (prev : ℕ) → AssembledFits a → AreBytes (header_front a prev)
 front_bytes a prev ready = bytes_and (bytes_and (bytes_and (bytes32 (assembled_size a)) (bytes32 a.xid)) (bytes64 prev)) (record { each = All-from_recursion (λ b. b < 256) (a.info ∷ a.rmid ∷ 0 ∷ 0 ∷ []) (ready.info, (ready.manager, (omega arith, (omega arith, tt)))) })
 
-pub crc_below : (a : Assembled) (prev : ℕ) → IsReady a → crc_of a prev < 2 ^ 32
+pub crc_below : (a : Assembled) (prev : ℕ) → AssembledFits a → crc_of a prev < 2 ^ 32
 crc_below a prev ready = crc32c_below (a.carried ++ header_front a prev) (bytes_and (record { each = ready.bytes }) (front_bytes a prev ready)).each
 
-pub bytes_spelled : (a : Assembled) (prev : ℕ) → IsReady a → All (λ b. b < 256) (spelled a prev)
+pub bytes_spelled : (a : Assembled) (prev : ℕ) → AssembledFits a → All (λ b. b < 256) (spelled a prev)
 bytes_spelled a prev ready = (bytes_and (bytes_and (front_bytes a prev ready) (bytes32 (crc_of a prev))) (record { each = ready.bytes })).each
 
-pub bytes_filled : (a : Assembled) (prev : ℕ) → IsReady a → All (λ b. b < 256) (filled a prev)
+pub bytes_filled : (a : Assembled) (prev : ℕ) → AssembledFits a → All (λ b. b < 256) (filled a prev)
 bytes_filled a prev ready = All-append (λ b. b < 256) (spelled a prev) (replicate (assembled_room a - assembled_size a) 0) (bytes_spelled a prev ready) (All-replicate (λ b. b < 256) (assembled_room a - assembled_size a) 0 (omega arith))
 
-pub word_bytes : (a : Assembled) (prev n : ℕ) → IsReady a → 8 * n < assembled_room a → to_le_bytes w64 (word_at (filled a prev) n) ≡ take 8 (drop (8 * n) (filled a prev))
+pub word_bytes : (a : Assembled) (prev n : ℕ) → AssembledFits a → 8 * n < assembled_room a → to_le_bytes w64 (word_at (filled a prev) n) ≡ take 8 (drop (8 * n) (filled a prev))
 word_bytes a prev n ready within =
     let bytes = filled a prev in
     let len : length (take 8 (drop (8 * n) bytes)) ≡ 8 = omega (arith, length-take 8 (drop (8 * n) bytes), length-drop (8 * n) bytes, length-filled a prev) in
@@ -56,7 +56,7 @@ word_bytes a prev n ready within =
 
 -- ---- the header
 
-pub header_spelled : (a : Assembled) (prev : ℕ) → IsReady a → prev < 2 ^ 64 → HasHeader (spelled a prev) a prev
+pub header_spelled : (a : Assembled) (prev : ℕ) → AssembledFits a → prev < 2 ^ 64 → HasHeader (spelled a prev) a prev
 header_spelled a prev ready lt = record {
   size = wide32.again (assembled_size a) (omega (arith, ready.size));
   xid = wide32.again a.xid ready.xid;

@@ -8,7 +8,7 @@ use Rattle.wal_record.specs.declared.head.BlockHead.{BlockHead}
 use Rattle.wal_record.specs.declared.head.ForkFlags.{ForkFlags}
 use Rattle.wal_record.specs.declared.head.ImageHead.{ImageHead}
 use Rattle.std.specs.Int.{w16, w32}
-use Rattle.wal_record.specs.Reading.{◌>>=◌, After, Checks, Standing, block_item, checked, fork_checks, fork_flags, fork_item, image_checks, image_head_of, image_item, is_cut, least_id, number_at, number_item, payload_len, relation_item, skip}
+use Rattle.wal_record.specs.Reading.{◌>>=◌, After, Checks, HeaderCursor, block_item, checked, fork_checks, fork_flags, fork_item, image_checks, image_head_of, image_item, is_cut, least_id, number_at, number_item, payload_len, relation_item, skip}
 use Rattle.wal_record.specs.Fails.{block_checks, first_failing, relation_checks}
 
 -- ---- a table, and its first failing check
@@ -49,35 +49,35 @@ then_checked (row ∷ rows) more x y f e = then_row row.0 row.1 (checked rows x)
 -- ---- a block's header
 
 -- a group's table and what it reads
-pub record IsTable {A : Type 0} (reading : Result (After A) RecErr) (rows : Checks) (next : Standing) : Type 0 where
+pub record IsTable {A : Type 0} (reading : Result (After A) RecErr) (rows : Checks) (next : HeaderCursor) : Type 0 where
   pub value : A
   pub same : reading ≡ checked rows (record { value = value; next = next })
 
-fork_table : (s : Standing) → fork_item s ≡ checked (fork_checks s) (record { value = (fork_flags (get_or s.rest 0 0), number_at w16 s.rest 1); next = skip 3 s })
+fork_table : (s : HeaderCursor) → fork_item s ≡ checked (fork_checks s) (record { value = (fork_flags (get_or s.rest 0 0), number_at w16 s.rest 1); next = skip 3 s })
 unfolding fork_item
 fork_table s = refl
 
-image_table : (has : Bool) (id : ℕ) (s : Standing) → IsTable (image_item has id s) (cond has (image_checks id s) []) (cond has (skip 5 s) s)
+image_table : (has : Bool) (id : ℕ) (s : HeaderCursor) → IsTable (image_item has id s) (cond has (image_checks id s) []) (cond has (skip 5 s) s)
 unfolding image_item
 image_table true id s = record { value = Some (image_head_of (number_at w16 s.rest 0) (number_at w16 s.rest 2) (get_or s.rest 4 0)); same = refl }
 image_table false id s = record { value = None; same = refl }
 
-relation_table : (same : Bool) (before : Option BlockHead) (s : Standing) → IsTable (relation_item same before s) (relation_checks same before s) (cond same s (skip 12 s))
+relation_table : (same : Bool) (before : Option BlockHead) (s : HeaderCursor) → IsTable (relation_item same before s) (relation_checks same before s) (cond same s (skip 12 s))
 unfolding relation_item
 relation_table true None s = record { value = record { spc = 0; db = 0; rel = 0 }; same = refl }
 relation_table true (Some b) s = record { value = b.rel; same = refl }
 relation_table false before s = record { value = record { spc = number_at w32 s.rest 0; db = number_at w32 s.rest 4; rel = number_at w32 s.rest 8 }; same = refl }
 
-number_table : (s : Standing) → number_item s ≡ checked (is_cut 4 s ∷ []) (record { value = number_at w32 s.rest 0; next = skip 4 s })
+number_table : (s : HeaderCursor) → number_item s ≡ checked (is_cut 4 s ∷ []) (record { value = number_at w32 s.rest 0; next = skip 4 s })
 unfolding number_item
 number_table s = refl
 
-pub record BlockTable (before : Option BlockHead) (s : Standing) : Type 0 where
+pub record BlockTable (before : Option BlockHead) (s : HeaderCursor) : Type 0 where
   pub value : After BlockHead
   pub same : block_item before s ≡ checked (block_checks before s) value
 
 -- the last two groups
-numbered : (before : Option BlockHead) (same : Bool) (s : Standing) (make : Rel → ℕ → Standing → After BlockHead)
+numbered : (before : Option BlockHead) (same : Bool) (s : HeaderCursor) (make : Rel → ℕ → HeaderCursor → After BlockHead)
     → (v : After BlockHead) × ((relation_item same before s >>= λ rel. number_item rel.next >>= λ blk. Ok (make rel.value blk.value blk.next)) ≡ checked (relation_checks same before s ++ is_cut 4 (cond same s (skip 12 s)) ∷ []) v)
 numbered before same s make =
     let relation = relation_table same before s in
@@ -87,7 +87,7 @@ numbered before same s make =
     let last : (number_item place >>= λ (blk : After ℕ). Ok (make relation.value blk.value blk.next)) ≡ checked (is_cut 4 place ∷ []) value = ap (λ (r : Result (After ℕ) RecErr). r >>= λ (blk : After ℕ). Ok (make relation.value blk.value blk.next)) (number_table place) ∙ then_checked (is_cut 4 place ∷ []) [] _ value (λ (blk : After ℕ). Ok (make relation.value blk.value blk.next)) refl in
     (value, ap (λ (r : Result (After Rel) RecErr). r >>= λ (rel : After Rel). number_item rel.next >>= λ (blk : After ℕ). Ok (make rel.value blk.value blk.next)) relation.same ∙ then_checked (relation_checks same before s) (is_cut 4 place ∷ []) _ value (λ (rel : After Rel). number_item rel.next >>= λ (blk : After ℕ). Ok (make rel.value blk.value blk.next)) last)
 
-pub block_table : (before : Option BlockHead) (s : Standing) → BlockTable before s
+pub block_table : (before : Option BlockHead) (s : HeaderCursor) → BlockTable before s
 unfolding block_item
 block_table before s =
     let id = get_or s.rest 0 0 in
@@ -98,7 +98,7 @@ block_table before s =
     let relation_place = cond flags.has_image (skip 5 image_place) image_place in
     let number_place = cond flags.same relation_place (skip 12 relation_place) in
     let head : ForkFlags → ℕ → Option ImageHead → Rel → ℕ → BlockHead = λ f len image rel blk. record { id = id; rel = rel; fork = f.fork; blk = blk; will_init = f.will_init; image = image; content_len = len } in
-    let make : ForkFlags → ℕ → Option ImageHead → Rel → ℕ → Standing → After BlockHead = λ f len image rel blk next. record { value = head f len image rel blk; next = record { at = next.at; rest = next.rest; owed = s.owed + payload_len (head f len image rel blk) } } in
+    let make : ForkFlags → ℕ → Option ImageHead → Rel → ℕ → HeaderCursor → After BlockHead = λ f len image rel blk next. record { value = head f len image rel blk; next = record { at = next.at; rest = next.rest; owed = s.owed + payload_len (head f len image rel blk) } } in
     let behind_image : After (ForkFlags × ℕ) → After (Option ImageHead) → Result (After BlockHead) RecErr = λ fork image. relation_item fork.value.0.same before image.next >>= λ (rel : After Rel). number_item rel.next >>= λ (blk : After ℕ). Ok (make fork.value.0 fork.value.1 image.value rel.value blk.value blk.next) in
     let behind_fork : After (ForkFlags × ℕ) → Result (After BlockHead) RecErr = λ fork. image_item fork.value.0.has_image id fork.next >>= behind_image fork in
     let fork : After (ForkFlags × ℕ) = record { value = (flags, content); next = image_place } in

@@ -7,7 +7,7 @@ use Rattle.wal_record.specs.declared.fault.RecErr.{RecErr}
 use Rattle.wal_record.specs.declared.fault.RecErr.TheVariants.{Memory, Malformed, Compressed}
 use Rattle.wal_record.specs.declared.fault.RecKind.TheVariants as kinds
 use Rattle.wal_record.specs.Record.{is_free_manager}
-use Rattle.wal_record.specs.Reading.{Checks, Standing, begins_block, begins_with, fork_checks, fork_flags, image_checks, is_cut, least_id, number_at, payload_len, skip}
+use Rattle.wal_record.specs.Reading.{Checks, HeaderCursor, begins_block, begins_with, fork_checks, fork_flags, image_checks, is_cut, least_id, number_at, payload_len, skip}
 use Rattle.wal_record.specs.Spells.{Items, SpellsItems, StandsBehind, head_text}
 
 -- the error of the first check that fails
@@ -18,13 +18,13 @@ first_failing (row ∷ rows) = if row.0 then Some row.1 else first_failing rows
 -- ---- the checks of one item, in their order
 
 -- the relation is spelled, or there is a block before that has it
-abbrev pub relation_checks : Bool → Option BlockHead → Standing → Checks
+abbrev pub relation_checks : Bool → Option BlockHead → HeaderCursor → Checks
 relation_checks true None s = (true, Malformed s.at kinds.Same) ∷ []
 relation_checks true (Some before) s = []
 relation_checks false before s = is_cut 12 s ∷ []
 
 -- a block's header behind the block before: its number, its fork and flags, its image's header, its relation, its block number, each where the group before ends
-abbrev pub block_checks : Option BlockHead → Standing → Checks
+abbrev pub block_checks : Option BlockHead → HeaderCursor → Checks
 block_checks before s =
     let flags = fork_flags (slice_index (skip 1 s).rest 0) in
     let image = skip 3 (skip 1 s) in
@@ -38,11 +38,11 @@ last_of before [] = before
 last_of before (h ∷ hs) = last_of (Some h) hs
 
 -- an item that is cut short behind its first byte
-abbrev pub is_cut_behind : ℕ → Standing → Bool × RecErr
+abbrev pub is_cut_behind : ℕ → HeaderCursor → Bool × RecErr
 is_cut_behind n s = (nat_lt (length s.rest) n, Malformed (s.at + 1) kinds.Short)
 
 -- the item that stands behind others: by its first byte a block, an origin (253), a top-level transaction (252), main data (255 and 254), or none of them
-abbrev pub item_checks : Items → Standing → Checks
+abbrev pub item_checks : Items → HeaderCursor → Checks
 item_checks items s =
     if begins_block s.rest then (is_some items.origin || is_some items.top_xid, Malformed s.at kinds.Order) ∷ block_checks (last_of None items.blocks) s
     else (if begins_with 253 s.rest then (is_some items.origin || is_some items.top_xid, Malformed s.at kinds.Order) ∷ is_cut_behind 3 s ∷ []
@@ -64,7 +64,7 @@ pub record HasHead (bytes : List ℕ) : Type 0 where
   pub manager : IsTrue (not (is_free_manager (slice_index bytes 17)))
 
 -- whole items, none of them main data, fill the bytes behind the header up to this place, and more is left there than they owe
-pub record Reaches (bytes : List ℕ) (items : Items) (s : Standing) : Type 0 where
+pub record ReachesItem (bytes : List ℕ) (items : Items) (s : HeaderCursor) : Type 0 where
   pub text : List ℕ
   pub spelled : SpellsItems items text
   pub rest_is : drop 24 bytes ≡ text ++ s.rest
@@ -75,8 +75,8 @@ pub record Reaches (bytes : List ℕ) (items : Items) (s : Standing) : Type 0 wh
 -- the item behind whole items breaks a check, this being the first
 pub record BreaksItem (bytes : List ℕ) (e : RecErr) : Type 0 where
   pub items : Items
-  pub place : Standing
-  pub reaches : Reaches bytes items place
+  pub place : HeaderCursor
+  pub reaches : ReachesItem bytes items place
   pub breaks : first_failing (item_checks items place) ≡ Some e
 
 -- these bytes are one more item behind others, which promises so much payload; `ends` says whether it is that of main data
@@ -115,8 +115,8 @@ EndsHeaders items text promised left owed = IsMainHead text promised ⊎ ((left 
 -- behind the item where the headers end, what is left is not what is owed
 pub record LeavesFill (bytes : List ℕ) (e : RecErr) : Type 0 where
   pub items : Items
-  pub place : Standing
-  pub reaches : Reaches bytes items place
+  pub place : HeaderCursor
+  pub reaches : ReachesItem bytes items place
   pub text : List ℕ
   pub promised : ℕ
   pub rest : List ℕ

@@ -34,7 +34,7 @@ begins_block [] = false
 begins_block (b ∷ bs) = nat_le b 32
 
 -- where a reader of the headers stands: the offset, the bytes from there on, and how many bytes of payload are owed
-pub record Standing : Type 0 where
+pub record HeaderCursor : Type 0 where
   pub at : ℕ
   pub rest : List ℕ
   pub owed : ℕ
@@ -42,13 +42,13 @@ pub record Standing : Type 0 where
 -- what was read, and where the reader stands then
 pub record After (X : Type 0) : Type 0 where
   pub value : X
-  pub next : Standing
+  pub next : HeaderCursor
 
-abbrev pub skip : ℕ → Standing → Standing
+abbrev pub skip : ℕ → HeaderCursor → HeaderCursor
 skip n s = record { at = s.at + n; rest = drop n s.rest; owed = s.owed }
 
 -- whether another header stands here: more is left than is owed
-abbrev pub has_header : Standing → Bool
+abbrev pub has_header : HeaderCursor → Bool
 has_header s = nat_lt s.owed (length s.rest)
 
 -- a table of checks in their order, each with the error that is told where it fails
@@ -61,7 +61,7 @@ checked [] x = Ok x
 checked (row ∷ rows) x = if row.0 then Err row.1 else checked rows x
 
 -- a group of n bytes that is cut short is told where it begins
-abbrev pub is_cut : ℕ → Standing → Bool × RecErr
+abbrev pub is_cut : ℕ → HeaderCursor → Bool × RecErr
 is_cut n s = (nat_lt (length s.rest) n, Malformed s.at kinds.Short)
 
 -- ---- a block's header
@@ -71,13 +71,13 @@ abbrev pub fork_flags : ℕ → ForkFlags
 fork_flags byte = record { fork = byte % 16; has_image = byte / 16 % 2 == 1; has_data = byte / 32 % 2 == 1; will_init = byte / 64 % 2 == 1; same = byte / 128 % 2 == 1 }
 
 -- the fork is one of four, and there is data exactly where its length is not 0
-abbrev pub fork_checks : Standing → Checks
+abbrev pub fork_checks : HeaderCursor → Checks
 fork_checks s =
     let flags = fork_flags (slice_index s.rest 0) in
     let len = number_at w16 s.rest 1 in
     is_cut 3 s ∷ (nat_lt 3 flags.fork, Malformed s.at kinds.Fork) ∷ ((if flags.has_data then len == 0 else nat_lt 0 len), Malformed s.at kinds.Data) ∷ []
 
-unfoldable pub fork_item : Standing → Result (After (ForkFlags × ℕ)) RecErr
+unfoldable pub fork_item : HeaderCursor → Result (After (ForkFlags × ℕ)) RecErr
 fork_item s = checked (fork_checks s) (record { value = (fork_flags (slice_index s.rest 0), number_at w16 s.rest 1); next = skip 3 s })
 
 -- the flags of an image's header; three bits tell how it is compressed, and three mean nothing
@@ -93,23 +93,23 @@ abbrev pub is_wrong_hole : ℕ → ℕ → Bool → Bool
 is_wrong_hole len hole_offset has_hole = if has_hole then (hole_offset == 0) || (len == 8192) || nat_lt 8192 (hole_offset + (8192 - len)) else not ((hole_offset == 0) && (len == 8192))
 
 -- an image is that of a page of 8192 bytes, and not compressed
-abbrev pub image_checks : ℕ → Standing → Checks
+abbrev pub image_checks : ℕ → HeaderCursor → Checks
 image_checks id s =
     let len = number_at w16 s.rest 0 in
     let hole_offset = number_at w16 s.rest 2 in
     let flags = image_flags (slice_index s.rest 4) in
     is_cut 5 s ∷ (nat_lt 8192 len || flags.unknown, Malformed s.at kinds.Image) ∷ (flags.compressed, Compressed id) ∷ (is_wrong_hole len hole_offset flags.has_hole, Malformed s.at kinds.Image) ∷ []
 
-unfoldable pub image_item : Bool → ℕ → Standing → Result (After (Option ImageHead)) RecErr
+unfoldable pub image_item : Bool → ℕ → HeaderCursor → Result (After (Option ImageHead)) RecErr
 image_item has id s = if has then checked (image_checks id s) (record { value = Some (image_head_of (number_at w16 s.rest 0) (number_at w16 s.rest 2) (slice_index s.rest 4)); next = skip 5 s }) else Ok (record { value = None; next = s })
 
 -- the relation, spelled here or that of the block before
-unfoldable pub relation_item : Bool → Option BlockHead → Standing → Result (After Rel) RecErr
+unfoldable pub relation_item : Bool → Option BlockHead → HeaderCursor → Result (After Rel) RecErr
 relation_item true None s = Err (Malformed s.at kinds.Same)
 relation_item true (Some before) s = Ok (record { value = before.rel; next = s })
 relation_item false before s = checked (is_cut 12 s ∷ []) (record { value = record { spc = number_at w32 s.rest 0; db = number_at w32 s.rest 4; rel = number_at w32 s.rest 8 }; next = skip 12 s })
 
-unfoldable pub number_item : Standing → Result (After ℕ) RecErr
+unfoldable pub number_item : HeaderCursor → Result (After ℕ) RecErr
 number_item s = checked (is_cut 4 s ∷ []) (record { value = number_at w32 s.rest 0; next = skip 4 s })
 
 -- the least number that a block may have behind another
@@ -126,7 +126,7 @@ abbrev pub payload_len : BlockHead → ℕ
 payload_len h = image_len h.image + h.content_len
 
 -- a block's header, behind that of the block before
-unfoldable pub block_item : Option BlockHead → Standing → Result (After BlockHead) RecErr
+unfoldable pub block_item : Option BlockHead → HeaderCursor → Result (After BlockHead) RecErr
 block_item before s =
     if nat_lt (slice_index s.rest 0) (least_id before) then Err (Malformed s.at kinds.Order)
     else (fork_item (skip 1 s) >>= λ fork. image_item fork.value.0.has_image (slice_index s.rest 0) fork.next >>= λ image. relation_item fork.value.0.same before image.next >>= λ rel. number_item rel.next >>= λ blk.
@@ -134,22 +134,22 @@ block_item before s =
     Ok (record { value = head; next = record { at = blk.next.at; rest = blk.next.rest; owed = s.owed + payload_len head } }))
 
 -- the headers of blocks that stand here, at most n, behind those that were read
-unfoldable pub block_items : ℕ → Option BlockHead → List BlockHead → Standing → Result (After (List BlockHead)) RecErr
+unfoldable pub block_items : ℕ → Option BlockHead → List BlockHead → HeaderCursor → Result (After (List BlockHead)) RecErr
 block_items zero before heads s = Ok (record { value = heads; next = s })
 block_items (suc n) before heads s = if has_header s && begins_block s.rest then (block_item before s >>= λ block. block_items n (Some block.value) (heads ++ block.value ∷ []) block.next) else Ok (record { value = heads; next = s })
 
 -- ---- the other items
 
 -- an item of a tag and a number, where it stands here; where it is cut short, the place of the number is told
-unfoldable pub optional_item : ℕ → Width → Standing → Result (After (Option ℕ)) RecErr
+unfoldable pub optional_item : ℕ → Width → HeaderCursor → Result (After (Option ℕ)) RecErr
 optional_item tag w s = if has_header s && begins_with tag s.rest then (if nat_lt (length s.rest) (1 + byte_len w) then Err (Malformed (s.at + 1) kinds.Short) else Ok (record { value = Some (number_at w s.rest 1); next = skip (1 + byte_len w) s })) else Ok (record { value = None; next = s })
 
 -- behind the main data's header, which ends the headers
-abbrev pub promising : ℕ → Standing → Standing
+abbrev pub promising : ℕ → HeaderCursor → HeaderCursor
 promising len s = record { at = s.at; rest = s.rest; owed = s.owed + len }
 
 -- the main data's header: none, a short form (255 and a byte of length) or a long one (254 and four); no other item may stand here any more
-unfoldable pub main_item : Standing → Result Standing RecErr
+unfoldable pub main_item : HeaderCursor → Result HeaderCursor RecErr
 main_item s =
     if not (has_header s) then Ok s
     else (if begins_with 255 s.rest then (if nat_lt (length s.rest) 2 then Err (Malformed (s.at + 1) kinds.Short) else Ok (promising (slice_index s.rest 1) (skip 2 s)))
@@ -158,16 +158,16 @@ main_item s =
 
 -- ---- the payload: each block's image, then its data, and the main data last
 
-abbrev pub image_of : Option ImageHead → List ℕ → Option Image
-image_of None bytes = None
-image_of (Some i) bytes = Some (record { apply = i.apply; hole_offset = i.hole_offset; hole_len = i.hole_len; bytes = bytes })
+abbrev pub image_read : Option ImageHead → List ℕ → Option Image
+image_read None bytes = None
+image_read (Some i) bytes = Some (record { apply = i.apply; hole_offset = i.hole_offset; hole_len = i.hole_len; bytes = bytes })
 
 abbrev pub block_of : BlockHead → List ℕ → Block
-block_of h bytes = record { id = h.id; rel = h.rel; fork = h.fork; blk = h.blk; will_init = h.will_init; content = drop (image_len h.image) bytes; image = image_of h.image (take (image_len h.image) bytes) }
+block_of h bytes = record { id = h.id; rel = h.rel; fork = h.fork; blk = h.blk; will_init = h.will_init; content = drop (image_len h.image) bytes; image = image_read h.image (take (image_len h.image) bytes) }
 
-abbrev pub blocks_of : List BlockHead → List ℕ → List Block
-blocks_of [] payload = []
-blocks_of (h ∷ hs) payload = block_of h (take (payload_len h) payload) ∷ blocks_of hs (drop (payload_len h) payload)
+abbrev pub blocks_read : List BlockHead → List ℕ → List Block
+blocks_read [] payload = []
+blocks_read (h ∷ hs) payload = block_of h (take (payload_len h) payload) ∷ blocks_read hs (drop (payload_len h) payload)
 
 abbrev pub main_of : List BlockHead → List ℕ → List ℕ
 main_of [] payload = payload
@@ -183,7 +183,7 @@ pub record Headers : Type 0 where
   pub payload : List ℕ
 
 -- the headers behind the record's own, which is 24 bytes long; behind them just the payload is left that they owe
-unfoldable pub headers_of : Standing → Result Headers RecErr
+unfoldable pub headers_of : HeaderCursor → Result Headers RecErr
 headers_of s = do
   blocks ← block_items (length s.rest) None [] s
   origin ← optional_item 253 w16 blocks.next
@@ -193,7 +193,7 @@ headers_of s = do
 
 -- the record of these headers
 abbrev pub record_of : List ℕ → Headers → Record
-record_of bytes h = record { xid = record { 0 = number_at w32 bytes 4 }; rmid = slice_index bytes 17; info = slice_index bytes 16; origin = h.origin; top_xid = option_map (λ n. record { 0 = n }) h.top_xid; blocks = blocks_of h.blocks h.payload; main = main_of h.blocks h.payload }
+record_of bytes h = record { xid = record { 0 = number_at w32 bytes 4 }; rmid = slice_index bytes 17; info = slice_index bytes 16; origin = h.origin; top_xid = option_map (λ n. record { 0 = n }) h.top_xid; blocks = blocks_read h.blocks h.payload; main = main_of h.blocks h.payload }
 
 -- what stands behind a record's header
 unfoldable pub items_of : List ℕ → Result Record RecErr
@@ -219,5 +219,5 @@ GivesAs view (Ok x) reading = reading ≡ Ok (view x)
 GivesAs view (Err e) reading = FailsWith e reading
 
 -- what a call answered is what the reading gives, unless memory ran out
-abbrev pub Gives : Result Record RecErr → Result Record RecErr → Type 0
-Gives = GivesAs (λ r. r)
+abbrev pub GivesReading : Result Record RecErr → Result Record RecErr → Type 0
+GivesReading = GivesAs (λ r. r)

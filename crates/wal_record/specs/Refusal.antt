@@ -24,9 +24,9 @@ refusal_of r =
     else option_or (option_map BadBlock (first_bad_block 0 r.blocks)) (too_long (size_of r)))
 
 -- the error is the record's refusal; a want of memory says nothing
-abbrev pub Refuses : BodyErr → Record → Type 0
-Refuses Memory r = Unit {0}
-Refuses (TooLong len) r = refusal_of r ≡ Some (TooLong len)
-Refuses (BadBlock index) r = refusal_of r ≡ Some (BadBlock index)
-Refuses Switch r = refusal_of r ≡ Some Switch
-Refuses (BadRmgr rmid) r = refusal_of r ≡ Some (BadRmgr rmid)
+abbrev pub RefusesToAssemble : BodyErr → Record → Type 0
+RefusesToAssemble Memory r = Unit {0}
+RefusesToAssemble (TooLong len) r = refusal_of r ≡ Some (TooLong len)
+RefusesToAssemble (BadBlock index) r = refusal_of r ≡ Some (BadBlock index)
+RefusesToAssemble Switch r = refusal_of r ≡ Some Switch
+RefusesToAssemble (BadRmgr rmid) r = refusal_of r ≡ Some (BadRmgr rmid)

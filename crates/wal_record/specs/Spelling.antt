@@ -120,7 +120,7 @@ pub record IsWritable (r : Record) : Type 0 where
   pub size : size_of r ≤ 1048576
 
 -- what is assembled of such a record
-pub record IsReady (a : Assembled) : Type 0 where
+pub record AssembledFits (a : Assembled) : Type 0 where
   pub size : assembled_size a ≤ 1048576
   pub xid : a.xid < 2 ^ 32
   pub manager : a.rmid < 256

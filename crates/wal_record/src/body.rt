@@ -3,8 +3,8 @@
 ghost use Rattle.std.specs.Prelude.{◌≡◌, ◌+◌, ◌*◌, ◌<◌, ◌≤◌, ◌++◌, length, take, All, None, IfOk, OnOk, IfErr};
 ghost use Rattle.std.specs.Int.{w64, from_le_bytes};
 ghost use Rattle.wal_types.specs.declared.record.Record.{Record};
-ghost use Rattle.wal_record.specs.Refusal.{Refuses, refusal_of};
-ghost use Rattle.wal_record.specs.Spelling.{IsReady, IsWritable, assembled, assembled_room, assembled_size, crc_of, filled, header_front, word_at};
+ghost use Rattle.wal_record.specs.Refusal.{RefusesToAssemble, refusal_of};
+ghost use Rattle.wal_record.specs.Spelling.{AssembledFits, IsWritable, assembled, assembled_room, assembled_size, crc_of, filled, header_front, word_at};
 
 use crate::assembly::carried;
 use crate::fault::BodyErr;
@@ -29,13 +29,13 @@ pub struct Body {
 impl Model for Body {
     ghost use Rattle.std.specs.Prelude.{◌≡◌};
     ghost use Rattle.wal_crc32c.specs.Crc32c.{HasFed};
-    ghost use Rattle.wal_record.specs.Spelling.{Assembled, IsReady};
+    ghost use Rattle.wal_record.specs.Spelling.{Assembled, AssembledFits};
 
     ghost Value = { Assembled };
 
     ghost view = { λ b. record { xid = b.xid.0; rmid = b.rmid; info = b.info; carried = b.carried.items } };
 
-    ghost invariant = { λ b. HasFed b.crc b.carried.items × IsReady (record { xid = b.xid.0; rmid = b.rmid; info = b.info; carried = b.carried.items }) };
+    ghost invariant = { λ b. HasFed b.crc b.carried.items × AssembledFits (record { xid = b.xid.0; rmid = b.rmid; info = b.info; carried = b.carried.items }) };
 }
 
 impl Body {
@@ -43,7 +43,7 @@ impl Body {
     pub fn assemble(alloc: Global, r: &Record) -> Result<Body, BodyErr>
         ensures ok { IfOk result (λ body. (body ≡ assembled r.now) × IsWritable r.now) }
         ensures not_refused { OnOk result (refusal_of r.now ≡ None) }
-        ensures which { IfErr result (λ e. Refuses e r.now) }
+        ensures which { IfErr result (λ e. RefusesToAssemble e r.now) }
     {
         if let Some(refusal) = refusal(r) {
             return Err(refusal);
@@ -56,7 +56,7 @@ impl Body {
         requires size { length carried.items ≤ 1048552 }
         requires bytes { All (λ b. b < 256) carried.items }
         ensures body { result ≡ record { xid = xid.0; rmid = rmid; info = info; carried = carried.items } }
-        ensures ready { IsReady result }
+        ensures ready { AssembledFits result }
     {
         let mut crc = Crc::new();
         crc.update(&carried);
@@ -73,7 +73,7 @@ impl Body {
     pub fn len(&self) -> u32
         ensures size { result ≡ assembled_size self.now }
         ensures bounds { (24 ≤ result) × (result ≤ 1048576) }
-        ensures ready { IsReady self.now }
+        ensures ready { AssembledFits self.now }
     {
         (HEADER_LEN + self.carried.len()) as u32
     }

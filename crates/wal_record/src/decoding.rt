@@ -10,7 +10,7 @@ ghost use Rattle.std.specs.Prelude.{◌≡◌, ◌+◌, ◌<◌, ◌≤◌, ◌^
 ghost use Rattle.std.specs.List.{sum_by};
 ghost use Rattle.std.specs.Int.{w32};
 ghost use Rattle.wal_types.specs.declared.record.Record.{Record};
-ghost use Rattle.wal_record.specs.Reading.{Gives, GivesAs, headers_of, items_of, number_at, payload_len, reading_of, record_of};
+ghost use Rattle.wal_record.specs.Reading.{GivesReading, GivesAs, headers_of, items_of, number_at, payload_len, reading_of, record_of};
 ghost use Rattle.wal_record.specs.Fails.{FailsAt, FailsSo};
 ghost use Rattle.wal_record.specs.Spells.{Spells};
 
@@ -71,7 +71,7 @@ fn u32_at(bytes: &[u8], at: usize) -> u32
 fn record_of(alloc: Global, bytes: &[u8], headers: Headers) -> Result<Record, RecErr>
     requires header { 24 ≤ length bytes.now }
     requires promised { sum_by payload_len headers.blocks.items ≤ length headers.payload.now }
-    ensures { Gives result (Ok (record_of bytes.now (record { blocks = headers.entry.blocks.items; origin = headers.entry.origin; top_xid = headers.entry.top_xid; payload = headers.entry.payload.now }))) }
+    ensures { GivesReading result (Ok (record_of bytes.now (record { blocks = headers.entry.blocks.items; origin = headers.entry.origin; top_xid = headers.entry.top_xid; payload = headers.entry.payload.now }))) }
 {
     let (blocks, main) = blocks_of(alloc, &headers.blocks, headers.payload)?;
     Ok(Record {
@@ -88,7 +88,7 @@ fn record_of(alloc: Global, bytes: &[u8], headers: Headers) -> Result<Record, Re
 #[tactic(auto, unfolding(crate::specs::Reading::items_of))]
 fn read_items(alloc: Global, bytes: &[u8]) -> Result<Record, RecErr>
     requires { 24 ≤ length bytes.now }
-    ensures { Gives result (items_of bytes.now) }
+    ensures { GivesReading result (items_of bytes.now) }
 {
     let (_, behind_header) = bytes.split_at(HEADER_LEN);
     let headers = read_headers(alloc, behind_header)?;
@@ -97,7 +97,7 @@ fn read_items(alloc: Global, bytes: &[u8]) -> Result<Record, RecErr>
 
 #[tactic(auto, unfolding(crate::specs::Reading::reading_of))]
 fn reading(alloc: Global, bytes: &[u8]) -> Result<Record, RecErr>
-    ensures { Gives result (reading_of bytes.now) }
+    ensures { GivesReading result (reading_of bytes.now) }
 {
     if bytes.len() < HEADER_LEN || u32_at(bytes, LEN_AT) as usize != bytes.len() {
         return Err(malformed(0, RecKind::Length));
@@ -113,13 +113,13 @@ pub fn decode(alloc: Global, bytes: &[u8]) -> Result<Record, RecErr>
     // What is read is spelled so.
     ensures found { IfOk result (λ r. Spells bytes.now r) }
     // What is spelled so is read, unless memory runs out.
-    ensures only { (r : Record) → Spells bytes.now r → Gives result (Ok r) }
+    ensures only { (r : Record) → Spells bytes.now r → GivesReading result (Ok r) }
     // An error is the first check that fails.
     ensures fails { IfErr result (FailsSo bytes.now) }
     // The first check that fails is the error, unless memory runs out.
-    ensures refuses { (e : RecErr) → FailsAt bytes.now e → Gives result (Err e) }
+    ensures refuses { (e : RecErr) → FailsAt bytes.now e → GivesReading result (Err e) }
     // All of it as one reading from left to right.
-    ensures exact { Gives result (reading_of bytes.now) }
+    ensures exact { GivesReading result (reading_of bytes.now) }
 {
     reading(alloc, bytes)
 }

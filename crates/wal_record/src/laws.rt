@@ -10,7 +10,7 @@ ghost use Rattle.wal_record.specs.Header.{HasHeader};
 ghost use Rattle.wal_record.specs.Reading.{reading_of};
 ghost use Rattle.wal_record.specs.Record.{Fits, IsWellFormed, are_right_blocks};
 ghost use Rattle.wal_record.specs.Refusal.{first_bad_block, refusal_of};
-ghost use Rattle.wal_record.specs.Spelling.{Assembled, IsReady, IsWritable, assembled, assembled_room, assembled_size, crc_of, filled, image_bytes, size_of, spelled, spelling, word_at};
+ghost use Rattle.wal_record.specs.Spelling.{Assembled, AssembledFits, IsWritable, assembled, assembled_room, assembled_size, crc_of, filled, image_bytes, size_of, spelled, spelling, word_at};
 ghost use Rattle.wal_record.specs.Spells.{Spells};
 
 /// The writer's spelling of a record is one that a reader accepts as this record.
@@ -36,15 +36,15 @@ pub fn spelled_lengths()
 
 /// A record's bytes and its CRC fit, and its words are its bytes.
 pub fn spelled_bytes()
-    ensures ready { (r : Record) → IsWritable r → IsReady (assembled r) }
-    ensures crc { (a : Assembled) (prev : ℕ) → IsReady a → crc_of a prev < 2 ^ 32 }
-    ensures bytes { (a : Assembled) (prev : ℕ) → IsReady a → All (λ b. b < 256) (filled a prev) }
-    ensures words { (a : Assembled) (prev n : ℕ) → IsReady a → 8 * n < assembled_room a → to_le_bytes w64 (word_at (filled a prev) n) ≡ take 8 (drop (8 * n) (filled a prev)) }
+    ensures ready { (r : Record) → IsWritable r → AssembledFits (assembled r) }
+    ensures crc { (a : Assembled) (prev : ℕ) → AssembledFits a → crc_of a prev < 2 ^ 32 }
+    ensures bytes { (a : Assembled) (prev : ℕ) → AssembledFits a → All (λ b. b < 256) (filled a prev) }
+    ensures words { (a : Assembled) (prev n : ℕ) → AssembledFits a → 8 * n < assembled_room a → to_le_bytes w64 (word_at (filled a prev) n) ≡ take 8 (drop (8 * n) (filled a prev)) }
 {}
 
 /// A reader finds each field of the header where it was put.
 pub fn spelled_header()
-    ensures { (a : Assembled) (prev : ℕ) → IsReady a → prev < 2 ^ 64 → HasHeader (spelled a prev) a prev }
+    ensures { (a : Assembled) (prev : ℕ) → AssembledFits a → prev < 2 ^ 64 → HasHeader (spelled a prev) a prev }
 {}
 
 /// The blocks of a record that was read: there are four forks, and images are no more than all of its bytes.

@@ -5,7 +5,7 @@ use Rattle.wal_types.specs.declared.record.Block.{Block}
 use Rattle.wal_script.specs.declared.line.ScriptFault.{ScriptFault}
 use Rattle.wal_script.specs.Text.{pieces_of}
 use Rattle.wal_script.specs.Fields.{◌>>=◌}
-use Rattle.wal_script.specs.Blocks.{block_with, blocks_of}
+use Rattle.wal_script.specs.Blocks.{block_with, references_from}
 
 -- blocks that were read, and what is read behind them
 abbrev pub behind_blocks : List Block → Result (List Block) ScriptFault → Result (List Block) ScriptFault
@@ -18,5 +18,5 @@ behind_blocks-push front block (Ok blocks) = ap (λ (bs : List Block). Ok bs) (s
 behind_blocks-push front block (Err fault) = refl
 
 -- a field that was read joins those in front
-pub behind_blocks-field : (front : List Block) (id : ℕ) (field : List ℕ) (fields : List (List ℕ)) (block : Block) → block_with id (pieces_of 58 field) ≡ Ok block → behind_blocks front (blocks_of id (field ∷ fields)) ≡ behind_blocks (front ++ block ∷ []) (blocks_of (min (id + 1) 255) fields)
-behind_blocks-field front id field fields block is = rw is (behind_blocks-push front block (blocks_of (min (id + 1) 255) fields))
+pub behind_blocks-field : (front : List Block) (id : ℕ) (field : List ℕ) (fields : List (List ℕ)) (block : Block) → block_with id (pieces_of 58 field) ≡ Ok block → behind_blocks front (references_from id (field ∷ fields)) ≡ behind_blocks (front ++ block ∷ []) (references_from (min (id + 1) 255) fields)
+behind_blocks-field front id field fields block is = rw is (behind_blocks-push front block (references_from (min (id + 1) 255) fields))

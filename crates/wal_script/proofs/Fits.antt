@@ -5,7 +5,7 @@ use Rattle.std.proofs.lemmas.Bool.{cases_Bool, and_parts}
 use Rattle.std.proofs.lemmas.List.Elements.{All-nil, All-cons, All-replicate}
 use Rattle.wal_script.specs.Text.{is_text}
 use Rattle.wal_script.specs.Numbers.{is_decimal, decimal_value, number_of}
-use Rattle.wal_script.specs.Hexadecimal.{digit_of, pair_of, byte_of, onto, bytes_of, above_zero, copies, repeated_of, has_star, data_of}
+use Rattle.wal_script.specs.Hexadecimal.{digit_of, pair_of, byte_spelled, onto, bytes_of, above_zero, copies, repeated_of, has_star, data_of}
 
 abbrev IsByte : ℕ → Type 0
 IsByte b = b < 256
@@ -45,7 +45,7 @@ pair_of-lt (Some h) (Some l) b high_fits low_fits is =
     let same : h * 16 + l ≡ b = cc in
     omega (arith, same, high_fits h refl, low_fits l refl)
 
-pub byte_of-lt : (field : List ℕ) (b : ℕ) → byte_of field ≡ Some b → b < 256
+pub byte_of-lt : (field : List ℕ) (b : ℕ) → byte_spelled field ≡ Some b → b < 256
 byte_of-lt [] b is = absurd cc
 byte_of-lt (high ∷ []) b is = absurd cc
 byte_of-lt (high ∷ low ∷ []) b is = pair_of-lt (digit_of high) (digit_of low) b (digit_of-lt high) (digit_of-lt low) is
@@ -74,7 +74,7 @@ copies_fit (Some n) (Some b) bytes byte_fits is =
     rw (← same) (All-replicate IsByte n b (byte_fits b refl))
 
 repeated_of_fits : (count byte bytes : List ℕ) → repeated_of count byte ≡ Some bytes → All IsByte bytes
-repeated_of_fits count byte bytes is = copies_fit (above_zero (number_of 1048576 count)) (byte_of byte) bytes (byte_of-lt byte) is
+repeated_of_fits count byte bytes is = copies_fit (above_zero (number_of 1048576 count)) (byte_spelled byte) bytes (byte_of-lt byte) is
 
 -- data is bytes
 pub data_of_fits : (field bytes : List ℕ) → data_of field ≡ Some bytes → All IsByte bytes

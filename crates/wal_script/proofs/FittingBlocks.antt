@@ -10,9 +10,9 @@ use Rattle.wal_script.specs.declared.images.Filler.{Filler}
 use Rattle.wal_script.specs.declared.line.ScriptFault.TheVariants as faults
 use Rattle.wal_script.specs.Text.{is_text, pieces_of}
 use Rattle.wal_script.specs.Numbers.{number_of}
-use Rattle.wal_script.specs.Hexadecimal.{byte_of, data_of}
+use Rattle.wal_script.specs.Hexadecimal.{byte_spelled, data_of}
 use Rattle.wal_script.specs.Fields.{◌>>=◌}
-use Rattle.wal_script.specs.Blocks.{relation_with, fork_with, fork_of, filler_with, filler_of, page_image_with, image_of, block_with, blocks_of}
+use Rattle.wal_script.specs.Blocks.{relation_with, fork_with, fork_of, filler_with, filler_of, page_image_with, image_spelled, block_with, references_from}
 use Rattle.wal_script.proofs.Fits.{number_of-le, byte_of-lt, data_of_fits}
 use Rattle.wal_script.proofs.Steps.{bind_then, part_then}
 
@@ -63,10 +63,10 @@ filler_with-lt (Some b) apply filler byte_fits is =
 filler_of-lt : (part : List ℕ) (filler : Filler) → filler_of part ≡ Some filler → filler.byte < 256
 filler_of-lt [] filler is = absurd cc
 filler_of-lt (high ∷ []) filler is = absurd cc
-filler_of-lt (high ∷ low ∷ []) filler is = filler_with-lt (byte_of (high ∷ low ∷ [])) true filler (byte_of-lt (high ∷ low ∷ [])) is
+filler_of-lt (high ∷ low ∷ []) filler is = filler_with-lt (byte_spelled (high ∷ low ∷ [])) true filler (byte_of-lt (high ∷ low ∷ [])) is
 filler_of-lt (high ∷ low ∷ c ∷ []) filler is =
     elim (cases_Bool (eqb c 118)) [
-      | inl unapplied ↦ filler_with-lt (byte_of (high ∷ low ∷ [])) false filler (byte_of-lt (high ∷ low ∷ [])) (rw unapplied at is)
+      | inl unapplied ↦ filler_with-lt (byte_spelled (high ∷ low ∷ [])) false filler (byte_of-lt (high ∷ low ∷ [])) (rw unapplied at is)
       | inr other ↦ (let none : None ≡ Some filler = rw other at is in absurd cc)
     ]
 filler_of-lt (high ∷ low ∷ c ∷ d ∷ others) filler is = absurd cc
@@ -82,7 +82,7 @@ page_image_fits (offset ∷ len ∷ others ∷ []) =
     })))
 page_image_fits others = tt
 
-image_fits : (part : List ℕ) → IfOk (image_of part) (λ image. IfSome image ImageFits)
+image_fits : (part : List ℕ) → IfOk (image_spelled part) (λ image. IfSome image ImageFits)
 image_fits part =
     cond_both (is_text part (codes "-")) (Ok None) (page_image_with (pieces_of 43 part) >>= (λ image. Ok (Some image))) (λ read. IfOk read (λ image. IfSome image ImageFits)) (λ _. tt)
     (λ _. bind_then (page_image_with (pieces_of 43 part)) (λ image. Ok (Some image)) ImageFits (λ image. IfSome image ImageFits) (page_image_fits (pieces_of 43 part)) (λ image fits. fits))
@@ -93,7 +93,7 @@ block_fits id id_fits (relation ∷ fork ∷ number ∷ bytes ∷ page ∷ []) =
     part_then (fork_of fork) faults.Block _ BlockFits (λ kind kind_is.
     part_then (number_of (2 ^ 32 - 2) number) faults.Number _ BlockFits (λ blk blk_is.
     part_then (data_of bytes) faults.Hex _ BlockFits (λ content content_is.
-    bind_then (image_of page) _ (λ image. IfSome image ImageFits) BlockFits (image_fits page) (λ image fits. record {
+    bind_then (image_spelled page) _ (λ image. IfSome image ImageFits) BlockFits (image_fits page) (λ image fits. record {
       id = id_fits;
       tablespace = rel_fits.tablespace;
       database = rel_fits.database;
@@ -105,8 +105,8 @@ block_fits id id_fits (relation ∷ fork ∷ number ∷ bytes ∷ page ∷ []) =
     })))))
 block_fits id id_fits others = tt
 
-pub blocks_fit : (id : ℕ) → id < 256 → (fields : List (List ℕ)) → IfOk (blocks_of id fields) (All BlockFits)
+pub blocks_fit : (id : ℕ) → id < 256 → (fields : List (List ℕ)) → IfOk (references_from id fields) (All BlockFits)
 blocks_fit id id_fits [] = All-nil BlockFits
 blocks_fit id id_fits (field ∷ fields) =
     bind_then (block_with id (pieces_of 58 field)) _ BlockFits (All BlockFits) (block_fits id id_fits (pieces_of 58 field)) (λ block fits.
-    bind_then (blocks_of (min (id + 1) 255) fields) _ (All BlockFits) (All BlockFits) (blocks_fit (min (id + 1) 255) (omega arith) fields) (λ blocks all_fit. All-cons BlockFits block blocks fits all_fit))
+    bind_then (references_from (min (id + 1) 255) fields) _ (All BlockFits) (All BlockFits) (blocks_fit (min (id + 1) 255) (omega arith) fields) (λ blocks all_fit. All-cons BlockFits block blocks fits all_fit))

@@ -20,9 +20,9 @@ use Rattle.wal_script.specs.declared.line.ScriptFault.{ScriptFault}
 use Rattle.wal_script.specs.declared.line.ScriptFault.TheVariants as faults
 use Rattle.wal_script.specs.Text.{is_text, lines_of, fields_of}
 use Rattle.wal_script.specs.Numbers.{number_of, time_of}
-use Rattle.wal_script.specs.Hexadecimal.{byte_of, data_of}
-use Rattle.wal_script.specs.Blocks.{blocks_of}
-use Rattle.wal_script.specs.Meaning.{LineMeaning, passes, asks, refuses, fault_of, unless, accepted, insert_of, commit_record, commit_of, flush_of, asks_as, line_with, line_of, then_line, lines_meaning, script_limit, backend_meaning}
+use Rattle.wal_script.specs.Hexadecimal.{byte_spelled, data_of}
+use Rattle.wal_script.specs.Blocks.{references_from}
+use Rattle.wal_script.specs.Meaning.{LineMeaning, passes, asks, refuses, assembly_fault, unless, accepted, insert_of, commit_record, commit_of, flush_of, asks_as, line_with, line_of, then_line, lines_meaning, script_limit, backend_meaning}
 use Rattle.wal_script.specs.Writable.{AsksWritable}
 use Rattle.wal_script.proofs.FittingBlocks.{blocks_fit}
 use Rattle.wal_script.proofs.Steps.{bind_then, next_then, no_more_then}
@@ -47,7 +47,7 @@ never_memory r =
     (other_block (first_bad_block 0 r.blocks) (too_long (size_of r))
     (other_row (ltb 1048576 (size_of r)) (TooLong (size_of r)) None (λ e. cc) (λ e. cc))))
 
-by_refusal : (r : Record) → Fits r → (refusal : Option BodyErr) → refusal_of r ≡ refusal → IfOk (unless (option_and_then fault_of refusal) r) IsWritable
+by_refusal : (r : Record) → Fits r → (refusal : Option BodyErr) → refusal_of r ≡ refusal → IfOk (unless (option_and_then assembly_fault refusal) r) IsWritable
 by_refusal r fits None is = (refused_or_writable r fits).0 is
 by_refusal r fits (Some Memory) is = absurd (never_memory r is)
 by_refusal r fits (Some (TooLong size)) is = tt
@@ -64,9 +64,9 @@ insert_writable : (fields : List (List ℕ)) → IfOk (insert_of fields) IsWrita
 insert_writable fields =
     next_then (number_of (2 ^ 32 - 1)) faults.Number fields _ IsWritable (λ behind_xid xid_field xid xid_is.
     next_then (number_of 255) faults.Number behind_xid _ IsWritable (λ behind_manager manager_field manager manager_is.
-    next_then byte_of faults.Hex behind_manager _ IsWritable (λ behind_info info_field info info_is.
+    next_then byte_spelled faults.Hex behind_manager _ IsWritable (λ behind_info info_field info info_is.
     next_then data_of faults.Hex behind_info _ IsWritable (λ behind_main main_field main main_is.
-    bind_then (blocks_of 0 behind_main) _ (All BlockFits) IsWritable (blocks_fit 0 (omega arith) behind_main) (λ blocks all_fit.
+    bind_then (references_from 0 behind_main) _ (All BlockFits) IsWritable (blocks_fit 0 (omega arith) behind_main) (λ blocks all_fit.
     accepted_writable (record { xid = record { 0 = xid }; rmid = manager; info = info; origin = None; top_xid = None; blocks = blocks; main = main }) (record {
       xid = omega (arith, number_of-le (2 ^ 32 - 1) xid_field xid xid_is);
       manager = omega (arith, number_of-le 255 manager_field manager manager_is);

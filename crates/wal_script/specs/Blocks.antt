@@ -10,7 +10,7 @@ use Rattle.wal_script.specs.declared.line.ScriptFault.{ScriptFault}
 use Rattle.wal_script.specs.declared.line.ScriptFault.TheVariants as faults
 use Rattle.wal_script.specs.Text.{is_text, pieces_of}
 use Rattle.wal_script.specs.Numbers.{number_of}
-use Rattle.wal_script.specs.Hexadecimal.{byte_of, data_of}
+use Rattle.wal_script.specs.Hexadecimal.{byte_spelled, data_of}
 use Rattle.wal_script.specs.Fields.{◌>>=◌}
 
 -- `spc/db/rel`: three numbers
@@ -39,8 +39,8 @@ filler_with (Some byte) apply = Some (record { byte = byte; apply = apply })
 
 -- `v` behind them has redo not apply the image
 abbrev pub filler_of : List ℕ → Option Filler
-filler_of (high ∷ low ∷ []) = filler_with (byte_of (high ∷ low ∷ [])) true
-filler_of (high ∷ low ∷ c ∷ []) = if c == 118 then filler_with (byte_of (high ∷ low ∷ [])) false else None
+filler_of (high ∷ low ∷ []) = filler_with (byte_spelled (high ∷ low ∷ [])) true
+filler_of (high ∷ low ∷ c ∷ []) = if c == 118 then filler_with (byte_spelled (high ∷ low ∷ [])) false else None
 filler_of others = None
 
 -- `OFFSET+LENGTH+hh`: the page's 8192 bytes without its hole
@@ -53,8 +53,8 @@ page_image_with (offset ∷ len ∷ others ∷ []) = do
 page_image_with others = Err faults.Image
 
 -- an image, or `-` for none
-abbrev pub image_of : List ℕ → Result (Option Image) ScriptFault
-image_of field = if is_text field (codes "-") then Ok None else (do
+abbrev pub image_spelled : List ℕ → Result (Option Image) ScriptFault
+image_spelled field = if is_text field (codes "-") then Ok None else (do
   image ← page_image_with (pieces_of 43 field)
   Ok (Some image))
 
@@ -65,14 +65,14 @@ block_with id (relation ∷ fork ∷ number ∷ bytes ∷ page ∷ []) = do
   kind ← ok_or (fork_of fork) faults.Block
   blk ← ok_or (number_of (2 ^ 32 - 2) number) faults.Number
   content ← ok_or (data_of bytes) faults.Hex
-  image ← image_of page
+  image ← image_spelled page
   Ok (record { id = id; rel = rel; fork = kind.number; blk = blk; will_init = kind.will_init; content = content; image = image })
 block_with id others = Err faults.Block
 
 -- references numbered from `id` on in their order; from 255 on all have 255, which is as wrong as any number above 32
-abbrev pub blocks_of : ℕ → List (List ℕ) → Result (List Block) ScriptFault
-blocks_of id [] = Ok []
-blocks_of id (field ∷ fields) = do
+abbrev pub references_from : ℕ → List (List ℕ) → Result (List Block) ScriptFault
+references_from id [] = Ok []
+references_from id (field ∷ fields) = do
   block ← block_with id (pieces_of 58 field)
-  blocks ← blocks_of (min (id + 1) 255) fields
+  blocks ← references_from (min (id + 1) 255) fields
   Ok (block ∷ blocks)

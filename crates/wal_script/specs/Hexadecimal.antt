@@ -17,9 +17,9 @@ pair_of (Some high) None = None
 pair_of (Some high) (Some low) = Some (high * 16 + low)
 
 -- the byte that a field of two digits spells
-abbrev pub byte_of : List ℕ → Option ℕ
-byte_of (high ∷ low ∷ []) = pair_of (digit_of high) (digit_of low)
-byte_of others = None
+abbrev pub byte_spelled : List ℕ → Option ℕ
+byte_spelled (high ∷ low ∷ []) = pair_of (digit_of high) (digit_of low)
+byte_spelled others = None
 
 abbrev pub onto : Option ℕ → Option (List ℕ) → Option (List ℕ)
 onto None bytes = None
@@ -43,7 +43,7 @@ copies (Some count) None = None
 copies (Some count) (Some byte) = Some (replicate count byte)
 
 abbrev pub repeated_of : List ℕ → List ℕ → Option (List ℕ)
-repeated_of count byte = copies (above_zero (number_of 1048576 count)) (byte_of byte)
+repeated_of count byte = copies (above_zero (number_of 1048576 count)) (byte_spelled byte)
 
 -- whether a star stands in front of a field's last two bytes
 abbrev pub has_star : List ℕ → Bool

@@ -13,8 +13,8 @@ use Rattle.wal_script.specs.declared.line.ScriptFault.{ScriptFault}
 use Rattle.wal_script.specs.declared.line.ScriptFault.TheVariants as faults
 use Rattle.wal_script.specs.Text.{is_text, lines_of, fields_of}
 use Rattle.wal_script.specs.Numbers.{number_of, time_of}
-use Rattle.wal_script.specs.Hexadecimal.{byte_of, data_of}
-use Rattle.wal_script.specs.Blocks.{blocks_of}
+use Rattle.wal_script.specs.Hexadecimal.{byte_spelled, data_of}
+use Rattle.wal_script.specs.Blocks.{references_from}
 use Rattle.wal_script.specs.Fields.{◌>>=◌, next_as, no_more}
 
 -- what one line means: nothing, an action, or that it is refused
@@ -24,12 +24,12 @@ pub data LineMeaning : Type 0 where
   refuses : ScriptFault → LineMeaning
 
 -- the fault of a record that cannot be assembled; want of memory is none
-abbrev pub fault_of : BodyErr → Option ScriptFault
-fault_of Memory = None
-fault_of (TooLong size) = Some faults.TooLong
-fault_of (BadBlock index) = Some faults.BadBlock
-fault_of Switch = Some faults.Switch
-fault_of (BadRmgr rmid) = Some faults.BadManager
+abbrev pub assembly_fault : BodyErr → Option ScriptFault
+assembly_fault Memory = None
+assembly_fault (TooLong size) = Some faults.TooLong
+assembly_fault (BadBlock index) = Some faults.BadBlock
+assembly_fault Switch = Some faults.Switch
+assembly_fault (BadRmgr rmid) = Some faults.BadManager
 
 abbrev pub unless : {X : Type 0} → Option ScriptFault → X → Result X ScriptFault
 unless None x = Ok x
@@ -37,16 +37,16 @@ unless (Some fault) x = Err fault
 
 -- a record, unless it cannot be assembled
 abbrev pub accepted : Record → Result Record ScriptFault
-accepted r = unless (option_and_then fault_of (refusal_of r)) r
+accepted r = unless (option_and_then assembly_fault (refusal_of r)) r
 
 -- the fields behind `I`: a transaction's number, a manager, its info, the main data, and any block references
 abbrev pub insert_of : List (List ℕ) → Result Record ScriptFault
 insert_of fields = do
   xid ← next_as (number_of (2 ^ 32 - 1)) faults.Number fields
   manager ← next_as (number_of 255) faults.Number xid.rest
-  info ← next_as byte_of faults.Hex manager.rest
+  info ← next_as byte_spelled faults.Hex manager.rest
   main ← next_as data_of faults.Hex info.rest
-  blocks ← blocks_of 0 main.rest
+  blocks ← references_from 0 main.rest
   accepted (record { xid = record { 0 = xid.value }; rmid = manager.value; info = info.value; origin = None; top_xid = None; blocks = blocks; main = main.value })
 
 -- a transaction's commit (manager 1, info 0): its time as eight bytes is the main data (PostgreSQL's xact.c)

@@ -10,17 +10,17 @@ use Rattle.wal_script.specs.declared.line_error.LineError.{LineError}
 use Rattle.wal_script.specs.declared.line_error.LineError.TheVariants as causes
 use Rattle.wal_script.specs.declared.line.ScriptFault.{ScriptFault}
 use Rattle.wal_record.specs.declared.fault.BodyErr.{BodyErr}
-use Rattle.wal_script.specs.Meaning.{LineMeaning, passes, asks, refuses, fault_of}
+use Rattle.wal_script.specs.Meaning.{LineMeaning, passes, asks, refuses, assembly_fault}
 
 -- a script that is refused so means that refusal
-abbrev pub Refuses : ParseError → Result (List Line) Refusal → Type 0
-Refuses errors.Memory meaning = Unit {0}
-Refuses (errors.Refused refusal) meaning = meaning ≡ Err refusal
+abbrev pub RefusesScript : ParseError → Result (List Line) Refusal → Type 0
+RefusesScript errors.Memory meaning = Unit {0}
+RefusesScript (errors.Refused refusal) meaning = meaning ≡ Err refusal
 
 -- a script's lines are what it means, and its refusal is; nothing is said where memory ran out
-abbrev pub Gives : Result (Vec Line) ParseError → Result (List Line) Refusal → Type 0
-Gives (Ok lines) meaning = meaning ≡ Ok lines.items
-Gives (Err error) meaning = Refuses error meaning
+abbrev pub GivesLines : Result (Vec Line) ParseError → Result (List Line) Refusal → Type 0
+GivesLines (Ok lines) meaning = meaning ≡ Ok lines.items
+GivesLines (Err error) meaning = RefusesScript error meaning
 
 -- a line that is refused so means that fault
 abbrev pub RefusesLine : LineError → LineMeaning → Type 0
@@ -56,7 +56,7 @@ error_or_memory None = causes.Memory
 error_or_memory (Some fault) = causes.Fault fault
 
 abbrev pub line_error : BodyErr → LineError
-line_error refusal = error_or_memory (fault_of refusal)
+line_error refusal = error_or_memory (assembly_fault refusal)
 
 -- why a script was not read, from why a line was not
 abbrev pub at_line : ℕ → LineError → ParseError

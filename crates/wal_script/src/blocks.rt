@@ -1,7 +1,7 @@
 //! Block references as scripts spell them: `spc/db/rel:fork:blk:data:image`.
 
 ghost use Rattle.std.specs.Prelude.{◌≡◌};
-ghost use Rattle.wal_script.specs.Blocks.{block_with, blocks_of, fork_of, fork_with, relation_with};
+ghost use Rattle.wal_script.specs.Blocks.{block_with, references_from, fork_of, fork_with, relation_with};
 ghost use Rattle.wal_script.specs.Reading.{Judges};
 
 use crate::hexadecimal::data;
@@ -25,7 +25,7 @@ struct Fork {
 
 /// The references of the fields that are left, numbered in their order.
 pub(crate) fn blocks(alloc: Global, fields: Pieces) -> Result<BlockList, LineError>
-    ensures { Judges result (blocks_of 0 fields.entry) }
+    ensures { Judges result (references_from 0 fields.entry) }
 {
     let mut blocks = Vec::new(alloc);
     let mut id: u8 = 0;

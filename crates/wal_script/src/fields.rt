@@ -2,7 +2,7 @@
 
 ghost use Rattle.std.specs.Prelude.{◌-◌, ◌^◌, ◌≤◌, IfOk};
 ghost use Rattle.wal_script.specs.Fields.{next_as, no_more};
-ghost use Rattle.wal_script.specs.Hexadecimal.{byte_of, data_of};
+ghost use Rattle.wal_script.specs.Hexadecimal.{byte_spelled, data_of};
 ghost use Rattle.wal_script.specs.Numbers.{number_of, time_of};
 ghost use Rattle.wal_script.specs.Reading.{Judges, JudgesAs};
 ghost use Rattle.wal_script.specs.declared.line.ScriptFault.TheVariants as faults;
@@ -48,7 +48,7 @@ pub(crate) fn next_time(fields: &mut Pieces) -> Result<u64, LineError>
 
 /// The next field as a byte in two hexadecimal digits.
 pub(crate) fn next_byte(fields: &mut Pieces) -> Result<u8, LineError>
-    ensures { JudgesAs (λ b. record { value = b; rest = fields.new }) result (next_as byte_of faults.Hex fields.old) }
+    ensures { JudgesAs (λ b. record { value = b; rest = fields.new }) result (next_as byte_spelled faults.Hex fields.old) }
 {
     let field = fields.next().ok_or(ScriptFault::Count)?;
     Ok(byte(field).ok_or(ScriptFault::Hex)?)

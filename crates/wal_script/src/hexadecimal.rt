@@ -2,7 +2,7 @@
 
 ghost use Rattle.std.specs.Prelude.{◌≡◌, ◌<◌, IfSome};
 ghost use Rattle.std.specs.Option.{ok_or};
-ghost use Rattle.wal_script.specs.Hexadecimal.{byte_of, bytes_of, data_of, digit_of, pair_of, repeated_of};
+ghost use Rattle.wal_script.specs.Hexadecimal.{byte_spelled, bytes_of, data_of, digit_of, pair_of, repeated_of};
 ghost use Rattle.wal_script.specs.Reading.{Judges, JudgesAs};
 ghost use Rattle.wal_script.specs.declared.line.ScriptFault.TheVariants as faults;
 
@@ -37,7 +37,7 @@ fn pair(high: u8, low: u8) -> Option<u8>
 
 /// A field of two digits as a byte.
 pub(crate) fn byte(field: &[u8]) -> Option<u8>
-    ensures { result ≡ byte_of field.now }
+    ensures { result ≡ byte_spelled field.now }
 {
     match field {
         [high, low] => pair(*high, *low),

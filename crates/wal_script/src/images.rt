@@ -1,7 +1,7 @@
 //! A page's image as scripts spell it: a hole, and one byte wherever it is not.
 
 ghost use Rattle.std.specs.Prelude.{◌≡◌};
-ghost use Rattle.wal_script.specs.Blocks.{filler_of, image_of, page_image_with};
+ghost use Rattle.wal_script.specs.Blocks.{filler_of, image_spelled, page_image_with};
 ghost use Rattle.wal_script.specs.Reading.{Judges};
 
 use crate::hexadecimal::byte;
@@ -23,7 +23,7 @@ struct Filler {
 
 /// An image, or none for `-`.
 pub(crate) fn image(alloc: Global, field: &[u8]) -> Result<Option<Image>, LineError>
-    ensures { Judges result (image_of field.now) }
+    ensures { Judges result (image_spelled field.now) }
 {
     if is_dash(field) {
         return Ok(None);

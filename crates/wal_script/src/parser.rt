@@ -1,7 +1,7 @@
 ghost use Rattle.std.specs.Prelude.{◌≡◌, ◌+◌, ◌≤◌, ◌==◌, length, count_by};
 ghost use Rattle.wal_script.specs.Text.{lines_of};
 ghost use Rattle.wal_script.specs.Meaning.{asks, line_with, line_of, lines_meaning, backend_meaning};
-ghost use Rattle.wal_script.specs.Reading.{Gives, LineGives, meant};
+ghost use Rattle.wal_script.specs.Reading.{GivesLines, LineGives, meant};
 
 use crate::fields::no_more;
 use crate::line::{Action, Line, Refusal, ScriptFault};
@@ -47,7 +47,7 @@ impl<T: Drop> From<AllocFailed<T>> for ParseError {
 /// `script` is what was read, at most one byte beyond the limit: a longer script is refused at the line of that byte.
 pub fn parse(alloc: Global, script: &[u8]) -> Result<Vec<Line>, ParseError>
     requires { length script.now ≤ SCRIPT_LIMIT + 1 }
-    ensures { Gives result (backend_meaning script.now) }
+    ensures { GivesLines result (backend_meaning script.now) }
 {
     if script.len() > SCRIPT_LIMIT {
         return Err(ParseError::Refused(Refusal {
@@ -70,7 +70,7 @@ fn line_feeds(text: &[u8]) -> u32
 // The lines of a script within its limit.
 fn lines(alloc: Global, script: &[u8]) -> Result<Vec<Line>, ParseError>
     requires { length script.now ≤ SCRIPT_LIMIT }
-    ensures { Gives result (lines_meaning 1 (lines_of script.now)) }
+    ensures { GivesLines result (lines_meaning 1 (lines_of script.now)) }
 {
     let mut lines = Vec::new(alloc);
     let mut number = 0;

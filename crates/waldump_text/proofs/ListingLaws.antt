@@ -3,7 +3,7 @@ use Rattle.std.proofs.Common.{◌≡◌, ℕ, List, [], ◌∷◌, ◌++◌, tak
 use Rattle.std.proofs.lemmas.Grind.{flat_map-append}
 use Rattle.std.proofs.lemmas.List.{append-nil}
 use Rattle.segment_disk.specs.Stream.{with_behind}
-use Rattle.wal_reader.specs.LogReader.{ReadState, Gives, IsNext}
+use Rattle.wal_reader.specs.LogReader.{ReaderState, GivesRecords, IsNext}
 use Rattle.wal_reader.specs.Pages.{Pages}
 use Rattle.wal_reader.specs.declared.found.FoundRecord.{FoundRecord}
 use Rattle.wal_reader.specs.declared.found.Answer.{Answer}
@@ -16,36 +16,36 @@ pub listing-append : (found others : List FoundRecord) → listing (found ++ oth
 listing-append found others = flat_map-append (λ f. line_text (listed_of f)) found others
 
 -- what a reader gave from a start on is listed, and it still gives what comes behind that
-pub record IsUnderway (pages : Pages) (start now : ReadState) (old new : Option (List ℕ)) : Type 0 where
+pub record IsUnderway (pages : Pages) (start now : ReaderState) (old new : Option (List ℕ)) : Type 0 where
   pub listed : List FoundRecord
-  pub whole : (others : List FoundRecord) (answer : Answer) → Gives pages now others answer → Gives pages start (listed ++ others) answer
+  pub whole : (others : List FoundRecord) (answer : Answer) → GivesRecords pages now others answer → GivesRecords pages start (listed ++ others) answer
   pub taken : new ≡ with_behind old (listing listed)
 
-module _ (pages : Pages) (start : ReadState) (old : Option (List ℕ)) where
+module _ (pages : Pages) (start : ReaderState) (old : Option (List ℕ)) where
   pub IsUnderway-none : IsUnderway pages start start old old
   IsUnderway-none = record { listed = []; whole = λ others answer gives. gives; taken = sym (with_behind-nil old) }
 
-  module _ (now : ReadState) (mid : Option (List ℕ)) (underway : IsUnderway pages start now old mid) where
+  module _ (now : ReaderState) (mid : Option (List ℕ)) (underway : IsUnderway pages start now old mid) where
     -- the listing of what is listed and more
     has_put : (others : List FoundRecord) (faults : ℕ) → HasPut old mid faults faults (listing (underway.listed ++ others)) (listing others)
     has_put others faults = record { front = listing underway.listed; parts = listing-append underway.listed others; taken = underway.taken; faults = refl }
 
     -- where the reader stops all is listed
-    pub listed_all : (answer : Answer) → Gives pages now [] answer → (found : List FoundRecord) × Gives pages start found answer × (mid ≡ with_behind old (listing found))
+    pub listed_all : (answer : Answer) → GivesRecords pages now [] answer → (found : List FoundRecord) × GivesRecords pages start found answer × (mid ≡ with_behind old (listing found))
     listed_all answer ends =
-        let whole = subst (λ (found : List FoundRecord). Gives pages start found answer) (append-nil underway.listed) (underway.whole [] answer ends) in
+        let whole = subst (λ (found : List FoundRecord). GivesRecords pages start found answer) (append-nil underway.listed) (underway.whole [] answer ends) in
         (underway.listed, whole, underway.taken)
 
     -- wherever it stands a front of all is listed
     pub listed_front : (others : List FoundRecord) → (n : ℕ) × (mid ≡ with_behind old (take n (listing (underway.listed ++ others))))
     listed_front others = HasPut-front (has_put others 0)
 
-    module _ (next : ReadState) (f : FoundRecord) (is : IsNext pages now next (Ok (Record f))) (new : Option (List ℕ)) where
+    module _ (next : ReaderState) (f : FoundRecord) (is : IsNext pages now next (Ok (Record f))) (new : Option (List ℕ)) where
       -- the record's line is put
       pub IsUnderway-more : new ≡ with_behind mid (line_text (listed_of f)) → IsUnderway pages start next old new
       IsUnderway-more taken = record {
         listed = underway.listed ++ f ∷ [];
-        whole = λ others answer gives. subst (λ (found : List FoundRecord). Gives pages start found answer) (sym (append_assoc underway.listed (f ∷ []) others)) (underway.whole (f ∷ others) answer (is others answer gives));
+        whole = λ others answer gives. subst (λ (found : List FoundRecord). GivesRecords pages start found answer) (sym (append_assoc underway.listed (f ∷ []) others)) (underway.whole (f ∷ others) answer (is others answer gives));
         taken =
             taken
             ∙ ap (λ (text : Option (List ℕ)). with_behind text (line_text (listed_of f))) underway.taken

@@ -3,7 +3,8 @@ use Rattle.std.proofs.Common.{◌≡◌, ℕ, ◌+◌, min, List, [], ◌++◌, 
 use Rattle.std.proofs.lemmas.List.{append-nil, take-append-le, take_min}
 use Rattle.std.proofs.Math.Seq.{take-append_seam, take-append-add}
 use Rattle.segment_disk.specs.Stream.{with_behind}
-use Rattle.waldump_text.specs.Put.{HasPut, HasRisen, Puts}
+use Rattle.waldump_text.specs.Put.{HasPut, Puts}
+use Rattle.segment_disk.specs.Cause.{RoseByOne}
 use Rattle.waldump_text.specs.declared.putting.SinkFault.{SinkFault}
 
 pub with_behind-nil : (taken : Option (List ℕ)) → with_behind taken [] ≡ taken
@@ -41,7 +42,7 @@ HasPut-front_of_next {old = old} piece left h split (n, taken) =
 -- where the sink fails at the next piece, it fails so at the text
 pub Puts-failed : {old mid new : Option (List ℕ)} {before between after : ℕ} {text rest : List ℕ} (piece left : List ℕ) (fault : SinkFault) → HasPut old mid before between text rest → rest ≡ piece ++ left → Puts mid new between after piece (Err fault) → Puts old new before after text (Err fault)
 Puts-failed {after = after} piece left fault h split puts =
-    (HasPut-front_of_next piece left h split puts.0, subst (λ n. HasRisen n after) h.faults puts.1, puts.2)
+    (HasPut-front_of_next piece left h split puts.0, subst (λ n. RoseByOne n after) h.faults puts.1, puts.2)
 
 -- the whole text is taken where nothing of it is left
 pub HasPut-all : {old new : Option (List ℕ)} {before after : ℕ} {text rest : List ℕ} → HasPut old new before after text rest → rest ≡ [] → new ≡ with_behind old text

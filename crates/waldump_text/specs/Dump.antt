@@ -1,6 +1,6 @@
 -- What a listing of the disk's log puts, and how it ends.
 use Rattle.std.specs.Prelude.{◌≡◌, ℕ, List, take, Option, None, Result, Ok, Err}
-use Rattle.segment_disk.specs.Cause.{Rose}
+use Rattle.segment_disk.specs.Cause.{Rose, RoseByOne}
 use Rattle.segment_disk.specs.Stream.{with_behind}
 use Rattle.segment_disk.specs.Tape.{Tape}
 use Rattle.wal_types.specs.declared.lsn.Lsn.{Lsn}
@@ -12,7 +12,6 @@ use Rattle.wal_reader.specs.declared.found.Answer.TheVariants as answers
 use Rattle.wal_reader.specs.declared.standing.ReadErr.{ReadErr}
 use Rattle.wal_reader.specs.declared.standing.ReadErr.TheVariants as reading
 use Rattle.waldump_text.specs.Listing.{listing}
-use Rattle.waldump_text.specs.Put.{HasRisen}
 use Rattle.waldump_text.specs.declared.dumping.DumpErr.{DumpErr}
 use Rattle.waldump_text.specs.declared.dumping.DumpErr.TheVariants.{Memory, Disk, Stopped, Sink}
 
@@ -49,7 +48,7 @@ HasDumpCause disk disk_after sink sink_after (Ok done) = (disk_after ≡ disk) �
 HasDumpCause disk disk_after sink sink_after (Err Memory) = (disk_after ≡ disk) × (sink_after ≡ sink)
 HasDumpCause disk disk_after sink sink_after (Err (Disk faults)) = Rose disk disk_after × (faults ≡ disk_after) × (sink_after ≡ sink)
 HasDumpCause disk disk_after sink sink_after (Err (Stopped answer)) = IsStop answer × (disk_after ≡ disk) × (sink_after ≡ sink)
-HasDumpCause disk disk_after sink sink_after (Err (Sink faults)) = HasRisen sink sink_after × (faults ≡ sink_after) × (disk_after ≡ disk)
+HasDumpCause disk disk_after sink sink_after (Err (Sink faults)) = RoseByOne sink sink_after × (faults ≡ sink_after) × (disk_after ≡ disk)
 
 -- why a listing ends where a reader fails
 abbrev pub failure_of : ReadErr → DumpErr

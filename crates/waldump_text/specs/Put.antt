@@ -1,5 +1,6 @@
 -- Texts put into a sink.
 use Rattle.std.specs.Prelude.{◌≡◌, ℕ, ◌+◌, ◌-◌, ◌^◌, ◌⊎◌, List, [], ◌∷◌, ◌++◌, length, take, replicate, Option, Result, Ok, Err}
+use Rattle.segment_disk.specs.Cause.{RoseByOne}
 use Rattle.segment_disk.specs.Stream.{with_behind}
 use Rattle.waldump_text.specs.declared.putting.SinkFault.{SinkFault}
 
@@ -8,14 +9,10 @@ abbrev pub joined : List (List ℕ) → List ℕ
 joined [] = []
 joined (piece ∷ pieces) = piece ++ joined pieces
 
--- a count of faults rose by one, or stands at the last value that it can have
-abbrev pub HasRisen : ℕ → ℕ → Type 0
-HasRisen old new = (new ≡ old + 1) ⊎ ((new ≡ old) × (new ≡ 2 ^ 64 - 1))
-
 -- a sink took a text: all of it, or a front of it where it failed
 abbrev pub Puts : Option (List ℕ) → Option (List ℕ) → ℕ → ℕ → List ℕ → Result (Unit {0}) SinkFault → Type 0
 Puts old new before after text (Ok done) = (new ≡ with_behind old text) × (after ≡ before)
-Puts old new before after text (Err fault) = ((n : ℕ) × (new ≡ with_behind old (take n text))) × HasRisen before after × (fault.faults ≡ after)
+Puts old new before after text (Err fault) = ((n : ℕ) × (new ≡ with_behind old (take n text))) × RoseByOne before after × (fault.faults ≡ after)
 
 -- a sink took a text up to a rest, and has not failed
 pub record HasPut (old new : Option (List ℕ)) (before after : ℕ) (text rest : List ℕ) : Type 0 where

@@ -1,9 +1,9 @@
 ghost use Rattle.std.specs.Prelude.{◌≡◌, ℕ, ◌<◌, ◌≤◌, ◌+◌, ◌/◌, ◌^◌, ◌⊎◌, ◌&&◌, Bool, true, false, not, [], Some, IsTrue, IfOk, IfSome, OnOk, OnErr, is_ok, is_err, if◌then◌else◌, length};
 ghost use Rattle.byte_position.specs.Geometry.{pages_of};
 ghost use Rattle.segment_disk.specs.Cause.{HasCause};
-ghost use Rattle.segment_disk.specs.Failing.{fails_next, with_next};
+ghost use Rattle.segment_disk.specs.Failing.{fails_next, after_next};
 ghost use Rattle.segment_disk.specs.Present.{ListsPresent};
-ghost use Rattle.segment_disk.specs.Tape.{IsMade, IsNotMade, Reads, empty_state, page_of_segment, state_now};
+ghost use Rattle.segment_disk.specs.Tape.{IsMade, IsNotMade, IsPageRead, empty_state, page_of_segment, state_now};
 
 use crate::disk::{Call, CallKind, Disk, PageBytes};
 use crate::failed::{Failed, count_fault};
@@ -52,7 +52,7 @@ impl MemDisk {
 
 impl Disk for MemDisk {
     ghost use Rattle.std.specs.Prelude.{refl};
-    ghost use Rattle.segment_disk.specs.MemDisk.{tape_of, moment_of, faults_of, limits_of, failing_reads, segment_count, state_of, counts_next, is_next_sound, has_segment, can_create};
+    ghost use Rattle.segment_disk.specs.MemDisk.{tape_of, moment_of, faults_of, limits_of, failing_reads, segment_count, disk_state_of, counts_next, is_next_sound, has_segment, can_create};
 
     ghost tape = { tape_of };
 
@@ -71,7 +71,7 @@ impl Disk for MemDisk {
         // When it succeeds, and when it is counted. A failed one leaves the segments as they were.
         ensures exact { is_ok result ≡ (is_next_sound self.old && can_create self.old segment) }
         ensures counted { IsTrue (counts_next self.old) → moment_of self.new ≡ moment_of self.old + 1 }
-        ensures unmade { OnErr result ((number : ℕ) → state_of self.new number ≡ state_of self.old number) }
+        ensures unmade { OnErr result ((number : ℕ) → disk_state_of self.new number ≡ disk_state_of self.old number) }
 
         ensures segments { segment_count self.new ≡ (if is_ok result && not (has_segment self.old segment) then segment_count self.old + 1 else segment_count self.old) }
         ensures limits { limits_of self.new ≡ limits_of self.old }
@@ -163,7 +163,7 @@ impl Disk for MemDisk {
         page: u32,
         bytes: &mut [u8; 8192],
     ) -> Result<bool, Failed>
-        ensures reads { IfOk result (λ there. IfSome (tape_of self.old) (λ t. Reads (page_of_segment (state_now t segment) page) there bytes.new)) }
+        ensures reads { IfOk result (λ there. IfSome (tape_of self.old) (λ t. IsPageRead (page_of_segment (state_now t segment) page) there bytes.new)) }
         ensures length { length bytes.new ≡ 8192 }
         ensures tape { tape_of self.new ≡ tape_of self.old }
         ensures moment { moment_of self.new ≡ moment_of self.old }
@@ -171,7 +171,7 @@ impl Disk for MemDisk {
 
         // It fails at the listed reads alone.
         ensures fails { is_err result ≡ fails_next (failing_reads self.old) }
-        ensures failing_reads { failing_reads self.new ≡ with_next (failing_reads self.old) }
+        ensures failing_reads { failing_reads self.new ≡ after_next (failing_reads self.old) }
 
         ensures segments { segment_count self.new ≡ segment_count self.old }
         ensures limits { limits_of self.new ≡ limits_of self.old }

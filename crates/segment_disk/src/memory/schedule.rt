@@ -1,5 +1,5 @@
 ghost use Rattle.std.specs.Prelude.{◌≡◌};
-ghost use Rattle.segment_disk.specs.Failing.{is_listed as listed, fails_next, with_next};
+ghost use Rattle.segment_disk.specs.Failing.{is_listed as listed, fails_next, after_next};
 
 use std::marker::Model;
 
@@ -28,7 +28,7 @@ impl Schedule {
     /// Counts a call, and answers whether it is to fail. The count stops at the last number that it can have.
     pub fn next_fails(&mut self) -> bool
         ensures fails { result ≡ fails_next self.old }
-        ensures made { self.new ≡ with_next self.old }
+        ensures made { self.new ≡ after_next self.old }
     {
         self.made = self.made.saturating_add(1);
         is_listed(&self.failing, self.made)

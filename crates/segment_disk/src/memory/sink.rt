@@ -1,6 +1,6 @@
 ghost use Rattle.std.specs.Prelude.{◌≡◌, ◌≤◌, ◌<◌, [], Some, length, take, min, is_err, IfOk, OnErr, vec_capacity};
 ghost use Rattle.segment_disk.specs.Cause.{HasCause};
-ghost use Rattle.segment_disk.specs.Failing.{with_next};
+ghost use Rattle.segment_disk.specs.Failing.{after_next};
 ghost use Rattle.segment_disk.specs.Stream.{with_behind};
 
 use crate::failed::{Failed, count_fault};
@@ -63,7 +63,7 @@ impl Sink for MemSink {
 
         // It fails at the listed calls and where it is full, and takes as much as there is room for.
         ensures fails { is_err result ≡ refuses self.old (length from.now) }
-        ensures failing { sink_failing self.new ≡ with_next (sink_failing self.old) }
+        ensures failing { sink_failing self.new ≡ after_next (sink_failing self.old) }
         ensures count { IfOk result (λ n. n ≡ min (length from.now) (sink_room self.old)) }
         ensures size { sink_size self.new ≡ sink_size self.old }
     {

@@ -1,6 +1,6 @@
 ghost use Rattle.std.specs.Prelude.{◌≡◌, ◌≤◌, ◌<◌, [], Some, drop, length, min, is_err, IfOk, OnErr, IfSome};
 ghost use Rattle.segment_disk.specs.Cause.{HasCause};
-ghost use Rattle.segment_disk.specs.Failing.{fails_next, with_next};
+ghost use Rattle.segment_disk.specs.Failing.{fails_next, after_next};
 ghost use Rattle.segment_disk.specs.Stream.{Takes};
 
 use crate::failed::{Failed, count_fault};
@@ -51,7 +51,7 @@ impl Source for MemSource {
 
         // It fails at the listed calls alone, and reads as much as there is room for.
         ensures fails { is_err result ≡ fails_next (source_failing self.old) }
-        ensures failing { source_failing self.new ≡ with_next (source_failing self.old) }
+        ensures failing { source_failing self.new ≡ after_next (source_failing self.old) }
         ensures count { IfOk result (λ n. IfSome (source_left self.old) (λ bytes. n ≡ min (length into.old) (length bytes))) }
     {
         if self.schedule.next_fails() {

@@ -2,7 +2,7 @@
 
 ghost use Rattle.std.specs.Prelude.{◌≡◌, ◌+◌, ◌≤◌, length, IfErr, IfOk};
 ghost use Rattle.std.specs.List.{sum_by};
-ghost use Rattle.wal_record.specs.Reading.{block_of, blocks_of, image_len, image_of, main_of, payload_len};
+ghost use Rattle.wal_record.specs.Reading.{block_of, blocks_read, image_len, image_read, main_of, payload_len};
 
 use crate::fault::RecErr;
 use crate::head::{BlockHead, ImageHead};
@@ -15,7 +15,7 @@ fn image_of(
     bytes: &[u8],
 ) -> Result<Option<Image>, AllocError>
     requires { length bytes.now ≡ image_len head }
-    ensures { IfOk result (λ i. i ≡ image_of head bytes.now) }
+    ensures { IfOk result (λ i. i ≡ image_read head bytes.now) }
 {
     let Some(head) = head else {
         return Ok(None);
@@ -52,7 +52,7 @@ pub(super) fn blocks_of<'a>(
     payload: &'a [u8],
 ) -> Result<(Vec<Block>, &'a [u8]), RecErr>
     requires { sum_by payload_len heads.now ≤ length payload.now }
-    ensures blocks { IfOk result (λ x. x.0.items ≡ blocks_of heads.now payload.now) }
+    ensures blocks { IfOk result (λ x. x.0.items ≡ blocks_read heads.now payload.now) }
     ensures memory { IfErr result (λ e. e ≡ RecErr.Memory) }
     ensures main { IfOk result (λ x. x.1.now ≡ main_of heads.now payload.now) }
 {

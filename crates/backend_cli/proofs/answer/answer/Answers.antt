@@ -1,6 +1,6 @@
 -- A line's work is an insert, a commit or a flush.
 use Rattle.std.proofs.Common.{sym, subst}
-use Rattle.wal_log.specs.LogState.{IsLog}
+use Rattle.serial_log.specs.LogState.{IsLog}
 use Rattle.backend_cli.specs.declared.told.Told.{Told}
 use Rattle.backend_cli.proofs.AnswerLaws.{insert_steps, commit_steps, flush_steps}
 use Rattle.backend_cli.proofs.MomentLaws.{StepsOn, insert_moments, commit_moments, flush_moments}

@@ -1,5 +1,5 @@
 use Rattle.std.proofs.Common.{◌≡◌, ◌≤◌, length, vec_len, vec_capacity}
-use Rattle.wal_log.specs.LogState.{IsSameLog}
+use Rattle.serial_log.specs.LogState.{IsSameLog}
 use Rattle.backend_cli.specs.Moments.{LastTold, MomentsReach}
 use Rattle.backend_cli.specs.Tracked.{IsTracked}
 use Rattle.backend_cli.proofs.PlayLaws.{IsPlayed}

@@ -1,5 +1,5 @@
 use Rattle.std.proofs.Common.{ℕ, sym, subst}
-use Rattle.wal_log.specs.Standing.{capacity_of}
+use Rattle.serial_log.specs.History.{capacity_of}
 use Rattle.backend_cli.specs.Run.{RunHolds}
 use Rattle.backend_cli.proofs.run.run.Goals as goal
 

@@ -2,10 +2,10 @@
 use Rattle.std.proofs.Common.{◌≡◌, ap, ◌≤◌, ◌^◌, sym, ◌∙◌, subst, ℕ, arith, rules}
 use Rattle.std.specs.Prelude.{not}
 use Rattle.byte_position.specs.Geometry.{IsSegmentSize}
-use Rattle.wal_log.specs.declared.shape.Shape.{Shape}
-use Rattle.wal_log.specs.LogState.{log_disk}
-use Rattle.wal_log.specs.Standing.{at_opening, capacity_of}
-use Rattle.wal_log.specs.Steps.{Flushes}
+use Rattle.serial_log.specs.declared.shape.Shape.{Shape}
+use Rattle.serial_log.specs.LogState.{log_disk}
+use Rattle.serial_log.specs.History.{at_opening, capacity_of}
+use Rattle.serial_log.specs.Steps.{Flushes}
 use Rattle.backend_cli.proofs.Capacities.{capacity_of-le}
 use Rattle.backend_cli.specs.Tasks.{AreTasks}
 use Rattle.backend_cli.specs.Printing.{Summarizes, printed_text}

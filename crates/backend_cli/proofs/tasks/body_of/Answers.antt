@@ -1,6 +1,6 @@
 use Rattle.std.proofs.Common.{◌≡◌, Some, None, refl, sym, ◌∙◌}
 use Rattle.wal_types.specs.declared.record.Record.{Record}
-use Rattle.wal_record.specs.Refusal.{refusal_of, Refuses}
+use Rattle.wal_record.specs.Refusal.{refusal_of, RefusesToAssemble}
 use Rattle.wal_record.specs.declared.fault.BodyErr.{BodyErr}
 use Rattle.wal_record.specs.declared.fault.BodyErr.TheVariants.{Memory, TooLong, BadBlock, Switch, BadRmgr}
 use Rattle.wal_record.proofs.Acceptance.{refused_or_writable}
@@ -8,7 +8,7 @@ use Rattle.backend_cli.proofs.tasks.body_of.Goals as goal
 use Rattle.backend_cli.proofs.tasks.body_of.Goals.{in-Memory, in_default}
 
 -- only memory can be wanting where a record is assembled that is not refused
-only_memory : (value : Record) (error : BodyErr) → refusal_of value ≡ None → Refuses error value → error ≡ Memory
+only_memory : (value : Record) (error : BodyErr) → refusal_of value ≡ None → RefusesToAssemble error value → error ≡ Memory
 only_memory value Memory none refuses = refl
 only_memory value (TooLong len) none refuses = absurd (let other : None ≡ Some (TooLong len) = sym none ∙ refuses in let no : ⊥ = cc in no)
 only_memory value (BadBlock index) none refuses = absurd (let other : None ≡ Some (BadBlock index) = sym none ∙ refuses in let no : ⊥ = cc in no)

@@ -1,7 +1,7 @@
 use Rattle.std.proofs.Common.{◌≡◌, ℕ, Option, Ok, Err, ap, refl, subst, sym, ◌∙◌}
 use Rattle.std.proofs.lemmas.Result.{err_from_is_err_and}
 use Rattle.segment_disk.specs.Tape.{Tape}
-use Rattle.wal_reader.specs.LogReader.{Leaves, ReadState, state_of}
+use Rattle.wal_reader.specs.LogReader.{LeavesReader, ReaderState, reader_state}
 use Rattle.wal_reader.specs.Spelled.{GivesSpelled}
 use Rattle.wal_reader.specs.declared.standing.Step.{Step}
 use Rattle.wal_reader.specs.declared.standing.Step.TheVariants.{Record, End}
@@ -14,10 +14,10 @@ use Rattle.waldump_text.proofs.dumping.dump.Goals.{In-Record, In_err-found, In-E
 pub records-init : goal.records-init
 records-init g c =
     let valid = rw c.segment_size.ensures.value at c.segment_size.ensures.valid in
-    let made : ℕ → ReadState = λ start. record (unread c.args.geometry) { start = start } in
-    let state : state_of c.new-reader.result ≡ unread c.args.geometry = c.new-reader.ensures.state ∙ ap made c.segment_size.ensures.value in
+    let made : ℕ → ReaderState = λ start. record (unread c.args.geometry) { start = start } in
+    let state : reader_state c.new-reader.result ≡ unread c.args.geometry = c.new-reader.ensures.state ∙ ap made c.segment_size.ensures.value in
     record {
-      sized = ap (λ (s : ReadState). s.size) state;
+      sized = ap (λ (s : ReaderState). s.size) state;
       lists = ListsLog-none c.args.geometry valid _ (g.D.Disk.tape c.args.disk.now) c.new-reader.result state c.new-reader.ensures.knows;
       empty = c.new-buffer.ensures;
       tape = refl;
@@ -40,10 +40,10 @@ steps_on g c =
     let gives = subst (λ (step : Step). Steps (g.D.Disk.tape c.records.disk) c.records.reader c.next.new.self (Ok step)) c.in-Record.is c.in_ok-found.ensures.gives in
     subst (λ (tape : Option Tape). Steps tape c.records.reader c.next.new.self (Ok (Record c.in-Record.found))) c.records.invariant.tape gives
 
-sized_on : (g : _) (c : In-Record g) → (state_of c.next.new.self).size ≡ c.args.geometry
+sized_on : (g : _) (c : In-Record g) → (reader_state c.next.new.self).size ≡ c.args.geometry
 sized_on g c =
-    let leaves = subst (λ (step : Step). Leaves (state_of c.records.reader) (state_of c.next.new.self) (Ok step)) c.in-Record.is c.in_ok-found.ensures.leaves in
-    ap (λ (s : ReadState). s.size) leaves.0 ∙ c.records.invariant.sized
+    let leaves = subst (λ (step : Step). LeavesReader (reader_state c.records.reader) (reader_state c.next.new.self) (Ok step)) c.in-Record.is c.in_ok-found.ensures.leaves in
+    ap (λ (s : ReaderState). s.size) leaves.0 ∙ c.records.invariant.sized
 
 pub put_line-requires : goal.put_line-requires
 put_line-requires g c =

@@ -1,11 +1,11 @@
 use Rattle.std.proofs.Common.{◌≡◌, []}
-use Rattle.wal_reader.specs.LogReader.{left_of, state_of}
+use Rattle.wal_reader.specs.LogReader.{left_of, reader_state}
 use Rattle.waldump_text.proofs.DumpLaws.{ListsLog}
 use Rattle.waldump_text.proofs.dumping.dump.Given as goal
 
 abbrev pub invariant-records : goal.invariant-records
 invariant-records g l = record {
-  sized : (state_of l.reader).size ≡ l.fn.geometry;
+  sized : (reader_state l.reader).size ≡ l.fn.geometry;
   lists : ListsLog (g.D.Disk.tape l.initial.disk) l.fn.geometry l.reader (g.O.Sink.taken l.initial.out) (g.O.Sink.taken l.out);
   empty : l.buffer ≡ [];
   tape : g.D.Disk.tape l.disk ≡ g.D.Disk.tape l.initial.disk;
@@ -15,4 +15,4 @@ invariant-records g l = record {
 }
 
 abbrev pub decreases-records : goal.decreases-records
-decreases-records g l = left_of (state_of l.reader)
+decreases-records g l = left_of (reader_state l.reader)

@@ -2,7 +2,7 @@
 use Rattle.std.proofs.Common.{◌≡◌, ℕ, List, false, Option, IfSome, ap, subst, sym, ◌∙◌, arith}
 use Rattle.segment_disk.specs.Tape.{Tape}
 use Rattle.flush_core.specs.declared.writer.Writer.{Writer}
-use Rattle.flush_core.specs.Pages.{Pages}
+use Rattle.flush_core.specs.Pages.{PutPages}
 use Rattle.flush_core.specs.Left.{IsMadeUpto, IsKeptWord, TapeAssures}
 use Rattle.flush_core.specs.Writer.{IsWriter}
 use Rattle.flush_core.specs.Left.{IsWordPut, IsNowhere}
@@ -20,7 +20,7 @@ returns-in-Err-clause-failed g c =
     harden_failed g.row.D.Denot g.D.Disk.tape old c.sync.new.self g.D.Disk.moment g.D.Disk.faults c.fail.new.self c.fail.result.faults c.if-self.true c.in_ok-check.ensures fails c.in-Err.ensures.cause c.fail.ensures.told c.fail.ensures.kept
 
 -- what is held is held behind the sync
-holds_behind : (g : Over) (c : goal.After-moment g) (pages : Pages) → IsWriter g.D.Disk.tape c.args.self.now pages → IsWriter g.D.Disk.tape c.if-self.self pages
+holds_behind : (g : Over) (c : goal.After-moment g) (pages : PutPages) → IsWriter g.D.Disk.tape c.args.self.now pages → IsWriter g.D.Disk.tape c.if-self.self pages
 holds_behind g c pages is =
     let tape = g.D.Disk.tape in
     let old = c.args.self.now in

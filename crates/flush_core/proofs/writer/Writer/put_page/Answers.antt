@@ -5,8 +5,8 @@ use Rattle.segment_disk.specs.declared.disk.Call.{Call}
 use Rattle.segment_disk.specs.Tape.{Tape}
 use Rattle.flush_core.specs.declared.writer.Writer.{Writer}
 use Rattle.flush_core.specs.Calls.{store_calls, put_calls, with_calls, BreaksOff}
-use Rattle.flush_core.specs.Pages.{Pages}
-use Rattle.flush_core.specs.Left.{Puts, with_put, IsMadeUpto, IsKeptWord, SameBelow, TapeAssures}
+use Rattle.flush_core.specs.Pages.{PutPages}
+use Rattle.flush_core.specs.Left.{PutHistory, with_put, IsMadeUpto, IsKeptWord, SameBelow, TapeAssures}
 use Rattle.flush_core.specs.Left.{IsWordPut, IsNowhere}
 use Rattle.flush_core.proofs.LeftLaws.{AllFit, TapeAssures-with_calls, TapeAssures-broken}
 use Rattle.flush_core.proofs.LeftPuts.{put_keeps, put_adds, HoldsOnly-more}
@@ -47,13 +47,13 @@ module _ (g : Over) (c : After-store_page g) (IsThere : ℕ → ℕ → Type 0) 
       (TapeAssures-broken c.args.self.now.geometry (IsThere c.args.self.now.geometry) Fits moment (g.D.Disk.tape c.args.self.now.disk) (g.D.Disk.tape disk) old_moment new_moment (stored g c) broken fit assures)
 
 module _ (g : Over) (c : After-store_page g) where
-  keeps : (position : ℕ) (pages : Pages) → position ≤ c.args.self.now.written.0 → SameBelow position c.args.page c.args.bytes.now (pages c.args.page) → AllFit c.args.self.now.geometry (IsMadeUpto c.args.self.now.geometry position) (IsKeptWord position pages) (stored g c)
+  keeps : (position : ℕ) (pages : PutPages) → position ≤ c.args.self.now.written.0 → SameBelow position c.args.page c.args.bytes.now (pages c.args.page) → AllFit c.args.self.now.geometry (IsMadeUpto c.args.self.now.geometry position) (IsKeptWord position pages) (stored g c)
   keeps = put_keeps c.args.self.now.geometry c.args.self.now.written.0 c.args.upto.0 c.args.page c.args.bytes.now (stored g c) (stored_are g c) (valid g c) c.requires.page
 
-  adds : (puts : Puts) → AllFit c.args.self.now.geometry IsNowhere (IsWordPut (with_put puts c.args.page c.args.bytes.now)) (stored g c)
+  adds : (puts : PutHistory) → AllFit c.args.self.now.geometry IsNowhere (IsWordPut (with_put puts c.args.page c.args.bytes.now)) (stored g c)
   adds = put_adds c.args.self.now.geometry c.args.self.now.written.0 c.args.upto.0 c.args.page c.args.bytes.now (stored g c) (stored_are g c) (valid g c) c.requires.page
 
-  more : (puts : Puts) (moment : ℕ) → IfSome (g.D.Disk.tape c.args.self.now.disk) (TapeAssures c.args.self.now.geometry IsNowhere (IsWordPut puts) moment)
+  more : (puts : PutHistory) (moment : ℕ) → IfSome (g.D.Disk.tape c.args.self.now.disk) (TapeAssures c.args.self.now.geometry IsNowhere (IsWordPut puts) moment)
       → IfSome (g.D.Disk.tape c.args.self.now.disk) (TapeAssures c.args.self.now.geometry IsNowhere (IsWordPut (with_put puts c.args.page c.args.bytes.now)) moment)
   more puts moment = HoldsOnly-more c.args.page c.args.bytes.now c.args.self.now.geometry puts moment (g.D.Disk.tape c.args.self.now.disk)
 

@@ -3,7 +3,7 @@ use Rattle.wal_types.specs.declared.lsn.Lsn.{Lsn}
 use Rattle.wal_reader.specs.Cursor.{IsLogOf, Sees}
 use Rattle.wal_reader.specs.Pages.{Pages}
 use Rattle.wal_reader.specs.Buffers.{HoldsPageOf}
-use Rattle.wal_reader.specs.LogReader.{Knows, state_of}
+use Rattle.wal_reader.specs.LogReader.{Knows, reader_state}
 use Rattle.wal_reader.specs.Steps.{ComesNext}
 use Rattle.wal_reader.specs.declared.buffers.Buffers.{Buffers}
 use Rattle.wal_reader.specs.declared.found.FoundRecord.{FoundRecord}
@@ -45,7 +45,7 @@ returns-in-Ok-clause-gives g c pages log knows =
     let before = (goal.at.returns-in-Ok-clause-gives g c).After-next_given in
     let end = option_map (λ (e : Lsn). e.0) c.args.self.now.end in
     let next : ComesNext c.args.self.now.geometry pages c.args.self.now.start.0 end c.match-self.from (Ok (c.in-Ok.found, c.in-Ok.behind)) = subst (λ (r : Result (FoundRecord × Standpoint) Stop). ComesNext c.args.self.now.geometry pages c.args.self.now.start.0 end c.match-self.from r) c.in-Ok.is (comes g before pages log knows) in
-    (knows_still g before pages log knows, λ others answer rest. Gives-comes pages (state_of c.args.self.now) c.match-self.from (c.in-Ok.found ∷ others) answer (stands g before) (next others answer rest))
+    (knows_still g before pages log knows, λ others answer rest. Gives-comes pages (reader_state c.args.self.now) c.match-self.from (c.in-Ok.found ∷ others) answer (stands g before) (next others answer rest))
 
 pub returns-in-Err-Told-clause-gives : goal.returns-in-Err-Told-clause-gives
 returns-in-Err-Told-clause-gives g c pages log knows =
@@ -53,9 +53,9 @@ returns-in-Err-Told-clause-gives g c pages log knows =
     let end = option_map (λ (e : Lsn). e.0) c.args.self.now.end in
     let said : Result (FoundRecord × Standpoint) Stop = Err (stops.Told c.in-Err-Told.answer) in
     let next : ComesNext c.args.self.now.geometry pages c.args.self.now.start.0 end c.match-self.from said = subst (λ (r : Result (FoundRecord × Standpoint) Stop). ComesNext c.args.self.now.geometry pages c.args.self.now.start.0 end c.match-self.from r) (c.in-Err-Told.is ∙ ap Err c.in-Err-Told.field-0-is) (comes g before pages log knows) in
-    let gives = Gives-comes pages (state_of c.args.self.now) c.match-self.from [] c.in-Err-Told.answer (stands g before) next in
-    (knows_still g before pages log knows, rw c.told-in-Err-Told.ensures (IsNext-told pages (state_of c.args.self.now) _ c.in-Err-Told.answer gives))
+    let gives = Gives-comes pages (reader_state c.args.self.now) c.match-self.from [] c.in-Err-Told.answer (stands g before) next in
+    (knows_still g before pages log knows, rw c.told-in-Err-Told.ensures (IsNext-told pages (reader_state c.args.self.now) _ c.in-Err-Told.answer gives))
 
 pub returns-in-Err-Told-clause-leaves : goal.returns-in-Err-Told-clause-leaves
 returns-in-Err-Told-clause-leaves g c =
-    rw (c.after-self.ensures, c.told-in-Err-Told.ensures) (Leaves-told (state_of c.args.self.now) c.in-Err-Told.answer)
+    rw (c.after-self.ensures, c.told-in-Err-Told.ensures) (Leaves-told (reader_state c.args.self.now) c.in-Err-Told.answer)

@@ -1,5 +1,5 @@
 use Rattle.std.proofs.Common.{◌≡◌, ◌∙◌, sym, arith, subst}
-use Rattle.wal_record.specs.Spelling.{IsReady, assembled}
+use Rattle.wal_record.specs.Spelling.{AssembledFits, assembled}
 use Rattle.wal_record.proofs.Acceptance.{accepted_record, writable}
 use Rattle.wal_record.proofs.CarriedBytes.{carried_bytes}
 use Rattle.wal_record.proofs.body.Body.assemble.Goals as goal
@@ -28,5 +28,5 @@ returns-clause-ok c =
     let accepted = accepted_record r (sym c.refusal.ensures ∙ c.in_default.is) in
     let fits = c.in_ok-carried.ensures.fits in
     let same : c.of_parts.result ≡ assembled r = rw c.in_ok-carried.ensures.ok at c.of_parts.ensures.body in
-    let ready : IsReady (assembled r) = subst IsReady same c.of_parts.ensures.ready in
+    let ready : AssembledFits (assembled r) = subst AssembledFits same c.of_parts.ensures.ready in
     (same, writable r accepted ready fits.0 fits.1 fits.2 fits.3)

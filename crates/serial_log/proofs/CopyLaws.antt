@@ -1,0 +1,52 @@
+-- Words that are copied one behind another, and the bytes of words that are put one behind another.
+use Rattle.std.proofs.Common.{◌≡◌, ℕ, ◌+◌, ◌-◌, ◌*◌, ◌<◌, ◌≤◌, inl, inr, List, length, get_or, take, drop, set, sym, ap, ◌∙◌, below_more, get_or-set_other, get_or-set_same, ◌≢◌, arith}
+use Rattle.std.specs.Int.{w64, to_le_bytes}
+use Rattle.std.proofs.lemmas.Bool.{cases_lt}
+use Rattle.std.proofs.lemmas.Slice.{between_is, between-put_mid, take-put_mid_below}
+use borrow.Rule.Slice.PartMut.{put_mid}
+use Rattle.wal_page.specs.Placed.{PlacedState, entry_word}
+use Rattle.segment_disk.specs.DiskImage.{word_of}
+
+-- the word of a record at its place
+abbrev pub word_of_placed : PlacedState → ℕ → ℕ
+word_of_placed p address = entry_word p.size p.sysid p.body p.start p.prev address
+
+module _ (first placed new : PlacedState) (index : ℕ) (at : placed ≡ record first { next = first.next + 8 * index }) (step : new ≡ record placed { next = placed.next + 8 }) where
+  pub placed_on : new ≡ record first { next = first.next + 8 * (index + 1) }
+  placed_on =
+      let sum : first.next + 8 * index + 8 ≡ first.next + 8 * (index + 1) = omega arith in
+      step ∙ ap (λ (p : PlacedState). record p { next = p.next + 8 }) at ∙ ap (λ (n : ℕ). record first { next = n }) sum
+
+  pub words_on : (words : List ℕ) (word : ℕ) → index < length words → word ≡ word_of_placed placed placed.next → ((k : ℕ) → k < index → get_or words k 0 ≡ word_of_placed first (first.next + 8 * k))
+      → (k : ℕ) → k < index + 1 → get_or (set words index word) k 0 ≡ word_of_placed first (first.next + 8 * k)
+  words_on words word within gives so_far =
+      let P : ℕ → Type 0 = λ k. get_or (set words index word) k 0 ≡ word_of_placed first (first.next + 8 * k) in
+      below_more P index
+      (λ k less. let other : k ≢ index = omega arith in rw get_or-set_other (so_far k less))
+      (rw get_or-set_same (gives ∙ ap (λ (p : PlacedState). word_of_placed p p.next) at))
+
+-- a word of bytes whose words up to one were put
+module _ (n : ℕ) (into piece : List ℕ) (long : length piece ≡ 8) (within : 8 * n + 8 ≤ length into) where
+  word_of-put_below : (k : ℕ) → k < n → word_of (put_mid (8 * n) 8 into piece) k ≡ word_of into k
+  word_of-put_below k less =
+      let width : 8 * k + 8 - 8 * k ≡ 8 = omega arith in
+      let after = put_mid (8 * n) 8 into piece in
+      let as_between = λ (bytes : List ℕ). ap (λ (w : ℕ). take w (drop (8 * k) bytes)) (sym width) ∙ between_is bytes (8 * k) (8 * k + 8) in
+      as_between after ∙ ap (drop (8 * k)) (take-put_mid_below (8 * n) 8 into piece (8 * k + 8) (omega arith) (omega arith)) ∙ sym (as_between into)
+
+  word_of-put_at : word_of (put_mid (8 * n) 8 into piece) n ≡ piece
+  word_of-put_at =
+      let width : 8 * n + 8 - 8 * n ≡ 8 = omega arith in
+      ap (λ (w : ℕ). take w (drop (8 * n) (put_mid (8 * n) 8 into piece))) (sym width) ∙ between-put_mid (8 * n) 8 into piece (8 * n + 8) (omega arith) (omega arith)
+
+pub put_word : (words into piece : List ℕ) (n count : ℕ) → count ≡ 8 → length into ≡ 8192 → n < 1024 → piece ≡ to_le_bytes w64 (get_or words n 0) → ((k : ℕ) → k < n → word_of into k ≡ to_le_bytes w64 (get_or words k 0))
+    → (k : ℕ) → k < n + 1 → word_of (put_mid (8 * n) count into piece) k ≡ to_le_bytes w64 (get_or words k 0)
+put_word words into piece n count eight whole within is so_far k less =
+    let long : length piece ≡ 8 = ap length is in
+    ap (λ (c : ℕ). word_of (put_mid (8 * n) c into piece) k) eight
+    ∙ elim (cases_lt k n) [
+      | inl below ↦ word_of-put_below n into piece long (omega arith) k below ∙ so_far k below
+      | inr on ↦
+          (let same : k ≡ n = omega arith in
+          ap (word_of (put_mid (8 * n) 8 into piece)) same ∙ word_of-put_at n into piece long (omega arith) ∙ is ∙ ap (λ (j : ℕ). to_le_bytes w64 (get_or words j 0)) (sym same))
+    ]

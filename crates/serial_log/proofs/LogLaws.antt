@@ -1,0 +1,220 @@
+-- How a log stands behind a record that is put into it, and behind a flush.
+use Rattle.std.proofs.Common.{◌≡◌, ℕ, ◌+◌, ◌<◌, ◌≤◌, inl, inr, false, List, Option, Some, None, Result, refl, sym, ap, subst, ◌∙◌, arith}
+use Rattle.byte_position.specs.Position.{address_of, end_address_of, first_position}
+use Rattle.byte_position.proofs.EndAddresses.{end_address_of-mono_lt}
+use Rattle.wal_types.specs.declared.record.Record.{Record}
+use Rattle.wal_types.specs.declared.lsn.Lsn.{Lsn}
+use Rattle.wal_record.specs.Spelling.{Assembled, assembled, assembled_room, IsWritable}
+use Rattle.segment_disk.specs.Cause.{Rose}
+use Rattle.segment_disk.specs.Tape.{Tape}
+use Rattle.wal_page.specs.Order.{Entry, IsChained, rooms_of, prev_of}
+use Rattle.wal_page.specs.Log.{log_word}
+use Rattle.wal_page.specs.Placed.{PlacedState}
+use Rattle.wal_page.proofs.OrderLaws.{rooms_of_push, prev_of_push}
+use Rattle.flush_core.specs.declared.writer.Writer.{Writer}
+use Rattle.flush_core.specs.Writer.{disk_of, writer_segment_size, written_of, is_unsynced, writer_fault}
+use Rattle.serial_log.specs.declared.told.Receipt.{Receipt}
+use Rattle.serial_log.specs.declared.told.Refused.{Refused}
+use Rattle.serial_log.specs.Ring.{RingState, HoldsWords}
+use Rattle.serial_log.specs.Words.{HasWritten, words_upto}
+use Rattle.serial_log.specs.Buffers.{IsSameOrFurther, Spans, StaysUp, GoesDown}
+use Rattle.serial_log.specs.History.{LogHistory, end_of, next_entry, with_entry}
+use Rattle.serial_log.specs.Steps.{Inserts, IsReserved, HasInserted, FailsReserved, HasFlushed}
+use Rattle.serial_log.specs.LogState.{LogState, IsFirst, IsLog, IsUp, IsUpOrDown, PartsReach, end_behind}
+use Rattle.serial_log.proofs.Copying.{AreGiven}
+use Rattle.serial_log.proofs.LogWords.{HoldsWords-same, log_word-upto_end, chained_more, end_of_more, AreGiven-more, HoldsWords-before, HoldsWords-after, HaveWords-more}
+
+-- the parts of a placed record, told by equations
+placed_at : (size sysid : ℕ) (a b : Assembled) (start start' prev prev' next next' : ℕ) → a ≡ b → start ≡ start' → prev ≡ prev' → next ≡ next'
+    → ◌≡◌ {A = PlacedState} (record { size = size; sysid = sysid; body = a; start = start; prev = prev; next = next }) (record { size = size; sysid = sysid; body = b; start = start'; prev = prev'; next = next' })
+placed_at size sysid a b start start' prev prev' next next' e1 e2 e3 e4 = rw (e1, e2, e3, e4) refl
+
+pub placed_next : {size sysid start prev next : ℕ} {body : Assembled} (p : PlacedState) → p ≡ record { size = size; sysid = sysid; body = body; start = start; prev = prev; next = next } → p.next ≡ next
+placed_next p is = ap (λ (q : PlacedState). q.next) is
+
+-- what is written reaches further, and nothing waits for a sync where nothing was written
+Reaches-on : (D : Type 0) (size bytes more flushed : ℕ) (old_ring ring : RingState) (old new : Writer D) → PartsReach size bytes flushed old_ring old → IsSameOrFurther old new → Spans ring new (end_behind size more) → PartsReach size more flushed ring new
+Reaches-on D size bytes more flushed old_ring ring old new reaches (inl same) spans = record {
+  spans = spans;
+  flushed_within = subst (λ (w : Writer D). flushed ≤ written_of w) (sym same) reaches.flushed_within;
+  synced = subst (λ (w : Writer D). flushed ≡ written_of w → is_unsynced w ≡ false) (sym same) reaches.synced;
+}
+Reaches-on D size bytes more flushed old_ring ring old new reaches (inr further) spans = record {
+  spans = spans;
+  flushed_within = omega (arith, reaches.flushed_within);
+  synced = λ all. absurd (omega (arith, reaches.flushed_within));
+}
+
+Rose-on : (opened old told : ℕ) → old ≡ opened → Rose old told → Rose opened told
+Rose-on opened old told same = subst (λ (n : ℕ). Rose n told) same
+
+module _ (D : Type 0) (tape : D → Option Tape) (faults : D → ℕ) (before : Option Tape) (opened : ℕ) (log : LogState D) (up : writer_fault log.writer ≡ None) where
+  -- a log whose disk has not failed
+  down_none : (s : LogHistory) → IsLog tape faults before opened log s → s.down ≡ None
+  down_none s is = sym is.down ∙ up
+
+  is_up : (s : LogHistory) → IsLog tape faults before opened log s → IsUp tape faults before opened log s.entries
+  is_up s is = subst (IsUpOrDown tape faults before opened log s.entries) (down_none s is) is.state
+
+  -- ---- a record is put into the log
+
+  module _ (ring : RingState) (writer : Writer D) (first room : ℕ) (start end : Lsn) (body : Assembled) (from : PlacedState) where
+    -- the log with it
+    abbrev pub appended : LogState D
+    appended = record log { ring = ring; writer = writer; bytes = log.bytes + room; prev = start.0 }
+
+    -- its place, which is reserved
+    pub record IsPlace : Type 0 where
+      pub begins : IsFirst log.size first
+      pub room_is : room ≡ assembled_room body
+      pub fits : log.bytes + assembled_room body ≤ log.capacity
+      pub start_is : start.0 ≡ address_of log.size (first + log.bytes)
+      pub end_is : end.0 ≡ end_address_of log.size (first + (log.bytes + room))
+      pub from_is : from ≡ record { size = log.size; sysid = log.sysid; body = body; start = first + log.bytes; prev = log.prev; next = end_address_of log.size (first + log.bytes) }
+
+    module _ (place : IsPlace) (s : LogHistory) (value : Record) (is : IsLog tape faults before opened log s) (same : body ≡ assembled value) (writable : IsWritable value) where
+      abbrev size : ℕ
+      size = log.size
+
+      abbrev es : List Entry
+      es = s.entries
+
+      abbrev more : List Entry
+      more = with_entry size es value
+
+      position_is : first + log.bytes ≡ first_position size + rooms_of es
+      position_is = omega (arith, place.begins.is, is.bytes)
+
+      rooms_is : log.bytes + room ≡ rooms_of more
+      rooms_is = omega (arith, is.bytes, place.room_is, ap assembled_room same, rooms_of_push es (next_entry size es value))
+
+      end_is_more : end.0 ≡ end_of size more
+      end_is_more = let at : first + (log.bytes + room) ≡ first_position size + rooms_of more = omega (arith, place.begins.is, rooms_is) in place.end_is ∙ ap (end_address_of size) at
+
+      is_reserved : IsReserved size log.capacity s value start.0
+      is_reserved = record {
+        up = down_none s is;
+        fits = omega (arith, is.bytes, place.fits, ap assembled_room same);
+        start_is = place.start_is ∙ ap (address_of size) position_is;
+      }
+
+      -- what stays so whether the disk fails or not
+      module _ (new : LogHistory) (entries : new.entries ≡ more) (flushed : new.flushed ≡ s.flushed) (same_size : writer_segment_size writer ≡ writer_segment_size log.writer) (down : writer_fault writer ≡ new.down) (state : IsUpOrDown tape faults before opened appended new.entries new.down) where
+        is_appended : IsLog tape faults before opened appended new
+        is_appended = record {
+          valid = is.valid;
+          same_size = same_size ∙ is.same_size;
+          chained = subst (IsChained size) (sym entries) (chained_more size log.sysid is.valid es value is.chained writable);
+          within = omega (arith, place.fits, place.room_is, rooms_is, ap rooms_of entries);
+          bytes = rooms_is ∙ ap rooms_of (sym entries);
+          prev = place.start_is ∙ ap (address_of size) position_is ∙ sym (prev_of_push size 0 es (next_entry size es value)) ∙ ap (prev_of size 0) (sym entries);
+          flushed = is.flushed ∙ sym flushed;
+          down = down;
+          state = state;
+        }
+
+      -- its words are the log's from its end on
+      given : AreGiven from end.0 (log_word size log.sysid more)
+      given =
+          let from_here = place.from_is ∙ placed_at size log.sysid body (assembled value) (first + log.bytes) (first_position size + rooms_of es) log.prev (prev_of size 0 es) (end_address_of size (first + log.bytes)) (end_of size es) same position_is is.prev (ap (end_address_of size) position_is) in
+          subst (λ (n : ℕ). AreGiven from n (log_word size log.sysid more)) (sym end_is_more) (AreGiven-more size log.sysid is.valid es value is.chained writable from from_here)
+
+      next_is : from.next ≡ end_of size es
+      next_is = ap (λ (p : PlacedState). p.next) place.from_is ∙ ap (end_address_of size) position_is
+
+      holds_before : HoldsWords log.ring (words_upto (log_word size log.sysid more) from.next)
+      holds_before = subst (λ (n : ℕ). HoldsWords log.ring (words_upto (log_word size log.sysid more) n)) (sym next_is) (HoldsWords-before size log.sysid is.valid es value is.chained writable log.ring (is_up s is).words)
+
+      pub appended_ok : PartsReach size log.bytes log.flushed log.ring log.writer → StaysUp faults log.writer writer → IsSameOrFurther log.writer writer → Spans ring writer end.0
+          → ((word : ℕ → ℕ) → AreGiven from end.0 word → HoldsWords log.ring (words_upto word from.next) → HoldsWords ring (words_upto word end.0))
+          → ((word : ℕ → ℕ) → AreGiven from end.0 word → HoldsWords log.ring (words_upto word from.next) → HasWritten tape log.writer word → HasWritten tape writer word)
+          → (after : LogHistory) × HasInserted size log.capacity s value start.0 end.0 after × IsLog tape faults before opened appended after
+      appended_ok reaches stays rises spans words written =
+          let word = log_word size log.sysid more in
+          let after : LogHistory = record s { entries = more } in
+          let here : end.0 ≡ end_behind size (log.bytes + room) = place.end_is ∙ ap (λ (n : ℕ). end_address_of size (n + (log.bytes + room))) place.begins.is in
+          let was = is_up s is in
+          let reached = Reaches-on D size log.bytes (log.bytes + room) log.flushed log.ring ring log.writer writer reaches rises (subst (Spans ring writer) here spans) in
+          let state : IsUp tape faults before opened appended more = record {
+            quiet = stays.quiet ∙ was.quiet;
+            words = HoldsWords-after size log.sysid is.valid es value is.chained writable ring (subst (λ (n : ℕ). HoldsWords ring (words_upto word n)) end_is_more (words word given holds_before));
+            reaches = reached;
+            holds = λ empty.
+                let has = was.holds empty in
+                let within : written_of log.writer ≤ end_of size es = subst (λ (n : ℕ). written_of log.writer ≤ end_address_of size (first_position size + n)) is.bytes reaches.spans.written_within in
+                written word given holds_before (record { pages = has.pages; is = has.is; words = HaveWords-more size log.sysid is.valid es value is.chained writable has.pages (written_of log.writer) within has.words });
+          } in (
+            after,
+            record { reserved = is_reserved; end_is = end_is_more ∙ sym (end_of_more size log.sysid is.valid es value is.chained writable); after_is = refl },
+            is_appended after refl refl stays.size (stays.up ∙ sym (down_none s is)) (subst (IsUpOrDown tape faults before opened appended more) (sym (down_none s is)) state),
+          )
+
+      pub appended_err : (told : ℕ) → GoesDown faults log.writer writer told → (after : LogHistory) × FailsReserved size log.capacity opened s value told start.0 after × IsLog tape faults before opened appended after
+      appended_err told down =
+          let after : LogHistory = record s { entries = more; down = Some told } in
+          let rose = Rose-on opened (faults (disk_of log.writer)) told (is_up s is).quiet down.rose in (
+            after,
+            record { reserved = is_reserved; rose = rose; after_is = refl },
+            is_appended after refl refl down.size down.down (record { told = down.is_told; rose = rose }),
+          )
+
+  -- ---- the log is flushed
+
+  module _ (writer : Writer D) (end moment : ℕ) (s : LogHistory) (is : IsLog tape faults before opened log s) (end_is : end ≡ end_behind log.size log.bytes) where
+    pub flushed_ok : PartsReach log.size log.bytes log.flushed log.ring log.writer → StaysUp faults log.writer writer → written_of writer ≡ end → is_unsynced writer ≡ false
+        → ((word : ℕ → ℕ) → HoldsWords log.ring (words_upto word end) → HasWritten tape log.writer word → HasWritten tape writer word)
+        → (after : LogHistory) × HasFlushed log.size s end after × IsLog tape faults before opened (record log { writer = writer; flushed = end; moment = moment }) after
+    flushed_ok reaches stays written synced writes =
+        let size = log.size in
+        let es = s.entries in
+        let word = log_word size log.sysid es in
+        let was = is_up s is in
+        let here : end ≡ end_of size es = end_is ∙ ap (λ (n : ℕ). end_address_of size (first_position size + n)) is.bytes in
+        let whole : HoldsWords log.ring (words_upto word end) = subst (λ (n : ℕ). HoldsWords log.ring (words_upto word n)) (sym here) (HoldsWords-same log.ring word (words_upto word (end_of size es)) (λ address aligned. sym (log_word-upto_end size log.sysid is.valid es is.chained address)) was.words) in
+        let after : LogHistory = record s { flushed = end } in
+        let new : LogState D = record log { writer = writer; flushed = end; moment = moment } in
+        let state : IsUp tape faults before opened new es = record {
+          quiet = stays.quiet ∙ was.quiet;
+          words = was.words;
+          reaches = record {
+            spans = record {
+              written_within = omega (arith, written, end_is);
+              mapped_beyond = reaches.spans.mapped_beyond;
+              left_written = omega (arith, reaches.spans.left_written, reaches.spans.written_within, written, end_is);
+            };
+            flushed_within = omega (arith, written);
+            synced = λ all. synced;
+          };
+          holds = λ empty. writes word whole (was.holds empty);
+        } in (
+          after,
+          record { up = down_none s is; upto_is = here; after_is = refl },
+          record {
+            valid = is.valid;
+            same_size = stays.size ∙ is.same_size;
+            chained = is.chained;
+            within = is.within;
+            bytes = is.bytes;
+            prev = is.prev;
+            flushed = refl;
+            down = stays.up ∙ sym (down_none s is);
+            state = subst (IsUpOrDown tape faults before opened new es) (sym (down_none s is)) state;
+          },
+        )
+
+-- an answer that is told by an equation
+pub inserts_at : (size capacity opened : ℕ) (s : LogHistory) (value : Record) (result told : Result Receipt Refused) (IsAfter : LogHistory → Type 0) → result ≡ told → (after : LogHistory) × Inserts size capacity opened s value told after × IsAfter after
+    → (after : LogHistory) × Inserts size capacity opened s value result after × IsAfter after
+inserts_at size capacity opened s value result told IsAfter is inserts = subst (λ (r : Result Receipt Refused). (after : LogHistory) × Inserts size capacity opened s value r after × IsAfter after) (sym is) inserts
+
+-- a record has some bytes, so a log that one is put into has an end that is neither written nor flushed
+module _ (D : Type 0) (size first bytes room flushed : ℕ) (old_ring : RingState) (old new : Writer D) (begins : IsFirst size first) (some : 0 < room) (reaches : PartsReach size bytes flushed old_ring old) where
+  pub end_rises : end_address_of size (first + bytes) < end_address_of size (first + (bytes + room))
+  end_rises = end_address_of-mono_lt size begins.valid (first + bytes) (first + (bytes + room)) (omega arith)
+
+  pub unwritten : (next end : ℕ) → next ≡ end_address_of size (first + bytes) → end ≡ end_address_of size (first + (bytes + room)) → (next < end → written_of new < end) → (written_of new < end_behind size (bytes + room)) × (flushed < end_behind size (bytes + room))
+  unwritten next end next_is end_is unfinished =
+      let here : end ≡ end_behind size (bytes + room) = end_is ∙ ap (λ (n : ℕ). end_address_of size (n + (bytes + room))) begins.is in
+      let there : next ≡ end_behind size bytes = next_is ∙ ap (λ (n : ℕ). end_address_of size (n + bytes)) begins.is in
+      let rises : next < end = omega (arith, end_rises) in
+      (omega (arith, unfinished rises), omega (arith, reaches.flushed_within, reaches.spans.written_within))

@@ -1,0 +1,88 @@
+-- A log that is opened: it has no words, and nothing is written.
+use Rattle.std.proofs.Common.{◌≡◌, ℕ, ◌+◌, ◌-◌, ◌*◌, ◌%◌, ◌^◌, ◌≤◌, false, [], take, drop, replicate, Option, None, refl, sym, ap, ◌∙◌, inl, inr, add-zero, arith}
+use Rattle.std.specs.Int.{w64, to_le_bytes}
+use Rattle.std.proofs.lemmas.Bool.{cases_lt}
+use Rattle.std.proofs.lemmas.List.{drop-replicate, take-replicate}
+use Rattle.byte_position.specs.Geometry.{IsSegmentSize, pages_of}
+use Rattle.byte_position.specs.Position.{end_address_of, first_position}
+use Rattle.byte_position.proofs.SegmentSizes.{segment_size_in_pages}
+use Rattle.segment_disk.specs.Tape.{Tape}
+use Rattle.wal_page.specs.Log.{log_word}
+use Rattle.wal_page.proofs.WordPositions.{end_address_of-first_position}
+use Rattle.wal_page.proofs.LogWordLaws.{log_word-unowned}
+use Rattle.flush_core.specs.declared.writer.Writer.{Writer}
+use Rattle.flush_core.specs.Pages.{HoldsNothing, no_pages}
+use Rattle.flush_core.specs.Writer.{IsWriter, disk_of, writer_segment_size, written_of, is_unsynced, writer_fault}
+use Rattle.serial_log.specs.Ring.{RingState, HoldsWords}
+use Rattle.serial_log.specs.Words.{words_upto}
+use Rattle.serial_log.specs.History.{at_opening}
+use Rattle.serial_log.specs.LogState.{IsInOrder, IsLog, PartsReach, end_behind}
+use Rattle.serial_log.proofs.RingLaws.{words_upto-below, words_upto-behind}
+use Rattle.serial_log.proofs.LogWords.{HoldsWords-same}
+
+-- a log without entries has no words
+no_words : (size sysid : ℕ) → IsSegmentSize size → (address : ℕ) → address % 8 ≡ 0 → log_word size sysid [] address ≡ 0
+no_words size sysid valid address whole = log_word-unowned size sysid valid [] tt address whole refl
+
+no_words_upto : (size sysid upto : ℕ) → IsSegmentSize size → (address : ℕ) → address % 8 ≡ 0 → words_upto (log_word size sysid []) upto address ≡ 0
+no_words_upto size sysid upto valid address whole =
+    elim (cases_lt address upto) [
+      | inl below ↦ words_upto-below (log_word size sysid []) upto address below ∙ no_words size sysid valid address whole
+      | inr behind ↦ words_upto-behind (log_word size sysid []) upto address behind
+    ]
+
+-- the words of a page of zeros
+word_of-zeros : (m k : ℕ) → k + 8 ≤ m → take 8 (drop k (replicate {A = ℕ} m 0)) ≡ replicate {A = ℕ} 8 0
+word_of-zeros m k within = ap (take 8) (drop-replicate {X = ℕ} k m 0) ∙ take-replicate {X = ℕ} 8 (m - k) 0 (omega arith)
+
+-- where a log begins and ends
+pub end_behind-none : (size : ℕ) → IsSegmentSize size → end_behind size 0 ≡ size
+end_behind-none size valid = ap (end_address_of size) (add-zero (first_position size)) ∙ end_address_of-first_position size valid
+
+module _ (D : Type 0) (size pages : ℕ) (ring : RingState) (writer : Writer D) (valid : IsSegmentSize size) (pages_are : ring.pages ≡ pages) (mapped : ring.mapped ≡ pages_of size + pages) (written : written_of writer ≡ size) (synced : is_unsynced writer ≡ false) where
+  reaches : (flushed : ℕ) → flushed ≡ size → PartsReach size 0 flushed ring writer
+  reaches flushed begun =
+      let end = end_behind-none size valid in
+      let whole = segment_size_in_pages size valid in
+      record {
+        spans = record {
+          written_within = omega (arith, written, end);
+          mapped_beyond = omega (arith, end, mapped, whole.0);
+          left_written = omega (arith, mapped, written, whole.0, pages_are);
+        };
+        flushed_within = omega (arith, begun, written);
+        synced = λ all. synced;
+      }
+
+  pub IsInOrder-opened : (capacity flushed : ℕ) → writer_segment_size writer ≡ size → capacity ≤ 2 ^ 42 → flushed ≡ size → IsInOrder size capacity 0 flushed ring writer
+  IsInOrder-opened capacity flushed same_size small begun = record {
+    same_size = same_size;
+    small = small;
+    whole = refl;
+    within = omega arith;
+    reaches = λ up. reaches flushed begun;
+  }
+
+  pub IsLog-opened : (tape : D → Option Tape) (faults : D → ℕ) (disk : D) (capacity sysid flushed moment : ℕ) → writer_segment_size writer ≡ size → disk_of writer ≡ disk → writer_fault writer ≡ None → flushed ≡ size → HoldsWords ring (λ address. 0)
+      → (HoldsNothing (tape disk) → IsWriter tape writer no_pages)
+      → IsLog tape faults (tape disk) (faults disk) (record { size = size; capacity = capacity; sysid = sysid; ring = ring; writer = writer; bytes = 0; prev = 0; flushed = flushed; moment = moment }) (at_opening size)
+  IsLog-opened tape faults disk capacity sysid flushed moment same_size same_disk up begun zeros is = record {
+    valid = valid;
+    same_size = same_size;
+    chained = tt;
+    within = omega arith;
+    bytes = refl;
+    prev = refl;
+    flushed = begun;
+    down = up;
+    state = record {
+      quiet = ap faults same_disk;
+      words = HoldsWords-same ring (λ address. 0) (log_word size sysid []) (λ address whole. sym (no_words size sysid valid address whole)) zeros;
+      reaches = reaches flushed begun;
+      holds = λ empty. record {
+        pages = no_pages;
+        is = is empty;
+        words = record { each = λ page n lt. word_of-zeros 8192 (8 * n) (omega arith) ∙ ap (to_le_bytes w64) (sym (no_words_upto size sysid (written_of writer) valid (page * 8192 + 8 * n) (omega arith))) };
+      };
+    };
+  }

@@ -1,0 +1,11 @@
+pub mod Ring
+pub mod Words
+pub mod Buffers
+pub mod Shape
+pub mod Room
+pub mod History
+pub mod Steps
+pub mod LogState
+pub mod Refusing
+pub mod LogImage
+pub mod Opening

@@ -1,0 +1,279 @@
+ghost use Rattle.std.specs.Prelude.{◌≡◌, ◌≢◌, ℕ, ◌+◌, ◌<◌, ◌≤◌, None, Option, Err, IfOk, IfErr, IfSome, OnErr, OnOk};
+ghost use Rattle.segment_disk.specs.Tape.{Tape, page_of_segment, state_now};
+ghost use Rattle.wal_record.specs.Spelling.{assembled, assembled_room, IsWritable};
+ghost use Rattle.wal_types.specs.declared.record.Record.{Record};
+ghost use Rattle.flush_core.specs.Pages.{HoldsNothing};
+ghost use Rattle.flush_core.specs.Writer.{writer_fault};
+ghost use Rattle.serial_log.specs.LogImage.{HoldsLog};
+ghost use Rattle.serial_log.specs.LogState.{IsLog, IsSameLog, HasUnwritten, end_behind, log_disk};
+ghost use Rattle.serial_log.specs.Opening.{IsUncalled, RefusesToOpen};
+ghost use Rattle.serial_log.specs.Refusing.{HasFailed, IsLeftBy, down_again};
+ghost use Rattle.serial_log.specs.History.{LogHistory, at_opening, capacity_of, end_of};
+ghost use Rattle.serial_log.specs.Steps.{Commits, Flushes, Inserts};
+
+use crate::buffers::Buffers;
+use crate::room::Room;
+use crate::told::{Cause, Hard, Receipt, Refused, Sealed};
+use byte_position::Geometry;
+use flush_core::{DiskFault, Writer};
+use segment_disk::Disk;
+use std::marker::Model;
+use wal_page::Placed;
+use wal_record::Body;
+use wal_types::Lsn;
+
+/// A log that one backend writes: records follow each other from segment 1's start on (PostgreSQL's `XLogInsertRecord` and
+/// `XLogFlush` of xlog.c). It takes no memory.
+#[derive(Drop)]
+pub struct Log<D> {
+    buffers: Buffers<D>,
+    geometry: Geometry,
+    sysid: u64,
+    // The byte position at which the log begins.
+    first: u64,
+    // How many bytes records may take up, and how many they do.
+    capacity: u64,
+    bytes: u64,
+    // Where the last record starts, 0 before the first one.
+    prev: Lsn,
+    flushed: Lsn,
+    // The moment told last.
+    moment: u64,
+}
+
+/// Why a log was not opened. The disk comes back.
+#[derive(Drop)]
+pub enum OpenFailure<D> {
+    /// The first read failed.
+    Disk(D),
+    /// Segment 1 is there.
+    NotEmpty(D),
+}
+
+impl<D> Model for Log<D> {
+    ghost use Rattle.serial_log.specs.LogState.{IsFirst, IsInOrder, LogState};
+
+    ghost Value = { LogState D };
+
+    ghost view = { λ l. record { size = l.geometry; capacity = l.capacity; sysid = l.sysid; ring = l.buffers.ring; writer = l.buffers.writer; bytes = l.bytes; prev = l.prev.0; flushed = l.flushed.0; moment = l.moment } };
+
+    ghost invariant = { λ l. IsFirst l.geometry l.first × IsInOrder l.geometry l.capacity l.bytes l.flushed.0 l.buffers.ring l.buffers.writer };
+}
+
+impl<D: Disk> Log<D> {
+    /// Opens a log on a disk that has no segment 1: the read of its first page is the only device call.
+    pub fn open(mut disk: D, sysid: u64, mut room: Room) -> Result<Log<D>, OpenFailure<D>>
+        ensures ok { IfOk result (λ log. IsLog D.tape D.faults (D.tape disk) (D.faults disk) log (at_opening log.size)) }
+        ensures shape { IfOk result (λ log. (log.size ≡ room.geometry) × (log.capacity ≡ capacity_of room.geometry room.cap_segments) × (log.sysid ≡ sysid)) }
+        ensures uncalled { IfOk result (λ log. IsUncalled D.tape D.moment disk (log_disk log)) }
+        ensures moment { IfOk result (λ log. log.moment ≡ D.moment disk) }
+        ensures empty { OnOk result (IfSome (D.tape disk) (λ t. page_of_segment (state_now t 1) 0 ≡ None)) }
+        ensures refused { IfErr result (λ e. RefusesToOpen D.tape D.moment D.faults disk e) }
+    {
+        match room.read_first_page(&mut disk) {
+            Err(_) => Err(OpenFailure::Disk(disk)),
+            Ok(true) => Err(OpenFailure::NotEmpty(disk)),
+            Ok(false) => Ok(Log::on_empty_disk(disk, sysid, room)),
+        }
+    }
+
+    fn on_empty_disk(disk: D, sysid: u64, room: Room) -> Log<D>
+        ensures log { IsLog D.tape D.faults (D.tape disk) (D.faults disk) result (at_opening result.size) }
+        ensures shape { (result.size ≡ room.geometry) × (result.capacity ≡ capacity_of room.geometry room.cap_segments) × (result.sysid ≡ sysid) }
+        ensures disk { log_disk result ≡ disk }
+        ensures moment { result.moment ≡ D.moment disk }
+    {
+        let moment = disk.moment();
+        let shape = room.shape;
+        Log {
+            buffers: Buffers {
+                writer: Writer::new(disk, shape.geometry),
+                ring: room.ring,
+                page: room.page,
+            },
+            geometry: shape.geometry,
+            sysid,
+            first: shape.first_position(),
+            capacity: shape.capacity(),
+            bytes: 0,
+            prev: Lsn(0),
+            flushed: Lsn(shape.geometry.segment_size()),
+            moment,
+        }
+    }
+
+    /// The disk of a log that is no longer written.
+    pub fn into_disk(self) -> D
+        ensures disk { result ≡ log_disk self }
+        ensures settled { (before : Option Tape) (opened : ℕ) (s : LogHistory) → IsLog D.tape D.faults before opened self s → HoldsNothing before → s.down ≡ None → s.flushed ≡ end_of self.size s.entries
+            → IfSome (D.tape result) (λ t. HoldsLog self.size self.sysid s.entries t) }
+    {
+        self.buffers.writer.into_disk()
+    }
+
+    /// Where the log ends: behind its last record, or at segment 1's start before the first one.
+    pub fn end(&self) -> Lsn
+        ensures { result.0 ≡ end_behind self.now.size self.now.bytes }
+    {
+        let behind = self.first + self.bytes;
+        self.geometry.to_end_lsn(behind)
+    }
+
+    /// How many bytes the records take up.
+    pub fn bytes(&self) -> u64
+        ensures { result ≡ self.now.bytes }
+    {
+        self.bytes
+    }
+
+    /// The disk's count of faults when it failed: no device call follows.
+    pub fn down(&self) -> Option<u64>
+        ensures { result ≡ writer_fault self.now.writer }
+    {
+        self.buffers.writer.fault()
+    }
+
+    /// Puts a record behind the others. It is not durable before a flush.
+    pub fn insert(&mut self, body: &Body) -> Result<Receipt, Refused>
+        ensures inserts { (before : Option Tape) (opened : ℕ) (s : LogHistory) (value : Record) → IsLog D.tape D.faults before opened self.old s → body.now ≡ assembled value → IsWritable value
+            → (after : LogHistory) × Inserts self.old.size self.old.capacity opened s value result after × IsLog D.tape D.faults before opened self.new after }
+        ensures down { IfSome (writer_fault self.old.writer) (λ faults. (result ≡ Err (down_again faults)) × (self.new ≡ self.old)) }
+        ensures same { IsSameLog self.old self.new }
+        ensures refused { IfErr result (λ refused. IsLeftBy refused.cause self.old self.new) }
+        ensures moment { self.new.moment ≡ self.old.moment }
+        ensures unflushed { OnOk result (HasUnwritten self.new) }
+        ensures not_earlier { D.moment (log_disk self.old) ≤ D.moment (log_disk self.new) }
+    {
+        self.check()?;
+        let free = self.capacity - self.bytes;
+        if u64::from(body.room()) > free {
+            return Err(Refused {
+                cause: Cause::Full { free },
+                reserved: None,
+            });
+        }
+        self.append(body)
+    }
+
+    /// Makes all records durable.
+    pub fn flush(&mut self) -> Result<Hard, Refused>
+        ensures flushes { (before : Option Tape) (opened : ℕ) (s : LogHistory) → IsLog D.tape D.faults before opened self.old s
+            → (after : LogHistory) × Flushes self.old.size opened s result after × IsLog D.tape D.faults before opened self.new after }
+        ensures down { IfSome (writer_fault self.old.writer) (λ faults. (result ≡ Err (down_again faults)) × (self.new ≡ self.old)) }
+        ensures same { IsSameLog self.old self.new }
+        ensures refused { IfErr result (λ refused. HasFailed refused.cause self.new) }
+        ensures flushed { OnOk result (self.new.flushed ≡ end_behind self.new.size self.new.bytes) }
+        ensures told { IfOk result (λ hard. hard.moment ≡ self.new.moment) }
+        ensures idle { self.old.flushed ≡ end_behind self.old.size self.old.bytes → self.new ≡ self.old }
+        ensures moment { OnOk result (self.old.flushed ≢ end_behind self.old.size self.old.bytes → self.new.moment ≡ D.moment (log_disk self.new)) }
+        ensures kept { OnErr result (self.new.moment ≡ self.old.moment) }
+        ensures later { OnOk result (HasUnwritten self.old → D.moment (log_disk self.old) < D.moment (log_disk self.new)) }
+        ensures not_earlier { D.moment (log_disk self.old) ≤ D.moment (log_disk self.new) }
+    {
+        self.check()?;
+        let end = self.end();
+        if self.flushed == end {
+            return Ok(Hard {
+                upto: end,
+                moment: self.moment,
+            });
+        }
+        self.harden(end)
+    }
+
+    /// Puts a record behind the others and makes all of them durable.
+    pub fn commit(&mut self, body: &Body) -> Result<Sealed, Refused>
+        ensures commits { (before : Option Tape) (opened : ℕ) (s : LogHistory) (value : Record) → IsLog D.tape D.faults before opened self.old s → body.now ≡ assembled value → IsWritable value
+            → (after : LogHistory) × Commits self.old.size self.old.capacity opened s value result after × IsLog D.tape D.faults before opened self.new after }
+        ensures down { IfSome (writer_fault self.old.writer) (λ faults. (result ≡ Err (down_again faults)) × (self.new ≡ self.old)) }
+        ensures same { IsSameLog self.old self.new }
+        ensures refused { IfErr result (λ refused. IsLeftBy refused.cause self.old self.new) }
+        ensures flushed { OnOk result (self.new.flushed ≡ end_behind self.new.size self.new.bytes) }
+        ensures told { IfOk result (λ sealed. (sealed.moment ≡ self.new.moment) × (sealed.moment ≡ D.moment (log_disk self.new))) }
+        ensures kept { OnErr result (self.new.moment ≡ self.old.moment) }
+        ensures later { OnOk result (D.moment (log_disk self.old) < D.moment (log_disk self.new)) }
+        ensures not_earlier { D.moment (log_disk self.old) ≤ D.moment (log_disk self.new) }
+    {
+        let Receipt { start, end } = self.insert(body)?;
+        match self.flush() {
+            Ok(hard) => Ok(Sealed {
+                start,
+                end,
+                moment: hard.moment,
+            }),
+            Err(refused) => Err(Refused {
+                cause: refused.cause,
+                reserved: Some(start),
+            }),
+        }
+    }
+
+    // The fault again, where the disk has failed.
+    fn check(&self) -> Result<(), Refused>
+        ensures up { OnOk result (writer_fault self.now.writer ≡ None) }
+        ensures down { IfErr result (λ e. (faults : ℕ) × (e ≡ down_again faults) × (writer_fault self.now.writer ≡ Some faults)) }
+    {
+        match self.down() {
+            None => Ok(()),
+            Some(faults) => Err(Refused {
+                cause: Cause::Down { faults },
+                reserved: None,
+            }),
+        }
+    }
+
+    // Reserves a record's room, of which there is enough, and copies its words.
+    fn append(&mut self, body: &Body) -> Result<Receipt, Refused>
+        requires up { writer_fault self.old.writer ≡ None }
+        requires fits { self.old.bytes + assembled_room body.now ≤ self.old.capacity }
+        ensures inserts { (before : Option Tape) (opened : ℕ) (s : LogHistory) (value : Record) → IsLog D.tape D.faults before opened self.old s → body.now ≡ assembled value → IsWritable value
+            → (after : LogHistory) × Inserts self.old.size self.old.capacity opened s value result after × IsLog D.tape D.faults before opened self.new after }
+        ensures same { IsSameLog self.old self.new }
+        ensures refused { IfErr result (λ refused. IsLeftBy refused.cause self.old self.new) }
+        ensures moment { self.new.moment ≡ self.old.moment }
+        ensures unflushed { OnOk result (HasUnwritten self.new) }
+        ensures not_earlier { D.moment (log_disk self.old) ≤ D.moment (log_disk self.new) }
+    {
+        let position = self.first + self.bytes;
+        let start = self.geometry.to_lsn(position);
+        let mut placed = Placed::new(self.geometry, self.sysid, body, position, self.prev);
+        self.bytes += u64::from(body.room());
+        self.prev = start;
+        let end = self.geometry.to_end_lsn(self.first + self.bytes);
+        match self.buffers.copy(&mut placed, end) {
+            Ok(()) => Ok(Receipt { start, end }),
+            Err(DiskFault { faults }) => Err(Refused {
+                cause: Cause::Disk { faults },
+                reserved: Some(start),
+            }),
+        }
+    }
+
+    // Makes durable all below the log's end.
+    fn harden(&mut self, end: Lsn) -> Result<Hard, Refused>
+        requires up { writer_fault self.old.writer ≡ None }
+        requires end { end.0 ≡ end_behind self.old.size self.old.bytes }
+        ensures flushes { (before : Option Tape) (opened : ℕ) (s : LogHistory) → IsLog D.tape D.faults before opened self.old s
+            → (after : LogHistory) × Flushes self.old.size opened s result after × IsLog D.tape D.faults before opened self.new after }
+        ensures same { IsSameLog self.old self.new }
+        ensures refused { IfErr result (λ refused. HasFailed refused.cause self.new) }
+        ensures flushed { OnOk result (self.new.flushed ≡ end_behind self.new.size self.new.bytes) }
+        ensures told { IfOk result (λ hard. hard.moment ≡ self.new.moment) }
+        ensures moment { OnOk result (self.new.moment ≡ D.moment (log_disk self.new)) }
+        ensures kept { OnErr result (self.new.moment ≡ self.old.moment) }
+        ensures later { OnOk result (HasUnwritten self.old → D.moment (log_disk self.old) < D.moment (log_disk self.new)) }
+        ensures not_earlier { D.moment (log_disk self.old) ≤ D.moment (log_disk self.new) }
+    {
+        match self.buffers.flush(end) {
+            Ok(moment) => {
+                self.moment = moment;
+                self.flushed = end;
+                Ok(Hard { upto: end, moment })
+            }
+            Err(DiskFault { faults }) => Err(Refused {
+                cause: Cause::Disk { faults },
+                reserved: None,
+            }),
+        }
+    }
+}
