@@ -18,6 +18,7 @@ use Rattle.wal_reader.specs.declared.found.Answer.{Answer}
 use Rattle.wal_reader.specs.declared.found.Answer.TheVariants as answers
 use Rattle.wal_reader.specs.declared.found.DamageKind.TheVariants as damages
 use Rattle.wal_reader.specs.Decodes.{Place, ReadsRecords, ReadsFrom, answer_or, beginning, damaged, ended, found_or, is_at_end, is_right_prev, is_zero_word, opens_page, page_answers, page_of_byte, place_behind, read_at, read_in, record_rows, rows_of_pages}
+use Rattle.wal_reader.specs.RecordRows.{header_rows}
 use Rattle.wal_reader.specs.LogReader.{ReaderState, GivesRecords, GivesAt, IsNext}
 use Rattle.wal_reader.specs.declared.standing.Standing.{Standing}
 use Rattle.wal_reader.specs.declared.standing.Standing.TheVariants.{NotBegun, At, Stopped}
@@ -106,7 +107,7 @@ module _ (size : ℕ) (pages : Pages) (end : Option ℕ) (place : Place) where
       (ltb first_size 24, damaged start damages.Length)
       (is_at_end end (address_of size (place.position + first_size - 1)), ended size place.position)
       (rows_of_pages size pages place first_size page header_page)
-      ((is_free_manager (get_or header 17 0), damaged start damages.Rmgr) ∷ (not (is_right_prev place.prev start (number_at w64 header 8)), damaged start damages.Prev) ∷ [])
+      (header_rows start place.prev header)
       (rows_of_pages size pages place first_size header_page (page_of_byte size place.position first_size))
       ((not (eqb (crc32c (drop 24 whole ++ take 20 whole)) (number_at w32 whole 20)), damaged start damages.Crc) ∷ [])
       passes)
@@ -207,9 +208,7 @@ decoding_is_settled size image start end valid = settled size valid (pages_in si
 
 gives_told : (pages : Pages) (old new : ReaderState) (answer : Answer) → IsNext pages old new (told answer) → GivesRecords pages old [] answer
 gives_told pages old new (answers.End at) next = next
-gives_told pages old new (answers.Damaged at kind) next = next
-gives_told pages old new (answers.Compressed at) next = next
-gives_told pages old new (answers.Overwritten at) next = next
+gives_told pages old new (answers.Stopped stop) next = next
 
 Tells-gives : (pages : Pages) {state : ReaderState} {found : List FoundRecord} {answer : Answer} → Tells pages state found answer → GivesRecords pages state found answer
 Tells-gives pages (stop {old = old} {answer = answer} new next) = gives_told pages old new answer next
@@ -226,7 +225,7 @@ gives_at size valid pages bounded start end NotBegun = let all = settled size va
 gives_at size valid pages bounded start end (At standpoint) =
     let reading = reading_begun size valid pages bounded end (Ok (place_of standpoint)) in
     (filter (λ f. leb start f.start.0) reading.0, reading.1, record { read = reading.0; reads = reading.2; given = refl })
-gives_at size valid pages bounded start end (Stopped told) = ([], told, (refl, refl))
+gives_at size valid pages bounded start end (Stopped stop) = ([], answers.Stopped stop, (refl, refl))
 
 -- a reader of an image's pages gives something, wherever it stands
 pub gives_something : (image : DiskImage) (state : ReaderState) → IsSegmentSize state.size → (found : List FoundRecord) × (answer : Answer) × GivesRecords (pages_in state.size image) state found answer

@@ -13,6 +13,7 @@ use Rattle.wal_page.specs.Page.{header_size, timeline_of, remaining_of, is_conti
 use Rattle.wal_reader.specs.declared.found.FoundRecord.{FoundRecord}
 use Rattle.wal_reader.specs.declared.found.Answer.{Answer}
 use Rattle.wal_reader.specs.declared.found.Answer.TheVariants as answers
+use Rattle.wal_reader.specs.declared.found.Stopped.TheVariants as stopped
 use Rattle.wal_reader.specs.declared.found.DamageKind.{DamageKind}
 use Rattle.wal_reader.specs.declared.found.DamageKind.TheVariants as kinds
 use Rattle.wal_reader.specs.Pages.{Pages, bytes_from}
@@ -24,7 +25,13 @@ pub record Place : Type 0 where
   pub timeline : ℕ
 
 abbrev pub damaged : ℕ → DamageKind → Answer
-damaged at kind = answers.Damaged (record { 0 = at }) kind
+damaged at kind = answers.Stopped (stopped.Damaged (record { 0 = at }) kind)
+
+abbrev pub compressed : ℕ → Answer
+compressed at = answers.Stopped (stopped.Compressed (record { 0 = at }))
+
+abbrev pub overwritten : ℕ → Answer
+overwritten at = answers.Stopped (stopped.Overwritten (record { 0 = at }))
 
 abbrev pub ended : ℕ → ℕ → Answer
 ended size position = answers.End (record { 0 = end_address_of size position })
@@ -50,7 +57,7 @@ timeline_or (Some bytes) timeline = timeline_of bytes
 abbrev pub continuation_rows_of : ℕ → ℕ → ℕ → ℕ → ℕ → Option (List ℕ) → List (Bool × Answer)
 continuation_rows_of size page timeline start owed None = (true, damaged start kinds.Missing) ∷ []
 continuation_rows_of size page timeline start owed (Some bytes) =
-    page_answers size page bytes timeline ++ (is_overwritten bytes, answers.Overwritten (record { 0 = start })) ∷ (not (is_continued bytes), damaged start kinds.NoContinuation) ∷ (not (remaining_of bytes == owed), damaged start kinds.RemLen) ∷ []
+    page_answers size page bytes timeline ++ (is_overwritten bytes, overwritten start) ∷ (not (is_continued bytes), damaged start kinds.NoContinuation) ∷ (not (remaining_of bytes == owed), damaged start (kinds.RemLen (remaining_of bytes))) ∷ []
 
 abbrev pub continuation_rows : ℕ → Pages → Place → ℕ → ℕ → List (Bool × Answer)
 continuation_rows size pages place total page =
@@ -92,7 +99,7 @@ record_rows size pages end place bytes =
     ∷ [])
     ++ rows_of_pages size pages place total page header_page
     ++ ((is_free_manager (slice_index header 17), damaged start kinds.Rmgr)
-    ∷ (not (is_right_prev place.prev start (number_at w64 header 8)), damaged start kinds.Prev)
+    ∷ (not (is_right_prev place.prev start (number_at w64 header 8)), damaged start (kinds.Prev (record { 0 = number_at w64 header 8 })))
     ∷ [])
     ++ rows_of_pages size pages place total header_page (page_of_byte size place.position total)
     ++ ((not (crc32c (drop 24 whole ++ take 20 whole) == number_at w32 whole 20), damaged start kinds.Crc) ∷ [])
@@ -103,7 +110,7 @@ found_or size place total prev (Ok value) =
     Ok (record { start = record { 0 = address_of size place.position }; end = record { 0 = end_address_of size (place.position + (total + 7) / 8 * 8) }; prev = record { 0 = prev }; total = total; value = value })
 found_or size place total prev (Err Memory) = Err (damaged (address_of size place.position) kinds.Malformed)
 found_or size place total prev (Err (Malformed at kind)) = Err (damaged (address_of size place.position) kinds.Malformed)
-found_or size place total prev (Err (Compressed block)) = Err (answers.Compressed (record { 0 = address_of size place.position }))
+found_or size place total prev (Err (Compressed block)) = Err (compressed (address_of size place.position))
 
 -- the first row that holds, or else what the record's bytes say
 abbrev pub answer_or : ℕ → Pages → Place → Option Answer → Result FoundRecord Answer
@@ -163,7 +170,7 @@ beginning size pages start = begin_at (2 ^ 47) size pages (start / 8192) 0
 
 -- from where reading begins these records are read, and then this answer comes
 abbrev pub ReadsFrom : ℕ → Pages → Option ℕ → Result Place Answer → List FoundRecord → Answer → Type 0
-ReadsFrom size pages end (Err stopped) found answer = (found ≡ []) × (answer ≡ stopped)
+ReadsFrom size pages end (Err told) found answer = (found ≡ []) × (answer ≡ told)
 ReadsFrom size pages end (Ok place) found answer = ReadsRecords size pages end place found answer
 
 -- what pages decode to: the records that start at or behind `start`, and the first thing that is no record

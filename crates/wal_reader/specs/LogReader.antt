@@ -1,19 +1,21 @@
 -- A log's reader as contracts see it: where it stands, and what it gives from there on.
-use Rattle.std.specs.Prelude.{◌≡◌, ℕ, ◌<◌, List, [], ◌∷◌, Option, option_map, Result, Ok, Err}
+use Rattle.std.specs.Prelude.{◌≡◌, ℕ, ◌<◌, List, [], ◌∷◌, Option, Some, option_map, Result, Ok, Err}
+use Rattle.byte_position.specs.Position.{end_address_of}
+use Rattle.wal_types.specs.declared.lsn.Lsn.{Lsn}
 use Rattle.wal_reader.specs.declared.found.FoundRecord.{FoundRecord}
 use Rattle.wal_reader.specs.declared.found.Answer.{Answer}
 use Rattle.wal_reader.specs.declared.found.Answer.TheVariants as answers
 use Rattle.wal_reader.specs.declared.standing.Standing.{Standing}
 use Rattle.wal_reader.specs.declared.standing.Standing.TheVariants.{NotBegun, At, Stopped}
 use Rattle.wal_reader.specs.declared.standing.Step.{Step}
-use Rattle.wal_reader.specs.declared.standing.Step.TheVariants.{Record, End}
+use Rattle.wal_reader.specs.declared.standing.Step.TheVariants as steps
 use Rattle.wal_reader.specs.declared.standing.ReadErr.{ReadErr}
-use Rattle.wal_reader.specs.declared.standing.ReadErr.TheVariants.{Memory, Disk, Damaged, Compressed, Overwritten}
+use Rattle.wal_reader.specs.declared.standing.ReadErr.TheVariants as reading
 use Rattle.wal_reader.specs.declared.log_reader.Reader.{Reader}
 use Rattle.wal_reader.specs.Decodes.{Decodes}
 use Rattle.wal_reader.specs.Buffers.{HoldsPageOf}
 use Rattle.wal_reader.specs.Pages.{Pages}
-use Rattle.wal_reader.specs.Standings.{left_at}
+use Rattle.wal_reader.specs.Standings.{found_as, left_at}
 use Rattle.wal_reader.specs.Standpoint.{place_of}
 use Rattle.wal_reader.specs.Steps.{GivesFrom}
 
@@ -34,34 +36,36 @@ Knows reader pages = HoldsPageOf reader.geometry reader.buffers pages
 abbrev pub GivesAt : Pages → ReaderState → Standing → List FoundRecord → Answer → Type 0
 GivesAt pages state NotBegun found answer = Decodes state.size pages state.start state.end found answer
 GivesAt pages state (At standpoint) found answer = GivesFrom state.size pages state.start state.end (place_of standpoint) found answer
-GivesAt pages state (Stopped stop) found answer = (found ≡ []) × (answer ≡ stop)
+GivesAt pages state (Stopped stop) found answer = (found ≡ []) × (answer ≡ answers.Stopped stop)
 
 -- what a reader still gives of these pages: before it has begun all that they decode to, and once it has stopped that answer alone
 abbrev pub GivesRecords : Pages → ReaderState → List FoundRecord → Answer → Type 0
 GivesRecords pages state found answer = GivesAt pages state state.standing found answer
 
+-- a reader stands behind a record: where it ends, and with it as the one before
+abbrev pub StandsBehind : ℕ → Lsn → Lsn → Standing → Type 0
+StandsBehind size start end NotBegun = ⊥
+StandsBehind size start end (At at) = (end_address_of size at.position ≡ end.0) × (at.prev ≡ Some start)
+StandsBehind size start end (Stopped stop) = ⊥
+
 -- a step is the next of what a reader gives of these pages
 abbrev pub IsNext : Pages → ReaderState → ReaderState → Result Step ReadErr → Type 0
-IsNext pages old new (Ok (Record found)) = (others : List FoundRecord) (answer : Answer) → GivesRecords pages new others answer → GivesRecords pages old (found ∷ others) answer
-IsNext pages old new (Ok (End at)) = GivesRecords pages old [] (answers.End at)
-IsNext pages old new (Err (Damaged at kind)) = GivesRecords pages old [] (answers.Damaged at kind)
-IsNext pages old new (Err (Compressed at)) = GivesRecords pages old [] (answers.Compressed at)
-IsNext pages old new (Err (Overwritten at)) = GivesRecords pages old [] (answers.Overwritten at)
-IsNext pages old new (Err Memory) = Unit {0}
-IsNext pages old new (Err (Disk faults)) = Unit {0}
+IsNext pages old new (Ok (steps.Record start end prev total value)) =
+    let found = found_as start end prev total value in
+    (others : List FoundRecord) (answer : Answer) → GivesRecords pages new others answer → GivesRecords pages old (found ∷ others) answer
+IsNext pages old new (Ok (steps.End at)) = GivesRecords pages old [] (answers.End at)
+IsNext pages old new (Err (reading.Stopped stop)) = GivesRecords pages old [] (answers.Stopped stop)
+IsNext pages old new (Err reading.Memory) = Unit {0}
+IsNext pages old new (Err (reading.Disk faults)) = Unit {0}
 
 abbrev pub left_of : ReaderState → ℕ
 left_of state = left_at state.standing
 
-abbrev pub stopped_at : ReaderState → Answer → ReaderState
-stopped_at state answer = record state { standing = Stopped answer }
-
--- where a step leaves a reader: behind its record, stopped by damage for good, and else where it was
+-- where a step leaves a reader: behind its record, stopped for good, and else where it was
 abbrev pub LeavesReader : ReaderState → ReaderState → Result Step ReadErr → Type 0
-LeavesReader old new (Ok (Record found)) = (new ≡ record old { standing = new.standing }) × (left_of new < left_of old)
-LeavesReader old new (Ok (End at)) = new ≡ old
-LeavesReader old new (Err (Damaged at kind)) = new ≡ stopped_at old (answers.Damaged at kind)
-LeavesReader old new (Err (Compressed at)) = new ≡ stopped_at old (answers.Compressed at)
-LeavesReader old new (Err (Overwritten at)) = new ≡ stopped_at old (answers.Overwritten at)
-LeavesReader old new (Err Memory) = new ≡ old
-LeavesReader old new (Err (Disk faults)) = new ≡ old
+LeavesReader old new (Ok (steps.Record start end prev total value)) =
+    (new ≡ record old { standing = new.standing }) × StandsBehind old.size start end new.standing × (left_of new < left_of old)
+LeavesReader old new (Ok (steps.End at)) = new ≡ old
+LeavesReader old new (Err (reading.Stopped stop)) = new ≡ record old { standing = Stopped stop }
+LeavesReader old new (Err reading.Memory) = new ≡ old
+LeavesReader old new (Err (reading.Disk faults)) = new ≡ old

@@ -39,7 +39,7 @@ size_rows size end position zero total =
 -- of its header
 abbrev pub header_rows : ℕ → Option ℕ → List ℕ → List (Bool × Answer)
 header_rows start prev header =
-    (is_free_manager (slice_index header 17), damaged start kinds.Rmgr) ∷ (not (is_right_prev prev start (number_at w64 header 8)), damaged start kinds.Prev) ∷ []
+    (is_free_manager (slice_index header 17), damaged start kinds.Rmgr) ∷ (not (is_right_prev prev start (number_at w64 header 8)), damaged start (kinds.Prev (record { 0 = number_at w64 header 8 }))) ∷ []
 
 -- of all its bytes
 abbrev pub crc_rows : ℕ → List ℕ → List (Bool × Answer)

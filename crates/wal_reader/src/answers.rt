@@ -2,9 +2,9 @@
 
 ghost use Rattle.std.specs.Prelude.{◌≡◌, ◌^◌, ◌<◌, option_map};
 ghost use Rattle.byte_position.specs.Position.{address_of};
-ghost use Rattle.wal_reader.specs.Decodes.{ended, is_at_end};
+ghost use Rattle.wal_reader.specs.Decodes.{damaged, ended, is_at_end};
 
-use crate::found::{Answer, DamageKind};
+use crate::found::{Answer, DamageKind, Stopped};
 use byte_position::Geometry;
 use wal_types::Lsn;
 
@@ -31,7 +31,7 @@ pub(crate) fn reaches_end(geometry: Geometry, position: u64, end: Option<Lsn>) -
 
 /// A check failed of the page or the record at an address.
 pub(crate) fn damaged(at: Lsn, kind: DamageKind) -> Answer
-    ensures { result ≡ Answer.Damaged at kind }
+    ensures { result ≡ damaged at.0 kind }
 {
-    Answer::Damaged { at, kind }
+    Answer::Stopped(Stopped::Damaged { at, kind })
 }

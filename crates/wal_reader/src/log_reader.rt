@@ -5,7 +5,7 @@ ghost use Rattle.wal_reader.specs.Standings.{IsOnWay, IsOnWay-prop};
 
 use crate::buffers::{Buffers, set_up};
 use crate::given::next_given;
-use crate::standing::{ReadErr, Standing, Step, told};
+use crate::standing::{ReadErr, Standing, Step, given, told};
 use crate::stop::Stop;
 use byte_position::Geometry;
 use segment_disk::Disk;
@@ -62,7 +62,7 @@ impl Reader {
         let from = match self.standing {
             Standing::NotBegun => None,
             Standing::At(at) => Some(at),
-            Standing::Stopped(answer) => return told(answer),
+            Standing::Stopped(stopped) => return Err(ReadErr::Stopped(stopped)),
         };
         set_up(&mut self.buffers, alloc, self.geometry)?;
         let Some(buffers) = &mut self.buffers else {
@@ -71,7 +71,7 @@ impl Reader {
         match next_given(alloc, buffers, disk, self.start, self.end, from) {
             Ok((found, behind)) => {
                 self.standing = Standing::At(behind);
-                Ok(Step::Record(found))
+                Ok(given(found))
             }
             Err(Stop::Told(answer)) => {
                 self.standing = self.standing.after(answer);

@@ -12,7 +12,7 @@ ghost use Rattle.wal_reader.specs.Stops.{HasStopCause, Passes, Settles};
 
 use crate::answers::damaged;
 use crate::cursor::Cursor;
-use crate::found::{Answer, DamageKind};
+use crate::found::{Answer, DamageKind, Stopped};
 use crate::layout::{FIRST_PAGE_HEADER_LEN, OTHER_PAGE_HEADER_LEN, PAGE_ADDRESSES};
 use crate::page_cache::PageCache;
 use crate::stop::Stop;
@@ -71,13 +71,15 @@ pub(crate) fn turn_page<D: Disk>(
     }
     let info = check_held(cache, page, cursor.timeline)?;
     if info.is_overwritten() {
-        return Err(Stop::Told(Answer::Overwritten { at: start }));
+        let overwritten = Stopped::Overwritten { at: start };
+        return Err(Stop::Told(Answer::Stopped(overwritten)));
     }
     if !info.is_continued() {
         return Err(Stop::Told(damaged(start, DamageKind::NoContinuation)));
     }
     if info.rem_len != owed {
-        return Err(Stop::Told(damaged(start, DamageKind::RemLen)));
+        let found = info.rem_len;
+        return Err(Stop::Told(damaged(start, DamageKind::RemLen { found })));
     }
     Ok(Cursor {
         page,

@@ -15,7 +15,7 @@ ghost use Rattle.wal_reader.specs.Stops.{Passes};
 
 use crate::answers::damaged;
 use crate::cursor::Extent;
-use crate::found::{Answer, DamageKind, FoundRecord};
+use crate::found::{Answer, DamageKind, FoundRecord, Stopped};
 use crate::layout::*;
 use crate::numbers::{u32_at, u64_at};
 use byte_position::Geometry;
@@ -33,13 +33,13 @@ pub(crate) fn check_header(extent: Extent, header: &[u8]) -> Result<(), Answer>
     if is_free_manager(header[RMID_AT]) {
         return Err(damaged(extent.start, DamageKind::Rmgr));
     }
-    let named = u64_at(header, PREV_AT);
+    let found = Lsn(u64_at(header, PREV_AT));
     let is_right = match extent.at.prev {
-        Some(before) => named == before.0,
-        None => named < extent.start.0,
+        Some(before) => found.0 == before.0,
+        None => found.0 < extent.start.0,
     };
     if !is_right {
-        return Err(damaged(extent.start, DamageKind::Prev));
+        return Err(damaged(extent.start, DamageKind::Prev { found }));
     }
     Ok(())
 }
@@ -79,7 +79,10 @@ pub(crate) fn found(
         })),
         Err(RecErr::Memory) => Err(AllocError),
         Err(RecErr::Malformed { .. }) => Ok(Err(damaged(extent.start, DamageKind::Malformed))),
-        Err(RecErr::Compressed { .. }) => Ok(Err(Answer::Compressed { at: extent.start })),
+        Err(RecErr::Compressed { .. }) => {
+            let compressed = Stopped::Compressed { at: extent.start };
+            Ok(Err(Answer::Stopped(compressed)))
+        }
     }
 }
 
