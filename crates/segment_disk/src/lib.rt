@@ -7,6 +7,7 @@ mod calls;
 mod disk;
 mod failed;
 mod files;
+mod handed;
 mod memory;
 mod stream;
 
@@ -14,5 +15,6 @@ pub use adapters::{StandardSink, StandardSource};
 pub use disk::{Call, CallKind, Disk, PageBytes};
 pub use failed::Failed;
 pub use files::FileDisk;
+pub use handed::HandedOut;
 pub use memory::{MemDisk, MemSink, MemSource, Memory};
 pub use stream::{Sink, Source};
