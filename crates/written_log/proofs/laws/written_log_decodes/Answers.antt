@@ -1,0 +1,12 @@
+use Rattle.written_log.proofs.LogSegmentLaws.{segments_hold_log}
+use Rattle.written_log.proofs.WrittenLogLaws.{written_log_decodes, own_pages_hold_log}
+use Rattle.written_log.proofs.laws.written_log_decodes.Goals as goal
+
+pub returns-clause-decodes : goal.returns-clause-decodes
+returns-clause-decodes c = written_log_decodes
+
+pub returns-clause-own_pages : goal.returns-clause-own_pages
+returns-clause-own_pages c = own_pages_hold_log
+
+pub returns-clause-segments : goal.returns-clause-segments
+returns-clause-segments c = segments_hold_log
