@@ -2,9 +2,7 @@ ghost use Rattle.std.specs.Prelude.{◌≡◌, ◌≤◌, ◌<◌, ◌++◌, [],
 ghost use Rattle.std.specs.Io.KnownBytes.{Keeps, ReadConsumes};
 ghost use Rattle.segment_disk.specs.Cause.{HasCause};
 
-use crate::failed::{Failed, count_fault};
-use crate::handed::HandedOut;
-use crate::stream::Source;
+use segment_disk::{Failed, HandedOut, Source, count_fault};
 use std::io;
 use std::io::{ErrorKind, Read};
 
@@ -20,7 +18,7 @@ pub struct StandardSource<R: Read> {
 }
 
 impl<R: Read> StandardSource<R> {
-    ghost use Rattle.segment_disk.specs.Adapter.{reader_left};
+    ghost use Rattle.segment_files.specs.Adapter.{reader_left};
 
     pub fn new(reader: R) -> StandardSource<R>
         ensures left { ⟦<StandardSource<R> as Source>⟧.left result ≡ None }
@@ -38,7 +36,7 @@ impl<R: Read> StandardSource<R> {
 
 impl<R: Read> Source for StandardSource<R> {
     ghost use Rattle.std.specs.Prelude.{None};
-    ghost use Rattle.segment_disk.specs.Adapter.{reader_left};
+    ghost use Rattle.segment_files.specs.Adapter.{reader_left};
 
     ghost left = { λ s. None };
 
