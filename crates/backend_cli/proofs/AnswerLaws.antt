@@ -1,7 +1,7 @@
 -- A line's step, from the log's.
 use Rattle.std.proofs.Common.{◌≡◌, ℕ, Result, subst}
 use Rattle.wal_types.specs.declared.record.Record.{Record}
-use Rattle.wal_record.specs.Spelling.{Assembled, assembled, IsWritable}
+use Rattle.record_spelling.specs.Spelling.{Assembled, assembled, IsWritable}
 use Rattle.serial_log.specs.declared.told.Receipt.{Receipt}
 use Rattle.serial_log.specs.declared.told.Hard.{Hard}
 use Rattle.serial_log.specs.declared.told.Sealed.{Sealed}

@@ -1,6 +1,6 @@
 -- Lines done by a log, step by step: `capacity` is how many bytes its records may take up, `opened` the disk's count of faults when it was opened.
 use Rattle.std.specs.Prelude.{◌≡◌, ℕ, List, [], ◌∷◌, Result, Ok, Err}
-use Rattle.wal_record.specs.Spelling.{IsWritable}
+use Rattle.record_spelling.specs.Spelling.{IsWritable}
 use Rattle.serial_log.specs.declared.told.Receipt.{Receipt}
 use Rattle.serial_log.specs.declared.told.Hard as hard
 use Rattle.serial_log.specs.declared.told.Sealed.{Sealed}

@@ -3,7 +3,7 @@ use byte_position::Geometry;
 use segment_disk::{Disk, MemDisk};
 use std::alloc::Global;
 use std::test::Fail;
-use wal_record::Body;
+use record_spelling::Body;
 use wal_types::{BlockList, Bytes, Lsn, Record, Xid};
 
 const SYSTEM_ID: u64 = 1;

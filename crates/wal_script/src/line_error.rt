@@ -4,7 +4,7 @@ ghost use Rattle.wal_script.specs.Reading.{at_line};
 use crate::line::{Refusal, ScriptFault};
 use crate::parser::ParseError;
 use std::alloc::{AllocError, AllocFailed};
-use wal_record::BodyErr;
+use record_spelling::BodyErr;
 
 /// Why a line was not read.
 #[derive(Clone, Copy, Debug)]
