@@ -4,7 +4,7 @@ ghost use Rattle.record_spelling.specs.Spelling.{IsWritable};
 use crate::spelling::spelled_by;
 use std::alloc::{AllocError, Global};
 use std::test::*;
-use wal_record::{Body, BodyErr, refusal, spell_plainly};
+use record_spelling::{Body, BodyErr, refusal, spell_plainly};
 use wal_types::{Block, BlockList, Bytes, Image, Lsn, Record, Rel, Xid};
 
 const PREV: Lsn = Lsn(0x10_0028);

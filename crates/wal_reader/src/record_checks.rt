@@ -22,7 +22,7 @@ use crate::numbers::{u32_at, u64_at};
 use byte_position::Geometry;
 use std::alloc::{AllocError, Global};
 use wal_crc32c::Crc;
-use wal_record::{RecErr, decode};
+use record_decode::{RecErr, decode};
 use wal_types::Lsn;
 
 /// Whether a header has a manager that there is, and names the right record before it (PostgreSQL's
