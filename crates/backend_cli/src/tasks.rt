@@ -3,8 +3,8 @@ ghost use Rattle.record_spelling.specs.Spelling.{IsWritable, assembled};
 ghost use Rattle.wal_script.specs.Writable.{AsksWritable};
 ghost use Rattle.backend_cli.specs.Tasks.{AreTasks, IsWork};
 
-use std::alloc::{AllocError, Global};
 use record_spelling::{Body, BodyErr};
+use std::alloc::{AllocError, Global};
 use wal_script::{Action, Line};
 use wal_types::Record;
 

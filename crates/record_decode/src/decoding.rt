@@ -17,12 +17,12 @@ ghost use Rattle.record_decode.specs.Spells.{Spells};
 
 use crate::fault::{RecErr, RecKind};
 use crate::head::BlockHead;
-use record_spelling::layout::*;
-use record_spelling::is_free_manager;
 use blocks::block_items;
 use cursor::malformed;
 use items::{main_item, optional_u16, optional_u32};
 use payload::blocks_of;
+use record_spelling::is_free_manager;
+use record_spelling::layout::*;
 use std::alloc::Global;
 use unread::Unread;
 use wal_types::{BlockList, Bytes, Record, Xid};

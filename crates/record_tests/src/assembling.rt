@@ -2,9 +2,9 @@ ghost use Rattle.std.specs.Prelude.{OnOk};
 ghost use Rattle.record_spelling.specs.Spelling.{IsWritable};
 
 use crate::spelling::spelled_by;
+use record_spelling::{Body, BodyErr, refusal, spell_plainly};
 use std::alloc::{AllocError, Global};
 use std::test::*;
-use record_spelling::{Body, BodyErr, refusal, spell_plainly};
 use wal_types::{Block, BlockList, Bytes, Image, Lsn, Record, Rel, Xid};
 
 const PREV: Lsn = Lsn(0x10_0028);

@@ -16,10 +16,10 @@ use crate::room::Room;
 use byte_position::Geometry;
 use flush_core::{DiskFault, Writer};
 use log_answers::{Cause, Hard, Receipt, Refused, Sealed};
+use record_spelling::Body;
 use segment_disk::Disk;
 use std::marker::Model;
 use wal_page::Placed;
-use record_spelling::Body;
 use wal_types::Lsn;
 
 /// A log that one backend writes: records follow each other from segment 1's start on (PostgreSQL's `XLogInsertRecord` and

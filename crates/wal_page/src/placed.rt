@@ -9,8 +9,8 @@ ghost use Rattle.wal_page.specs.Placed.{Owns, entry_word, header_word};
 use crate::header::{is_in_header, page_header_word};
 use crate::layout::*;
 use byte_position::Geometry;
-use std::marker::Model;
 use record_spelling::Body;
+use std::marker::Model;
 use wal_types::Lsn;
 
 const WORD: u64 = 8;

@@ -20,9 +20,9 @@ use crate::found::{Answer, DamageKind, FoundRecord};
 use crate::layout::*;
 use crate::numbers::{u32_at, u64_at};
 use byte_position::Geometry;
+use record_decode::{RecErr, decode};
 use std::alloc::{AllocError, Global};
 use wal_crc32c::Crc;
-use record_decode::{RecErr, decode};
 use wal_types::Lsn;
 
 /// Whether a header has a manager that there is, and names the right record before it (PostgreSQL's
