@@ -29,25 +29,25 @@ pub(crate) struct ImageFlags {
 
 /// What an image's header says; its bytes are in the payload.
 #[derive(Clone, Copy, Debug, PartialEq, Eq)]
-pub(crate) struct ImageHead {
-    pub(crate) apply: bool,
-    pub(crate) hole_offset: u16,
-    pub(crate) hole_len: u16,
+pub struct ImageHead {
+    pub apply: bool,
+    pub hole_offset: u16,
+    pub hole_len: u16,
     /// How many bytes the image has without its hole.
-    pub(crate) len: u16,
+    pub len: u16,
 }
 
 /// What a block's header says; its image and its data are in the payload.
 #[derive(Clone, Copy, Debug, PartialEq, Eq)]
-pub(crate) struct BlockHead {
-    pub(crate) id: u8,
-    pub(crate) rel: Rel,
-    pub(crate) fork: u8,
-    pub(crate) blk: u32,
-    pub(crate) will_init: bool,
-    pub(crate) image: Option<ImageHead>,
+pub struct BlockHead {
+    pub id: u8,
+    pub rel: Rel,
+    pub fork: u8,
+    pub blk: u32,
+    pub will_init: bool,
+    pub image: Option<ImageHead>,
     /// How many bytes of data there are for this block.
-    pub(crate) content_len: u16,
+    pub content_len: u16,
 }
 
 impl BlockHead {

@@ -8,3 +8,4 @@ pub mod laws;
 
 pub use decoding::decode;
 pub use fault::{RecErr, RecKind};
+pub use head::{BlockHead, ImageHead};
