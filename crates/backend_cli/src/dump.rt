@@ -7,6 +7,7 @@ use crate::told::ToldLists;
 use byte_position::Geometry;
 use segment_disk::{Disk, Sink};
 use std::alloc::Global;
+use wal_reader::ReadErr;
 use waldump_text::{DumpErr, dump};
 
 /// Lists the log.
@@ -35,10 +36,10 @@ pub(crate) fn list<O: Sink, D: Disk>(
 {
     let outcome = match dump(alloc, &mut disk, geometry, out) {
         Ok(()) => Outcome::Done,
-        Err(DumpErr::Memory) => Outcome::OutOfMemory,
-        Err(DumpErr::Disk { .. }) => Outcome::DiskFault,
-        Err(DumpErr::Stopped(answer)) => Outcome::Stopped(answer),
-        Err(DumpErr::Sink { .. }) => Outcome::SinkFault,
+        Err(DumpErr::Read(ReadErr::Memory)) => Outcome::OutOfMemory,
+        Err(DumpErr::Read(ReadErr::Disk { .. })) => Outcome::DiskFault,
+        Err(DumpErr::Read(ReadErr::Stopped(stopped))) => Outcome::Stopped(stopped),
+        Err(DumpErr::Sink(_)) => Outcome::SinkFault,
     };
     Finished {
         outcome,

@@ -9,7 +9,7 @@ use segment_disk::{MemDisk, MemSink};
 use std::alloc::{AllocError, Global};
 use std::process::Abort;
 use std::test::Fail;
-use wal_reader::{Answer, DamageKind};
+use wal_reader::{DamageKind, ReadErr, Stopped};
 use wal_types::{Block, BlockList, Bytes, Image, Lsn, Record, Xid};
 use waldump_text::{DumpErr, Listed, SinkFault, dump, line};
 
@@ -97,7 +97,7 @@ fn a_log_is_listed_to_its_end(rt: HostRuntime) -> Result<(), Fail> {
     );
     assert_eq!(rt;
         dump(alloc, &mut disk, smallest(), &mut out),
-        Err(DumpErr::Disk { faults: 1 })
+        Err(DumpErr::Read(ReadErr::Disk { faults: 1 }))
     );
     Ok(())
 }
@@ -110,13 +110,13 @@ fn a_listing_stops_at_a_damaged_record(rt: HostRuntime) -> Result<(), Fail> {
     pages.first[100] ^= 1;
     let mut disk = disk_of(alloc, &pages, Vec::new(alloc))?;
     let mut out = sink(alloc)?;
-    let damaged = Answer::Damaged {
+    let damaged = Stopped::Damaged {
         at: Lsn(0x10_0050),
         kind: DamageKind::Crc,
     };
     assert_eq!(rt;
         dump(alloc, &mut disk, smallest(), &mut out),
-        Err(DumpErr::Stopped(damaged))
+        Err(DumpErr::Read(ReadErr::Stopped(damaged)))
     );
     assert_eq!(rt; out.taken(), COMMIT_LINE.as_slice());
     Ok(())
@@ -219,7 +219,7 @@ fn a_sink_that_fails_ends_the_listing(rt: HostRuntime) -> Result<(), Fail> {
     let mut out = MemSink::new(alloc, 400, vec![in alloc; 2]?)?;
     assert_eq!(rt;
         dump(alloc, &mut disk, smallest(), &mut out),
-        Err(DumpErr::Sink { faults: 1 })
+        Err(DumpErr::Sink(SinkFault { faults: 1 }))
     );
     assert_eq!(rt; out.taken(), COMMIT_LINE.as_slice());
     Ok(())
