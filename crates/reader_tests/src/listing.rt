@@ -1,7 +1,7 @@
 //! Listing a log.
 
 ghost use Rattle.std.specs.Prelude.{IfOk, IsTrue, not};
-ghost use Rattle.wal_record.specs.Record.{is_free_manager};
+ghost use Rattle.record_spelling.specs.Record.{is_free_manager};
 ghost use Rattle.waldump_text.specs.Listing.{IsListable};
 
 use crate::pages::{TwoPages, block, commit, disk_of, record, smallest};

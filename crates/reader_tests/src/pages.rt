@@ -3,11 +3,11 @@
 ghost use Rattle.std.specs.Prelude.{◌≡◌, ◌%◌, []};
 
 use byte_position::Geometry;
+use record_spelling::Body;
 use segment_disk::{Disk, MemDisk};
 use std::alloc::{AllocError, Global};
 use std::test::Fail;
 use wal_page::Placed;
-use wal_record::Body;
 use wal_types::{Block, BlockList, Bytes, Lsn, Record, Rel, Xid};
 
 // The byte position of segment 1's first record.
