@@ -72,7 +72,9 @@ def public_clauses(crate):
 
 
 def main():
-    specs = sorted((TOP / "crates").glob("*/specs/*.antt"))
+    # The crates from below, as crates.txt lists them.
+    order = re.findall(r"^(\w+)[^:\n]*:", (TOP / "crates.txt").read_text(), re.M)
+    specs = [path for crate in order for path in sorted((TOP / "crates" / crate / "specs").glob("*.antt"))]
     known = {(it.crate, it.file, it.name): it for path in specs for it in definitions_in(path)}
     used = {}
     for path in specs:
