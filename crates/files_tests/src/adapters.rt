@@ -1,7 +1,6 @@
-use super::{StandardSink, StandardSource};
 use crate::calls::{read_piece, write_piece};
-use crate::failed::Failed;
-use crate::stream::{Sink, Source};
+use segment_disk::{Failed, Sink, Source};
+use segment_files::{StandardSink, StandardSource};
 use std::io;
 use std::io::{ErrorKind, Read, Write};
 use std::test::Fail;

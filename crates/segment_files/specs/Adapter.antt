@@ -1,8 +1,8 @@
 -- What the adapters' reader and writer hold, where these tell it.
 use Rattle.std.specs.Prelude.{ℕ, List, Option}
 use Rattle.std.specs.Io.Buffered.{writer_contents, writer_buffer}
-use Rattle.segment_disk.specs.declared.adapters.sink.StandardSink.{StandardSink}
-use Rattle.segment_disk.specs.declared.adapters.source.StandardSource.{StandardSource}
+use Rattle.segment_files.specs.declared.sink.StandardSink.{StandardSink}
+use Rattle.segment_files.specs.declared.source.StandardSource.{StandardSource}
 
 -- the bytes that a source's reader has left
 abbrev pub reader_left : {R : Type 0} → (R → Option (List ℕ)) → StandardSource R → Option (List ℕ)

@@ -1,20 +1,26 @@
+//! What the calls of a write-ahead log answer: positions, moments of its disk, and why a call was
+//! refused. A log of one backend and one that many backends share answer the same.
+#![tactic(auto)]
+
 use wal_types::Lsn;
 
-/// Where a record that was inserted starts and ends.
+/// An insert's answer: where its record starts and where it ends, at the end form of its last byte.
 #[derive(Clone, Copy, Debug, PartialEq, Eq)]
 pub struct Receipt {
     pub start: Lsn,
     pub end: Lsn,
 }
 
-/// All below a position is durable from this moment of the disk on.
+/// A flush's answer: all below a position is durable from this moment of the disk on. A moment is
+/// the number of counted calls that the disk has answered.
 #[derive(Clone, Copy, Debug, PartialEq, Eq)]
 pub struct Hard {
     pub upto: Lsn,
     pub moment: u64,
 }
 
-/// Where a record that was committed starts and ends, and the moment of the disk from which on it is durable.
+/// A commit's answer: where its record starts and ends, and the moment of the disk from which on
+/// it is durable.
 #[derive(Clone, Copy, Debug, PartialEq, Eq)]
 pub struct Sealed {
     pub start: Lsn,

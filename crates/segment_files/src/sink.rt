@@ -3,9 +3,7 @@ ghost use Rattle.std.specs.Io.KnownBytes.{Keeps, WriteAppends};
 ghost use Rattle.segment_disk.specs.Cause.{HasCause};
 ghost use Rattle.segment_disk.specs.Stream.{with_behind};
 
-use crate::failed::{Failed, count_fault};
-use crate::memory::Memory;
-use crate::stream::Sink;
+use segment_disk::{Failed, Memory, Sink, count_fault};
 use std::alloc::Global;
 use std::io::{BufWriter, Write};
 
@@ -23,7 +21,7 @@ pub struct StandardSink<W: Write + Drop> {
 }
 
 impl<W: Write + Drop> StandardSink<W> {
-    ghost use Rattle.segment_disk.specs.Adapter.{writer_taken, kept_bytes};
+    ghost use Rattle.segment_files.specs.Adapter.{writer_taken, kept_bytes};
 
     /// Takes room for what it keeps.
     pub fn new(alloc: Global, writer: W) -> Result<StandardSink<W>, Memory>
@@ -52,7 +50,7 @@ impl<W: Write + Drop> StandardSink<W> {
 
 impl<W: Write + Drop> Sink for StandardSink<W> {
     ghost use Rattle.std.specs.Prelude.{None};
-    ghost use Rattle.segment_disk.specs.Adapter.{writer_taken};
+    ghost use Rattle.segment_files.specs.Adapter.{writer_taken};
 
     ghost taken = { λ s. None };
 

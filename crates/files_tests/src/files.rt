@@ -1,8 +1,7 @@
-use super::FileDisk;
 use crate::calls::{create, crosses_threads, read_page, sync, write_page};
-use crate::disk::Disk;
-use crate::failed::Failed;
 use byte_position::Geometry;
+use segment_disk::{Disk, Failed};
+use segment_files::FileDisk;
 use std::test::Fail;
 use std::{env, fs, process};
 

@@ -2,8 +2,7 @@ ghost use Rattle.std.specs.Prelude.{◌≡◌, ◌≤◌, ◌<◌, None, IfOk, O
 ghost use Rattle.std.specs.Io.KnownBytes.{Keeps, ReadConsumes};
 ghost use Rattle.segment_disk.specs.Cause.{HasCause};
 
-use crate::failed::{Failed, count_fault};
-use crate::stream::Source;
+use segment_disk::{Failed, Source, count_fault};
 use std::io;
 use std::io::{ErrorKind, Read};
 
@@ -18,7 +17,7 @@ pub struct StandardSource<R: Read> {
 }
 
 impl<R: Read> StandardSource<R> {
-    ghost use Rattle.segment_disk.specs.Adapter.{reader_left};
+    ghost use Rattle.segment_files.specs.Adapter.{reader_left};
 
     pub fn new(reader: R) -> StandardSource<R>
         ensures left { ⟦<StandardSource<R> as Source>⟧.left result ≡ None }
@@ -31,7 +30,7 @@ impl<R: Read> StandardSource<R> {
 
 impl<R: Read> Source for StandardSource<R> {
     ghost use Rattle.std.specs.Prelude.{None};
-    ghost use Rattle.segment_disk.specs.Adapter.{reader_left};
+    ghost use Rattle.segment_files.specs.Adapter.{reader_left};
 
     ghost left = { λ s. None };
 

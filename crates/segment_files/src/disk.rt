@@ -1,10 +1,8 @@
 ghost use Rattle.std.specs.Prelude.{◌≡◌, ◌<◌, ◌/◌, ◌^◌, None, IfOk};
 
-use crate::disk::Disk;
-use crate::failed::{Failed, count_fault};
-use crate::files::segments::SegmentFiles;
-use crate::memory::Memory;
+use crate::segments::SegmentFiles;
 use byte_position::Geometry;
+use segment_disk::{Disk, Failed, Memory, count_fault};
 use std::alloc::Global;
 use std::fs::Files;
 
