@@ -7,3 +7,5 @@ mod listing;
 mod pages;
 #[cfg(test)]
 mod reading;
+#[cfg(test)]
+mod two_faults;

@@ -11,3 +11,4 @@ pub mod RecordStages
 pub mod RowLaws
 pub mod SettledLaws
 pub mod StopLaws
+pub mod RunLaws

@@ -209,7 +209,7 @@ decoding_is_settled size image start end valid = settled size valid (pages_in si
 
 gives_told : (pages : Pages) (old new : ReaderState) (answer : Answer) → IsNext pages old new (told answer) → GivesRecords pages old [] answer
 gives_told pages old new (answers.End at) next = next
-gives_told pages old new (answers.Stopped stop) next = next
+gives_told pages old new (answers.Stopped reason) next = next
 
 Tells-gives : (pages : Pages) {state : ReaderState} {found : List FoundRecord} {answer : Answer} → Tells pages state found answer → GivesRecords pages state found answer
 Tells-gives pages (stop {old = old} {answer = answer} new next) = gives_told pages old new answer next
@@ -226,7 +226,7 @@ gives_at size valid pages bounded start end NotBegun = let all = settled size va
 gives_at size valid pages bounded start end (At standpoint) =
     let reading = reading_begun size valid pages bounded end (Ok (place_of standpoint)) in
     (filter (λ f. leb start f.start.0) reading.0, reading.1, record { read = reading.0; reads = reading.2; given = refl })
-gives_at size valid pages bounded start end (Stopped stop) = ([], answers.Stopped stop, (refl, refl))
+gives_at size valid pages bounded start end (Stopped reason) = ([], answers.Stopped reason, (refl, refl))
 
 -- a reader of an image's pages gives something, wherever it stands
 pub gives_something : (image : DiskImage) (state : ReaderState) → IsSegmentSize state.size → (found : List FoundRecord) × (answer : Answer) × GivesRecords (pages_in state.size image) state found answer

@@ -13,3 +13,4 @@ pub mod Standings
 pub mod Buffers
 pub mod LogReader
 pub mod Settled
+pub mod Runs

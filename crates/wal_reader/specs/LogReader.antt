@@ -1,7 +1,5 @@
 -- A log's reader as contracts see it: where it stands, and what it gives from there on.
-use Rattle.std.specs.Prelude.{◌≡◌, ℕ, ◌<◌, List, [], ◌∷◌, Option, Some, option_map, Result, Ok, Err}
-use Rattle.byte_position.specs.Position.{end_address_of}
-use Rattle.wal_types.specs.declared.lsn.Lsn.{Lsn}
+use Rattle.std.specs.Prelude.{◌≡◌, ℕ, ◌<◌, List, [], ◌∷◌, Option, option_map, Result, Ok, Err}
 use Rattle.wal_reader.specs.declared.found.FoundRecord.{FoundRecord}
 use Rattle.wal_reader.specs.declared.found.Answer.{Answer}
 use Rattle.wal_reader.specs.declared.found.Answer.TheVariants as answers
@@ -15,6 +13,7 @@ use Rattle.wal_reader.specs.declared.log_reader.Reader.{Reader}
 use Rattle.wal_reader.specs.Decodes.{Decodes}
 use Rattle.wal_reader.specs.Buffers.{HoldsPageOf}
 use Rattle.wal_reader.specs.Pages.{Pages}
+use Rattle.wal_reader.specs.RecordRows.{IsBehind}
 use Rattle.wal_reader.specs.Standings.{found_as, left_at}
 use Rattle.wal_reader.specs.Standpoint.{place_of}
 use Rattle.wal_reader.specs.Steps.{GivesFrom}
@@ -42,12 +41,6 @@ GivesAt pages state (Stopped stop) found answer = (found ≡ []) × (answer ≡ 
 abbrev pub GivesRecords : Pages → ReaderState → List FoundRecord → Answer → Type 0
 GivesRecords pages state found answer = GivesAt pages state state.standing found answer
 
--- a reader stands behind a record: where it ends, and with it as the one before
-abbrev pub StandsBehind : ℕ → Lsn → Lsn → Standing → Type 0
-StandsBehind size start end NotBegun = ⊥
-StandsBehind size start end (At at) = (end_address_of size at.position ≡ end.0) × (at.prev ≡ Some start)
-StandsBehind size start end (Stopped stop) = ⊥
-
 -- a step is the next of what a reader gives of these pages
 abbrev pub IsNext : Pages → ReaderState → ReaderState → Result Step ReadErr → Type 0
 IsNext pages old new (Ok (steps.Record start end prev total value)) =
@@ -64,8 +57,30 @@ left_of state = left_at state.standing
 -- where a step leaves a reader: behind its record, stopped for good, and else where it was
 abbrev pub LeavesReader : ReaderState → ReaderState → Result Step ReadErr → Type 0
 LeavesReader old new (Ok (steps.Record start end prev total value)) =
-    (new ≡ record old { standing = new.standing }) × StandsBehind old.size start end new.standing × (left_of new < left_of old)
+    (new ≡ record old { standing = new.standing }) × (left_of new < left_of old)
 LeavesReader old new (Ok (steps.End at)) = new ≡ old
 LeavesReader old new (Err (reading.Stopped stop)) = new ≡ record old { standing = Stopped stop }
 LeavesReader old new (Err reading.Memory) = new ≡ old
 LeavesReader old new (Err (reading.Disk faults)) = new ≡ old
+
+abbrev pub StandsBehind : ℕ → FoundRecord → Standing → Type 0
+StandsBehind size found NotBegun = ⊥
+StandsBehind size found (At at) = IsBehind size found at
+StandsBehind size found (Stopped stop) = ⊥
+
+-- after a record a reader stands just behind it
+abbrev pub StandsAfter : ℕ → Standing → Result Step ReadErr → Type 0
+StandsAfter size standing (Ok (steps.Record start end prev total value)) =
+    StandsBehind size (found_as start end prev total value) standing
+StandsAfter size standing (Ok (steps.End at)) = Unit {0}
+StandsAfter size standing (Err error) = Unit {0}
+
+-- a reader holds no page, so that it reads anew whatever stands there next
+abbrev pub HoldsNothing : Reader → Type 0
+HoldsNothing reader = (pages : Pages) → Knows reader pages
+
+-- what holds at an end
+abbrev pub OnEnd : Result Step ReadErr → Type 0 → Type 0
+OnEnd (Ok (steps.Record start end prev total value)) fact = Unit {0}
+OnEnd (Ok (steps.End at)) fact = fact
+OnEnd (Err error) fact = Unit {0}

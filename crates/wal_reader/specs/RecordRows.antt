@@ -1,7 +1,7 @@
 -- The checks of a record in groups, as a reader comes to them, and what reading one record answers.
 use Rattle.std.specs.Prelude.{◌≡◌, ◌⊎◌, ℕ, ◌+◌, ◌-◌, ◌/◌, ◌<◌, Bool, ◌&&◌, not, List, [], ◌∷◌, ◌++◌, take, drop, slice_index, Option, Some, None, Result, Ok, Err, ◌==◌, nat_lt}
 use Rattle.std.specs.Int.{w32, w64}
-use Rattle.byte_position.specs.Position.{address_of}
+use Rattle.byte_position.specs.Position.{address_of, end_address_of}
 use Rattle.wal_crc32c.specs.Crc32c.{crc32c}
 use Rattle.record_spelling.specs.Record.{is_free_manager}
 use Rattle.record_spelling.specs.Numbers.{number_at}
@@ -78,6 +78,10 @@ IsRead size pages place here (Err stop) = IsStopped here stop
 -- the next place is further on, and one that can be reached
 abbrev pub GoesOn : Standpoint → Standpoint → Type 0
 GoesOn at next = (at.position < next.position) × IsReachable next
+
+-- a standpoint just behind a record, which it has as the one before
+abbrev pub IsBehind : ℕ → FoundRecord → Standpoint → Type 0
+IsBehind size found at = (end_address_of size at.position ≡ found.end.0) × (at.prev ≡ Some found.start)
 
 -- a room after reading: as it was, or it holds nothing of the record but what pages had that passed their checks
 abbrev pub IsRoomAfter : ℕ → Pages → Place → List ℕ → List ℕ → Type 0

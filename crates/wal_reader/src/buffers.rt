@@ -31,6 +31,13 @@ pub(crate) fn set_up(
 }
 
 impl Buffers {
+    /// Holds no page from now on: the next one that is asked for is read anew.
+    pub(crate) fn forget_page(&mut self)
+        ensures { self.new ≡ record self.old { cache = record self.old.cache { number = None } } }
+    {
+        self.cache.number = None;
+    }
+
     // No page is held yet.
     fn new(alloc: Global, geometry: Geometry) -> Result<Buffers, AllocError>
         ensures { IfOk result (λ buffers. (buffers.cache.geometry ≡ geometry) × (buffers.cache.number ≡ None)) }

@@ -3,7 +3,7 @@
 ghost use Rattle.std.specs.Prelude.{◌≡◌, ◌<◌, option_map, Some, IfOk, IfSome};
 ghost use Rattle.wal_reader.specs.Cursor.{Sees};
 ghost use Rattle.wal_reader.specs.Pages.{Pages};
-ghost use Rattle.wal_reader.specs.RecordRows.{GoesOn};
+ghost use Rattle.wal_reader.specs.RecordRows.{GoesOn, IsBehind};
 ghost use Rattle.wal_reader.specs.Spelled.{IsSpelled};
 ghost use Rattle.wal_reader.specs.Standpoint.{IsReachable};
 ghost use Rattle.wal_reader.specs.Steps.{ComesNext, IsFurther};
@@ -31,7 +31,8 @@ pub(crate) fn next_given<D: Disk>(
 ) -> Result<(FoundRecord, Standpoint), Stop>
     requires { IfSome from IsReachable }
     ensures geometry { buffers.new.cache.geometry ≡ buffers.old.cache.geometry }
-    ensures behind { IfOk result (λ r. IsFurther from r.1) }
+    ensures further { IfOk result (λ r. IsFurther from r.1) }
+    ensures behind { IfOk result (λ r. IsBehind buffers.old.cache.geometry r.0 r.1) }
     ensures spelled { IfOk result (λ r. IsSpelled r.0) }
     ensures next { (pages : Pages) → Sees (D.tape disk.old) buffers.old.cache pages → Sees (D.tape disk.new) buffers.new.cache pages × ComesNext buffers.old.cache.geometry pages start.0 (option_map (λ e. e.0) end) from result }
 
@@ -57,7 +58,8 @@ fn read_given<D: Disk>(
 ) -> Result<(FoundRecord, Standpoint), Stop>
     requires { IsReachable from }
     ensures geometry { buffers.new.cache.geometry ≡ buffers.old.cache.geometry }
-    ensures behind { IfOk result (λ r. GoesOn from r.1) }
+    ensures further { IfOk result (λ r. GoesOn from r.1) }
+    ensures behind { IfOk result (λ r. IsBehind buffers.old.cache.geometry r.0 r.1) }
     ensures spelled { IfOk result (λ r. IsSpelled r.0) }
     ensures next { (pages : Pages) → Sees (D.tape disk.old) buffers.old.cache pages → Sees (D.tape disk.new) buffers.new.cache pages × ComesNext buffers.old.cache.geometry pages start.0 (option_map (λ e. e.0) end) (Some from) result }
 

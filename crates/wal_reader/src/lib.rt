@@ -22,6 +22,6 @@ mod standpoint;
 mod stop;
 
 pub use found::{DamageKind, Stopped};
-pub use laws::decoding_is_settled;
+pub use laws::{decoding_is_settled, runs_give_fronts};
 pub use log_reader::Reader;
 pub use standing::{ReadErr, Step};

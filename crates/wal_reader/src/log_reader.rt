@@ -5,7 +5,7 @@ ghost use Rattle.wal_reader.specs.Standings.{IsOnWay, IsOnWay-prop};
 
 use crate::buffers::{Buffers, set_up};
 use crate::given::next_given;
-use crate::standing::{ReadErr, Standing, Step, given, told};
+use crate::standing::{ReadErr, Standing, Step, told};
 use crate::stop::Stop;
 use byte_position::Geometry;
 use segment_disk::Disk;
@@ -29,7 +29,7 @@ impl Reader {
     ghost use Rattle.wal_reader.specs.declared.standing.Standing.TheVariants.{NotBegun};
     ghost use Rattle.wal_reader.specs.Pages.{Pages};
     ghost use Rattle.wal_reader.specs.Cursor.{IsLogOf};
-    ghost use Rattle.wal_reader.specs.LogReader.{IsNext, Knows, LeavesReader, reader_state};
+    ghost use Rattle.wal_reader.specs.LogReader.{HoldsNothing, IsNext, Knows, LeavesReader, OnEnd, StandsAfter, reader_state};
     ghost use Rattle.wal_reader.specs.Spelled.{GivesSpelled};
     ghost use Rattle.wal_reader.specs.Standings.{HasReadCause, IsToldAgain};
 
@@ -52,6 +52,8 @@ impl Reader {
     pub fn next<D: Disk>(&mut self, alloc: Global, disk: &mut D) -> Result<Step, ReadErr>
         ensures gives { (pages : Pages) → IsLogOf (D.tape disk.old) (reader_state self.old).size pages → Knows self.old pages → Knows self.new pages × IsNext pages (reader_state self.old) (reader_state self.new) result }
         ensures leaves { LeavesReader (reader_state self.old) (reader_state self.new) result }
+        ensures behind { (pages : Pages) → Knows self.old pages → StandsAfter (reader_state self.old).size (reader_state self.new).standing result }
+        ensures forgets { (pages : Pages) → Knows self.old pages → OnEnd result (HoldsNothing self.new) }
         ensures spelled { IfOk result GivesSpelled }
         ensures stopped { IsToldAgain (reader_state self.old).standing result disk.old disk.new }
 
@@ -71,9 +73,17 @@ impl Reader {
         match next_given(alloc, buffers, disk, self.start, self.end, from) {
             Ok((found, behind)) => {
                 self.standing = Standing::At(behind);
-                Ok(given(found))
+                Ok(Step::Record {
+                    start: found.start,
+                    end: found.end,
+                    prev: found.prev,
+                    total: found.total,
+                    value: found.value,
+                })
             }
             Err(Stop::Told(answer)) => {
+                // What is written behind an end later stands in this page too.
+                buffers.forget_page();
                 self.standing = self.standing.after(answer);
                 told(answer)
             }

@@ -2,7 +2,7 @@
 
 ghost use Rattle.std.specs.Prelude.{◌≡◌, ◌+◌, ◌*◌, ◌/◌, ◌^◌, ◌<◌, ◌≤◌, ◌++◌, length, take, drop, option_map, IfOk};
 ghost use Rattle.std.specs.Int.{w64};
-ghost use Rattle.byte_position.specs.Position.{address_of};
+ghost use Rattle.byte_position.specs.Position.{address_of, end_address_of};
 ghost use Rattle.wal_crc32c.specs.Crc32c.{crc32c};
 ghost use Rattle.wal_page.specs.Page.{first_fault};
 ghost use Rattle.record_spelling.specs.Record.{is_free_manager};
@@ -69,6 +69,8 @@ pub(crate) fn found(
     requires end { extent.at.position + (extent.total + 7) / 8 * 8 < 2 ^ 60 }
     ensures read { IfOk result (λ found. found ≡ found_or geometry (place_of extent.at) extent.total (number_at w64 bytes.now 8) (reading_of bytes.now)) }
     ensures spelled { IfOk result (λ found. IfOk found IsSpelled) }
+    ensures start { IfOk result (λ found. IfOk found (λ f. f.start ≡ extent.start)) }
+    ensures end { IfOk result (λ found. IfOk found (λ f. f.end.0 ≡ end_address_of geometry (extent.at.position + (extent.total + 7) / 8 * 8))) }
 {
     match decode(alloc, bytes) {
         Ok(value) => Ok(Ok(FoundRecord {

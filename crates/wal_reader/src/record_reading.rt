@@ -6,7 +6,7 @@ ghost use Rattle.wal_page.specs.Page.{first_fault};
 ghost use Rattle.wal_reader.specs.Cursor.{HasGathered, HoldsPassed, IsOn, Sees};
 ghost use Rattle.wal_reader.specs.Decodes.{read_at};
 ghost use Rattle.wal_reader.specs.Pages.{Pages};
-ghost use Rattle.wal_reader.specs.RecordRows.{GoesOn, IsRead, IsRoomAfter, rest_rows, said_of};
+ghost use Rattle.wal_reader.specs.RecordRows.{GoesOn, IsBehind, IsRead, IsRoomAfter, rest_rows, said_of};
 ghost use Rattle.wal_reader.specs.Spelled.{IsSpelled};
 ghost use Rattle.wal_reader.specs.Standpoint.{IsReachable, place_of};
 ghost use Rattle.wal_reader.specs.Stops.{HasStopCause, IsNoDiskFault};
@@ -39,6 +39,7 @@ pub(crate) fn read_record<D: Disk>(
     requires { IsReachable at }
     ensures geometry { cache.new.geometry ≡ cache.old.geometry }
     ensures goes_on { IfOk result (λ r. GoesOn at r.1) }
+    ensures behind { IfOk result (λ r. IsBehind cache.old.geometry r.0 r.1) }
     ensures spelled { IfOk result (λ r. IsSpelled r.0) }
     ensures sees { (pages : Pages) → Sees (D.tape disk.old) cache.old pages → Sees (D.tape disk.new) cache.new pages }
     ensures room { (pages : Pages) → Sees (D.tape disk.old) cache.old pages → IsRoomAfter cache.old.geometry pages (place_of at) room.old.items room.new.items }
@@ -76,6 +77,7 @@ fn read_in_page(
     requires within { cursor.offset + extent.total ≤ 8192 }
     requires page { cursor.page ≡ address_of cache.now.geometry extent.at.position / 8192 }
     ensures goes_on { IfOk result (λ r. GoesOn extent.at r.1) }
+    ensures behind { IfOk result (λ r. IsBehind cache.now.geometry r.0 r.1) }
     ensures spelled { IfOk result (λ r. IsSpelled r.0) }
     ensures reads { (pages : Pages) → pages cursor.page ≡ Some cache.now.bytes.value
         → IsRead cache.now.geometry pages (place_of extent.at) (said_of cache.now.geometry pages (place_of extent.at) extent.total (first_fault (rest_rows cache.now.geometry pages (place_of extent.at) extent.total))) result }
@@ -114,6 +116,7 @@ fn read_over_pages<D: Disk>(
     requires page { cursor.page ≡ address_of cache.old.geometry extent.at.position / 8192 }
     ensures geometry { cache.new.geometry ≡ cache.old.geometry }
     ensures goes_on { IfOk result (λ r. GoesOn extent.at r.1) }
+    ensures behind { IfOk result (λ r. IsBehind cache.old.geometry r.0 r.1) }
     ensures spelled { IfOk result (λ r. IsSpelled r.0) }
     ensures sees { (pages : Pages) → Sees (D.tape disk.old) cache.old pages → Sees (D.tape disk.new) cache.new pages }
     ensures room { (pages : Pages) → Sees (D.tape disk.old) cache.old pages → HoldsPassed cache.old.geometry pages (place_of extent.at) extent.total (address_of cache.old.geometry extent.at.position / 8192) room.new.items }

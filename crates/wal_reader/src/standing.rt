@@ -1,9 +1,9 @@
 //! Where a log's reader stands, and what a step of it tells.
 
 ghost use Rattle.std.specs.Prelude.{◌≡◌};
-ghost use Rattle.wal_reader.specs.Standings.{given_as, standing_after, told};
+ghost use Rattle.wal_reader.specs.Standings.{standing_after, told};
 
-use crate::found::{Answer, FoundRecord, Stopped};
+use crate::found::{Answer, Stopped};
 use crate::standpoint::Standpoint;
 use std::alloc::AllocError;
 use thiserror::Error;
@@ -72,19 +72,6 @@ impl From<AllocError> for ReadErr {
 
     fn from(_error: AllocError) -> ReadErr {
         ReadErr::Memory
-    }
-}
-
-/// A record as a step gives it.
-pub(crate) fn given(found: FoundRecord) -> Step
-    ensures { result ≡ given_as found }
-{
-    Step::Record {
-        start: found.start,
-        end: found.end,
-        prev: found.prev,
-        total: found.total,
-        value: found.value,
     }
 }
 

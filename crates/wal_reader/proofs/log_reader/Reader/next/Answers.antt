@@ -4,13 +4,14 @@ use Rattle.wal_reader.specs.Cursor.{IsLogOf, Sees}
 use Rattle.wal_reader.specs.Pages.{Pages}
 use Rattle.wal_reader.specs.Buffers.{HoldsPageOf}
 use Rattle.wal_reader.specs.LogReader.{Knows, reader_state}
+use Rattle.wal_reader.specs.RecordRows.{IsBehind}
 use Rattle.wal_reader.specs.Steps.{ComesNext}
 use Rattle.wal_reader.specs.declared.buffers.Buffers.{Buffers}
 use Rattle.wal_reader.specs.declared.found.FoundRecord.{FoundRecord}
 use Rattle.wal_reader.specs.declared.standpoint.Standpoint.{Standpoint}
 use Rattle.wal_reader.specs.declared.stop.Stop.{Stop}
 use Rattle.wal_reader.specs.declared.stop.Stop.TheVariants as stops
-use Rattle.wal_reader.proofs.LogReaderLaws.{standing_from, Gives-comes, IsNext-told, Leaves-told}
+use Rattle.wal_reader.proofs.LogReaderLaws.{standing_from, Gives-comes, IsNext-told, Leaves-told, OnEnd-told, StandsAfter-told}
 use Rattle.wal_reader.proofs.log_reader.Reader.next.Given.{Over}
 use Rattle.wal_reader.proofs.log_reader.Reader.next.Goals as goal
 use Rattle.wal_reader.proofs.log_reader.Reader.next.Goals.{After-next_given, in-NotBegun, in-At}
@@ -47,6 +48,11 @@ returns-in-Ok-clause-gives g c pages log knows =
     let next : ComesNext c.args.self.now.geometry pages c.args.self.now.start.0 end c.match-self.from (Ok (c.in-Ok.found, c.in-Ok.behind)) = subst (λ (r : Result (FoundRecord × Standpoint) Stop). ComesNext c.args.self.now.geometry pages c.args.self.now.start.0 end c.match-self.from r) c.in-Ok.is (comes g before pages log knows) in
     (knows_still g before pages log knows, λ others answer rest. Gives-comes pages (reader_state c.args.self.now) c.match-self.from (c.in-Ok.found ∷ others) answer (stands g before) (next others answer rest))
 
+pub returns-in-Ok-clause-behind : goal.returns-in-Ok-clause-behind
+returns-in-Ok-clause-behind g c pages knows =
+    let before = (goal.at.returns-in-Ok-clause-behind g c).After-next_given in
+    subst (λ (n : ℕ). IsBehind n c.in-Ok.found c.in-Ok.behind) (in_buffers g before pages knows).0 c.in-Ok.ensures.behind
+
 pub returns-in-Err-Told-clause-gives : goal.returns-in-Err-Told-clause-gives
 returns-in-Err-Told-clause-gives g c pages log knows =
     let before = (goal.at.returns-in-Err-Told-clause-gives g c).After-next_given in
@@ -54,8 +60,19 @@ returns-in-Err-Told-clause-gives g c pages log knows =
     let said : Result (FoundRecord × Standpoint) Stop = Err (stops.Told c.in-Err-Told.answer) in
     let next : ComesNext c.args.self.now.geometry pages c.args.self.now.start.0 end c.match-self.from said = subst (λ (r : Result (FoundRecord × Standpoint) Stop). ComesNext c.args.self.now.geometry pages c.args.self.now.start.0 end c.match-self.from r) (c.in-Err-Told.is ∙ ap Err c.in-Err-Told.field-0-is) (comes g before pages log knows) in
     let gives = Gives-comes pages (reader_state c.args.self.now) c.match-self.from [] c.in-Err-Told.answer (stands g before) next in
-    (knows_still g before pages log knows, rw c.told-in-Err-Told.ensures (IsNext-told pages (reader_state c.args.self.now) _ c.in-Err-Told.answer gives))
+    let held = knows_still g before pages log knows in
+    (rw c.forget_page.ensures (held.0, tt), rw c.told.ensures (IsNext-told pages (reader_state c.args.self.now) _ c.in-Err-Told.answer gives))
+
+pub returns-in-Err-Told-clause-forgets : goal.returns-in-Err-Told-clause-forgets
+returns-in-Err-Told-clause-forgets g c pages knows =
+    let before = (goal.at.returns-in-Err-Told-clause-forgets g c).After-next_given in
+    let geometry = c.next_given.ensures.geometry ∙ (in_buffers g before pages knows).0 in
+    rw c.told.ensures (OnEnd-told c.in-Err-Told.answer _ (λ others. rw c.forget_page.ensures (geometry, tt)))
+
+pub returns-in-Err-Told-clause-behind : goal.returns-in-Err-Told-clause-behind
+returns-in-Err-Told-clause-behind g c pages knows =
+    rw c.told.ensures (StandsAfter-told c.args.self.now.geometry _ c.in-Err-Told.answer)
 
 pub returns-in-Err-Told-clause-leaves : goal.returns-in-Err-Told-clause-leaves
 returns-in-Err-Told-clause-leaves g c =
-    rw (c.after-self.ensures, c.told-in-Err-Told.ensures) (Leaves-told (reader_state c.args.self.now) c.in-Err-Told.answer)
+    rw (c.after-self.ensures, c.told.ensures) (Leaves-told (reader_state c.args.self.now) c.in-Err-Told.answer)
