@@ -12,3 +12,4 @@ pub mod RowLaws
 pub mod SettledLaws
 pub mod StopLaws
 pub mod RunLaws
+pub mod ReachLaws

@@ -18,8 +18,7 @@ use Rattle.wal_reader.specs.declared.found.FoundRecord.{FoundRecord}
 use Rattle.wal_reader.specs.declared.found.Answer.{Answer}
 use Rattle.wal_reader.specs.declared.found.Answer.TheVariants as answers
 use Rattle.wal_reader.specs.declared.found.DamageKind.TheVariants as damages
-use Rattle.wal_reader.specs.Decodes.{Place, ReadsRecords, ReadsFrom, answer_or, beginning, damaged, ended, found_or, is_at_end, is_right_prev, is_zero_word, opens_page, page_answers, page_of_byte, place_behind, read_at, read_in, record_rows, rows_of_pages}
-use Rattle.wal_reader.specs.RecordRows.{header_rows}
+use Rattle.wal_reader.specs.Decodes.{Place, ReadsRecords, ReadsFrom, answer_or, beginning, damaged, ended, found_or, is_at_end, is_right_prev, is_zero_word, opens_page, page_answers, page_of_byte, place_behind, read_at, read_in, record_rows, rows_of_pages, header_rows}
 use Rattle.wal_reader.specs.LogReader.{ReaderState, GivesRecords, GivesAt, IsNext}
 use Rattle.wal_reader.specs.declared.standing.Standing.{Standing}
 use Rattle.wal_reader.specs.declared.standing.Standing.TheVariants.{NotBegun, At, Stopped}
@@ -70,23 +69,6 @@ passes_row : {K : Type 0} (holds : Bool) (told : K) (others : Option K) → cond
 passes_row true told others e = absurd cc
 passes_row false told others e = (refl, e)
 
--- the third row of four
-third_row : {K : Type 0} (p q r t : Bool × K) → first_fault (p ∷ q ∷ r ∷ t ∷ []) ≡ None → r.0 ≡ false
-third_row p q r t e =
-    let first = passes_row p.0 p.1 (first_fault (q ∷ r ∷ t ∷ [])) e in
-    let second = passes_row q.0 q.1 (first_fault (r ∷ t ∷ [])) first.1 in
-    (passes_row r.0 r.1 (first_fault (t ∷ [])) second.1).0
-
--- the third row of the third group
-row_passes : {K : Type 0} (a b : List (Bool × K)) (p q r t : Bool × K) (d e f g : List (Bool × K)) → first_fault (a ++ b ++ (p ∷ q ∷ r ∷ t ∷ []) ++ d ++ e ++ f ++ g) ≡ None → r.0 ≡ false
-row_passes a b p q r t d e f g passes =
-    let c = p ∷ q ∷ r ∷ t ∷ [] in
-    let upto_f = (passes_both (a ++ b ++ c ++ d ++ e ++ f) g passes).0 in
-    let upto_e = (passes_both (a ++ b ++ c ++ d ++ e) f upto_f).0 in
-    let upto_d = (passes_both (a ++ b ++ c ++ d) e upto_e).0 in
-    let upto_c = (passes_both (a ++ b ++ c) d upto_d).0 in
-    third_row p q r t (passes_both (a ++ b) c upto_c).1
-
 module _ (size : ℕ) (pages : Pages) (end : Option ℕ) (place : Place) where
   -- the size that a record's first word gives
   abbrev first_size : ℕ
@@ -94,24 +76,13 @@ module _ (size : ℕ) (pages : Pages) (end : Option ℕ) (place : Place) where
 
   size-passed : (bytes : List ℕ) → first_fault (record_rows size pages end place bytes) ≡ None → 24 ≤ first_size
   size-passed bytes passes =
-      let start = address_of size place.position in
-      let page = start / 8192 in
-      let header = bytes_from size pages 24 place.position in
-      let whole = bytes_from size pages first_size place.position in
-      let header_page = page_of_byte size place.position 24 in
-      ltb-false first_size 24
-      (row_passes
-      ((opens_page size place.position && is_zero_word bytes, ended size place.position) ∷ [])
-      (page_answers size page bytes place.timeline)
-      (opens_page size place.position && is_continued bytes, damaged start damages.Claims)
-      (is_zero_word header, ended size place.position)
-      (ltb first_size 24, damaged start damages.Length)
-      (is_at_end end (address_of size (place.position + first_size - 1)), ended size place.position)
-      (rows_of_pages size pages place first_size page header_page)
-      (header_rows start place.prev header)
-      (rows_of_pages size pages place first_size header_page (page_of_byte size place.position first_size))
-      ((not (eqb (crc32c (drop 24 whole ++ take 20 whole)) (number_at w32 whole 20)), damaged start damages.Crc) ∷ [])
-      passes)
+      let no_record = is_zero_word (bytes_from size pages 24 place.position) in
+      let sizes = size_rows size end place.position no_record first_size in
+      let rest = rest_rows size pages place first_size in
+      let behind_opening = (passes_both (opening_rows size place bytes) (sizes ++ rest) passes).1 in
+      let own = (passes_both sizes rest behind_opening).0 in
+      let of_word = passes_row no_record (ended size place.position) _ own in
+      ltb-false first_size 24 (passes_row (ltb first_size 24) (damaged (address_of size place.position) damages.Length) _ of_word.1).0
 
   -- the first word says the same of the size as the header does
   size_in_header : number_at w32 (bytes_from size pages 24 place.position) 0 ≡ first_size

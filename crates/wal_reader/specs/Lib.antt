@@ -6,7 +6,7 @@ pub mod Cache
 pub mod Standpoint
 pub mod Stops
 pub mod Cursor
-pub mod RecordRows
+pub mod RecordRead
 pub mod Beginning
 pub mod Steps
 pub mod Standings

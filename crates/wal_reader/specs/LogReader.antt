@@ -13,12 +13,13 @@ use Rattle.wal_reader.specs.declared.log_reader.Reader.{Reader}
 use Rattle.wal_reader.specs.Decodes.{Decodes}
 use Rattle.wal_reader.specs.Buffers.{HoldsPageOf}
 use Rattle.wal_reader.specs.Pages.{Pages}
-use Rattle.wal_reader.specs.RecordRows.{IsBehind}
+use Rattle.wal_reader.specs.RecordRead.{IsBehind}
 use Rattle.wal_reader.specs.Standings.{found_as, left_at}
-use Rattle.wal_reader.specs.Standpoint.{place_of}
+use Rattle.wal_reader.specs.Standpoint.{IsOutOfReach, place_of}
 use Rattle.wal_reader.specs.Steps.{GivesFrom}
 
--- the segment size of the log, the addresses between which records are given, and where the reader stands
+-- the segment size of the log, the addresses between which records are given, and where the reader
+-- stands
 pub record ReaderState : Type 0 where
   pub size : ℕ
   pub start : ℕ
@@ -26,18 +27,28 @@ pub record ReaderState : Type 0 where
   pub standing : Standing
 
 abbrev pub reader_state : Reader → ReaderState
-reader_state reader = record { size = reader.geometry; start = reader.start.0; end = option_map (λ address. address.0) reader.end; standing = reader.standing }
+reader_state reader =
+    record {
+      size = reader.geometry;
+      start = reader.start.0;
+      end = option_map
+          (λ address. address.0) reader.end;
+      standing = reader.standing;
+    }
 
 -- the page that a reader holds is one of these
 abbrev pub Knows : Reader → Pages → Type 0
 Knows reader pages = HoldsPageOf reader.geometry reader.buffers pages
 
 abbrev pub GivesAt : Pages → ReaderState → Standing → List FoundRecord → Answer → Type 0
-GivesAt pages state NotBegun found answer = Decodes state.size pages state.start state.end found answer
-GivesAt pages state (At standpoint) found answer = GivesFrom state.size pages state.start state.end (place_of standpoint) found answer
+GivesAt pages state NotBegun found answer =
+    Decodes state.size pages state.start state.end found answer
+GivesAt pages state (At standpoint) found answer =
+    GivesFrom state.size pages state.start state.end (place_of standpoint) found answer
 GivesAt pages state (Stopped stop) found answer = (found ≡ []) × (answer ≡ answers.Stopped stop)
 
--- what a reader still gives of these pages: before it has begun all that they decode to, and once it has stopped that answer alone
+-- what a reader still gives of these pages: before it has begun all that they decode to, and once
+-- it has stopped that answer alone
 abbrev pub GivesRecords : Pages → ReaderState → List FoundRecord → Answer → Type 0
 GivesRecords pages state found answer = GivesAt pages state state.standing found answer
 
@@ -45,7 +56,8 @@ GivesRecords pages state found answer = GivesAt pages state state.standing found
 abbrev pub IsNext : Pages → ReaderState → ReaderState → Result Step ReadErr → Type 0
 IsNext pages old new (Ok (steps.Record start end prev total value)) =
     let found = found_as start end prev total value in
-    (others : List FoundRecord) (answer : Answer) → GivesRecords pages new others answer → GivesRecords pages old (found ∷ others) answer
+    (others : List FoundRecord) (answer : Answer) → GivesRecords pages new others answer
+    → GivesRecords pages old (found ∷ others) answer
 IsNext pages old new (Ok (steps.End at)) = GivesRecords pages old [] (answers.End at)
 IsNext pages old new (Err (reading.Stopped stop)) = GivesRecords pages old [] (answers.Stopped stop)
 IsNext pages old new (Err reading.Memory) = Unit {0}
@@ -84,3 +96,9 @@ abbrev pub OnEnd : Result Step ReadErr → Type 0 → Type 0
 OnEnd (Ok (steps.Record start end prev total value)) fact = Unit {0}
 OnEnd (Ok (steps.End at)) fact = fact
 OnEnd (Err error) fact = Unit {0}
+
+-- a reader that needs no page to answer: it has stopped, or it is where nothing is read
+abbrev pub NeedsNoPage : ReaderState → Standing → Type 0
+NeedsNoPage state NotBegun = ⊥
+NeedsNoPage state (At at) = IsOutOfReach state.size state.end at.position
+NeedsNoPage state (Stopped stop) = Unit {0}

@@ -18,5 +18,6 @@ IsSpelled found = HasSpelling found
 
 -- so was the record that a step gives
 abbrev pub GivesSpelled : Step → Type 0
-GivesSpelled (steps.Record start end prev total value) = IsSpelled (found_as start end prev total value)
+GivesSpelled (steps.Record start end prev total value) =
+    IsSpelled (found_as start end prev total value)
 GivesSpelled (steps.End at) = Unit {0}

@@ -14,7 +14,8 @@ use Rattle.wal_reader.specs.declared.standing.Step.TheVariants as steps
 use Rattle.wal_reader.specs.declared.standing.ReadErr.{ReadErr}
 use Rattle.wal_reader.specs.declared.standing.ReadErr.TheVariants as reading
 
--- a reader that is before a record stands where reading comes to: at a whole word, below address 2 ^ 60
+-- a reader that is before a record stands where reading comes to: at a whole word, below address 2
+-- ^ 60
 abbrev pub IsOnWay : Standing → Type 0
 IsOnWay NotBegun = Unit {0}
 IsOnWay (At at) = (at.position % 8 ≡ 0) × (at.position < 2 ^ 60)

@@ -22,7 +22,8 @@ pub(crate) fn set_up(
     geometry: Geometry,
 ) -> Result<(), AllocError>
     ensures ready { OnOk result (IsTrue (is_some buffers.new)) }
-    ensures holds { (pages : Pages) → HoldsPageOf geometry buffers.old pages → HoldsPageOf geometry buffers.new pages }
+    ensures holds { (pages : Pages) → HoldsPageOf geometry buffers.old pages
+        → HoldsPageOf geometry buffers.new pages }
 {
     if buffers.is_none() {
         *buffers = Some(Buffers::new(alloc, geometry)?);
@@ -40,7 +41,8 @@ impl Buffers {
 
     // No page is held yet.
     fn new(alloc: Global, geometry: Geometry) -> Result<Buffers, AllocError>
-        ensures { IfOk result (λ buffers. (buffers.cache.geometry ≡ geometry) × (buffers.cache.number ≡ None)) }
+        ensures { IfOk result (λ buffers. (buffers.cache.geometry ≡ geometry) ×
+            (buffers.cache.number ≡ None)) }
     {
         Ok(Buffers {
             cache: PageCache::new(alloc, geometry)?,

@@ -98,7 +98,8 @@ pub enum Stopped {
 /// What stands where no record does.
 #[derive(Clone, Copy, Debug)]
 pub(crate) enum Answer {
-    /// A clean end of the log: where the last record ends, or how far reading came where there is none.
+    /// A clean end of the log: where the last record ends, or how far reading came where there is
+    /// none.
     End { at: Lsn },
     Stopped(Stopped),
 }

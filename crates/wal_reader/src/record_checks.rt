@@ -8,8 +8,7 @@ ghost use Rattle.wal_page.specs.Page.{first_fault};
 ghost use Rattle.record_spelling.specs.Record.{is_free_manager};
 ghost use Rattle.record_spelling.specs.Numbers.{number_at};
 ghost use Rattle.record_decode.specs.Reading.{reading_of};
-ghost use Rattle.wal_reader.specs.Decodes.{found_or};
-ghost use Rattle.wal_reader.specs.RecordRows.{crc_rows, header_rows};
+ghost use Rattle.wal_reader.specs.Decodes.{found_or, crc_rows, header_rows};
 ghost use Rattle.wal_reader.specs.Spelled.{IsSpelled};
 ghost use Rattle.wal_reader.specs.Standpoint.{place_of};
 ghost use Rattle.wal_reader.specs.Stops.{Passes};
@@ -29,7 +28,8 @@ use wal_types::Lsn;
 /// ValidXLogRecordHeader of xlogreader.c).
 pub(crate) fn check_header(extent: Extent, header: &[u8]) -> Result<(), Answer>
     requires { 24 ≤ length header.now }
-    ensures { Passes (first_fault (header_rows extent.start.0 (option_map (λ start. start.0) extent.at.prev) header.now)) result }
+    ensures { Passes (first_fault (header_rows extent.start.0
+        (option_map (λ start. start.0) extent.at.prev) header.now)) result }
 {
     if is_free_manager(header[RMID_AT]) {
         return Err(damaged(extent.start, DamageKind::Rmgr));
@@ -67,10 +67,12 @@ pub(crate) fn found(
     requires start { extent.start.0 ≡ address_of geometry extent.at.position }
     requires len { (24 ≤ length bytes.now) × (length bytes.now ≡ extent.total) }
     requires end { extent.at.position + (extent.total + 7) / 8 * 8 < 2 ^ 60 }
-    ensures read { IfOk result (λ found. found ≡ found_or geometry (place_of extent.at) extent.total (number_at w64 bytes.now 8) (reading_of bytes.now)) }
+    ensures read { IfOk result (λ found. found ≡ found_or geometry (place_of extent.at) extent.total
+        (number_at w64 bytes.now 8) (reading_of bytes.now)) }
     ensures spelled { IfOk result (λ found. IfOk found IsSpelled) }
     ensures start { IfOk result (λ found. IfOk found (λ f. f.start ≡ extent.start)) }
-    ensures end { IfOk result (λ found. IfOk found (λ f. f.end.0 ≡ end_address_of geometry (extent.at.position + (extent.total + 7) / 8 * 8))) }
+    ensures end { IfOk result (λ found. IfOk found (λ f. f.end.0
+        ≡ end_address_of geometry (extent.at.position + (extent.total + 7) / 8 * 8))) }
 {
     match decode(alloc, bytes) {
         Ok(value) => Ok(Ok(FoundRecord {

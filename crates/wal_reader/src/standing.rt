@@ -46,7 +46,8 @@ pub enum Step {
         total: u32,
         value: Record,
     },
-    /// A clean end of the log: where the last record ends, or how far reading came where there is none.
+    /// A clean end of the log: where the last record ends, or how far reading came where there is
+    /// none.
     End {
         at: Lsn,
     },

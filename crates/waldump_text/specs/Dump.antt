@@ -21,16 +21,22 @@ DecodesOnDisk size t found answer = Decodes size (log_of t size) size None found
 
 -- a sink took the listing of what the disk's log decodes to, and this stands behind the records
 abbrev pub PutsListing : ℕ → Tape → Option (List ℕ) → Option (List ℕ) → Answer → Type 0
-PutsListing size t old new answer = (found : List FoundRecord) × DecodesOnDisk size t found answer × (new ≡ with_behind old (listing found))
+PutsListing size t old new answer =
+    (found : List FoundRecord) × DecodesOnDisk size t found answer
+    × (new ≡ with_behind old (listing found))
 
 -- a sink took a front of the listing of what the disk's log decodes to
 abbrev pub PutsListingFront : ℕ → Tape → Option (List ℕ) → Option (List ℕ) → Type 0
-PutsListingFront size t old new = (found : List FoundRecord) (answer : Answer) → DecodesOnDisk size t found answer → (n : ℕ) × (new ≡ with_behind old (take n (listing found)))
+PutsListingFront size t old new =
+    (found : List FoundRecord) (answer : Answer) → DecodesOnDisk size t found answer → (n : ℕ)
+    × (new ≡ with_behind old (take n (listing found)))
 
 -- what a listing put, by how it ended
-abbrev pub IsDump : ℕ → Option (List ℕ) → Option (List ℕ) → Result (Unit {0}) DumpErr → Tape → Type 0
+abbrev pub IsDump : ℕ → Option (List ℕ) → Option (List ℕ) → Result (Unit {0}) DumpErr → Tape
+    → Type 0
 IsDump size old new (Ok done) t = (at : Lsn) × PutsListing size t old new (answers.End at)
-IsDump size old new (Err (Read (reading.Stopped stop))) t = PutsListing size t old new (answers.Stopped stop)
+IsDump size old new (Err (Read (reading.Stopped stop))) t =
+    PutsListing size t old new (answers.Stopped stop)
 IsDump size old new (Err (Read reading.Memory)) t = PutsListingFront size t old new
 IsDump size old new (Err (Read (reading.Disk faults))) t = PutsListingFront size t old new
 IsDump size old new (Err (Sink fault)) t = PutsListingFront size t old new

@@ -51,10 +51,12 @@ pub fn dump<D: Disk, O: Sink>(
     geometry: Geometry,
     out: &mut O,
 ) -> Result<(), DumpErr>
-    ensures listed { IfSome (D.tape disk.old) (IsDump geometry (O.taken out.old) (O.taken out.new) result) }
+    ensures listed { IfSome (D.tape disk.old)
+        (IsDump geometry (O.taken out.old) (O.taken out.new) result) }
     ensures tape { D.tape disk.new ≡ D.tape disk.old }
     ensures moment { D.moment disk.new ≡ D.moment disk.old }
-    ensures cause { HasDumpCause (D.faults disk.old) (D.faults disk.new) (O.faults out.old) (O.faults out.new) result }
+    ensures cause { HasDumpCause (D.faults disk.old) (D.faults disk.new) (O.faults out.old)
+        (O.faults out.new) result }
 {
     let mut reader = Reader::new(geometry, Lsn(geometry.segment_size()), None);
     let mut buffer = LineBuffer::new();

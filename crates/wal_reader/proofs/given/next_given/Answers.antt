@@ -27,3 +27,10 @@ returns-clause-next g c pages sees =
           let all : ComesNext c.args.buffers.now.cache.geometry pages c.args.start.0 end None c.read_given.result = ComesNext-begun c.args.buffers.now.cache.geometry pages c.args.start.0 end c.match-from.at c.read_given.result begun same in
           (next.0, rw w.in-None.is all))
     ]
+
+pub returns-clause-unread : goal.returns-clause-unread
+returns-clause-unread g c =
+    elim c.match-from.branch [
+      | in-Some w ↦ rw w.in-Some.is (λ out. c.read_given.ensures.unread (rw (w.buffers-is, w.at-is) out) ∙ w.disk-is)
+      | in-None+in_ok-at-in-None w ↦ rw w.in-None.is tt
+    ]

@@ -3,8 +3,9 @@ use Rattle.wal_types.specs.declared.lsn.Lsn.{Lsn}
 use Rattle.wal_reader.specs.Cursor.{IsLogOf, Sees}
 use Rattle.wal_reader.specs.Pages.{Pages}
 use Rattle.wal_reader.specs.Buffers.{HoldsPageOf}
-use Rattle.wal_reader.specs.LogReader.{Knows, reader_state}
-use Rattle.wal_reader.specs.RecordRows.{IsBehind}
+use Rattle.wal_reader.specs.LogReader.{Knows, NeedsNoPage, reader_state}
+use Rattle.wal_reader.specs.RecordRead.{IsBehind}
+use Rattle.wal_reader.specs.Standpoint.{IsOutOfReach}
 use Rattle.wal_reader.specs.Steps.{ComesNext}
 use Rattle.wal_reader.specs.declared.buffers.Buffers.{Buffers}
 use Rattle.wal_reader.specs.declared.found.FoundRecord.{FoundRecord}
@@ -76,3 +77,26 @@ returns-in-Err-Told-clause-behind g c pages knows =
 pub returns-in-Err-Told-clause-leaves : goal.returns-in-Err-Told-clause-leaves
 returns-in-Err-Told-clause-leaves g c =
     rw (c.after-self.ensures, c.told.ensures) (Leaves-told (reader_state c.args.self.now) c.in-Err-Told.answer)
+
+-- where nothing is read the disk is left alone
+left_alone : (g : Over) (c : After-next_given g) (pages : Pages) → Knows c.args.self.now pages → NeedsNoPage (reader_state c.args.self.now) c.args.self.now.standing → c.next_given.new.disk ≡ c.args.disk.now
+left_alone g c pages knows needs =
+    elim c.match-self.branch [
+      | in-NotBegun w ↦ absurd (rw w.in-NotBegun.is at needs)
+      | in-At w ↦
+          (let out : IsOutOfReach c.args.self.now.geometry (option_map (λ (e : Lsn). e.0) c.args.self.now.end) w.in-At.at.position = rw w.in-At.is at needs in
+          let unread = rw w.from-is at c.next_given.ensures.unread in
+          unread (rw (in_buffers g c pages knows).0 out))
+    ]
+
+pub returns-in-Ok-clause-unread : goal.returns-in-Ok-clause-unread
+returns-in-Ok-clause-unread g c = left_alone g (goal.at.returns-in-Ok-clause-unread g c).After-next_given
+
+pub returns-in-Err-Told-clause-unread : goal.returns-in-Err-Told-clause-unread
+returns-in-Err-Told-clause-unread g c = left_alone g (goal.at.returns-in-Err-Told-clause-unread g c).After-next_given
+
+pub returns-in-Err-Memory-clause-unread : goal.returns-in-Err-Memory-clause-unread
+returns-in-Err-Memory-clause-unread g c = left_alone g (goal.at.returns-in-Err-Memory-clause-unread g c).After-next_given
+
+pub returns-in-Err-Disk-clause-unread : goal.returns-in-Err-Disk-clause-unread
+returns-in-Err-Disk-clause-unread g c = left_alone g (goal.at.returns-in-Err-Disk-clause-unread g c).After-next_given
