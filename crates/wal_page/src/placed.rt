@@ -1,10 +1,10 @@
 //! The words of a record at its place in the log (PostgreSQL's CopyXLogRecordToWAL of xlog.c).
 
-ghost use Rattle.std.specs.Prelude.{◌≡◌, ◌+◌, ◌-◌, ◌*◌, ◌%◌, ◌^◌, ◌<◌, ◌==◌, IfSome, IfNone, if◌then◌else◌};
+ghost use Rattle.std.specs.Prelude.{◌≡◌, ◌+◌, ◌-◌, ◌*◌, ◌%◌, ◌^◌, ◌<◌, ◌≤◌, ◌==◌, IfSome, IfNone, length, if◌then◌else◌};
 ghost use Rattle.byte_position.specs.Position.{end_address_of};
 ghost use Rattle.wal_record.specs.Spelling.{assembled_room, assembled_size};
 ghost use Rattle.wal_page.specs.Page.{header_size};
-ghost use Rattle.wal_page.specs.Placed.{Owns, entry_word, header_word};
+ghost use Rattle.wal_page.specs.Placed.{HasWordsFrom, LieTogether, Owns, entry_word, header_word};
 
 use crate::header::{is_in_header, page_header_word};
 use crate::layout::*;
@@ -14,6 +14,9 @@ use wal_record::Body;
 use wal_types::Lsn;
 
 const WORD: u64 = 8;
+
+/// SizeOfXLogRecord: the length of a record's own header.
+const RECORD_HEADER_LEN: u32 = 24;
 
 /// A record at its place: gives its words with their addresses, those of the page headers that it owns among them.
 #[derive(Debug, Drop)]
@@ -84,6 +87,70 @@ impl<'a> Placed<'a> {
         };
         self.next = at + WORD;
         Some((Lsn(at), word))
+    }
+
+    /// Puts the record's next words, as many as there are places: those that `next_word` would give one by one. Words of the
+    /// record that lie together on a page are copied at once.
+    pub fn put_words(&mut self, words: &mut [u64])
+        requires { self.old.next + 8 * length words.old
+            ≤ end_address_of self.old.size (self.old.start + assembled_room self.old.body) }
+        ensures placed { self.new ≡ record self.old { next = self.old.next + 8 * length words.old } }
+        ensures words { HasWordsFrom self.old (length words.old) words.new }
+    {
+        let mut put = 0;
+        while put < words.len() {
+            put += self.put_some(&mut words[put..]);
+        }
+    }
+
+    // Puts at least one word: all that lie together on a page, or one of a page's header or of the record's own.
+    fn put_some(&mut self, words: &mut [u64]) -> usize
+        requires some { 0 < length words.old }
+        requires owned { self.old.next + 8 * length words.old
+            ≤ end_address_of self.old.size (self.old.start + assembled_room self.old.body) }
+        ensures count { (0 < result) × (result ≤ length words.old) }
+        ensures placed { self.new ≡ record self.old { next = self.old.next + 8 * result } }
+        ensures words { HasWordsFrom self.old result words.new }
+    {
+        let count = self.words_together(words.len());
+        if count > 0 {
+            self.put_together(&mut words[..count]);
+            return count;
+        }
+        if let Some((_, word)) = self.next_word() {
+            words[0] = word;
+        }
+        1
+    }
+
+    // How many of the next words, at most so many, lie together on a page behind its header and the record's own.
+    fn words_together(&self, most: usize) -> usize
+        ensures most { result ≤ most }
+        ensures together { 0 < result → LieTogether self.now result }
+    {
+        if self.passed < RECORD_HEADER_LEN {
+            return 0;
+        }
+        if is_in_header(self.geometry, self.next) {
+            return 0;
+        }
+        let left = (PAGE_SIZE as u64 - self.next % PAGE_SIZE as u64) / WORD;
+        most.min(left as usize)
+    }
+
+    // Puts words that lie together.
+    fn put_together(&mut self, words: &mut [u64])
+        requires some { 0 < length words.old }
+        requires together { LieTogether self.old (length words.old) }
+        requires owned { self.old.next + 8 * length words.old
+            ≤ end_address_of self.old.size (self.old.start + assembled_room self.old.body) }
+        ensures placed { self.new ≡ record self.old { next = self.old.next + 8 * length words.old } }
+        ensures words { HasWordsFrom self.old (length words.old) words.new }
+    {
+        let bytes = WORD as usize * words.len();
+        self.body.put_words(self.passed / WORD as u32, words);
+        self.passed += bytes as u32;
+        self.next += bytes as u64;
     }
 
     /// Where the next word lies: where the record ends, once all words were given.

@@ -16,6 +16,7 @@ mod layout;
 mod manager;
 mod plain;
 mod plain_blocks;
+mod putting;
 mod refusing;
 #[cfg(test)]
 mod tests;
