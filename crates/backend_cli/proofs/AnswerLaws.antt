@@ -2,10 +2,10 @@
 use Rattle.std.proofs.Common.{◌≡◌, ℕ, Result, subst}
 use Rattle.wal_types.specs.declared.record.Record.{Record}
 use Rattle.wal_record.specs.Spelling.{Assembled, assembled, IsWritable}
-use Rattle.serial_log.specs.declared.told.Receipt.{Receipt}
-use Rattle.serial_log.specs.declared.told.Hard.{Hard}
-use Rattle.serial_log.specs.declared.told.Sealed.{Sealed}
-use Rattle.serial_log.specs.declared.told.Refused.{Refused}
+use Rattle.log_answers.specs.declared.Receipt.{Receipt}
+use Rattle.log_answers.specs.declared.Hard.{Hard}
+use Rattle.log_answers.specs.declared.Sealed.{Sealed}
+use Rattle.log_answers.specs.declared.Refused.{Refused}
 use Rattle.serial_log.specs.History.{LogHistory}
 use Rattle.serial_log.specs.Steps.{Inserts, Commits, Flushes}
 use Rattle.wal_script.specs.declared.line.Action.{Action}

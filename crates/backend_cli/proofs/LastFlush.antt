@@ -1,10 +1,10 @@
 -- How a log stands behind its last flush.
 use Rattle.std.proofs.Common.{◌≡◌, ℕ, Option, Some, None, Result, Ok, Err, refl, sym, subst}
 use Rattle.std.specs.Prelude.{IfSome}
-use Rattle.serial_log.specs.declared.told.Hard.{Hard}
-use Rattle.serial_log.specs.declared.told.Refused.{Refused}
-use Rattle.serial_log.specs.declared.told.Cause.{Cause}
-use Rattle.serial_log.specs.declared.told.Cause.TheVariants.{Full, Disk, Down}
+use Rattle.log_answers.specs.declared.Hard.{Hard}
+use Rattle.log_answers.specs.declared.Refused.{Refused}
+use Rattle.log_answers.specs.declared.Cause.{Cause}
+use Rattle.log_answers.specs.declared.Cause.TheVariants.{Full, Disk, Down}
 use Rattle.wal_types.specs.declared.lsn.Lsn.{Lsn}
 use Rattle.serial_log.specs.History.{LogHistory, end_of}
 use Rattle.serial_log.specs.Steps.{Flushes, RefusesFlush}

@@ -2,12 +2,12 @@
 use Rattle.std.proofs.Common.{◌≡◌, ◌<◌, ◌≤◌, ℕ, Bool, true, false, List, [], ◌∷◌, ◌++◌, Option, Some, None, Result, Ok, Err, sym, ap, ◌∙◌, subst, refl, arith}
 use Rattle.std.specs.Prelude.{IfSome, IfOk, IfErr, OnOk, OnErr}
 use Rattle.flush_core.specs.Writer.{writer_fault}
-use Rattle.serial_log.specs.declared.told.Receipt.{Receipt}
-use Rattle.serial_log.specs.declared.told.Hard as hard
-use Rattle.serial_log.specs.declared.told.Sealed.{Sealed}
-use Rattle.serial_log.specs.declared.told.Refused as refused
-use Rattle.serial_log.specs.declared.told.Cause.{Cause}
-use Rattle.serial_log.specs.declared.told.Cause.TheVariants.{Full, Disk, Down}
+use Rattle.log_answers.specs.declared.Receipt.{Receipt}
+use Rattle.log_answers.specs.declared.Hard as hard
+use Rattle.log_answers.specs.declared.Sealed.{Sealed}
+use Rattle.log_answers.specs.declared.Refused as refused
+use Rattle.log_answers.specs.declared.Cause.{Cause}
+use Rattle.log_answers.specs.declared.Cause.TheVariants.{Full, Disk, Down}
 use Rattle.segment_disk.specs.Tape.{Tape}
 use Rattle.serial_log.specs.LogState.{LogState, IsLog, HasUnwritten, end_behind, log_disk}
 use Rattle.serial_log.specs.History.{at_opening}

@@ -1,7 +1,7 @@
 -- Once the disk has failed, each line is told so.
 use Rattle.std.proofs.Common.{◌≡◌, ℕ, List, [], ◌∷◌, Some, None, Option, refl, sym, ap, ◌∙◌}
 use Rattle.wal_script.specs.declared.line.Line.{Line}
-use Rattle.serial_log.specs.declared.told.Cause.TheVariants.{Full, Disk, Down}
+use Rattle.log_answers.specs.declared.Cause.TheVariants.{Full, Disk, Down}
 use Rattle.serial_log.specs.History.{LogHistory, at_opening}
 use Rattle.backend_cli.specs.declared.told.Told.{Told}
 use Rattle.backend_cli.specs.declared.told.Told.TheVariants.{Wrote, Hard, Flushed, Refused}

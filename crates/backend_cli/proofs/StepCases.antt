@@ -5,12 +5,12 @@ use Rattle.wal_types.specs.declared.record.Record.{Record}
 use Rattle.wal_types.specs.declared.lsn.Lsn.{Lsn}
 use Rattle.wal_record.specs.Spelling.{room_of, IsWritable}
 use Rattle.wal_page.specs.Order.{rooms_of, finish_of}
-use Rattle.serial_log.specs.declared.told.Receipt.{Receipt}
-use Rattle.serial_log.specs.declared.told.Hard as hard
-use Rattle.serial_log.specs.declared.told.Sealed.{Sealed}
-use Rattle.serial_log.specs.declared.told.Refused as refused
-use Rattle.serial_log.specs.declared.told.Cause.{Cause}
-use Rattle.serial_log.specs.declared.told.Cause.TheVariants.{Full, Disk, Down}
+use Rattle.log_answers.specs.declared.Receipt.{Receipt}
+use Rattle.log_answers.specs.declared.Hard as hard
+use Rattle.log_answers.specs.declared.Sealed.{Sealed}
+use Rattle.log_answers.specs.declared.Refused as refused
+use Rattle.log_answers.specs.declared.Cause.{Cause}
+use Rattle.log_answers.specs.declared.Cause.TheVariants.{Full, Disk, Down}
 use Rattle.serial_log.specs.History.{LogHistory, end_of, next_entry, with_entry}
 use Rattle.serial_log.specs.Steps.{Inserts, Commits, Flushes, IsReserved, RefusesRecord, RefusesFlush}
 use Rattle.wal_script.specs.declared.line.Action.{Action}

@@ -1,10 +1,10 @@
 -- Lines done by a log, step by step: `capacity` is how many bytes its records may take up, `opened` the disk's count of faults when it was opened.
 use Rattle.std.specs.Prelude.{◌≡◌, ℕ, List, [], ◌∷◌, Result, Ok, Err}
 use Rattle.wal_record.specs.Spelling.{IsWritable}
-use Rattle.serial_log.specs.declared.told.Receipt.{Receipt}
-use Rattle.serial_log.specs.declared.told.Hard as hard
-use Rattle.serial_log.specs.declared.told.Sealed.{Sealed}
-use Rattle.serial_log.specs.declared.told.Refused as refused
+use Rattle.log_answers.specs.declared.Receipt.{Receipt}
+use Rattle.log_answers.specs.declared.Hard as hard
+use Rattle.log_answers.specs.declared.Sealed.{Sealed}
+use Rattle.log_answers.specs.declared.Refused as refused
 use Rattle.serial_log.specs.History.{LogHistory}
 use Rattle.serial_log.specs.Steps.{Inserts, Commits, Flushes}
 use Rattle.wal_script.specs.declared.line.Line.{Line}

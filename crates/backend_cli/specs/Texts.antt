@@ -9,8 +9,8 @@ use Rattle.wal_script.specs.declared.line.Line.{Line}
 use Rattle.waldump_text.specs.Put.{joined}
 use Rattle.backend_cli.specs.declared.told.Told.{Told}
 use Rattle.backend_cli.specs.declared.told.Told.TheVariants.{Wrote, Hard, Flushed, Refused}
-use Rattle.serial_log.specs.declared.told.Cause.{Cause}
-use Rattle.serial_log.specs.declared.told.Cause.TheVariants.{Full, Disk, Down}
+use Rattle.log_answers.specs.declared.Cause.{Cause}
+use Rattle.log_answers.specs.declared.Cause.TheVariants.{Full, Disk, Down}
 
 -- where a refused line reserved a record all the same
 abbrev pub reserved_text : Option Lsn → List (List ℕ)

@@ -20,6 +20,6 @@ pub use laws::{
 };
 pub use outcome::Outcome;
 pub use program::{Ended, Gate, pgwal};
-pub use serial_log::Cause;
+pub use log_answers::Cause;
 pub use told::{Told, ToldLists};
 pub use words::{Command, RunOptions};

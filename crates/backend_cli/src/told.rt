@@ -3,7 +3,7 @@ ghost use Rattle.backend_cli.specs.Told.{reserved_by, IsFullAnswer};
 ghost use Rattle.backend_cli.specs.Steps.{told_of_insert, told_of_commit, told_of_flush};
 ghost use Rattle.backend_cli.specs.Texts.{is_hard};
 
-use serial_log::{Cause, Hard, Receipt, Refused, Sealed};
+use log_answers::{Cause, Hard, Receipt, Refused, Sealed};
 use std::alloc::Global;
 use std::marker::Model;
 use wal_types::Lsn;

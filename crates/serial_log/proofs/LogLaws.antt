@@ -13,8 +13,8 @@ use Rattle.wal_page.specs.Placed.{PlacedState}
 use Rattle.wal_page.proofs.OrderLaws.{rooms_of_push, prev_of_push}
 use Rattle.flush_core.specs.declared.writer.Writer.{Writer}
 use Rattle.flush_core.specs.Writer.{disk_of, writer_segment_size, written_of, is_unsynced, writer_fault}
-use Rattle.serial_log.specs.declared.told.Receipt.{Receipt}
-use Rattle.serial_log.specs.declared.told.Refused.{Refused}
+use Rattle.log_answers.specs.declared.Receipt.{Receipt}
+use Rattle.log_answers.specs.declared.Refused.{Refused}
 use Rattle.serial_log.specs.Ring.{RingState, HoldsWords}
 use Rattle.serial_log.specs.Words.{HasWritten, words_upto}
 use Rattle.serial_log.specs.Buffers.{IsSameOrFurther, Spans, StaysUp, GoesDown}

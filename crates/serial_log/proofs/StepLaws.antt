@@ -2,8 +2,8 @@
 use Rattle.std.proofs.Common.{◌≡◌, ℕ, Option, Some, None, sym, ap, subst, ◌∙◌}
 use Rattle.wal_types.specs.declared.record.Record.{Record}
 use Rattle.wal_types.specs.declared.lsn.Lsn.{Lsn}
-use Rattle.serial_log.specs.declared.told.Cause.{Cause}
-use Rattle.serial_log.specs.declared.told.Cause.TheVariants.{Full, Disk, Down}
+use Rattle.log_answers.specs.declared.Cause.{Cause}
+use Rattle.log_answers.specs.declared.Cause.TheVariants.{Full, Disk, Down}
 use Rattle.serial_log.specs.History.{LogHistory, end_of, with_entry}
 use Rattle.serial_log.specs.Steps.{HasCommitted, HasFlushed, HasInserted, IsReserved, RefusesFlush, RefusesRecord}
 

@@ -1,9 +1,9 @@
 -- What a refused call leaves of a log.
 use Rattle.std.specs.Prelude.{◌≡◌, ℕ, Some, None}
 use Rattle.flush_core.specs.Writer.{writer_fault}
-use Rattle.serial_log.specs.declared.told.Refused.{Refused}
-use Rattle.serial_log.specs.declared.told.Cause.{Cause}
-use Rattle.serial_log.specs.declared.told.Cause.TheVariants.{Full, Disk, Down}
+use Rattle.log_answers.specs.declared.Refused.{Refused}
+use Rattle.log_answers.specs.declared.Cause.{Cause}
+use Rattle.log_answers.specs.declared.Cause.TheVariants.{Full, Disk, Down}
 use Rattle.serial_log.specs.LogState.{LogState}
 
 -- what each call answers once the disk has failed, at this count of faults

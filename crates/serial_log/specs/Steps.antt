@@ -5,12 +5,12 @@ use Rattle.wal_types.specs.declared.lsn.Lsn.{Lsn}
 use Rattle.wal_record.specs.Spelling.{room_of}
 use Rattle.segment_disk.specs.Cause.{Rose}
 use Rattle.wal_page.specs.Order.{rooms_of, start_of, finish_of}
-use Rattle.serial_log.specs.declared.told.Receipt.{Receipt}
-use Rattle.serial_log.specs.declared.told.Hard.{Hard}
-use Rattle.serial_log.specs.declared.told.Sealed.{Sealed}
-use Rattle.serial_log.specs.declared.told.Refused.{Refused}
-use Rattle.serial_log.specs.declared.told.Cause.{Cause}
-use Rattle.serial_log.specs.declared.told.Cause.TheVariants.{Full, Disk, Down}
+use Rattle.log_answers.specs.declared.Receipt.{Receipt}
+use Rattle.log_answers.specs.declared.Hard.{Hard}
+use Rattle.log_answers.specs.declared.Sealed.{Sealed}
+use Rattle.log_answers.specs.declared.Refused.{Refused}
+use Rattle.log_answers.specs.declared.Cause.{Cause}
+use Rattle.log_answers.specs.declared.Cause.TheVariants.{Full, Disk, Down}
 use Rattle.serial_log.specs.History.{LogHistory, end_of, next_entry, with_entry}
 
 -- the disk has not failed, the record fits, and its entry starts here
