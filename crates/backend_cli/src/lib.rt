@@ -18,8 +18,8 @@ pub use laws::{
     law_of_played_down, law_of_played_entries, law_of_played_full, law_of_played_tells,
     law_of_whole,
 };
+pub use log_answers::Cause;
 pub use outcome::Outcome;
 pub use program::{Ended, Gate, pgwal};
-pub use log_answers::Cause;
 pub use told::{Told, ToldLists};
 pub use words::{Command, RunOptions};

@@ -7,8 +7,8 @@ ghost use Rattle.backend_cli.specs.Printing.{task_lines, summary_line};
 
 use crate::tasks::Task;
 use crate::told::Told;
-use segment_disk::Sink;
 use log_answers::Cause;
+use segment_disk::Sink;
 use wal_types::Lsn;
 use waldump_text::{SinkFault, put_all};
 

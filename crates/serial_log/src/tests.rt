@@ -1,9 +1,9 @@
 use crate::{Cause, Hard, Log, OpenFailure, Receipt, Refused, Room, Sealed, Shape};
 use byte_position::Geometry;
+use record_spelling::Body;
 use segment_disk::{Disk, MemDisk};
 use std::alloc::Global;
 use std::test::Fail;
-use wal_record::Body;
 use wal_types::{BlockList, Bytes, Lsn, Record, Xid};
 
 const SYSTEM_ID: u64 = 1;

@@ -1,7 +1,7 @@
 -- The words are the record's own, so their positions rise with their addresses.
 use Rattle.std.proofs.Common.{◌≡◌, ◌+◌, ◌*◌, ◌≤◌, ℕ, length, subst, sym, ◌∙◌, arith}
 use Rattle.byte_position.specs.Position.{end_address_of}
-use Rattle.wal_record.specs.Spelling.{assembled_room}
+use Rattle.record_spelling.specs.Spelling.{assembled_room}
 use Rattle.wal_page.specs.Placed.{PlacedState, LieTogether}
 use Rattle.wal_page.proofs.PlacedSteps.{next-bound}
 use Rattle.wal_page.proofs.RunSteps.{own_words_next, run_within, stands_over_run}

@@ -2,7 +2,7 @@
 use Rattle.std.proofs.Common.{◌≡◌, ◌+◌, ◌-◌, ◌*◌, ◌<◌, ◌≤◌, ℕ, length, drop, subst, ap, sym, ◌∙◌, arith}
 use Rattle.std.proofs.lemmas.List.{length-drop}
 use Rattle.byte_position.specs.Position.{end_address_of}
-use Rattle.wal_record.specs.Spelling.{assembled_room}
+use Rattle.record_spelling.specs.Spelling.{assembled_room}
 use Rattle.wal_page.specs.Placed.{PlacedState}
 use Rattle.wal_page.proofs.RunSteps.{words_further, placed_further}
 use Rattle.wal_page.proofs.placed.Placed.put_words.Goals as goal
