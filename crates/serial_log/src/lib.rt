@@ -10,9 +10,7 @@ mod room;
 mod shape;
 #[cfg(test)]
 mod tests;
-mod told;
 
 pub use log::{Log, OpenFailure};
 pub use room::Room;
 pub use shape::Shape;
-pub use told::{Cause, Hard, Receipt, Refused, Sealed};

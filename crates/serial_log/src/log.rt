@@ -13,9 +13,9 @@ ghost use Rattle.serial_log.specs.Steps.{Commits, Flushes, Inserts};
 
 use crate::buffers::Buffers;
 use crate::room::Room;
-use crate::told::{Cause, Hard, Receipt, Refused, Sealed};
 use byte_position::Geometry;
 use flush_core::{DiskFault, Writer};
+use log_answers::{Cause, Hard, Receipt, Refused, Sealed};
 use record_spelling::Body;
 use segment_disk::Disk;
 use std::marker::Model;

@@ -1,5 +1,6 @@
-use crate::{Cause, Hard, Log, OpenFailure, Receipt, Refused, Room, Sealed, Shape};
+use crate::{Log, OpenFailure, Room, Shape};
 use byte_position::Geometry;
+use log_answers::{Cause, Hard, Receipt, Refused, Sealed};
 use record_spelling::Body;
 use segment_disk::{Disk, MemDisk};
 use std::alloc::Global;

@@ -1,0 +1,9 @@
+pub mod Bytes
+pub mod Words
+mod WordRuns
+pub mod RightBlocks
+pub mod BlockSteps
+pub mod Acceptance
+pub mod CarriedBytes
+pub mod CrcBounds
+pub mod SpellingLaws
