@@ -6,7 +6,7 @@ ghost use Rattle.record_spelling.specs.Numbers.{number_at};
 ghost use Rattle.wal_page.specs.Page.{info_of, page_fault, remaining_of, timeline_of};
 
 use crate::layout::*;
-use byte_position::Geometry;
+use byte_position::{Geometry, PAGE_SIZE};
 
 /// Which check of a page failed.
 #[derive(Clone, Copy, Debug, PartialEq, Eq)]
@@ -101,13 +101,13 @@ pub fn check_page(
     if is_long && u64::from(u32_at(bytes, SEGMENT_SIZE_AT)) != geometry.segment_size() {
         return Err(PageErr::SegSize);
     }
-    if is_long && u32_at(bytes, PAGE_SIZE_AT) != PAGE_SIZE as u32 {
+    if is_long && u64::from(u32_at(bytes, PAGE_SIZE_AT)) != PAGE_SIZE {
         return Err(PageErr::PageSize);
     }
     if is_long && u64_at(bytes, SYSTEM_ID_AT) == 0 {
         return Err(PageErr::SysId);
     }
-    if u64_at(bytes, ADDRESS_AT) != page * PAGE_SIZE as u64 {
+    if u64_at(bytes, ADDRESS_AT) != page * PAGE_SIZE {
         return Err(PageErr::Address);
     }
     if found.timeline < last_timeline {
@@ -144,47 +144,4 @@ fn u64_at(page: &[u8; 8192], at: usize) -> u64
         page[at + 6],
         page[at + 7],
     ])
-}
-
-#[cfg(test)]
-mod tests {
-    use super::*;
-    use std::test::Fail;
-
-    #[test]
-    fn each_fault_is_found(rt: HostRuntime) -> Result<(), Fail> {
-        let geometry = Geometry::new(1 << 20).ok_or("1 MiB is a segment's size")?;
-        let mut page = [0; 8192];
-        page[..40].copy_from_slice(&FIRST_HEADER);
-        let whole = PageInfo {
-            info: 6,
-            timeline: 1,
-            rem_len: 0,
-        };
-        assert_eq!(rt; check_page(geometry, 128, &page, 1), Ok(whole));
-        assert_eq!(rt;
-            check_page(geometry, 129, &page, 1),
-            Err(PageErr::LongInside)
-        );
-        assert_eq!(rt; check_page(geometry, 256, &page, 1), Err(PageErr::Address));
-        assert_eq!(rt; check_page(geometry, 128, &page, 2), Err(PageErr::Timeline));
-        for (at, byte, fault) in [
-            (1u8, 0xd0, PageErr::Magic),
-            (2, 22, PageErr::Flags),
-            (2, 4, PageErr::NoLong),
-            (34, 0x20, PageErr::SegSize),
-            (37, 0x10, PageErr::PageSize),
-            (24, 0, PageErr::SysId),
-            (12, 1, PageErr::Address),
-        ] {
-            let mut changed = page;
-            changed[usize::from(at)] = byte;
-            assert_eq!(rt;
-                check_page(geometry, 128, &changed, 1),
-                Err(fault),
-                "{fault:?}"
-            );
-        }
-        Ok(())
-    }
 }

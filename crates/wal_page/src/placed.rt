@@ -6,9 +6,8 @@ ghost use Rattle.record_spelling.specs.Spelling.{assembled_room, assembled_size}
 ghost use Rattle.wal_page.specs.Page.{header_size};
 ghost use Rattle.wal_page.specs.Placed.{HasWordsFrom, LieTogether, Owns, entry_word, header_word};
 
-use crate::header::{is_in_header, page_header_word};
-use crate::layout::*;
-use byte_position::Geometry;
+use crate::header::page_header_word;
+use byte_position::{Geometry, PAGE_SIZE};
 use record_spelling::Body;
 use std::marker::Model;
 use wal_types::Lsn;
@@ -75,9 +74,9 @@ impl<'a> Placed<'a> {
             return None;
         }
         let at = self.next;
-        let word = if is_in_header(self.geometry, at) {
-            let page = at / PAGE_SIZE as u64;
-            let n = (at % PAGE_SIZE as u64 / WORD) as u32;
+        let word = if self.geometry.is_in_header(Lsn(at)) {
+            let page = at / PAGE_SIZE;
+            let n = (at % PAGE_SIZE / WORD) as u32;
             let remaining = still_to_come(self.body, u64::from(self.passed));
             page_header_word(self.geometry, self.sysid, page, remaining, n)
         } else {
@@ -131,10 +130,10 @@ impl<'a> Placed<'a> {
         if self.passed < RECORD_HEADER_LEN {
             return 0;
         }
-        if is_in_header(self.geometry, self.next) {
+        if self.geometry.is_in_header(Lsn(self.next)) {
             return 0;
         }
-        let left = (PAGE_SIZE as u64 - self.next % PAGE_SIZE as u64) / WORD;
+        let left = (PAGE_SIZE - self.next % PAGE_SIZE) / WORD;
         most.min(left as usize)
     }
 
@@ -169,7 +168,7 @@ pub fn header_word(geometry: Geometry, sysid: u64, page: u64, owner: &Placed, n:
     ensures { result ≡ header_word geometry sysid page owner.now.body owner.now.start n }
 {
     let start = owner.start;
-    let passed = match geometry.of_lsn(Lsn(page * PAGE_SIZE as u64)) {
+    let passed = match geometry.of_lsn(Lsn(page * PAGE_SIZE)) {
         Some(position) => position - start,
         None => 0,
     };
@@ -184,149 +183,4 @@ fn still_to_come(body: &Body, passed: u64) -> u32
 {
     let len = body.len();
     if passed == 0 { 0 } else { len - passed as u32 }
-}
-
-#[cfg(test)]
-mod tests {
-    use super::*;
-    use std::alloc::Global;
-    use std::test::Fail;
-    use wal_types::{BlockList, Bytes, Record, Xid};
-
-    const SYSTEM_ID: u64 = 0x0123_4567_89ab_cdef;
-
-    // The byte position of segment 1's first record, where segments have 1 MiB.
-    const FIRST: u64 = 128 * 8168 - 16;
-
-    fn body(alloc: Global, xid: u32, rmid: u8, main: Vec<u8>) -> Result<Body, Fail> {
-        let record = Record {
-            xid: Xid(xid),
-            rmid,
-            info: 0,
-            origin: None,
-            top_xid: None,
-            blocks: BlockList::of(Vec::new(alloc)),
-            main: Bytes::of(main),
-        };
-        Ok(Body::assemble(alloc, &record)?)
-    }
-
-    fn placed<'a>(geometry: Geometry, body: &'a Body, passed: u32, prev: u64) -> Placed<'a>
-        requires { passed % 8 ≡ 0 }
-        ensures { result.start ≡ FIRST + passed }
-    {
-        let _room = body.room();
-        Placed::new(
-            geometry,
-            SYSTEM_ID,
-            body,
-            FIRST + u64::from(passed),
-            Lsn(prev),
-        )
-    }
-
-    #[test]
-    fn a_commit_on_a_full_page_crosses(rt: HostRuntime) -> Result<(), Fail> {
-        let alloc = rt.alloc();
-        let geometry = Geometry::new(1 << 20).ok_or("1 MiB is a segment's size")?;
-        let commit = body(alloc, 700, 1, vec![in alloc; 0; 8]?)?;
-        // The record before it has 8,144 bytes.
-        let mut words = placed(geometry, &commit, 8144, 0x10_0028);
-        for (lsn, word) in [
-            (0x10_1ff8, 0x2bc_0000_0022),
-            (0x10_2000, 0x1_0005_d113),
-            (0x10_2008, 0x10_2000),
-            (0x10_2010, 26),
-            (0x10_2018, 0x10_0028),
-            (0x10_2020, commit.word(Lsn(0x10_0028), 2)),
-            (0x10_2028, 0x8ff),
-            (0x10_2030, 0),
-        ] {
-            assert_eq!(rt; words.next_word(), Some((Lsn(lsn), word)), "{lsn:x}");
-        }
-        assert_eq!(rt; words.next_word(), None);
-        assert_eq!(rt; words.next_lsn(), Lsn(0x10_2038));
-        Ok(())
-    }
-
-    #[test]
-    fn a_record_of_a_page_and_a_byte_continues(rt: HostRuntime) -> Result<(), Fail> {
-        let alloc = rt.alloc();
-        let geometry = Geometry::new(1 << 20).ok_or("1 MiB is a segment's size")?;
-        // 24 bytes of header, 5 of the main data's, and the data.
-        let long = body(alloc, 0, 10, vec![in alloc; 0x5a; 8124]?)?;
-        let mut words = placed(geometry, &long, 0, 0);
-        assert_eq!(rt; words.next_lsn(), Lsn(0x10_0000));
-        for _word in 0..1024 {
-            words.next_word();
-        }
-        for (lsn, word) in [
-            (0x10_2000, 0x1_0005_d113),
-            (0x10_2008, 0x10_2000),
-            (0x10_2010, 1),
-            (0x10_2018, 0x5a),
-        ] {
-            assert_eq!(rt; words.next_word(), Some((Lsn(lsn), word)), "{lsn:x}");
-        }
-        assert_eq!(rt; words.next_word(), None);
-        Ok(())
-    }
-
-    #[test]
-    fn a_record_that_fills_its_page_has_no_word_of_the_next(rt: HostRuntime) -> Result<(), Fail> {
-        let alloc = rt.alloc();
-        let geometry = Geometry::new(1 << 20).ok_or("1 MiB is a segment's size")?;
-        let full = body(alloc, 0, 10, vec![in alloc; 0x5a; 8123]?)?;
-        let mut words = placed(geometry, &full, 0, 0);
-        for _word in 0..1023 {
-            words.next_word();
-        }
-        assert_eq!(rt;
-            words.next_word(),
-            Some((Lsn(0x10_1ff8), 0x5a5a_5a5a_5a5a_5a5a))
-        );
-        assert_eq!(rt; words.next_word(), None);
-        assert_eq!(rt; words.next_lsn(), Lsn(0x10_2000));
-        Ok(())
-    }
-
-    #[test]
-    fn the_record_of_a_first_page_gives_its_long_header(rt: HostRuntime) -> Result<(), Fail> {
-        let alloc = rt.alloc();
-        let geometry = Geometry::new(1 << 20).ok_or("1 MiB is a segment's size")?;
-        let commit = body(alloc, 700, 1, vec![in alloc; 0; 8]?)?;
-        let mut words = placed(geometry, &commit, 0, 0);
-        for (lsn, word) in [
-            (0x10_0000, 0x1_0006_d113),
-            (0x10_0008, 0x10_0000),
-            (0x10_0010, 0),
-            (0x10_0018, SYSTEM_ID),
-            (0x10_0020, 0x2000_0010_0000),
-            (0x10_0028, 0x2bc_0000_0022),
-            (0x10_0030, 0),
-        ] {
-            assert_eq!(rt; words.next_word(), Some((Lsn(lsn), word)), "{lsn:x}");
-        }
-        Ok(())
-    }
-
-    #[test]
-    fn header_words_are_those_of_the_owner(rt: HostRuntime) -> Result<(), Fail> {
-        let alloc = rt.alloc();
-        let geometry = Geometry::new(1 << 20).ok_or("1 MiB is a segment's size")?;
-        let commit = body(alloc, 700, 1, vec![in alloc; 0; 8]?)?;
-        let first = placed(geometry, &commit, 0, 0);
-        for n in 0..5 {
-            let word = header_word(geometry, 1, 128, &first, n).to_le_bytes();
-            let at = 8 * n as usize;
-            assert_eq!(rt; word.as_slice(), &FIRST_HEADER[at..at + 8], "word {n}");
-        }
-        let crossing = placed(geometry, &commit, 8144, 0x10_0028);
-        assert_eq!(rt;
-            header_word(geometry, SYSTEM_ID, 129, &crossing, 0),
-            0x1_0005_d113
-        );
-        assert_eq!(rt; header_word(geometry, SYSTEM_ID, 129, &crossing, 2), 26);
-        Ok(())
-    }
 }
