@@ -31,7 +31,8 @@ impl Model for Geometry {
 }
 
 impl Geometry {
-    /// None where the size is no power of two from 1 MiB to 1 GiB (PostgreSQL's `IsValidWalSegSize`).
+    /// None where the size is no power of two from 1 MiB to 1 GiB (PostgreSQL's
+    /// `IsValidWalSegSize`).
     pub fn new(segment_size: u64) -> Option<Geometry>
         ensures { SomeIff result (IsSegmentSize segment_size) segment_size }
     {

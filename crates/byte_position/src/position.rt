@@ -10,7 +10,8 @@ const USABLE_BYTES_IN_FIRST_PAGE: u64 = PAGE_SIZE - LONG_HEADER_LEN;
 const USABLE_BYTES_IN_PAGE: u64 = PAGE_SIZE - SHORT_HEADER_LEN;
 
 impl Geometry {
-    /// The address of the byte at a byte position, behind any header that stands there (`XLogBytePosToRecPtr` of PostgreSQL's xlog.c).
+    /// The address of the byte at a byte position, behind any header that stands there
+    /// (`XLogBytePosToRecPtr` of PostgreSQL's xlog.c).
     pub fn to_lsn(self, position: u64) -> Lsn
         requires { position < 2 ^ 61 }
         ensures { result.0 ≡ address_of self position }
@@ -26,7 +27,8 @@ impl Geometry {
         Lsn(segment_start + page_start + SHORT_HEADER_LEN + left % USABLE_BYTES_IN_PAGE)
     }
 
-    /// The address just behind the byte before a byte position; 0 at position 0 (`XLogBytePosToEndRecPtr` of PostgreSQL's xlog.c).
+    /// The address just behind the byte before a byte position; 0 at position 0
+    /// (`XLogBytePosToEndRecPtr` of PostgreSQL's xlog.c).
     pub fn to_end_lsn(self, position: u64) -> Lsn
         requires { position < 2 ^ 60 }
         ensures { result.0 ≡ end_address_of self position }
@@ -37,7 +39,8 @@ impl Geometry {
         }
     }
 
-    /// The byte position of an address; None inside a page header, behind the page's start (`XLogRecPtrToBytePos` of PostgreSQL's xlog.c).
+    /// The byte position of an address; None inside a page header, behind the page's start
+    /// (`XLogRecPtrToBytePos` of PostgreSQL's xlog.c).
     pub fn of_lsn(self, at: Lsn) -> Option<u64>
         ensures { SomeIff result (HasPosition self at.0) (position_of self at.0) }
     {
@@ -51,7 +54,8 @@ impl Geometry {
         }
     }
 
-    /// Whether the byte at an address is in a page header. Only near a page's start does it look at the segment.
+    /// Whether the byte at an address is in a page header. Only near a page's start does it look at
+    /// the segment.
     pub fn is_in_header(self, at: Lsn) -> bool
         ensures { result ≡ is_in_header self at.0 }
     {
@@ -91,7 +95,8 @@ impl Geometry {
     }
 }
 
-/// The address of a byte position, found by a walk over all bytes below it: slow, and plain enough to compare other code with.
+/// The address of a byte position, found by a walk over all bytes below it: slow, and plain enough
+/// to compare other code with.
 pub fn address_by_counting(geometry: Geometry, position: u32) -> u64
     requires { position < 2 ^ 20 }
     ensures { result ≡ address_of geometry position }

@@ -1,5 +1,5 @@
-//! A record's words put many at a time (PostgreSQL's CopyXLogRecordToWAL of xlog.c copies what of a record lies on a page
-//! at once).
+//! A record's words put many at a time (PostgreSQL's CopyXLogRecordToWAL of xlog.c copies what of a
+//! record lies on a page at once).
 
 ghost use Rattle.std.specs.Prelude.{◌≡◌, ℕ, ◌+◌, ◌*◌, ◌<◌, ◌≤◌, [], length, take, drop, slice_index, slice_index_or};
 ghost use Rattle.std.specs.Int.{w64, from_le_bytes};
@@ -8,8 +8,8 @@ ghost use Rattle.record_spelling.specs.Spelling.{AssembledFits, assembled_room, 
 use crate::body::{Body, first_word};
 
 impl Body {
-    /// Puts the record's words from the n-th on, as many as there are places. Behind the header, which is the first three
-    /// words, no word depends on the record before.
+    /// Puts the record's words from the n-th on, as many as there are places. Behind the header,
+    /// which is the first three words, no word depends on the record before.
     pub fn put_words(&self, n: u32, words: &mut [u64])
         requires behind_header { 3 ≤ n }
         requires starts_within { 8 * n < assembled_room self.now }

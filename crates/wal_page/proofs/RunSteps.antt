@@ -55,14 +55,15 @@ module _ (size : ℕ) (a : Assembled) (start next passed : ℕ) (stands : Stands
 
 -- further words behind those that were put
 module _ (first placed : PlacedState) (put count : ℕ) (at : placed ≡ record first { next = first.next + 8 * put }) where
-  pub words_further : (words more : List ℕ) → put ≤ length words → HasWordsFrom first put words → HasWordsFrom placed count more → HasWordsFrom first (put + count) (take put words ++ more)
-  words_further words more within so_far gives k lt =
+  pub words_further : (words more rest : List ℕ) → count ≤ length more → put ≤ length words → HasWordsFrom first put words → HasWordsFrom placed count more → HasWordsFrom first (put + count) (take put words ++ (more ++ rest))
+  words_further words more rest long within so_far gives k lt =
       elim (cases_lt k put) [
-        | inl below ↦ get_or_append_left (take put words) more 0 k (omega (arith, length-take put words)) ∙ get_or-take put words k 0 below ∙ so_far k below
+        | inl below ↦ get_or_append_left (take put words) (more ++ rest) 0 k (omega (arith, length-take put words)) ∙ get_or-take put words k 0 below ∙ so_far k below
         | inr on ↦
             (let front : length (take put words) ≡ put = omega (arith, length-take put words) in
             let place : first.next + 8 * put + 8 * (k - put) ≡ first.next + 8 * k = omega arith in
-            get_or-append_right (take put words) more put k 0 front on
+            get_or-append_right (take put words) (more ++ rest) put k 0 front on
+            ∙ get_or_append_left more rest 0 (k - put) (omega arith)
             ∙ gives (k - put) (omega arith)
             ∙ ap (λ (p : PlacedState). entry_word p.size p.sysid p.body p.start p.prev (p.next + 8 * (k - put))) at
             ∙ ap (entry_word first.size first.sysid first.body first.start first.prev) place)

@@ -34,10 +34,16 @@ pub record PlacedState : Type 0 where
   pub prev : ℕ
   pub next : ℕ
 
+-- the word that it gives at an address, and where its last word ends
+abbrev pub placed_word : PlacedState → ℕ → ℕ
+placed_word p address = entry_word p.size p.sysid p.body p.start p.prev address
+
+abbrev pub placed_end : PlacedState → ℕ
+placed_end p = end_address_of p.size (p.start + assembled_room p.body)
+
 -- these are the first `count` of the words that it gives from its next one on
 abbrev pub HasWordsFrom : PlacedState → ℕ → List ℕ → Type 0
-HasWordsFrom p count words = (k : ℕ) → k < count
-    → slice_index words k ≡ entry_word p.size p.sysid p.body p.start p.prev (p.next + 8 * k)
+HasWordsFrom p count words = (k : ℕ) → k < count → slice_index words k ≡ placed_word p (p.next + 8 * k)
 
 -- its next `count` words lie together on a page, behind the page's header, and the record's own header lies before them
 pub record LieTogether (p : PlacedState) (count : ℕ) : Type 0 where

@@ -31,15 +31,16 @@ pub enum PageErr {
     Timeline,
 }
 
-/// The fields of a page's header that a reader goes on with, as they stand (PostgreSQL's XLogPageHeaderData of
-/// xlog_internal.h).
+/// The fields of a page's header that a reader goes on with, as they stand (PostgreSQL's
+/// XLogPageHeaderData of xlog_internal.h).
 #[derive(Clone, Copy, Debug, PartialEq, Eq)]
 pub struct PageInfo {
     /// The header's flags.
     pub info: u16,
     /// The timeline on which the page was written.
     pub timeline: u32,
-    /// How many bytes of the record that continues into the page are still to come; 0 where none does.
+    /// How many bytes of the record that continues into the page are still to come; 0 where none
+    /// does.
     pub rem_len: u32,
 }
 
@@ -51,7 +52,8 @@ impl PageInfo {
         self.info & CONTINUED != 0
     }
 
-    /// Whether the record that began before the page was overwritten (`XLP_FIRST_IS_OVERWRITE_CONTRECORD`).
+    /// Whether the record that began before the page was overwritten
+    /// (`XLP_FIRST_IS_OVERWRITE_CONTRECORD`).
     pub fn is_overwritten(&self) -> bool
         ensures { result ≡ (self.now.info / 8 % 2 == 1) }
     {
@@ -66,9 +68,10 @@ impl PageInfo {
     }
 }
 
-/// Checks a page that is read, in this order: its magic number, its flags, whether it has the long header just where it
-/// is its segment's first, what a long header says, its address, and that its timeline is none before that of the page
-/// read before it (0 where there is none). `page` counts from the log's byte 0.
+/// Checks a page that is read, in this order: its magic number, its flags, whether it has the long
+/// header just where it is its segment's first, what a long header says, its address, and that its
+/// timeline is none before that of the page read before it (0 where there is none). `page` counts
+/// from the log's byte 0.
 pub fn check_page(
     geometry: Geometry,
     page: u64,
@@ -76,8 +79,10 @@ pub fn check_page(
     last_timeline: u32,
 ) -> Result<PageInfo, PageErr>
     requires { page * 8192 < 2 ^ 64 }
-    ensures info { IfOk result (λ i. (i.info ≡ info_of bytes.now) × (i.timeline ≡ timeline_of bytes.now) × (i.rem_len ≡ remaining_of bytes.now)) }
-    ensures which { MatchResult result (λ _. page_fault geometry page bytes.now last_timeline ≡ None) (λ e. page_fault geometry page bytes.now last_timeline ≡ Some e) }
+    ensures info { IfOk result (λ i. (i.info ≡ info_of bytes.now) × (i.timeline
+        ≡ timeline_of bytes.now) × (i.rem_len ≡ remaining_of bytes.now)) }
+    ensures which { MatchResult result (λ _. page_fault geometry page bytes.now last_timeline
+        ≡ None) (λ e. page_fault geometry page bytes.now last_timeline ≡ Some e) }
 {
     let found = PageInfo {
         info: u16_at(bytes, INFO_AT),

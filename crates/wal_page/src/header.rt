@@ -9,8 +9,8 @@ use byte_position::{Geometry, PAGE_SIZE};
 
 const TIMELINE: u32 = 1;
 
-/// The n-th word of a page's header (PostgreSQL's XLogLongPageHeaderData of xlog_internal.h), where a record continues into
-/// the page with `remaining` bytes still to come (0: none does).
+/// The n-th word of a page's header (PostgreSQL's XLogLongPageHeaderData of xlog_internal.h), where
+/// a record continues into the page with `remaining` bytes still to come (0: none does).
 pub(crate) fn page_header_word(
     geometry: Geometry,
     sysid: u64,
@@ -35,7 +35,9 @@ pub(crate) fn page_header_word(
 
 // A header's flags.
 fn info(geometry: Geometry, page: u64, remaining: u32) -> u16
-    ensures { result ≡ (if nat_lt 0 remaining then 1 else 0) + (if is_first_page geometry page then 2 else 0) + 4 }
+    ensures { result
+        ≡ (if nat_lt 0 remaining then 1 else 0)
+        + (if is_first_page geometry page then 2 else 0) + 4 }
 {
     let is_first = page % u64::from(geometry.pages()) == 0;
     let continued = if remaining > 0 { CONTINUED } else { 0 };

@@ -4,7 +4,7 @@ ghost use Rattle.std.specs.Prelude.{◌≡◌, ◌+◌, ◌-◌, ◌*◌, ◌%�
 ghost use Rattle.byte_position.specs.Position.{end_address_of};
 ghost use Rattle.record_spelling.specs.Spelling.{assembled_room, assembled_size};
 ghost use Rattle.wal_page.specs.Page.{header_size};
-ghost use Rattle.wal_page.specs.Placed.{HasWordsFrom, LieTogether, Owns, entry_word, header_word};
+ghost use Rattle.wal_page.specs.Placed.{HasWordsFrom, LieTogether, Owns, header_word, placed_end, placed_word};
 
 use crate::header::page_header_word;
 use byte_position::{Geometry, PAGE_SIZE};
@@ -17,7 +17,8 @@ const WORD: u64 = 8;
 /// SizeOfXLogRecord: the length of a record's own header.
 const RECORD_HEADER_LEN: u32 = 24;
 
-/// A record at its place: gives its words with their addresses, those of the page headers that it owns among them.
+/// A record at its place: gives its words with their addresses, those of the page headers that it
+/// owns among them.
 #[derive(Debug, Drop)]
 pub struct Placed<'a> {
     geometry: Geometry,
@@ -38,17 +39,32 @@ impl<'a> Model for Placed<'a> {
 
     ghost Value = { PlacedState };
 
-    ghost view = { λ p. record { size = p.geometry; sysid = p.sysid; body = p.body.now; start = p.start; prev = p.prev.0; next = p.next } };
+    ghost view = { λ p. record {
+      size = p.geometry;
+      sysid = p.sysid;
+      body = p.body.now;
+      start = p.start;
+      prev = p.prev.0;
+      next = p.next;
+    } };
 
     ghost invariant = { λ p. StandsAt p.geometry p.body.now p.start p.next p.passed };
 }
 
 impl<'a> Placed<'a> {
-    /// A record that starts at a byte position, behind one that starts at `prev` (0 where there is none).
+    /// A record that starts at a byte position, behind one that starts at `prev` (0 where there is
+    /// none).
     pub fn new(geometry: Geometry, sysid: u64, body: &'a Body, start: u64, prev: Lsn) -> Placed<'a>
         requires whole { start % 8 ≡ 0 }
         requires within { start + assembled_room body.now < 2 ^ 60 }
-        ensures { result ≡ record { size = geometry; sysid = sysid; body = body.now; start = start; prev = prev.0; next = end_address_of geometry start } }
+        ensures { result ≡ record {
+          size = geometry;
+          sysid = sysid;
+          body = body.now;
+          start = start;
+          prev = prev.0;
+          next = end_address_of geometry start;
+        } }
     {
         Placed {
             geometry,
@@ -61,13 +77,16 @@ impl<'a> Placed<'a> {
         }
     }
 
-    /// The next word and where it lies. Each call answers the word behind the last one's, so that each word that the record
-    /// owns comes once, in rising order.
+    /// The next word and where it lies. Each call answers the word behind the last one's, so that
+    /// each word that the record owns comes once, in rising order.
     pub fn next_word(&mut self) -> Option<(Lsn, u64)>
-        ensures place { IfSome result (λ given. (given.0.0 ≡ self.old.next) × (self.old.next % 8 ≡ 0) × Owns self.old.size self.old.body self.old.start self.old.next) }
-        ensures word { IfSome result (λ given. given.1 ≡ entry_word self.old.size self.old.sysid self.old.body self.old.start self.old.prev self.old.next) }
-        ensures passed { IfSome result (λ given. self.new ≡ record self.old { next = self.old.next + 8 }) }
-        ensures whole { IfNone result (self.old.next ≡ end_address_of self.old.size (self.old.start + assembled_room self.old.body)) }
+        ensures place { IfSome result (λ given. (given.0.0 ≡ self.old.next)
+            × (self.old.next % 8 ≡ 0)
+            × Owns self.old.size self.old.body self.old.start self.old.next) }
+        ensures word { IfSome result (λ given. given.1 ≡ placed_word self.old self.old.next) }
+        ensures passed { IfSome result (λ given. self.new
+            ≡ record self.old { next = self.old.next + 8 }) }
+        ensures whole { IfNone result (self.old.next ≡ placed_end self.old) }
         ensures same { IfNone result (self.new ≡ self.old) }
     {
         if self.passed == self.body.room() {
@@ -88,12 +107,12 @@ impl<'a> Placed<'a> {
         Some((Lsn(at), word))
     }
 
-    /// Puts the record's next words, as many as there are places: those that `next_word` would give one by one. Words of the
-    /// record that lie together on a page are copied at once.
+    /// Puts the record's next words, as many as there are places: those that `next_word` would give
+    /// one by one. Words of the record that lie together on a page are copied at once.
     pub fn put_words(&mut self, words: &mut [u64])
-        requires { self.old.next + 8 * length words.old
-            ≤ end_address_of self.old.size (self.old.start + assembled_room self.old.body) }
-        ensures placed { self.new ≡ record self.old { next = self.old.next + 8 * length words.old } }
+        requires { self.old.next + 8 * length words.old ≤ placed_end self.old }
+        ensures placed { self.new
+            ≡ record self.old { next = self.old.next + 8 * length words.old } }
         ensures words { HasWordsFrom self.old (length words.old) words.new }
     {
         let mut put = 0;
@@ -102,11 +121,11 @@ impl<'a> Placed<'a> {
         }
     }
 
-    // Puts at least one word: all that lie together on a page, or one of a page's header or of the record's own.
+    // Puts at least one word: all that lie together on a page, or one of a page's header or of the
+    // record's own.
     fn put_some(&mut self, words: &mut [u64]) -> usize
         requires some { 0 < length words.old }
-        requires owned { self.old.next + 8 * length words.old
-            ≤ end_address_of self.old.size (self.old.start + assembled_room self.old.body) }
+        requires owned { self.old.next + 8 * length words.old ≤ placed_end self.old }
         ensures count { (0 < result) × (result ≤ length words.old) }
         ensures placed { self.new ≡ record self.old { next = self.old.next + 8 * result } }
         ensures words { HasWordsFrom self.old result words.new }
@@ -122,7 +141,8 @@ impl<'a> Placed<'a> {
         1
     }
 
-    // How many of the next words, at most so many, lie together on a page behind its header and the record's own.
+    // How many of the next words, at most so many, lie together on a page behind its header and the
+    // record's own.
     fn words_together(&self, most: usize) -> usize
         ensures most { result ≤ most }
         ensures together { 0 < result → LieTogether self.now result }
@@ -141,9 +161,9 @@ impl<'a> Placed<'a> {
     fn put_together(&mut self, words: &mut [u64])
         requires some { 0 < length words.old }
         requires together { LieTogether self.old (length words.old) }
-        requires owned { self.old.next + 8 * length words.old
-            ≤ end_address_of self.old.size (self.old.start + assembled_room self.old.body) }
-        ensures placed { self.new ≡ record self.old { next = self.old.next + 8 * length words.old } }
+        requires owned { self.old.next + 8 * length words.old ≤ placed_end self.old }
+        ensures placed { self.new
+            ≡ record self.old { next = self.old.next + 8 * length words.old } }
         ensures words { HasWordsFrom self.old (length words.old) words.new }
     {
         let bytes = WORD as usize * words.len();
@@ -160,8 +180,8 @@ impl<'a> Placed<'a> {
     }
 }
 
-/// The n-th word of a page's header, given by the record that has the page's first other byte. `page` counts from the log's
-/// byte 0.
+/// The n-th word of a page's header, given by the record that has the page's first other byte.
+/// `page` counts from the log's byte 0.
 pub fn header_word(geometry: Geometry, sysid: u64, page: u64, owner: &Placed, n: u32) -> u64
     requires owner { Owns geometry owner.now.body owner.now.start (page * 8192) }
     requires within { 8 * n < header_size geometry page }
@@ -175,7 +195,8 @@ pub fn header_word(geometry: Geometry, sysid: u64, page: u64, owner: &Placed, n:
     page_header_word(geometry, sysid, page, still_to_come(owner.body, passed), n)
 }
 
-// How many of a record's bytes are still to come behind its first `passed` ones, where it is continued; 0 at its start.
+// How many of a record's bytes are still to come behind its first `passed` ones, where it is
+// continued; 0 at its start.
 fn still_to_come(body: &Body, passed: u64) -> u32
     requires whole { passed % 8 ≡ 0 }
     requires within { passed < assembled_room body.now }
