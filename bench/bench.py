@@ -67,37 +67,42 @@ def timed(words, folder, stdin=None):
 
 
 def instructions(words, folder, stdin=None):
-    """The instructions that a program takes in a folder."""
-    counted = ["valgrind", "--tool=callgrind", "--callgrind-out-file=/dev/null", *words]
+    """The instructions that a program takes in a folder: all, and those of the log's inserts."""
+    counts = os.path.join(folder, "callgrind")
+    counted = ["valgrind", "--tool=callgrind", f"--callgrind-out-file={counts}", *words]
     with open(stdin or os.devnull, "rb") as given:
         done = subprocess.run(counted, cwd=folder, stdin=given, stdout=subprocess.DEVNULL, stderr=subprocess.PIPE)
     told = done.stderr.decode()
     found = re.search(r"Collected : (\d+)", told)
     if done.returncode or not found:
         sys.exit(f"{' '.join(counted)}: status {done.returncode}: {told}")
-    return int(found[1])
+    listed = ["callgrind_annotate", "--inclusive=yes", "--threshold=100", counts]
+    names = subprocess.run(listed, capture_output=True, text=True).stdout
+    inserts = re.search(r"^ *([\d,]+) .*\bLog::insert\b", names, re.M)
+    return int(found[1]), int(inserts[1].replace(",", "")) if inserts else 0
 
 
 def instructions_per_record(fields):
-    """Those that `run` and `dump` take for one record more, each over a log that lies in segments of 16 MiB."""
+    """Those that `run` takes for one record more, its insert alone, and `dump`; each log lies in segments of 16 MiB."""
     counts = []
     for records in (1000, 2000):
         with tempfile.TemporaryDirectory() as folder:
             path = os.path.join(folder, "script")
             write_script(path, fields, records)
-            counts.append([instructions([PROGRAM, "run"], folder, path), instructions([PROGRAM, "dump"], folder)])
+            run, insert = instructions([PROGRAM, "run"], folder, path)
+            dump, _ = instructions([PROGRAM, "dump"], folder)
+            counts.append((run, insert, dump))
     return [(more - less) / 1000 for less, more in zip(*counts)]
 
 
 def row(name, counted, records, size, seconds, memory):
-    each = f"{counted:,.0f}" if counted else ""
     print(
-        f"| {name} | {each} | {records:,} | {records / seconds / 1e6:.3f} | {size / seconds / 1e6:.0f} | {seconds:.2f} | {memory:.0f} |",
+        f"| {name} | {counted} | {records:,} | {records / seconds / 1e6:.3f} | {size / seconds / 1e6:.0f} | {seconds:.2f} | {memory:.0f} |",
         flush=True,
     )
 
 
-def measure(name, case, records, counted):
+def measure(name, case, records, of_run, of_dump):
     fields, total = CASES[case]
     with tempfile.TemporaryDirectory() as folder:
         path = os.path.join(folder, "script")
@@ -107,11 +112,11 @@ def measure(name, case, records, counted):
         want = f"records {records} commits {records // 1000} bytes {size} "
         if not tail.startswith(want):
             sys.exit(f"run printed {tail!r}, not {want!r}")
-        row(f"run, {name}", counted[0], records, size, seconds, memory)
+        row(f"run, {name}", of_run, records, size, seconds, memory)
         tail, lines, seconds, memory = timed([PROGRAM, "dump"], folder)
         if lines != records:
             sys.exit(f"dump listed {lines} records of {records}")
-        row(f"dump, {name}", counted[1], records, size, seconds, memory)
+        row(f"dump, {name}", of_dump, records, size, seconds, memory)
         peer = shutil.which("pg_waldump")
         if peer:
             first = os.path.join(folder, "pg_wal", "000000010000000000000001")
@@ -133,15 +138,17 @@ def main():
         print("| what | instructions a record |")
         print("|---|---|")
     for case, (fields, total) in CASES.items():
-        counted = instructions_per_record(fields) if shutil.which("valgrind") else [None, None]
+        of_run = of_dump = ""
+        if shutil.which("valgrind"):
+            run, insert, dump = instructions_per_record(fields)
+            of_run, of_dump = f"{run:,.0f}, of them the insert {insert:,.0f}", f"{dump:,.0f}"
         if not megabytes:
-            for command, each in zip(("run", "dump"), counted):
-                print(f"| {command}, {case} | {each:,.0f} |", flush=True)
+            print(f"| run, {case} | {of_run} |\n| dump, {case} | {of_dump} |", flush=True)
             continue
         records = megabytes * 1_000_000 // room(total)
         if case == "100 bytes":
-            measure("100 bytes, half", case, records // 2, [None, None])
-        measure(case, case, records, counted)
+            measure("100 bytes, half", case, records // 2, "", "")
+        measure(case, case, records, of_run, of_dump)
 
 
 if __name__ == "__main__":
