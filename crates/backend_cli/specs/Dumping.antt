@@ -1,14 +1,17 @@
 -- What a listing promises.
-use Rattle.std.specs.Prelude.{◌≡◌, ℕ, List, [], IfSome}
+use Rattle.std.specs.Prelude.{◌≡◌, ℕ, List, [], IfSome, Result, Ok, Err}
 use Rattle.segment_disk.specs.Tape.{Tape}
 use Rattle.wal_types.specs.declared.lsn.Lsn.{Lsn}
 use Rattle.wal_reader.specs.declared.found.Answer.TheVariants as answers
 use Rattle.wal_reader.specs.declared.found.Stopped.{Stopped as LogStop}
+use Rattle.wal_reader.specs.declared.standing.ReadErr.TheVariants as reading
+use Rattle.waldump_text.specs.declared.dumping.DumpErr.{DumpErr}
+use Rattle.waldump_text.specs.declared.dumping.DumpErr.TheVariants.{Read, Sink}
 use Rattle.waldump_text.specs.Dump.{PutsListing, PutsListingFront}
 use Rattle.backend_cli.specs.declared.outcome.Outcome.{Outcome}
 use Rattle.backend_cli.specs.declared.outcome.Outcome.TheVariants.{Done, OutOfMemory, DiskFault, Stopped, SinkFault}
 use Rattle.backend_cli.specs.declared.told.Told.{Told}
-use Rattle.segment_disk.specs.Cause.{Rose}
+use Rattle.segment_disk.specs.Cause.{Rose, RoseByOne}
 use Rattle.backend_cli.specs.Outside.{Outside}
 
 -- what a listing printed, by how it may end: the lines of the records that the disk's log decodes to,
@@ -31,7 +34,15 @@ pub data ListingEnds (outside : Outside) : Outcome → Type 0 where
   stopped : {stop : LogStop} → NoFaults outside → ListingEnds outside (Stopped stop)
   without_memory : NoFaults outside → ListingEnds outside OutOfMemory
   by_disk : Rose outside.disk_before outside.disk_after → outside.sink_after ≡ outside.sink_before → ListingEnds outside DiskFault
-  by_sink : outside.disk_after ≡ outside.disk_before → Rose outside.sink_before outside.sink_after → ListingEnds outside SinkFault
+  by_sink : outside.disk_after ≡ outside.disk_before → RoseByOne outside.sink_before outside.sink_after → ListingEnds outside SinkFault
+
+-- how a listing ends, by what it answers
+abbrev pub outcome_of : Result (Unit {0}) DumpErr → Outcome
+outcome_of (Ok done) = Done
+outcome_of (Err (Read reading.Memory)) = OutOfMemory
+outcome_of (Err (Read (reading.Disk faults))) = DiskFault
+outcome_of (Err (Read (reading.Stopped stop))) = Stopped stop
+outcome_of (Err (Sink fault)) = SinkFault
 
 -- a listing: what it printed, no counted call of the disk, the script not read, and nothing told
 pub record DumpHolds (outside : Outside) (size : ℕ) (outcome : Outcome) (lists : List (List Told)) : Type 0 where

@@ -1,5 +1,5 @@
-ghost use Rattle.std.specs.Prelude.{ℕ, List, Option};
-ghost use Rattle.backend_cli.specs.Dumping.{DumpHolds};
+ghost use Rattle.std.specs.Prelude.{◌≡◌, ℕ, List, Option};
+ghost use Rattle.backend_cli.specs.Dumping.{DumpHolds, outcome_of};
 
 use crate::outcome::Outcome;
 use crate::run::Finished;
@@ -34,16 +34,22 @@ pub(crate) fn list<O: Sink, D: Disk>(
       sink_after = O.faults out.new;
     }) geometry result.outcome result.told }
 {
-    let outcome = match dump(alloc, &mut disk, geometry, out) {
+    let listed = dump(alloc, &mut disk, geometry, out);
+    Finished {
+        outcome: outcome_of(listed),
+        disk,
+        told: ToldLists::none(alloc),
+    }
+}
+
+fn outcome_of(listed: Result<(), DumpErr>) -> Outcome
+    ensures { result ≡ outcome_of listed }
+{
+    match listed {
         Ok(()) => Outcome::Done,
         Err(DumpErr::Read(ReadErr::Memory)) => Outcome::OutOfMemory,
         Err(DumpErr::Read(ReadErr::Disk { .. })) => Outcome::DiskFault,
         Err(DumpErr::Read(ReadErr::Stopped(stopped))) => Outcome::Stopped(stopped),
         Err(DumpErr::Sink(_)) => Outcome::SinkFault,
-    };
-    Finished {
-        outcome,
-        disk,
-        told: ToldLists::none(alloc),
     }
 }
