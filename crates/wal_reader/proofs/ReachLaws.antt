@@ -34,7 +34,7 @@ read_at-out_of_reach size pages end place out none =
 
 -- a position that is not out of reach is before a given end
 pub is_before_end : (size : ℕ) (end : Option ℕ) (position : ℕ) (out : Bool) → (IsTrue out ↔ IsOutOfReach size end position) → out ≡ false → is_at_end end (address_of size position) ≡ false
-is_before_end size end position out tells no =
+is_before_end size end position out tells denied =
     elim (cases_Bool (is_at_end end (address_of size position))) [
       | inl at_end ↦ (let yes = tells.1 (inl at_end) in
           absurd (cc))
@@ -43,6 +43,6 @@ is_before_end size end position out tells no =
 
 -- nothing that is out of reach is read on
 pub is_in_reach : {fact : Type 0} (size : ℕ) (end : Option ℕ) (position : ℕ) (out : Bool) → (IsTrue out ↔ IsOutOfReach size end position) → out ≡ false → IsOutOfReach size end position → fact
-is_in_reach size end position out tells no reaches =
+is_in_reach size end position out tells denied reaches =
     let yes = tells.1 reaches in
     absurd (cc)

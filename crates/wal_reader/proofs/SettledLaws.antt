@@ -18,7 +18,7 @@ use Rattle.wal_reader.specs.declared.found.FoundRecord.{FoundRecord}
 use Rattle.wal_reader.specs.declared.found.Answer.{Answer}
 use Rattle.wal_reader.specs.declared.found.Answer.TheVariants as answers
 use Rattle.wal_reader.specs.declared.found.DamageKind.TheVariants as damages
-use Rattle.wal_reader.specs.Decodes.{Place, ReadsRecords, ReadsFrom, answer_or, beginning, damaged, ended, found_or, is_at_end, is_right_prev, is_zero_word, opens_page, page_answers, page_of_byte, place_behind, read_at, read_in, record_rows, rows_of_pages, header_rows}
+use Rattle.wal_reader.specs.Decodes.{Place, ReadsRecords, ReadsFrom, answer_or, beginning, damaged, ended, found_or, is_at_end, is_right_prev, is_zero_word, opens_page, opening_rows, page_answers, page_of_byte, place_behind, read_at, read_in, record_rows, rows_of_pages, header_rows, size_rows, rest_rows}
 use Rattle.wal_reader.specs.LogReader.{ReaderState, GivesRecords, GivesAt, IsNext}
 use Rattle.wal_reader.specs.declared.standing.Standing.{Standing}
 use Rattle.wal_reader.specs.declared.standing.Standing.TheVariants.{NotBegun, At, Stopped}
@@ -37,7 +37,7 @@ cases_Result (Err e) = inr (e, refl)
 abbrev read : FoundRecord → Result FoundRecord Answer
 read found = Ok found
 
-same_read : (found other : FoundRecord) → read found ≡ read other → found ≡ other
+pub same_read : (found other : FoundRecord) → read found ≡ read other → found ≡ other
 same_read found other e = cc
 
 -- ---- there is one reading
@@ -62,10 +62,10 @@ both_none : {K : Type 0} (first second : Option K) → first_of first second ≡
 both_none None second e = (refl, e)
 both_none (Some x) second e = absurd cc
 
-passes_both : {K : Type 0} (xs ys : List (Bool × K)) → first_fault (xs ++ ys) ≡ None → (first_fault xs ≡ None) × (first_fault ys ≡ None)
+pub passes_both : {K : Type 0} (xs ys : List (Bool × K)) → first_fault (xs ++ ys) ≡ None → (first_fault xs ≡ None) × (first_fault ys ≡ None)
 passes_both xs ys e = both_none (first_fault xs) (first_fault ys) (sym (first_fault-append xs ys) ∙ e)
 
-passes_row : {K : Type 0} (holds : Bool) (told : K) (others : Option K) → cond holds (Some told) others ≡ None → (holds ≡ false) × (others ≡ None)
+pub passes_row : {K : Type 0} (holds : Bool) (told : K) (others : Option K) → cond holds (Some told) others ≡ None → (holds ≡ false) × (others ≡ None)
 passes_row true told others e = absurd cc
 passes_row false told others e = (refl, e)
 
@@ -74,7 +74,7 @@ module _ (size : ℕ) (pages : Pages) (end : Option ℕ) (place : Place) where
   abbrev first_size : ℕ
   first_size = number_at w32 (bytes_from size pages 8 place.position) 0
 
-  size-passed : (bytes : List ℕ) → first_fault (record_rows size pages end place bytes) ≡ None → 24 ≤ first_size
+  pub size-passed : (bytes : List ℕ) → first_fault (record_rows size pages end place bytes) ≡ None → 24 ≤ first_size
   size-passed bytes passes =
       let no_record = is_zero_word (bytes_from size pages 24 place.position) in
       let sizes = size_rows size end place.position no_record first_size in
@@ -85,13 +85,13 @@ module _ (size : ℕ) (pages : Pages) (end : Option ℕ) (place : Place) where
       ltb-false first_size 24 (passes_row (ltb first_size 24) (damaged (address_of size place.position) damages.Length) _ of_word.1).0
 
   -- the first word says the same of the size as the header does
-  size_in_header : number_at w32 (bytes_from size pages 24 place.position) 0 ≡ first_size
+  pub size_in_header : number_at w32 (bytes_from size pages 24 place.position) 0 ≡ first_size
   size_in_header =
       sym (number_at-take w32 (bytes_from size pages 24 place.position) 8 0 (omega arith))
       ∙ ap (λ (bytes : List ℕ). number_at w32 bytes 0) (take-bytes_from size pages 8 24 place.position (omega arith))
 
   module _ (found : FoundRecord) where
-    total_of : (total prev : ℕ) (reading : Result Record RecErr) → found_or size place total prev reading ≡ Ok found → found.total ≡ total
+    pub total_of : (total prev : ℕ) (reading : Result Record RecErr) → found_or size place total prev reading ≡ Ok found → found.total ≡ total
     total_of total prev (Ok value) e = ap (λ (f : FoundRecord). f.total) (sym (same_read _ found e))
     total_of total prev (Err Memory) e = absurd cc
     total_of total prev (Err (Malformed at kind)) e = absurd cc

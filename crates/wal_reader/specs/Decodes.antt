@@ -113,8 +113,8 @@ opening_of size place (Some bytes) = first_fault (opening_rows size place bytes)
 
 -- of its first word, and of its size
 abbrev pub size_rows : ℕ → Option ℕ → ℕ → Bool → ℕ → List (Bool × Answer)
-size_rows size end position zero total =
-    (zero, ended size position)
+size_rows size end position no_record total =
+    (no_record, ended size position)
     ∷ (nat_lt total 24, damaged (address_of size position) kinds.Length)
     ∷ (is_at_end end (address_of size (position + total - 1)), ended size position)
     ∷ []
@@ -221,11 +221,12 @@ begin_in next size page timeline None = Err (ended size (position_of size (page 
 begin_in next size page timeline (Some bytes) =
     let first = position_of size (page * 8192) in
     let skipped = (remaining_of bytes + 7) / 8 * 8 in
+    let behind_continued =
+    if nat_le (8192 - header_size size page) skipped then next (page + 1) (timeline_of bytes)
+    else first_place (first + skipped) (timeline_of bytes) in
     if is_zero_word bytes then Err (ended size first)
     else begun (first_fault (page_answers size page bytes timeline))
-    (if is_continued bytes then (if nat_le (8192 - header_size size page) skipped then next
-    (page + 1) (timeline_of bytes) else first_place (first + skipped) (timeline_of bytes))
-    else first_place first (timeline_of bytes))
+    (if is_continued bytes then behind_continued else first_place first (timeline_of bytes))
   where
     begun : Option Answer → Result Place Answer → Result Place Answer
     begun (Some answer) place = Err answer

@@ -1,4 +1,4 @@
-use Rattle.std.proofs.Common.{◌≡◌, ℕ, Some, None, Ok, option_map, subst}
+use Rattle.std.proofs.Common.{◌≡◌, ℕ, Some, None, Ok, option_map, subst, ◌∙◌}
 use Rattle.wal_types.specs.declared.lsn.Lsn.{Lsn}
 use Rattle.wal_reader.specs.Cursor.{Sees}
 use Rattle.wal_reader.specs.Decodes.{beginning}

@@ -1,7 +1,7 @@
 use Rattle.std.proofs.Common.{option_map}
 use Rattle.wal_types.specs.declared.lsn.Lsn.{Lsn}
 use Rattle.wal_reader.specs.Standpoint.{place_of}
-use Rattle.wal_reader.proofs.ReachLaws.{is_before_end, is_in_reach, no_page_above, read_at-out_of_reach}
+use Rattle.wal_reader.proofs.ReachLaws.{is_before_end, no_page_above, read_at-out_of_reach}
 use Rattle.wal_reader.proofs.record_reading.read_record.Goals as goal
 
 pub returns-then-is_out_of_reach-clause-reads : goal.returns-then-is_out_of_reach-clause-reads
@@ -15,8 +15,3 @@ pub read_in_reach-requires-clause-before : goal.read_in_reach-requires-clause-be
 read_in_reach-requires-clause-before g c =
     let end = option_map (λ (l : Lsn). l.0) c.args.end in
     is_before_end c.args.cache.now.geometry end c.args.at.position c.is_out_of_reach.result c.is_out_of_reach.ensures c.if-is_out_of_reach.false
-
-pub returns-else-is_out_of_reach-clause-unread : goal.returns-else-is_out_of_reach-clause-unread
-returns-else-is_out_of_reach-clause-unread g c out =
-    let end = option_map (λ (l : Lsn). l.0) c.args.end in
-    is_in_reach c.args.cache.now.geometry end c.args.at.position c.is_out_of_reach.result c.is_out_of_reach.ensures c.if-is_out_of_reach.false out
