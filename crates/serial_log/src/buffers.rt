@@ -1,6 +1,6 @@
 ghost use Rattle.std.specs.Prelude.{◌≡◌, ℕ, ◌+◌, ◌*◌, ◌/◌, ◌%◌, ◌<◌, ◌≤◌, ◌^◌, min, None, OnOk, IfOk, IfErr, false};
 ghost use Rattle.byte_position.specs.Position.{end_address_of};
-ghost use Rattle.wal_record.specs.Spelling.{assembled_room};
+ghost use Rattle.record_spelling.specs.Spelling.{assembled_room};
 ghost use Rattle.wal_page.specs.Placed.{entry_word};
 ghost use Rattle.flush_core.specs.Writer.{disk_of, writer_fault, is_unsynced, written_of};
 ghost use Rattle.serial_log.specs.Ring.{HoldsWords};

@@ -1,6 +1,6 @@
 ghost use Rattle.std.specs.Prelude.{◌≡◌, ℕ, ◌+◌, ◌*◌, ◌/◌, ◌<◌, ◌≤◌, length, min, slice_index};
 ghost use Rattle.byte_position.specs.Position.{end_address_of};
-ghost use Rattle.wal_record.specs.Spelling.{assembled_room};
+ghost use Rattle.record_spelling.specs.Spelling.{assembled_room};
 ghost use Rattle.wal_page.specs.Placed.{entry_word};
 
 use wal_page::Placed;
