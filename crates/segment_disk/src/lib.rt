@@ -5,10 +5,12 @@
 mod calls;
 mod disk;
 mod failed;
+mod handed;
 mod memory;
 mod stream;
 
 pub use disk::{Call, CallKind, Disk, PageBytes};
 pub use failed::{Failed, count_fault};
+pub use handed::HandedOut;
 pub use memory::{MemDisk, MemSink, MemSource, Memory};
 pub use stream::{Sink, Source};

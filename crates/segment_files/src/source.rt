@@ -1,8 +1,8 @@
-ghost use Rattle.std.specs.Prelude.{◌≡◌, ◌≤◌, ◌<◌, None, IfOk, OnErr, length, take};
+ghost use Rattle.std.specs.Prelude.{◌≡◌, ◌≤◌, ◌<◌, ◌++◌, [], None, IfOk, OnErr, length, take};
 ghost use Rattle.std.specs.Io.KnownBytes.{Keeps, ReadConsumes};
 ghost use Rattle.segment_disk.specs.Cause.{HasCause};
 
-use segment_disk::{Failed, Source, count_fault};
+use segment_disk::{Failed, HandedOut, Source, count_fault};
 use std::io;
 use std::io::{ErrorKind, Read};
 
@@ -13,6 +13,7 @@ const MOST_TRIES: u32 = 1000;
 #[derive(Drop)]
 pub struct StandardSource<R: Read> {
     reader: R,
+    handed: HandedOut,
     faults: u64,
 }
 
@@ -21,10 +22,15 @@ impl<R: Read> StandardSource<R> {
 
     pub fn new(reader: R) -> StandardSource<R>
         ensures left { ⟦<StandardSource<R> as Source>⟧.left result ≡ None }
+        ensures handed { ⟦<StandardSource<R> as Source>⟧.handed result ≡ [] }
         ensures faults { ⟦<StandardSource<R> as Source>⟧.faults result ≡ 0 }
         ensures bytes { reader_left R.remaining result ≡ R.remaining reader }
     {
-        StandardSource { reader, faults: 0 }
+        StandardSource {
+            reader,
+            handed: HandedOut::new(),
+            faults: 0,
+        }
     }
 }
 
@@ -34,17 +40,24 @@ impl<R: Read> Source for StandardSource<R> {
 
     ghost left = { λ s. None };
 
+    ghost handed = { λ s. s.handed.bytes };
+
     ghost faults = { λ s. s.faults };
 
     fn read(&mut self, into: &mut [u8]) -> Result<usize, Failed>
         ensures within { IfOk result (λ n. n ≤ length into.old) }
+        ensures handed { IfOk result (λ n. self.new.handed.bytes ≡ self.old.handed.bytes ++ take n into.new) }
+        ensures none_handed { OnErr result (self.new.handed.bytes ≡ self.old.handed.bytes) }
         ensures cause { HasCause self.old.faults self.new.faults result }
 
         // It gives the reader's bytes in order, and answers 0 where none is left.
         ensures bytes { ReadConsumes (reader_left R.remaining self.old) (reader_left R.remaining self.new) result into.new }
     {
         match read_once(&mut self.reader, into) {
-            Ok(count) => Ok(count),
+            Ok(count) => {
+                self.handed.add(&into[..count]);
+                Ok(count)
+            }
             Err(_) => Err(count_fault(&mut self.faults)),
         }
     }
