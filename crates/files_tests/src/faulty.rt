@@ -32,8 +32,8 @@ struct FaultyFiles {
     fault: Fault,
 }
 
-fn refused<T>() -> io::Result<T> {
-    Err(ErrorKind::StorageFull.into())
+fn refusal() -> io::Error {
+    ErrorKind::StorageFull.into()
 }
 
 impl Read for FaultyFile {
@@ -45,7 +45,7 @@ impl Read for FaultyFile {
 impl Write for FaultyFile {
     fn write(&mut self, buf: &[u8]) -> io::Result<usize> {
         if self.fault == Fault::Zeros {
-            return refused();
+            return Err(refusal());
         }
         self.file.write(buf)
     }
@@ -68,7 +68,7 @@ impl FileExt for FaultyFile {
 
     fn write_at(&self, buf: &[u8], offset: u64) -> io::Result<usize> {
         if self.fault == Fault::Page {
-            return refused();
+            return Err(refusal());
         }
         self.file.write_at(buf, offset)
     }
@@ -85,14 +85,14 @@ impl OpenFile for FaultyFile {
 
     fn sync_all(&self) -> io::Result<()> {
         if self.fault == Fault::SyncAll {
-            return refused();
+            return Err(refusal());
         }
         self.file.sync_all()
     }
 
     fn sync_data(&self) -> io::Result<()> {
         if self.fault == Fault::SyncData {
-            return refused();
+            return Err(refusal());
         }
         self.file.sync_data()
     }
@@ -152,7 +152,7 @@ impl Files for FaultyFiles {
 
     fn hard_link(&self, original: &str, link: &str) -> io::Result<()> {
         if self.fault == Fault::Link {
-            return refused();
+            return Err(refusal());
         }
         self.rt.hard_link(original, link)
     }
