@@ -1,5 +1,5 @@
 -- What stands from a given end on, or from address 2 ^ 60 on, is not read.
-use Rattle.std.proofs.Common.{◌≡◌, ℕ, ◌↔◌, ◌/◌, ◌^◌, ◌≤◌, Bool, true, false, Option, Some, None, Err, inl, inr, refl, sym, ap, ◌∙◌, arith}
+use Rattle.std.proofs.Common.{◌≡◌, ℕ, ◌↔◌, ◌/◌, ◌^◌, ◌≤◌, Bool, false, Option, Some, None, Err, inl, inr, ap, ◌∙◌, arith}
 use Rattle.std.specs.Prelude.{IsTrue}
 use Rattle.std.proofs.lemmas.Bool.{cases_Bool}
 use Rattle.byte_position.specs.Position.{address_of}

@@ -1,10 +1,8 @@
 -- Runs of a reader that stop early give fronts.
-use Rattle.std.proofs.Common.{◌≡◌, ℕ, List, [], ◌∷◌, ◌++◌, Option, refl, sym, ap, subst, ◌∙◌}
+use Rattle.std.proofs.Common.{◌≡◌, ℕ, List, ◌++◌, refl, sym, ap, subst, ◌∙◌}
 use Rattle.byte_position.specs.Geometry.{IsSegmentSize}
-use Rattle.segment_disk.specs.DiskImage.{DiskImage}
 use Rattle.wal_reader.specs.declared.found.FoundRecord.{FoundRecord}
 use Rattle.wal_reader.specs.declared.found.Answer.{Answer}
-use Rattle.wal_reader.specs.declared.standing.Standing.TheVariants.{NotBegun}
 use Rattle.wal_reader.specs.LogReader.{ReaderState, GivesRecords}
 use Rattle.wal_reader.specs.Pages.{Pages, pages_in}
 use Rattle.wal_reader.specs.Runs.{Gave, RunsCompose, RunsGiveFronts, nothing, record_more}
