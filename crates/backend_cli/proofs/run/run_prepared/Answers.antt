@@ -20,7 +20,7 @@ use Rattle.backend_cli.proofs.RunLaws.{opened_holds, no_memory}
 use Rattle.backend_cli.proofs.run.run_prepared.Goals as goal
 
 pub returns-clause-holds : goal.returns-clause-holds
-returns-clause-holds g c = λ source left count lines read means ready.
+returns-clause-holds g c = λ before after lines means ready.
     let tape = g.D.Disk.tape in
     let moment = g.D.Disk.moment in
     let faults = g.D.Disk.faults in
@@ -50,8 +50,8 @@ returns-clause-holds g c = λ source left count lines read means ready.
     (subst (λ t. Concludes c.down.result t (not c.is_ok-is_printed.result) c.conclusion.result) c.deref-in-Ok-4.ensures.value c.conclusion.ensures) in
     let reached = c.play.ensures.moments _ (tracked_at_opening _ tape moment faults disk opened c.in-Ok.ensures.ok c.in-Ok.ensures.moment c.in-Ok.ensures.uncalled.same_moment) in
     let rises : MomentsRise (moment disk) told (moment (log_disk log)) = (reached.0, reached.1, omega (arith, reached.2.kept, reached.2.within, c.flush.ensures.not_earlier)) in
-    opened_holds _ tape moment faults disk log played.0 flushed.0 flushed.2 behind size capacity c.args.list c.conclusion.result lines c.args.prepared.tasks.items told c.summary_of-summary.result _ _ _ _ c.print.result source left count c.down.result c.into_disk.result c.one.result
-    (same.size ∙ size_is) (same.capacity ∙ capacity_is) small (same.sysid ∙ made.2) c.into_disk.ensures.disk c.one.ensures plays means ready.tasks summarizes puts c.down.ensures concludes rises c.in-Ok.ensures.empty read
+    opened_holds _ tape moment faults disk log played.0 flushed.0 flushed.2 behind size capacity c.args.list c.conclusion.result lines c.args.prepared.tasks.items told c.summary_of-summary.result _ _ _ _ c.print.result before after c.down.result c.into_disk.result c.one.result
+    (same.size ∙ size_is) (same.capacity ∙ capacity_is) small (same.sysid ∙ made.2) c.into_disk.ensures.disk c.one.ensures plays means ready.tasks summarizes puts c.down.ensures concludes rises c.in-Ok.ensures.empty
     (c.into_disk.ensures.settled (tape disk) (faults disk) flushed.0 flushed.2)
 
 pub returns-clause-no_memory : goal.returns-clause-no_memory
