@@ -15,12 +15,14 @@ use Rattle.wal_script.specs.declared.line.Line.{Line}
 use Rattle.waldump_text.specs.declared.putting.SinkFault.{SinkFault}
 use Rattle.waldump_text.specs.Put.{Puts, joined}
 use Rattle.backend_cli.specs.declared.outcome.Outcome.{Outcome}
-use Rattle.backend_cli.specs.declared.outcome.Outcome.TheVariants.{OutOfMemory}
+use Rattle.backend_cli.specs.declared.outcome.Outcome.TheVariants.{OutOfMemory, NotEmpty, DiskFault}
 use Rattle.backend_cli.specs.declared.told.Told.{Told}
 use Rattle.backend_cli.specs.declared.tasks.Task.{Task}
 use Rattle.flush_core.specs.Pages.{HoldsNothing}
 use Rattle.flush_core.specs.Writer.{writer_fault}
 use Rattle.serial_log.specs.LogImage.{HoldsLog}
+use Rattle.serial_log.specs.Opening.{RefusesToOpen}
+use Rattle.serial_log.specs.declared.log.OpenFailure.TheVariants as failures
 use Rattle.serial_log.specs.LogState.{LogState, IsLog, IsUpOrDown, log_disk}
 use Rattle.serial_log.specs.History.{LogHistory, at_opening, end_of}
 use Rattle.backend_cli.specs.declared.printing.Summary.{Summary}
@@ -175,6 +177,24 @@ module _ (D : Type 0) (tape : D → Option Tape) (moment faults : D → ℕ) (di
         },
       ) in
       subst (λ (t : List (List Told)). RunHolds (outside_of result) size capacity list outcome t) (sym same_lists) (subst (λ (d : D). RunHolds (outside_of d) size capacity list outcome (told ∷ [])) (sym same_disk) holds)
+
+-- a run that did not open the log, where the read of its first page failed
+pub failed_to_open : (D : Type 0) (tape : D → Option Tape) (moment faults : D → ℕ) (disk now : D) (taken : Option (List ℕ)) (sink : ℕ) (size capacity : ℕ) (list : Bool) (before after : SourceView) (lines : List Line) (lists : List (List Told))
+    → RefusesToOpen tape moment faults disk (failures.Disk now) → ScriptMeans before after (Ok (lines ∷ [])) → lists ≡ []
+    → RunHolds (record { source_before = before; source_after = after; tape_before = tape disk; tape_after = tape now; moment_before = moment disk; moment_after = moment now; disk_before = faults disk; disk_after = faults now; taken_before = taken; taken_after = taken; sink_before = sink; sink_after = sink }) size capacity list DiskFault lists
+failed_to_open D tape moment faults disk now taken sink size capacity list before after lines lists refuses means none =
+    let outside : Outside = record { source_before = before; source_after = after; tape_before = tape disk; tape_after = tape now; moment_before = moment disk; moment_after = moment now; disk_before = faults disk; disk_after = faults now; taken_before = taken; taken_after = taken; sink_before = sink; sink_after = sink } in
+    let holds : RunHolds outside size capacity list DiskFault [] = (((lines ∷ [], means), refuses.1), record { tape_same = refuses.0.same_tape; moment_same = refuses.0.same_moment; nothing_printed = refl; sink_faults_same = refl }) in
+    subst (RunHolds outside size capacity list DiskFault) (sym none) holds
+
+-- where segment 1 was there
+pub found_a_log : (D : Type 0) (tape : D → Option Tape) (moment faults : D → ℕ) (disk now : D) (taken : Option (List ℕ)) (sink : ℕ) (size capacity : ℕ) (list : Bool) (before after : SourceView) (lines : List Line) (lists : List (List Told))
+    → RefusesToOpen tape moment faults disk (failures.NotEmpty now) → ScriptMeans before after (Ok (lines ∷ [])) → lists ≡ []
+    → RunHolds (record { source_before = before; source_after = after; tape_before = tape disk; tape_after = tape now; moment_before = moment disk; moment_after = moment now; disk_before = faults disk; disk_after = faults now; taken_before = taken; taken_after = taken; sink_before = sink; sink_after = sink }) size capacity list NotEmpty lists
+found_a_log D tape moment faults disk now taken sink size capacity list before after lines lists refuses means none =
+    let outside : Outside = record { source_before = before; source_after = after; tape_before = tape disk; tape_after = tape now; moment_before = moment disk; moment_after = moment now; disk_before = faults disk; disk_after = faults now; taken_before = taken; taken_after = taken; sink_before = sink; sink_after = sink } in
+    let holds : RunHolds outside size capacity list NotEmpty [] = (((lines ∷ [], means), refuses.2, refuses.1), record { tape_same = refuses.0.same_tape; moment_same = refuses.0.same_moment; nothing_printed = refl; sink_faults_same = refl }) in
+    subst (RunHolds outside size capacity list NotEmpty) (sym none) holds
 
 -- a run that opened the log does not end for want of memory
 pub no_memory : (down : Option ℕ) (told : List Told) (failed : Bool) (outcome : Outcome) → Concludes down told failed outcome → outcome ≡ OutOfMemory → ⊥

@@ -92,21 +92,21 @@ pub record HoldsOpened (outside : Outside) (size capacity : ℕ) (list : Bool) (
   pub means : ScriptMeans outside.source_before outside.source_after (Ok script)
   pub empty : IfSome outside.tape_before (λ t. page_of_segment (state_now t 1) 0 ≡ None)
   pub told : TellsAll (record {
-      size = size;
-      capacity = capacity;
-      order = order_of size script lists;
-      opened = outside.disk_before;
-      last = outside.disk_after;
-    }) 0 script lists
+    size = size;
+    capacity = capacity;
+    order = order_of size script lists;
+    opened = outside.disk_before;
+    last = outside.disk_after;
+  }) 0 script lists
   pub stays_down : EachStaysDown lists
   pub gapless : IsChained size (order_of size script lists)
   pub in_line_order : RiseInLineOrder size 0 script lists
   pub moments : EachRises outside.moment_before lists outside.moment_after
   pub whole : outside.disk_after ≡ outside.disk_before → outside.disk_before < 2 ^ 64 - 1
-    → HoldsNothing outside.tape_before
-    → IsWhole size outside.tape_after (order_of size script lists)
+      → HoldsNothing outside.tape_before
+      → IsWhole size outside.tape_after (order_of size script lists)
   pub printed : Took outside.taken_before outside.taken_after outside.sink_before outside.sink_after
-    (run_text size list script lists (order_of size script lists))
+      (run_text size list script lists (order_of size script lists))
   pub ends : EndsOpened outside lists outcome
   pub full : SomeTold IsFullAnswer lists → capacity < all_rooms_asked script
 

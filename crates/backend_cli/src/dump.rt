@@ -17,7 +17,7 @@ pub(crate) fn list<O: Sink, D: Disk>(
     out: &mut O,
 ) -> Finished<D>
     ensures { (source : SourceView) → DumpHolds (outside_of source source
-      D.tape D.moment D.faults disk result.disk O.taken O.faults out.old out.new) geometry result.outcome result.told }
+        D.tape D.moment D.faults disk result.disk O.taken O.faults out.old out.new) geometry result.outcome result.told }
 {
     let outcome = match dump(alloc, &mut disk, geometry, out) {
         Ok(()) => Outcome::Done,

@@ -41,9 +41,9 @@ fn obey<S: Source, O: Sink, D: Disk, G: Gate>(
 ) -> Finished<D>
     requires in_range { AsksInRange command }
     ensures obeys { Obeys command (outside_of
-      (source_view S.left S.handed S.faults script.old)
-      (source_view S.left S.handed S.faults script.new)
-      D.tape D.moment D.faults disk result.disk O.taken O.faults out.old out.new) result.outcome result.told }
+        (source_view S.left S.handed S.faults script.old)
+        (source_view S.left S.handed S.faults script.new)
+        D.tape D.moment D.faults disk result.disk O.taken O.faults out.old out.new) result.outcome result.told }
     ensures as_handed_in { AsksRun command → result.outcome ≡ Outcome.OutOfMemory → result.disk ≡ disk }
 {
     match &command {
@@ -82,9 +82,9 @@ pub fn pgwal<R: Threads + Wait + Sync, S: Source, O: Sink, E: Sink, D: Disk + Se
     ensures obeys { (outcome : Outcome) × (result.status ≡ status_of outcome)
         × Took (E.taken err.old) (E.taken err.new) (E.faults err.old) (E.faults err.new) (joined (outcome_text outcome))
         × Obeys (asks (map (λ w. string_bytes w) words.now)) (outside_of
-          (source_view S.left S.handed S.faults script.old)
-          (source_view S.left S.handed S.faults script.new)
-          D.tape D.moment D.faults disk result.disk O.taken O.faults out.old out.new) outcome result.told }
+        (source_view S.left S.handed S.faults script.old)
+        (source_view S.left S.handed S.faults script.new)
+        D.tape D.moment D.faults disk result.disk O.taken O.faults out.old out.new) outcome result.told }
     // A run that ends for want of memory hands the disk back as it came.
     ensures as_handed_in { AsksRun (asks (map (λ w. string_bytes w) words.now)) → result.status ≡ 1 → result.disk ≡ disk }
 {

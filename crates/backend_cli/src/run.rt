@@ -196,7 +196,7 @@ fn run_prepared<O: Sink, D: Disk, G: Gate>(
     ensures holds { (before after : SourceView) (lines : List Line)
         → ScriptMeans before after (Ok (lines ∷ [])) → IsPrepared shape lines prepared
         → RunHolds (outside_of before after
-          D.tape D.moment D.faults disk result.disk O.taken O.faults out.old out.new)
+        D.tape D.moment D.faults disk result.disk O.taken O.faults out.old out.new)
         shape.geometry (capacity_of shape.geometry shape.cap_segments)
         list result.outcome result.told }
     ensures no_memory { result.outcome ≡ Outcome.OutOfMemory → ⊥ }
@@ -245,9 +245,9 @@ pub(crate) fn run<S: Source, O: Sink, D: Disk, G: Gate>(
     gate: &G,
 ) -> Finished<D>
     ensures holds { RunHolds (outside_of
-      (source_view S.left S.handed S.faults source.old)
-      (source_view S.left S.handed S.faults source.new)
-      D.tape D.moment D.faults disk result.disk O.taken O.faults out.old out.new)
+        (source_view S.left S.handed S.faults source.old)
+        (source_view S.left S.handed S.faults source.new)
+        D.tape D.moment D.faults disk result.disk O.taken O.faults out.old out.new)
         shape.geometry (capacity_of shape.geometry shape.cap_segments)
         list result.outcome result.told }
     ensures as_handed_in { result.outcome ≡ Outcome.OutOfMemory → result.disk ≡ disk }
