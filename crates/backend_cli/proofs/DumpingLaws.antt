@@ -33,14 +33,12 @@ pub listing_holds : (outside : Outside) (size : ℕ) (result : Result (Unit {0})
     → IfSome outside.tape_before (IsDump size outside.taken_before outside.taken_after result)
     → HasDumpCause outside.disk_before outside.disk_after outside.sink_before outside.sink_after result
     → outside.tape_after ≡ outside.tape_before → outside.moment_after ≡ outside.moment_before
-    → outside.source_after ≡ outside.source_before → outside.source_left ≡ outside.source
-    → lists ≡ [] → DumpHolds outside size outcome lists
-listing_holds outside size result outcome lists is puts cause tape moment source unread none = rw is (record {
+    → outside.source_after ≡ outside.source_before → lists ≡ [] → DumpHolds outside size outcome lists
+listing_holds outside size result outcome lists is puts cause tape moment unread none = rw is (record {
   listed = lists_as size outside result outside.tape_before puts;
   ends = ends_as outside result cause;
   tape = tape;
   moment = moment;
-  source = source;
   unread = unread;
   nothing_told = none;
 })
