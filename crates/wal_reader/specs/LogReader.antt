@@ -75,21 +75,21 @@ LeavesReader old new (Err (reading.Stopped stop)) = new ≡ record old { standin
 LeavesReader old new (Err reading.Memory) = new ≡ old
 LeavesReader old new (Err (reading.Disk faults)) = new ≡ old
 
-abbrev pub StandsBehind : ℕ → FoundRecord → Standing → Type 0
-StandsBehind size found NotBegun = ⊥
-StandsBehind size found (At at) = IsBehind size found at
-StandsBehind size found (Stopped stop) = ⊥
+abbrev pub StandsBehindRecord : ℕ → FoundRecord → Standing → Type 0
+StandsBehindRecord size found NotBegun = ⊥
+StandsBehindRecord size found (At at) = IsBehind size found at
+StandsBehindRecord size found (Stopped stop) = ⊥
 
 -- after a record a reader stands just behind it
 abbrev pub StandsAfter : ℕ → Standing → Result Step ReadErr → Type 0
 StandsAfter size standing (Ok (steps.Record start end prev total value)) =
-    StandsBehind size (found_as start end prev total value) standing
+    StandsBehindRecord size (found_as start end prev total value) standing
 StandsAfter size standing (Ok (steps.End at)) = Unit {0}
 StandsAfter size standing (Err error) = Unit {0}
 
 -- a reader holds no page, so that it reads anew whatever stands there next
-abbrev pub HoldsNothing : Reader → Type 0
-HoldsNothing reader = (pages : Pages) → Knows reader pages
+abbrev pub HoldsNoPage : Reader → Type 0
+HoldsNoPage reader = (pages : Pages) → Knows reader pages
 
 -- what holds at an end
 abbrev pub OnEnd : Result Step ReadErr → Type 0 → Type 0

@@ -5,17 +5,17 @@ use thiserror::Error;
 use wal_page::PageErr;
 use wal_types::{Lsn, Record};
 
-/// A record that was read.
+/// A record that was read, as definitions of what a log decodes to list it; a step gives its fields.
 #[derive(Debug, Drop)]
-pub(crate) struct FoundRecord {
-    pub(crate) start: Lsn,
+pub struct FoundRecord {
+    pub start: Lsn,
     /// Just behind the record and its rounding.
-    pub(crate) end: Lsn,
+    pub end: Lsn,
     /// The start of the record before, as this one names it.
-    pub(crate) prev: Lsn,
+    pub prev: Lsn,
     /// The record's size in bytes.
-    pub(crate) total: u32,
-    pub(crate) value: Record,
+    pub total: u32,
+    pub value: Record,
 }
 
 /// Which check failed.
@@ -95,9 +95,10 @@ pub enum Stopped {
     Overwritten { at: Lsn },
 }
 
-/// What stands where no record does.
+/// What stands where no record does, as definitions of what a log decodes to name it; no call
+/// answers it, a step tells `End` or fails by `Stopped`.
 #[derive(Clone, Copy, Debug)]
-pub(crate) enum Answer {
+pub enum Answer {
     /// A clean end of the log: where the last record ends, or how far reading came where there is
     /// none.
     End { at: Lsn },

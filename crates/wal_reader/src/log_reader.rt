@@ -29,7 +29,7 @@ impl Reader {
     ghost use Rattle.wal_reader.specs.declared.standing.Standing.TheVariants.{NotBegun};
     ghost use Rattle.wal_reader.specs.Pages.{Pages};
     ghost use Rattle.wal_reader.specs.Cursor.{IsLogOf};
-    ghost use Rattle.wal_reader.specs.LogReader.{HoldsNothing, IsNext, Knows, LeavesReader, NeedsNoPage, OnEnd, StandsAfter, reader_state};
+    ghost use Rattle.wal_reader.specs.LogReader.{HoldsNoPage, IsNext, Knows, LeavesReader, NeedsNoPage, OnEnd, StandsAfter, reader_state};
     ghost use Rattle.wal_reader.specs.Spelled.{GivesSpelled};
     ghost use Rattle.wal_reader.specs.Standings.{HasReadCause, IsToldAgain};
 
@@ -66,7 +66,7 @@ impl Reader {
         ensures behind { (pages : Pages) → Knows self.old pages
             → StandsAfter (reader_state self.old).size (reader_state self.new).standing result }
         ensures forgets { (pages : Pages) → Knows self.old pages
-            → OnEnd result (HoldsNothing self.new) }
+            → OnEnd result (HoldsNoPage self.new) }
         ensures unread { (pages : Pages) → Knows self.old pages
             → NeedsNoPage (reader_state self.old) self.old.standing → disk.new ≡ disk.old }
         ensures spelled { IfOk result GivesSpelled }
