@@ -9,4 +9,3 @@ pub mod RecordBytes
 pub mod RecordRows
 pub mod Tables
 pub mod WrittenLogLaws
-pub mod AgreeingLaws

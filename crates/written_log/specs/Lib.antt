@@ -2,4 +2,3 @@ pub mod Written
 pub mod WrittenLog
 pub mod LogSegments
 pub mod Torn
-pub mod Agreeing
