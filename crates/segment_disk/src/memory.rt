@@ -1,4 +1,5 @@
-//! Bodies in memory of the source, the sink and the disk, for tests and as models of what the real ones do.
+//! Bodies in memory of the source, the sink and the disk, for tests and as models of what the real
+//! ones do.
 
 mod disk;
 mod reading;
