@@ -33,6 +33,13 @@ CASES = {
 }
 
 
+# Scripts that are short for what they ask, or long for what they do: a line, and how often it stands there.
+SHAPES = {
+    "40 records of 1 MiB": ("I 1 10 00 1048547*5a", 40),
+    "2,000,000 lines F": ("F", 2_000_000),
+}
+
+
 def room(total):
     """The bytes that a record of this size takes up."""
     return (total + 7) // 8 * 8
@@ -67,37 +74,42 @@ def timed(words, folder, stdin=None):
 
 
 def instructions(words, folder, stdin=None):
-    """The instructions that a program takes in a folder."""
-    counted = ["valgrind", "--tool=callgrind", "--callgrind-out-file=/dev/null", *words]
+    """The instructions that a program takes in a folder: all, and those of the log's inserts."""
+    counts = os.path.join(folder, "callgrind")
+    counted = ["valgrind", "--tool=callgrind", f"--callgrind-out-file={counts}", *words]
     with open(stdin or os.devnull, "rb") as given:
         done = subprocess.run(counted, cwd=folder, stdin=given, stdout=subprocess.DEVNULL, stderr=subprocess.PIPE)
     told = done.stderr.decode()
     found = re.search(r"Collected : (\d+)", told)
     if done.returncode or not found:
         sys.exit(f"{' '.join(counted)}: status {done.returncode}: {told}")
-    return int(found[1])
+    listed = ["callgrind_annotate", "--inclusive=yes", "--threshold=100", counts]
+    names = subprocess.run(listed, capture_output=True, text=True).stdout
+    inserts = re.search(r"^ *([\d,]+) .*\bLog::insert\b", names, re.M)
+    return int(found[1]), int(inserts[1].replace(",", "")) if inserts else 0
 
 
 def instructions_per_record(fields):
-    """Those that `run` and `dump` take for one record more, each over a log that lies in segments of 16 MiB."""
+    """Those that `run` takes for one record more, its insert alone, and `dump`; each log lies in segments of 16 MiB."""
     counts = []
     for records in (1000, 2000):
         with tempfile.TemporaryDirectory() as folder:
             path = os.path.join(folder, "script")
             write_script(path, fields, records)
-            counts.append([instructions([PROGRAM, "run"], folder, path), instructions([PROGRAM, "dump"], folder)])
+            run, insert = instructions([PROGRAM, "run"], folder, path)
+            dump, _ = instructions([PROGRAM, "dump"], folder)
+            counts.append((run, insert, dump))
     return [(more - less) / 1000 for less, more in zip(*counts)]
 
 
 def row(name, counted, records, size, seconds, memory):
-    each = f"{counted:,.0f}" if counted else ""
     print(
-        f"| {name} | {each} | {records:,} | {records / seconds / 1e6:.3f} | {size / seconds / 1e6:.0f} | {seconds:.2f} | {memory:.0f} |",
+        f"| {name} | {counted} | {records:,} | {records / seconds / 1e6:.3f} | {size / seconds / 1e6:.0f} | {seconds:.2f} | {memory:.0f} |",
         flush=True,
     )
 
 
-def measure(name, case, records, counted):
+def measure(name, case, records, of_run, of_dump):
     fields, total = CASES[case]
     with tempfile.TemporaryDirectory() as folder:
         path = os.path.join(folder, "script")
@@ -107,17 +119,30 @@ def measure(name, case, records, counted):
         want = f"records {records} commits {records // 1000} bytes {size} "
         if not tail.startswith(want):
             sys.exit(f"run printed {tail!r}, not {want!r}")
-        row(f"run, {name}", counted[0], records, size, seconds, memory)
+        row(f"run, {name}", of_run, records, size, seconds, memory)
         tail, lines, seconds, memory = timed([PROGRAM, "dump"], folder)
         if lines != records:
             sys.exit(f"dump listed {lines} records of {records}")
-        row(f"dump, {name}", counted[1], records, size, seconds, memory)
+        row(f"dump, {name}", of_dump, records, size, seconds, memory)
         peer = shutil.which("pg_waldump")
         if peer:
             first = os.path.join(folder, "pg_wal", "000000010000000000000001")
             begin = time.monotonic()
             done = subprocess.run([peer, first], stdout=subprocess.DEVNULL, stderr=subprocess.PIPE)
             print(f"| pg_waldump of segment 1, {name} | | | | | {time.monotonic() - begin:.2f} | {done.stderr.decode()[-80:].strip()} |")
+
+
+def measure_memory(name):
+    """The peak memory of `run`, beside the script's size, the records' and the count of lines."""
+    line, count = SHAPES[name]
+    with tempfile.TemporaryDirectory() as folder:
+        path = os.path.join(folder, "script")
+        with open(path, "w") as out:
+            for _ in range(count):
+                out.write(line + "\n")
+        tail, _, seconds, memory = timed([PROGRAM, "run"], folder, path)
+        size = int(re.search(r" bytes (\d+) ", tail)[1])
+        print(f"| {name} | {os.path.getsize(path) / 1e6:.1f} | {size / 1e6:.1f} | {count:,} | {seconds:.2f} | {memory:.0f} |", flush=True)
 
 
 def main():
@@ -133,15 +158,21 @@ def main():
         print("| what | instructions a record |")
         print("|---|---|")
     for case, (fields, total) in CASES.items():
-        counted = instructions_per_record(fields) if shutil.which("valgrind") else [None, None]
+        of_run = of_dump = ""
+        if shutil.which("valgrind"):
+            run, insert, dump = instructions_per_record(fields)
+            of_run, of_dump = f"{run:,.0f}, of them the insert {insert:,.0f}", f"{dump:,.0f}"
         if not megabytes:
-            for command, each in zip(("run", "dump"), counted):
-                print(f"| {command}, {case} | {each:,.0f} |", flush=True)
+            print(f"| run, {case} | {of_run} |\n| dump, {case} | {of_dump} |", flush=True)
             continue
         records = megabytes * 1_000_000 // room(total)
         if case == "100 bytes":
-            measure("100 bytes, half", case, records // 2, [None, None])
-        measure(case, case, records, counted)
+            measure("100 bytes, half", case, records // 2, "", "")
+        measure(case, case, records, of_run, of_dump)
+    if megabytes:
+        print("\n| run | script MB | records MB | lines | s | peak MB |\n|---|---|---|---|---|---|")
+        for name in SHAPES:
+            measure_memory(name)
 
 
 if __name__ == "__main__":

@@ -1,110 +1,29 @@
-ghost use Rattle.std.specs.Prelude.{◌≡◌, ◌%◌};
+//! Reading a log record by record.
 
-use crate::*;
-use byte_position::Geometry;
-use record_spelling::{Body, BodyErr};
-use segment_disk::{Disk, MemDisk};
+use crate::pages::{TwoPages, commit, disk_of, heap_record, smallest};
+use segment_disk::MemDisk;
 use std::alloc::Global;
 use std::test::Fail;
-use wal_page::{PageErr, Placed};
-use wal_types::{BlockList, Bytes, Lsn, Record, Xid};
+use wal_page::PageErr;
+use wal_reader::{DamageKind, FoundRecord, ReadErr, Reader, Step};
+use wal_types::{Lsn, Xid};
 
 const START: Lsn = Lsn(0x10_0000);
 
-// The byte position of segment 1's first record.
-const FIRST: u64 = 128 * 8168 - 16;
-
-// The first two pages of segment 1.
-#[derive(Drop)]
-struct TwoPages {
-    first: [u8; 8192],
-    second: [u8; 8192],
-}
-
-fn smallest() -> Geometry
-    ensures { result ≡ 1048576 }
-{
-    match Geometry::new(1 << 20) {
-        Some(geometry) => geometry,
-        None => unreachable!(),
-    }
-}
-
-fn record(alloc: Global, rmid: u8, main: Vec<u8>) -> Result<Body, BodyErr> {
-    let record = Record {
-        xid: Xid(700),
-        rmid,
-        info: 0,
-        origin: None,
-        top_xid: None,
-        blocks: BlockList::of(Vec::new(alloc)),
-        main: Bytes::of(main),
-    };
-    Body::assemble(alloc, &record)
-}
-
-fn commit(alloc: Global) -> Result<Body, BodyErr> {
-    record(alloc, 1, vec![in alloc; 0; 8]?)
-}
-
-fn heap_insert(alloc: Global, count: usize) -> Result<Body, BodyErr> {
-    record(alloc, 10, vec![in alloc; 0x5a; count]?)
-}
-
-// Puts a record behind those that take up so many bytes.
-fn put(pages: &mut TwoPages, body: &Body, passed: u32, prev: Lsn)
-    requires { passed % 8 ≡ 0 }
-{
-    let _room = body.room();
-    let start = FIRST + u64::from(passed);
-    let mut words = Placed::new(smallest(), 1, body, start, prev);
-    for _word in 0..2048 {
-        if let Some((lsn, word)) = words.next_word() {
-            if lsn.0 / 8192 == 128 {
-                put_word(&mut pages.first, lsn, word);
-            } else {
-                put_word(&mut pages.second, lsn, word);
-            }
-        }
-    }
-}
-
-fn put_word(page: &mut [u8; 8192], lsn: Lsn, word: u64) {
-    let at = (lsn.0 % 8192) as usize;
-    if at <= 8184 {
-        page[at..at + 8].copy_from_slice(&word.to_le_bytes());
-    }
-}
-
-fn no_records() -> TwoPages {
-    TwoPages {
-        first: [0; 8192],
-        second: [0; 8192],
-    }
-}
-
 fn two_commits(alloc: Global) -> Result<TwoPages, Fail> {
-    let mut pages = no_records();
-    put(&mut pages, &commit(alloc)?, 0, Lsn(0));
-    put(&mut pages, &commit(alloc)?, 40, Lsn(0x10_0028));
+    let mut pages = TwoPages::zeros();
+    pages.put(alloc, &commit(alloc)?, 0, Lsn(0))?;
+    pages.put(alloc, &commit(alloc)?, 40, Lsn(0x10_0028))?;
     Ok(pages)
 }
 
 // A record of 8,144 bytes, and behind it two commits, of which the first goes on in the second page.
 fn crossing_commit(alloc: Global) -> Result<TwoPages, Fail> {
-    let mut pages = no_records();
-    put(&mut pages, &heap_insert(alloc, 8115)?, 0, Lsn(0));
-    put(&mut pages, &commit(alloc)?, 8144, Lsn(0x10_0028));
-    put(&mut pages, &commit(alloc)?, 8184, Lsn(0x10_1ff8));
+    let mut pages = TwoPages::zeros();
+    pages.put(alloc, &heap_record(alloc, 8115)?, 0, Lsn(0))?;
+    pages.put(alloc, &commit(alloc)?, 8144, Lsn(0x10_0028))?;
+    pages.put(alloc, &commit(alloc)?, 8184, Lsn(0x10_1ff8))?;
     Ok(pages)
-}
-
-fn disk_with(alloc: Global, pages: &TwoPages) -> Result<MemDisk, Fail> {
-    let mut disk = MemDisk::new(alloc, 1, 10, Vec::new(alloc), Vec::new(alloc))?;
-    disk.create(smallest(), 1)?;
-    disk.write_page(smallest(), 1, 0, &pages.first)?;
-    disk.write_page(smallest(), 1, 1, &pages.second)?;
-    Ok(disk)
 }
 
 fn record_of(step: Result<Step, ReadErr>) -> Result<FoundRecord, Fail> {
@@ -124,7 +43,7 @@ fn end_of(step: Result<Step, ReadErr>) -> Option<Lsn> {
 #[test]
 fn commits_are_read_and_then_the_log_ends(rt: HostRuntime) -> Result<(), Fail> {
     let alloc = rt.alloc();
-    let mut disk = disk_with(alloc, &two_commits(alloc)?)?;
+    let mut disk = disk_of(alloc, &two_commits(alloc)?, Vec::new(alloc))?;
     let mut reader = Reader::new(smallest(), START, None);
 
     let first = record_of(reader.next(alloc, &mut disk))?;
@@ -148,7 +67,7 @@ fn commits_are_read_and_then_the_log_ends(rt: HostRuntime) -> Result<(), Fail> {
 #[test]
 fn records_before_the_start_and_from_the_end_on_are_not_given(rt: HostRuntime) -> Result<(), Fail> {
     let alloc = rt.alloc();
-    let mut disk = disk_with(alloc, &two_commits(alloc)?)?;
+    let mut disk = disk_of(alloc, &two_commits(alloc)?, Vec::new(alloc))?;
 
     let mut late = Reader::new(smallest(), Lsn(0x10_0029), None);
     let second = record_of(late.next(alloc, &mut disk))?;
@@ -164,7 +83,7 @@ fn records_before_the_start_and_from_the_end_on_are_not_given(rt: HostRuntime) -
 #[test]
 fn a_record_goes_on_in_the_next_page(rt: HostRuntime) -> Result<(), Fail> {
     let alloc = rt.alloc();
-    let mut disk = disk_with(alloc, &crossing_commit(alloc)?)?;
+    let mut disk = disk_of(alloc, &crossing_commit(alloc)?, Vec::new(alloc))?;
     let mut reader = Reader::new(smallest(), START, None);
 
     let large = record_of(reader.next(alloc, &mut disk))?;
@@ -183,7 +102,7 @@ fn a_record_goes_on_in_the_next_page(rt: HostRuntime) -> Result<(), Fail> {
 #[test]
 fn reading_begins_behind_what_is_continued(rt: HostRuntime) -> Result<(), Fail> {
     let alloc = rt.alloc();
-    let mut disk = disk_with(alloc, &crossing_commit(alloc)?)?;
+    let mut disk = disk_of(alloc, &crossing_commit(alloc)?, Vec::new(alloc))?;
     let mut reader = Reader::new(smallest(), Lsn(0x10_2000), None);
 
     let last = record_of(reader.next(alloc, &mut disk))?;
@@ -198,7 +117,7 @@ fn damage_is_told_again(rt: HostRuntime) -> Result<(), Fail> {
     let alloc = rt.alloc();
     let mut pages = two_commits(alloc)?;
     pages.first[70] = 1;
-    let mut disk = disk_with(alloc, &pages)?;
+    let mut disk = disk_of(alloc, &pages, Vec::new(alloc))?;
     let mut reader = Reader::new(smallest(), START, None);
     for _ in 0..2 {
         let damaged = ReadErr::Damaged {
@@ -214,10 +133,10 @@ fn damage_is_told_again(rt: HostRuntime) -> Result<(), Fail> {
 #[test]
 fn a_page_of_zeros_behind_a_record_that_goes_on_is_damage(rt: HostRuntime) -> Result<(), Fail> {
     let alloc = rt.alloc();
-    let mut pages = no_records();
-    put(&mut pages, &heap_insert(alloc, 8124)?, 0, Lsn(0));
+    let mut pages = TwoPages::zeros();
+    pages.put(alloc, &heap_record(alloc, 8124)?, 0, Lsn(0))?;
     pages.second = [0; 8192];
-    let mut disk = disk_with(alloc, &pages)?;
+    let mut disk = disk_of(alloc, &pages, Vec::new(alloc))?;
     let damaged = ReadErr::Damaged {
         at: Lsn(0x10_2000),
         kind: DamageKind::Page(PageErr::Magic),

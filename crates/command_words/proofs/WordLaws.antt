@@ -2,7 +2,7 @@
 use Rattle.std.proofs.Common.{◌≡◌, ℕ, ◌+◌, ◌<◌, ◌≤◌, true, false, List, [], ◌∷◌, length, map, drop, get_or, None, codes, option_and_then, if◌then◌else◌, bytes_eq, String, string_bytes, refl, ap, sym, ◌∙◌, arith}
 use Rattle.std.specs.declared.alloc.Global.{Global}
 use Rattle.std.proofs.lemmas.List.{drop_more}
-use Rattle.backend_cli.specs.Words.{asks, options_from, no_options, run_with, dump_with}
+use Rattle.command_words.specs.Words.{asks, options_from, no_options, run_with, dump_with}
 
 -- the bytes of the words from a place on
 pub next_word : (words : List (String Global)) (i : ℕ) (word : String Global) → i < length words → word ≡ get_or words i word → map (λ w. string_bytes w) (drop i words) ≡ string_bytes word ∷ map (λ w. string_bytes w) (drop (i + 1) words)

@@ -1,42 +1,20 @@
-ghost use Rattle.std.specs.Prelude.{◌≡◌, ◌%◌, IfOk, IsTrue, [], not};
+//! Listing a log.
+
+ghost use Rattle.std.specs.Prelude.{IfOk, IsTrue, not};
 ghost use Rattle.record_spelling.specs.Record.{is_free_manager};
 ghost use Rattle.waldump_text.specs.Listing.{IsListable};
 
-use crate::dumping::{DumpErr, dump};
-use crate::lines::line;
-use crate::listed::Listed;
-use crate::putting::SinkFault;
-use byte_position::Geometry;
-use record_spelling::Body;
-use segment_disk::{Disk, MemDisk, MemSink};
+use crate::pages::{TwoPages, block, commit, disk_of, record, smallest};
+use segment_disk::{MemDisk, MemSink};
 use std::alloc::{AllocError, Global};
 use std::process::Abort;
 use std::test::Fail;
-use wal_page::Placed;
 use wal_reader::{Answer, DamageKind};
-use wal_types::{Block, BlockList, Bytes, Image, Lsn, Record, Rel, Xid};
+use wal_types::{Block, BlockList, Bytes, Image, Lsn, Record, Xid};
+use waldump_text::{DumpErr, Listed, SinkFault, dump, line};
 
 const COMMIT_LINE: &[u8; 133] =
     b"rmgr: Transaction len (rec/tot):     34/    34, tx:        700, lsn: 0/00100028, prev 0/00000000, desc: COMMIT data 0000000000000000\n";
-
-// The byte position of segment 1's first record.
-const FIRST: u64 = 128 * 8168 - 16;
-
-// A record of transaction 700.
-fn record(alloc: Global, rmid: u8, info: u8, main: &[u8]) -> Result<Record, AllocError>
-    ensures manager { IfOk result (λ r. r.rmid ≡ rmid) }
-    ensures no_blocks { IfOk result (λ r. r.blocks ≡ []) }
-{
-    Ok(Record {
-        xid: Xid(700),
-        rmid,
-        info,
-        origin: None,
-        top_xid: None,
-        blocks: BlockList::of(Vec::new(alloc)),
-        main: Bytes::of(main.to_vec(alloc)?),
-    })
-}
 
 // As the first of its log.
 fn listed(alloc: Global, rmid: u8, info: u8, main: &[u8]) -> Result<Listed, AllocError>
@@ -47,7 +25,7 @@ fn listed(alloc: Global, rmid: u8, info: u8, main: &[u8]) -> Result<Listed, Allo
         start: Lsn(0x10_0028),
         prev: Lsn(0),
         total: 34,
-        value: record(alloc, rmid, info, main)?,
+        value: record(alloc, rmid, info, main.to_vec(alloc)?),
     })
 }
 
@@ -95,78 +73,13 @@ fn a_full_sink_has_a_front_of_the_line(rt: HostRuntime) -> Result<(), Fail> {
     Ok(())
 }
 
-fn smallest() -> Geometry
-    ensures { result ≡ 1048576 }
-{
-    match Geometry::new(1 << 20) {
-        Some(geometry) => geometry,
-        None => unreachable!(),
-    }
-}
-
-// The first two pages of segment 1.
-#[derive(Drop)]
-struct TwoPages {
-    first: [u8; 8192],
-    second: [u8; 8192],
-}
-
-fn no_records() -> TwoPages {
-    TwoPages {
-        first: [0; 8192],
-        second: [0; 8192],
-    }
-}
-
-// Puts a record behind those that take up so many bytes.
-fn put_record(
-    pages: &mut TwoPages,
-    alloc: Global,
-    r: &Record,
-    passed: u32,
-    prev: Lsn,
-) -> Result<(), Fail>
-    requires { passed % 8 ≡ 0 }
-{
-    let body = Body::assemble(alloc, r)?;
-    let _room = body.room();
-    let start = FIRST + u64::from(passed);
-    let mut words = Placed::new(smallest(), 1, &body, start, prev);
-    for _word in 0..2048 {
-        if let Some((lsn, word)) = words.next_word() {
-            if lsn.0 / 8192 == 128 {
-                put_word(&mut pages.first, lsn, word);
-            } else {
-                put_word(&mut pages.second, lsn, word);
-            }
-        }
-    }
-    Ok(())
-}
-
-fn put_word(page: &mut [u8; 8192], lsn: Lsn, word: u64) {
-    let at = (lsn.0 % 8192) as usize;
-    if at <= 8184 {
-        page[at..at + 8].copy_from_slice(&word.to_le_bytes());
-    }
-}
-
 // A commit and a record of a custom manager.
 fn two_records(alloc: Global) -> Result<TwoPages, Fail> {
-    let mut pages = no_records();
-    put_record(&mut pages, alloc, &record(alloc, 1, 0, &[0; 8])?, 0, Lsn(0))?;
-    let custom = record(alloc, 128, 0x80, &[])?;
-    put_record(&mut pages, alloc, &custom, 40, Lsn(0x10_0028))?;
+    let mut pages = TwoPages::zeros();
+    pages.put(alloc, &commit(alloc)?, 0, Lsn(0))?;
+    let custom = record(alloc, 128, 0x80, Vec::new(alloc));
+    pages.put(alloc, &custom, 40, Lsn(0x10_0028))?;
     Ok(pages)
-}
-
-// A disk with these pages, on which such reads fail.
-fn disk_of(alloc: Global, pages: &TwoPages, failing: Vec<u64>) -> Result<MemDisk, Fail> {
-    let mut disk = MemDisk::new(alloc, 1, 3, Vec::new(alloc), failing)?;
-    disk.create(smallest(), 1)?;
-    disk.write_page(smallest(), 1, 0, &pages.first)?;
-    disk.write_page(smallest(), 1, 1, &pages.second)?;
-    Ok(disk)
 }
 
 #[test]
@@ -209,23 +122,6 @@ fn a_listing_stops_at_a_damaged_record(rt: HostRuntime) -> Result<(), Fail> {
     Ok(())
 }
 
-// A block of relation 1663/5/16384 in its main fork.
-fn block(alloc: Global, id: u8, blk: u32, content: &[u8]) -> Result<Block, AllocError> {
-    Ok(Block {
-        id,
-        rel: Rel {
-            spc: 1663,
-            db: 5,
-            rel: 16384,
-        },
-        fork: 0,
-        blk,
-        will_init: false,
-        content: Bytes::of(content.to_vec(alloc)?),
-        image: None,
-    })
-}
-
 fn heap_insert(alloc: Global, xid: u32, blocks: Vec<Block>) -> Record {
     Record {
         xid: Xid(xid),
@@ -240,8 +136,8 @@ fn heap_insert(alloc: Global, xid: u32, blocks: Vec<Block>) -> Record {
 
 // What is listed of a log with one record.
 fn dumped(rt: &impl Abort, alloc: Global, r: &Record, out: &mut MemSink) -> Result<(), Fail> {
-    let mut pages = no_records();
-    put_record(&mut pages, alloc, r, 0, Lsn(0))?;
+    let mut pages = TwoPages::zeros();
+    pages.put(alloc, r, 0, Lsn(0))?;
     let mut disk = disk_of(alloc, &pages, Vec::new(alloc))?;
     assert_eq!(rt; dump(alloc, &mut disk, smallest(), out), Ok(()));
     Ok(())

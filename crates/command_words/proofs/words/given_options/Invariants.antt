@@ -1,6 +1,6 @@
 use Rattle.std.proofs.Common.{◌≡◌, map, string_bytes, drop}
-use Rattle.backend_cli.specs.Words.{options_from, no_options}
-use Rattle.backend_cli.proofs.words.given_options.Given as goal
+use Rattle.command_words.specs.Words.{options_from, no_options}
+use Rattle.command_words.proofs.words.given_options.Given as goal
 
 -- what the words that are left make of the options so far is what all words make of none
 abbrev pub invariant-loop-word : goal.invariant-loop-word

@@ -1,5 +1,5 @@
 ghost use Rattle.std.specs.Prelude.{◌≡◌};
-ghost use Rattle.wal_script.specs.Numbers.{number_of, time_of};
+ghost use Rattle.decimal_numbers.specs.Numbers.{number_of, time_of};
 
 // As many digits as the largest number of 64 bits has.
 const MOST_DIGITS: usize = 20;
@@ -21,7 +21,8 @@ pub fn number(field: &[u8], most: u64) -> Option<u64>
     (value <= most).then_some(value)
 }
 
-/// A field as a time in microseconds, in the 64 bits of a signed number: as `number`, with `-` in front where it is below 0.
+/// A field as a time in microseconds, in the 64 bits of a signed number: as `number`, with `-` in front
+/// where it is below 0.
 pub fn time(field: &[u8]) -> Option<u64>
     ensures { result ≡ time_of field.now }
 {

@@ -1,9 +1,9 @@
 ghost use Rattle.std.specs.Prelude.{◌<◌, length};
 
-use super::*;
 use std::alloc::Global;
 use std::process::Abort;
 use std::test::Fail;
+use wal_script::{Action, Line, ParseError, Refusal, ScriptFault, parse};
 use wal_types::{Record, Rel, Xid};
 
 // Tries that each script is refused at one line, for one fault.
@@ -328,13 +328,4 @@ fn an_image_need_not_be_applied(rt: HostRuntime) -> Result<(), Fail> {
     assert_eq!(rt; (image.hole_offset, image.hole_len), (0, 0));
     assert_eq!(rt; image.bytes.as_slice().len(), 8192);
     Ok(())
-}
-
-#[test]
-fn a_time_may_be_negative(rt: HostRuntime) {
-    assert_eq!(rt; time(b"9223372036854775807"), Some(i64::MAX as u64));
-    assert_eq!(rt; time(b"-1"), Some(u64::MAX));
-    assert_eq!(rt; time(b"-9223372036854775808"), Some(1 << 63));
-    assert_eq!(rt; time(b""), None);
-    assert_eq!(rt; time(b"-"), None);
 }
