@@ -12,8 +12,8 @@ store_calls size segment page is_new is_full bytes =
     ++ write_call size segment page bytes ∷ []
     ++ (if is_full then sync_call size segment ∷ [] else [])
 
--- the calls that put a page: its segment is new where none of it is written yet, and full where then
--- all of it is
+-- the calls that put a page: its segment is new where none of it is written yet, and full where
+-- then all of it is
 abbrev pub put_calls : ℕ → ℕ → ℕ → ℕ → List ℕ → List Call
 put_calls size written page upto bytes =
     store_calls size (page / pages_of size) (page % pages_of size)
@@ -31,7 +31,8 @@ with_calls tape [] = tape
 with_calls tape (call ∷ calls) = with_calls (with_call tape call) calls
 
 -- all of these calls were made, and nothing else
-pub record AreMade (old new : Option Tape) (old_moment new_moment : ℕ) (calls : List Call) : Type 0 where
+pub record AreMade (old new : Option Tape) (old_moment new_moment : ℕ) (calls : List Call)
+    : Type 0 where
   pub tape : new ≡ with_calls old calls
   pub moment : new_moment ≡ old_moment + length calls
 

@@ -50,8 +50,8 @@ when_done call = cut_short call.kind
     cut_short (Write page bytes) = Some (record call { done = true })
     cut_short Sync = None
 
--- what a crash at a moment leaves: what the state then may leave, or what it may leave with the next
--- call done, which the crash cut short
+-- what a crash at a moment leaves: what the state then may leave, or what it may leave with the
+-- next call done, which the crash cut short
 abbrev pub LeftAt : Tape → ℕ → DiskImage → Type 0
 LeftAt tape moment image =
     MayLeave (state_at tape moment) image

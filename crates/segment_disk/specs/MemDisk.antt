@@ -4,8 +4,8 @@ use Rattle.segment_disk.specs.Failing.{Failing, is_listed}
 use Rattle.segment_disk.specs.Tape.{DiskState, Tape, IsUncalled, empty_state, after_calls}
 use Rattle.segment_disk.specs.declared.memory.disk.MemDisk.{MemDisk}
 
--- how many segments and counted calls a disk has room for, and the counted calls that fail, by their
--- numbers from 1
+-- how many segments and counted calls a disk has room for, and the counted calls that fail, by
+-- their numbers from 1
 pub record Limits : Type 0 where
   pub segments : ℕ
   pub calls : ℕ
@@ -65,8 +65,8 @@ abbrev pub count_behind_create : MemDisk → ℕ → Bool → ℕ
 count_behind_create disk segment done =
     if done && not (has_segment disk segment) then segment_count disk + 1 else segment_count disk
 
--- a call within the disk's room is counted, one beyond it is not made; neither changes what the disk
--- was told to fail at
+-- a call within the disk's room is counted, one beyond it is not made; neither changes what the
+-- disk was told to fail at
 pub record IsCounted (old new : MemDisk) : Type 0 where
   pub within : IsTrue (counts_next old) → moment_of new ≡ moment_of old + 1
   pub beyond : counts_next old ≡ false → IsUncalled tape_of moment_of old new

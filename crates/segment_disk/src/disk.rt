@@ -14,8 +14,8 @@ pub struct PageBytes {
 /// Which call of a disk it was.
 #[derive(Debug, Drop)]
 pub enum CallKind {
-    /// A segment of zeros. `made` says whether it was left so: it was where the call answered Ok, and
-    /// may be where it failed.
+    /// A segment of zeros. `made` says whether it was left so: it was where the call answered Ok,
+    /// and may be where it failed.
     Create { made: bool },
     /// A page, by its number in its segment.
     Write { page: u32, bytes: PageBytes },
@@ -31,17 +31,18 @@ pub struct Call {
     pub done: bool,
 }
 
-/// A disk of segment files. It counts the calls of `create`, `write_page` and `sync`, failed ones too:
-/// their number is the moment. A call of these may also fail without being made; then it is not
-/// counted, and only the count of faults changes.
+/// A disk of segment files. It counts the calls of `create`, `write_page` and `sync`, failed ones
+/// too: their number is the moment. A call of these may also fail without being made; then it is
+/// not counted, and only the count of faults changes.
 ///
 /// The protocol of whoever writes a log (PostgreSQL's `XLogFileInit` and `XLogWrite` of xlog.c): a
-/// segment is made before its first page is written, and synced behind its last one, before the next
-/// is made. A crash behind a create that was done leaves the segment, of zeros; behind a write it leaves
-/// of each word of the page what was durable or what was written since the last sync; behind a sync
-/// that was done just what was written. A call that a crash cut short, or that failed, may have had
-/// its effect or not. So after a fault nothing more is called: what the disk holds is no longer known,
-/// and a sync that answers Ok behind one that failed does not say that the writes before are durable.
+/// segment is made before its first page is written, and synced behind its last one, before the
+/// next is made. A crash behind a create that was done leaves the segment, of zeros; behind a write
+/// it leaves of each word of the page what was durable or what was written since the last sync;
+/// behind a sync that was done just what was written. A call that a crash cut short, or that
+/// failed, may have had its effect or not. So after a fault nothing more is called: what the disk
+/// holds is no longer known, and a sync that answers Ok behind one that failed does not say that
+/// the writes before are durable.
 ///
 /// The caller keeps a segment below 2^64 / its size and a page below the segment's pages.
 pub trait Disk {
@@ -59,7 +60,8 @@ pub trait Disk {
     /// Makes a segment of zeros, which is durable at Ok.
     fn create(&mut self, geometry: Geometry, segment: u64) -> Result<(), Failed>
         requires { segment < 2 ^ 64 / geometry }
-        ensures answers { Answers tape moment self.old self.new (create_call geometry segment) result }
+        ensures answers { Answers tape moment self.old self.new
+            (create_call geometry segment) result }
         ensures cause { HasCause (faults self.old) (faults self.new) result };
 
     /// Writes a page in place. It is durable only after a sync of the segment.
@@ -79,11 +81,12 @@ pub trait Disk {
     /// Makes the last writes of a segment durable.
     fn sync(&mut self, geometry: Geometry, segment: u64) -> Result<(), Failed>
         requires { segment < 2 ^ 64 / geometry }
-        ensures answers { Answers tape moment self.old self.new (sync_call geometry segment) result }
+        ensures answers { Answers tape moment self.old self.new
+            (sync_call geometry segment) result }
         ensures cause { HasCause (faults self.old) (faults self.new) result };
 
-    /// Reads a page as of its last write, and answers false exactly where the segment has no whole such
-    /// page. Reads are not counted.
+    /// Reads a page as of its last write, and answers false exactly where the segment has no whole
+    /// such page. Reads are not counted.
     fn read_page(
         &mut self,
         geometry: Geometry,

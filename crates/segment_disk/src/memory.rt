@@ -8,8 +8,6 @@ mod schedule;
 mod segments;
 mod sink;
 mod source;
-#[cfg(test)]
-mod tests;
 
 ghost use Rattle.std.specs.Prelude.{◌≡◌};
 

@@ -27,8 +27,8 @@ pub struct MemDisk {
 impl MemDisk {
     ghost use Rattle.segment_disk.specs.MemDisk.{failing_reads, limits_of, segment_count};
 
-    /// A disk with room for this many segments and counted calls, with nothing on it. `fail` lists the
-    /// counted calls that fail, and `fail_reads` the reads, each by its number from 1.
+    /// A disk with room for this many segments and counted calls, with nothing on it. `fail` lists
+    /// the counted calls that fail, and `fail_reads` the reads, each by its number from 1.
     pub fn new(
         alloc: Global,
         segments: u32,

@@ -20,8 +20,8 @@ pub struct MemSource {
 impl MemSource {
     ghost use Rattle.segment_disk.specs.MemStream.{source_failing};
 
-    /// A source of these bytes. It fails at the calls that are listed by their numbers, from 1, and at
-    /// these alone.
+    /// A source of these bytes. It fails at the calls that are listed by their numbers, from 1, and
+    /// at these alone.
     pub fn new(bytes: Vec<u8>, fail: Vec<u64>) -> MemSource
         ensures left { ⟦<MemSource as Source>⟧.left result ≡ Some bytes.items }
         ensures handed { ⟦<MemSource as Source>⟧.handed result ≡ [] }

@@ -1,10 +1,8 @@
 //! The calls of the traits as the tests make them: through the bound alone, at segments of 1 MiB.
 ghost use Rattle.std.specs.Prelude.{◌≡◌, ◌<◌};
 
-use crate::disk::Disk;
-use crate::failed::Failed;
-use crate::stream::{Sink, Source};
 use byte_position::Geometry;
+use segment_disk::{Disk, Failed, Sink, Source};
 
 pub fn read_piece(source: &mut impl Source, into: &mut [u8]) -> Result<usize, Failed> {
     source.read(into)
