@@ -1,6 +1,6 @@
 use Rattle.wal_page.proofs.LogByteLaws.{log_byte_push}
 use Rattle.wal_page.proofs.LogWordLaws.{log_word_push}
-use Rattle.wal_page.proofs.laws.law_of_log_that_grows.Goals as goal
+use Rattle.wal_page.proofs.laws.further_entries_change_only_their_own.Goals as goal
 
 pub returns : goal.returns
 returns c = record {

@@ -1,5 +1,5 @@
 use Rattle.wal_page.proofs.OwnerLaws.{owner_at-entry_iff, Owns_iff, owner_at-some_iff}
-use Rattle.wal_page.proofs.laws.law_of_owners.Goals as goal
+use Rattle.wal_page.proofs.laws.entries_own_stretches.Goals as goal
 
 pub returns : goal.returns
 returns c = record {

@@ -1,5 +1,5 @@
 use Rattle.wal_page.proofs.LogWordLaws.{log_word-entry, entry_word-header_word, log_word-unowned, log_word-behind}
-use Rattle.wal_page.proofs.laws.law_of_log_words.Goals as goal
+use Rattle.wal_page.proofs.laws.words_are_their_owners.Goals as goal
 
 pub returns : goal.returns
 returns c = record {

@@ -1,6 +1,6 @@
 use Rattle.wal_page.proofs.OrderLaws.{rooms_of_push, prev_of_push, IsChained_push}
 use Rattle.wal_page.proofs.StreamLaws.{stream_of_push}
-use Rattle.wal_page.proofs.laws.law_of_entry_that_follows.Goals as goal
+use Rattle.wal_page.proofs.laws.orders_grow_entry_by_entry.Goals as goal
 
 pub returns : goal.returns
 returns c = record {

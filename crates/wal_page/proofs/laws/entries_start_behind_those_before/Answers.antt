@@ -1,5 +1,5 @@
 use Rattle.wal_page.proofs.OrderLaws.{FollowsFrom-start, FollowsFrom-rises}
-use Rattle.wal_page.proofs.laws.law_of_starts.Goals as goal
+use Rattle.wal_page.proofs.laws.entries_start_behind_those_before.Goals as goal
 
 pub returns : goal.returns
 returns c = record {

@@ -1,6 +1,6 @@
 use Rattle.wal_page.proofs.LogByteLaws.{log_byte-fits}
 use Rattle.wal_page.proofs.LogWordLaws.{log_word_byte, IsLogPage-from_words, IsLogPage-from_numbers}
-use Rattle.wal_page.proofs.laws.law_of_log_bytes.Goals as goal
+use Rattle.wal_page.proofs.laws.words_and_pages_are_their_bytes.Goals as goal
 
 pub returns : goal.returns
 returns c = record {
