@@ -3,6 +3,6 @@ pub mod Words
 pub mod RightBlocks
 pub mod BlockSteps
 pub mod Acceptance
-pub mod CarriedBytes
+pub mod AfterHeader
 pub mod CrcBounds
 pub mod SpellingLaws
