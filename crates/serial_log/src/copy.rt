@@ -27,9 +27,5 @@ pub(crate) fn copy_words(placed: &mut Placed, words: &mut [u64])
     ensures placed { placed.new ≡ record placed.old { next = placed.old.next + 8 * length words.old } }
     ensures words { (k : ℕ) → k < length words.old → slice_index words.new k ≡ entry_word placed.old.size placed.old.sysid placed.old.body placed.old.start placed.old.prev (placed.old.next + 8 * k) }
 {
-    for word in words.iter_mut() {
-        if let Some((_, next)) = placed.next_word() {
-            *word = next;
-        }
-    }
+    placed.put_words(words);
 }

@@ -9,7 +9,8 @@ mod placed;
 
 pub use checks::{PageErr, PageInfo, check_page};
 pub use laws::{
-    orders_grow_entry_by_entry, records_take_up_their_rooms, words_and_pages_are_their_bytes, further_entries_change_only_their_own,
-    words_are_their_owners, entries_own_stretches, entries_start_behind_those_before,
+    entries_own_stretches, entries_start_behind_those_before,
+    further_entries_change_only_their_own, orders_grow_entry_by_entry, records_take_up_their_rooms,
+    words_and_pages_are_their_bytes, words_are_their_owners,
 };
 pub use placed::{Placed, header_word};

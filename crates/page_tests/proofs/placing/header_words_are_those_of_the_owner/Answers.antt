@@ -3,7 +3,7 @@ use Rattle.byte_position.specs.Geometry.{IsSegmentSize}
 use Rattle.byte_position.specs.Position.{position_of}
 use Rattle.byte_position.proofs.PageLaws.{position_of-first_page}
 use Rattle.byte_position.proofs.Segments.{first_position-usable}
-use Rattle.wal_page.proofs.placed.tests.header_words_are_those_of_the_owner.Goals as goal
+use Rattle.page_tests.proofs.placing.header_words_are_those_of_the_owner.Goals as goal
 
 valid : IsSegmentSize 1048576
 valid = refl
