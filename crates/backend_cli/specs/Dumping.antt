@@ -14,14 +14,20 @@ use Rattle.backend_cli.specs.declared.told.Told.{Told}
 use Rattle.segment_disk.specs.Cause.{Rose, RoseByOne}
 use Rattle.backend_cli.specs.Outside.{Outside}
 
--- what a listing printed, by how it may end: the lines of the records that the disk's log decodes to,
--- or a front of them
+-- what a listing printed, by how it may end: the lines of the records that the disk's log decodes
+-- to, or a front of them
 pub data Listed (size : ℕ) (outside : Outside) : Outcome → Tape → Type 0 where
-  all : {t : Tape} (at : Lsn) → PutsListing size t outside.taken_before outside.taken_after (answers.End at) → Listed size outside Done t
-  all_before : {t : Tape} {stop : LogStop} → PutsListing size t outside.taken_before outside.taken_after (answers.Stopped stop) → Listed size outside (Stopped stop) t
-  front_for_memory : {t : Tape} → PutsListingFront size t outside.taken_before outside.taken_after → Listed size outside OutOfMemory t
-  front_for_disk : {t : Tape} → PutsListingFront size t outside.taken_before outside.taken_after → Listed size outside DiskFault t
-  front_for_sink : {t : Tape} → PutsListingFront size t outside.taken_before outside.taken_after → Listed size outside SinkFault t
+  all : {t : Tape} (at : Lsn) → PutsListing size t outside.taken_before outside.taken_after
+      (answers.End at) → Listed size outside Done t
+  all_before : {t : Tape} {stop : LogStop}
+      → PutsListing size t outside.taken_before outside.taken_after (answers.Stopped stop)
+      → Listed size outside (Stopped stop) t
+  front_for_memory : {t : Tape} → PutsListingFront size t outside.taken_before outside.taken_after
+      → Listed size outside OutOfMemory t
+  front_for_disk : {t : Tape} → PutsListingFront size t outside.taken_before outside.taken_after
+      → Listed size outside DiskFault t
+  front_for_sink : {t : Tape} → PutsListingFront size t outside.taken_before outside.taken_after
+      → Listed size outside SinkFault t
 
 -- neither the disk nor the sink counted a fault
 pub record NoFaults (outside : Outside) : Type 0 where
@@ -33,8 +39,10 @@ pub data ListingEnds (outside : Outside) : Outcome → Type 0 where
   ended : NoFaults outside → ListingEnds outside Done
   stopped : {stop : LogStop} → NoFaults outside → ListingEnds outside (Stopped stop)
   without_memory : NoFaults outside → ListingEnds outside OutOfMemory
-  by_disk : Rose outside.disk_before outside.disk_after → outside.sink_after ≡ outside.sink_before → ListingEnds outside DiskFault
-  by_sink : outside.disk_after ≡ outside.disk_before → RoseByOne outside.sink_before outside.sink_after → ListingEnds outside SinkFault
+  by_disk : Rose outside.disk_before outside.disk_after → outside.sink_after ≡ outside.sink_before
+      → ListingEnds outside DiskFault
+  by_sink : outside.disk_after ≡ outside.disk_before
+      → RoseByOne outside.sink_before outside.sink_after → ListingEnds outside SinkFault
 
 -- how a listing ends, by what it answers
 abbrev pub outcome_of : Result (Unit {0}) DumpErr → Outcome
@@ -45,7 +53,8 @@ outcome_of (Err (Read (reading.Stopped stop))) = Stopped stop
 outcome_of (Err (Sink fault)) = SinkFault
 
 -- a listing: what it printed, no counted call of the disk, the script not read, and nothing told
-pub record DumpHolds (outside : Outside) (size : ℕ) (outcome : Outcome) (lists : List (List Told)) : Type 0 where
+pub record DumpHolds (outside : Outside) (size : ℕ) (outcome : Outcome)
+    (lists : List (List Told)) : Type 0 where
   pub listed : IfSome outside.tape_before (Listed size outside outcome)
   pub ends : ListingEnds outside outcome
   pub tape : outside.tape_after ≡ outside.tape_before

@@ -24,16 +24,21 @@ status_of NotEmpty = 9
 
 -- where the log stops, and why
 abbrev pub stop_text : LogStop → List (List ℕ)
-stop_text (stops.Damaged at kind) = codes "pgwal: damaged at " ∷ lsn_text at.0 ∷ codes ": " ∷ damage_name kind ∷ codes "\n" ∷ []
-stop_text (stops.Compressed at) = codes "pgwal: damaged at " ∷ lsn_text at.0 ∷ codes ": compressed\n" ∷ []
-stop_text (stops.Overwritten at) = codes "pgwal: damaged at " ∷ lsn_text at.0 ∷ codes ": overwritten\n" ∷ []
+stop_text (stops.Damaged at kind) =
+    codes "pgwal: damaged at " ∷ lsn_text at.0 ∷ codes ": " ∷ damage_name kind ∷ codes "\n" ∷ []
+stop_text (stops.Compressed at) =
+    codes "pgwal: damaged at " ∷ lsn_text at.0 ∷ codes ": compressed\n" ∷ []
+stop_text (stops.Overwritten at) =
+    codes "pgwal: damaged at " ∷ lsn_text at.0 ∷ codes ": overwritten\n" ∷ []
 
 -- what is told on standard error: nothing where all is done
 abbrev pub outcome_text : Outcome → List (List ℕ)
 outcome_text Done = []
 outcome_text OutOfMemory = codes "pgwal: out of memory\n" ∷ []
 outcome_text Usage = codes "pgwal: usage\n" ∷ []
-outcome_text (ScriptRefused refusal) = codes "pgwal: script line " ∷ decimal refusal.line ∷ codes ": " ∷ fault_name refusal.fault ∷ codes "\n" ∷ []
+outcome_text (ScriptRefused refusal) =
+    codes "pgwal: script line " ∷ decimal refusal.line ∷ codes ": " ∷ fault_name refusal.fault
+    ∷ codes "\n" ∷ []
 outcome_text DiskFault = codes "pgwal: disk fault\n" ∷ []
 outcome_text LogFull = codes "pgwal: log full\n" ∷ []
 outcome_text (Stopped stop) = stop_text stop

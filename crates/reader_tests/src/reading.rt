@@ -17,7 +17,8 @@ fn two_commits(alloc: Global) -> Result<TwoPages, Fail> {
     Ok(pages)
 }
 
-// A record of 8,144 bytes, and behind it two commits, of which the first goes on in the second page.
+// A record of 8,144 bytes, and behind it two commits, of which the first goes on in the second
+// page.
 fn crossing_commit(alloc: Global) -> Result<TwoPages, Fail> {
     let mut pages = TwoPages::zeros();
     pages.put(alloc, &heap_record(alloc, 8115)?, 0, Lsn(0))?;

@@ -5,7 +5,8 @@ use thiserror::Error;
 use wal_page::PageErr;
 use wal_types::{Lsn, Record};
 
-/// A record that was read, as definitions of what a log decodes to list it; a step gives its fields.
+/// A record that was read, as definitions of what a log decodes to list it; a step gives its
+/// fields.
 #[derive(Debug, Drop)]
 pub struct FoundRecord {
     pub start: Lsn,

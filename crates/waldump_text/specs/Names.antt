@@ -9,11 +9,11 @@ use Rattle.waldump_text.specs.declared.names.RecordWord.TheVariants.{Known, Unkn
 abbrev pub manager_names : List (List ℕ)
 manager_names =
     codes "XLOG" ∷ codes "Transaction" ∷ codes "Storage" ∷ codes "CLOG" ∷ codes "Database"
-        ∷ codes "Tablespace" ∷ codes "MultiXact" ∷ codes "RelMap" ∷ codes "Standby" ∷ codes "Heap2"
-        ∷ codes "Heap"
+    ∷ codes "Tablespace" ∷ codes "MultiXact" ∷ codes "RelMap" ∷ codes "Standby" ∷ codes "Heap2"
+    ∷ codes "Heap"
     ∷ codes "Btree" ∷ codes "Hash" ∷ codes "Gin" ∷ codes "Gist" ∷ codes "Sequence" ∷ codes "SPGist"
-        ∷ codes "BRIN" ∷ codes "CommitTs" ∷ codes "ReplicationOrigin" ∷ codes "Generic"
-        ∷ codes "LogicalMessage" ∷ []
+    ∷ codes "BRIN" ∷ codes "CommitTs" ∷ codes "ReplicationOrigin" ∷ codes "Generic"
+    ∷ codes "LogicalMessage" ∷ []
 
 -- a number below 1000 in three digits
 abbrev pub three_digits : ℕ → List ℕ
@@ -38,22 +38,23 @@ hexadecimal (b ∷ bs) = lower_digit (b / 16 % 16) ∷ lower_digit (b % 16) ∷ 
 -- leading zero
 abbrev pub unknown_word : ℕ → List ℕ
 unknown_word info =
-    let digits = if info / 16 % 16 == 0 then codes "0" else lower_digit (info / 16 % 16) ∷ 48 ∷ [] in
+    let digit = info / 16 % 16 in
+    let digits = if digit == 0 then codes "0" else lower_digit digit ∷ 48 ∷ [] in
     codes "UNKNOWN (" ++ digits ++ codes ")"
 
 -- the records of a manager, by the upper four bits of their info; some have no word
 abbrev pub xlog_words : List (List ℕ)
 xlog_words =
     codes "CHECKPOINT_SHUTDOWN" ∷ codes "CHECKPOINT_ONLINE" ∷ codes "NOOP" ∷ codes "NEXTOID"
-        ∷ codes "SWITCH" ∷ codes "BACKUP_END" ∷ codes "PARAMETER_CHANGE" ∷ codes "RESTORE_POINT"
-        ∷ codes "FPW_CHANGE" ∷ codes "END_OF_RECOVERY"
+    ∷ codes "SWITCH" ∷ codes "BACKUP_END" ∷ codes "PARAMETER_CHANGE" ∷ codes "RESTORE_POINT"
+    ∷ codes "FPW_CHANGE" ∷ codes "END_OF_RECOVERY"
     ∷ codes "FPI_FOR_HINT" ∷ codes "FPI" ∷ codes "" ∷ codes "OVERWRITE_CONTRECORD" ∷ []
 
 abbrev pub heap_words : List (List ℕ)
 heap_words =
     codes "INSERT" ∷ codes "DELETE" ∷ codes "UPDATE" ∷ codes "TRUNCATE" ∷ codes "HOT_UPDATE"
-        ∷ codes "HEAP_CONFIRM" ∷ codes "LOCK" ∷ codes "INPLACE" ∷ codes "INSERT+INIT" ∷ codes ""
-        ∷ codes "UPDATE+INIT" ∷ codes ""
+    ∷ codes "HEAP_CONFIRM" ∷ codes "LOCK" ∷ codes "INPLACE" ∷ codes "INSERT+INIT" ∷ codes ""
+    ∷ codes "UPDATE+INIT" ∷ codes ""
     ∷ codes "HOT_UPDATE+INIT" ∷ []
 
 abbrev pub message_words : List (List ℕ)
