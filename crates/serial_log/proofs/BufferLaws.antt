@@ -7,10 +7,10 @@ use Rattle.segment_disk.specs.Tape.{Tape}
 use Rattle.segment_disk.specs.DiskImage.{word_of}
 use Rattle.flush_core.specs.declared.writer.Writer.{Writer}
 use Rattle.flush_core.specs.Pages.{PutPages, with_page}
-use Rattle.flush_core.specs.Writer.{IsWriter, HasDone, TellsFault, writer_segment_size, written_of, writer_fault}
+use Rattle.flush_core.specs.Writer.{IsWriter, HasDone, TellsFault, disk_of, writer_segment_size, written_of, writer_fault}
 use Rattle.serial_log.specs.Ring.{RingState, IsMapped, HoldsWords, ring_word}
 use Rattle.serial_log.specs.Words.{HaveWords, HasWritten, words_upto}
-use Rattle.serial_log.specs.Buffers.{Spans, StaysUp, GoesDown}
+use Rattle.serial_log.specs.Buffers.{RingHas, Spans, GoesDown, WritesOn}
 use Rattle.serial_log.proofs.RingLaws.{words_upto-below, words_upto-behind}
 
 -- words as far as one position are those as far as another, where none lies between
@@ -45,15 +45,22 @@ module _ (D : Type 0) (tape : D → Option Tape) (old new : Writer D) where
       → HoldsWords ring (words_upto word upto) → HasWritten tape old word → HasWritten tape new word
   HasWritten-put word ring upto end page bytes at spans rises ends written put puts holds has = record {
     pages = with_page has.pages page bytes;
-    is = puts has.pages has.is;
+    put = puts has.pages has.put;
     words = subst (λ (n : ℕ). HaveWords (with_page has.pages page bytes) (words_upto word n)) (sym written)
         (HaveWords-put has.pages word ring (written_of old) upto end page bytes at rises ends (omega (arith, spans.mapped_beyond), omega (arith, spans.left_written)) holds put has.words);
   }
 
   module _ (moment faults : D → ℕ) (calls : List Call) (size : writer_segment_size new ≡ writer_segment_size old) where
-    pub StaysUp-done : HasDone tape moment faults old new calls → StaysUp faults old new
-    StaysUp-done done = record { size = size; up = done.is_up; quiet = done.quiet }
+    -- a page was put
+    pub WritesOn-page : (ring : RingState) (upto end : ℕ) → written_of old < end → HasDone tape moment faults old new calls → written_of new ≡ end → moment (disk_of old) < moment (disk_of new)
+        → ((word : ℕ → ℕ) → RingHas ring upto word → HasWritten tape old word → HasWritten tape new word) → WritesOn tape moment faults (RingHas ring upto) old new
+    WritesOn-page ring upto end rises done written later words = record {
+      up = record { size = size; up = done.is_up; faults_same = done.quiet };
+      moment_never_falls = omega arith;
+      moment_rises = λ more. later;
+      words = words;
+    }
 
-    pub GoesDown-told : (told : ℕ) → writer_fault old ≡ None → TellsFault tape moment faults old new told calls → GoesDown faults old new told
-    GoesDown-told told up (inl failed) = record { size = size; down = failed.is_down; is_told = failed.is_told; rose = failed.rose }
-    GoesDown-told told up (inr again) = absurd (let differ : None ≡ Some told = sym up ∙ again.was_down in cc)
+    pub GoesDown-told : (told : ℕ) → writer_fault old ≡ None → moment (disk_of old) ≤ moment (disk_of new) → TellsFault tape moment faults old new told calls → GoesDown moment faults old new told
+    GoesDown-told told up never (inl failed) = record { size = size; down = failed.is_down; count_told = failed.is_told; rose = failed.rose; moment_never_falls = never }
+    GoesDown-told told up never (inr again) = absurd (let differ : None ≡ Some told = sym up ∙ again.was_down in cc)

@@ -4,12 +4,9 @@ use Rattle.std.specs.Int.{w64, to_le_bytes}
 use Rattle.std.proofs.lemmas.Bool.{cases_lt}
 use Rattle.std.proofs.lemmas.Slice.{between_is, between-put_mid, take-put_mid_below}
 use borrow.Rule.Slice.PartMut.{put_mid}
-use Rattle.wal_page.specs.Placed.{PlacedState, entry_word}
+use Rattle.wal_page.specs.Placed.{PlacedState}
 use Rattle.segment_disk.specs.DiskImage.{word_of}
-
--- the word of a record at its place
-abbrev pub word_of_placed : PlacedState → ℕ → ℕ
-word_of_placed p address = entry_word p.size p.sysid p.body p.start p.prev address
+use Rattle.serial_log.specs.Words.{word_of_placed}
 
 module _ (first placed new : PlacedState) (index : ℕ) (at : placed ≡ record first { next = first.next + 8 * index }) (step : new ≡ record placed { next = placed.next + 8 }) where
   pub placed_on : new ≡ record first { next = first.next + 8 * (index + 1) }

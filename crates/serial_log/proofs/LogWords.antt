@@ -14,10 +14,9 @@ use Rattle.wal_page.proofs.OwnerLaws.{Owns-between, Owns-from_between}
 use Rattle.wal_page.proofs.LogWordLaws.{log_word-entry, log_word_push, log_word-behind}
 use Rattle.flush_core.specs.Pages.{PutPages}
 use Rattle.serial_log.specs.Ring.{RingState, HoldsWords}
-use Rattle.serial_log.specs.Words.{HaveWords, words_upto}
+use Rattle.serial_log.specs.Words.{AreGiven, HaveWords, words_upto}
 use Rattle.serial_log.specs.History.{end_of, next_entry, with_entry}
 use Rattle.serial_log.proofs.RingLaws.{words_upto-below, words_upto-behind}
-use Rattle.serial_log.proofs.Copying.{AreGiven}
 
 -- words that are the same at the addresses of words
 pub HoldsWords-same : (ring : RingState) (f g : ℕ → ℕ) → ((address : ℕ) → address % 8 ≡ 0 → f address ≡ g address) → HoldsWords ring f → HoldsWords ring g

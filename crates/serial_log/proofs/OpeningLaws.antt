@@ -76,12 +76,12 @@ module _ (D : Type 0) (size pages : ℕ) (ring : RingState) (writer : Writer D) 
     flushed = begun;
     down = up;
     state = record {
-      quiet = ap faults same_disk;
+      faults_same = ap faults same_disk;
       words = HoldsWords-same ring (λ address. 0) (log_word size sysid []) (λ address whole. sym (no_words size sysid valid address whole)) zeros;
       reaches = reaches flushed begun;
-      holds = λ empty. record {
+      written = λ empty. record {
         pages = no_pages;
-        is = is empty;
+        put = is empty;
         words = record { each = λ page n lt. word_of-zeros 8192 (8 * n) (omega arith) ∙ ap (to_le_bytes w64) (sym (no_words_upto size sysid (written_of writer) valid (page * 8192 + 8 * n) (omega arith))) };
       };
     };

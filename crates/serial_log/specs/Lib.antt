@@ -2,7 +2,7 @@ pub mod Ring
 pub mod Words
 pub mod Buffers
 pub mod Shape
-pub mod Room
+pub mod LogMemory
 pub mod History
 pub mod Steps
 pub mod LogState

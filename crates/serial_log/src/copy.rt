@@ -1,7 +1,7 @@
 ghost use Rattle.std.specs.Prelude.{◌≡◌, ℕ, ◌+◌, ◌*◌, ◌/◌, ◌<◌, ◌≤◌, length, min, slice_index};
 ghost use Rattle.byte_position.specs.Position.{end_address_of};
 ghost use Rattle.wal_record.specs.Spelling.{assembled_room};
-ghost use Rattle.wal_page.specs.Placed.{entry_word};
+ghost use Rattle.serial_log.specs.Words.{word_of_placed};
 
 use wal_page::Placed;
 use wal_types::Lsn;
@@ -25,7 +25,7 @@ pub(crate) fn end_in_page(at: Lsn, upto: Lsn) -> Lsn
 pub(crate) fn copy_words(placed: &mut Placed, words: &mut [u64])
     requires { placed.old.next + 8 * length words.old ≤ end_address_of placed.old.size (placed.old.start + assembled_room placed.old.body) }
     ensures placed { placed.new ≡ record placed.old { next = placed.old.next + 8 * length words.old } }
-    ensures words { (k : ℕ) → k < length words.old → slice_index words.new k ≡ entry_word placed.old.size placed.old.sysid placed.old.body placed.old.start placed.old.prev (placed.old.next + 8 * k) }
+    ensures words { (k : ℕ) → k < length words.old → slice_index words.new k ≡ word_of_placed placed.old (placed.old.next + 8 * k) }
 {
     for word in words.iter_mut() {
         if let Some((_, next)) = placed.next_word() {

@@ -5,12 +5,12 @@
 mod buffers;
 mod copy;
 mod log;
+mod memory;
 mod ring;
-mod room;
 mod shape;
 #[cfg(test)]
 mod tests;
 
 pub use log::{Log, OpenFailure};
-pub use room::Room;
+pub use memory::LogMemory;
 pub use shape::Shape;

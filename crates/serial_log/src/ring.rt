@@ -2,10 +2,10 @@ ghost use Rattle.std.specs.Prelude.{◌≡◌, ℕ, ◌+◌, ◌*◌, ◌/◌, �
 ghost use Rattle.std.specs.Int.{w64, to_le_bytes};
 ghost use Rattle.byte_position.specs.Position.{end_address_of};
 ghost use Rattle.wal_record.specs.Spelling.{assembled_room};
-ghost use Rattle.wal_page.specs.Placed.{entry_word};
 ghost use Rattle.segment_disk.specs.DiskImage.{word_of};
 ghost use Rattle.serial_log.specs.Ring.{HoldsWords, IsMapped, ring_word};
-ghost use Rattle.serial_log.specs.Words.{words_upto};
+ghost use Rattle.serial_log.specs.Words.{AreGiven};
+ghost use Rattle.serial_log.specs.Buffers.{RingHas};
 
 use crate::copy::{PAGE_SIZE, copy_words};
 use std::alloc::{AllocError, Global};
@@ -81,7 +81,7 @@ impl Ring {
     pub(crate) fn map_next(&mut self)
         requires { self.old.mapped < 2 ^ 50 }
         ensures shape { (self.new.pages ≡ self.old.pages) × (self.new.mapped ≡ self.old.mapped + 1) }
-        ensures words { (word : ℕ → ℕ) → HoldsWords self.old (words_upto word (self.old.mapped * 8192)) → HoldsWords self.new (words_upto word (self.old.mapped * 8192)) }
+        ensures words { (word : ℕ → ℕ) → RingHas self.old (self.old.mapped * 8192) word → RingHas self.new (self.old.mapped * 8192) word }
     {
         let place = self.place(self.mapped);
         self.words[place..place + PAGE_WORDS].fill(0);
@@ -97,8 +97,7 @@ impl Ring {
         requires owned { upto.0 ≤ end_address_of placed.old.size (placed.old.start + assembled_room placed.old.body) }
         ensures placed { placed.new ≡ record placed.old { next = upto.0 } }
         ensures shape { (self.new.pages ≡ self.old.pages) × (self.new.mapped ≡ self.old.mapped) }
-        ensures words { (word : ℕ → ℕ) → ((address : ℕ) → placed.old.next ≤ address → address < upto.0 → address % 8 ≡ 0 → word address ≡ entry_word placed.old.size placed.old.sysid placed.old.body placed.old.start placed.old.prev address)
-            → HoldsWords self.old (words_upto word placed.old.next) → HoldsWords self.new (words_upto word upto.0) }
+        ensures words { (word : ℕ → ℕ) → AreGiven placed.old upto.0 word → RingHas self.old placed.old.next word → RingHas self.new upto.0 word }
     {
         let next = placed.next_lsn().0;
         let place = self.place(next / PAGE_SIZE);

@@ -1,4 +1,4 @@
-use crate::{Log, OpenFailure, Room, Shape};
+use crate::{Log, LogMemory, OpenFailure, Shape};
 use byte_position::Geometry;
 use log_answers::{Cause, Hard, Receipt, Refused, Sealed};
 use segment_disk::{Disk, MemDisk};
@@ -35,9 +35,9 @@ fn shape(ring_pages: u32, cap_segments: u32) -> Result<Shape, Fail> {
 
 // A log on a disk that is empty and fails at these counted calls.
 fn log_on_disk(alloc: Global, shape: Shape, fail: Vec<u64>) -> Result<Log<MemDisk>, Fail> {
-    let room = Room::new(alloc, shape)?;
+    let memory = LogMemory::new(alloc, shape)?;
     let disk = MemDisk::new(alloc, 4, 1000, fail, Vec::new(alloc))?;
-    match Log::open(disk, SYSTEM_ID, room) {
+    match Log::open(disk, SYSTEM_ID, memory) {
         Ok(log) => Ok(log),
         Err(_) => Err("an empty disk")?,
     }
@@ -77,7 +77,7 @@ fn empty_log_is_flushed_already(rt: HostRuntime) -> Result<(), Fail> {
     let alloc = rt.alloc();
     let mut log = log_on_disk(alloc, shape(64, 64)?, Vec::new(alloc))?;
     assert_eq!(rt;
-        log.flush(),
+        log.flush(log.end()),
         Ok(Hard {
             upto: Lsn(0x10_0000),
             moment: 0
@@ -142,7 +142,7 @@ fn full_log_tells_what_is_left(rt: HostRuntime) -> Result<(), Fail> {
         })
     );
     assert_eq!(rt;
-        log.flush(),
+        log.flush(log.end()),
         Ok(Hard {
             upto: Lsn(0x10_0050),
             moment: 3
@@ -169,7 +169,7 @@ fn fault_while_a_record_is_inserted_takes_the_log_down(rt: HostRuntime) -> Resul
         reserved: None,
     };
     assert_eq!(rt; log.commit(&commit(alloc)?), Err(down));
-    assert_eq!(rt; log.flush(), Err(down));
+    assert_eq!(rt; log.flush(log.end()), Err(down));
     Ok(())
 }
 
@@ -178,12 +178,12 @@ fn log_is_opened_only_on_an_empty_disk(rt: HostRuntime) -> Result<(), Fail> {
     let alloc = rt.alloc();
     let mut log = log_on_disk(alloc, shape(64, 64)?, Vec::new(alloc))?;
     assert!(rt; log.commit(&commit(alloc)?).is_ok());
-    let room = Room::new(alloc, shape(64, 64)?)?;
-    let opened = Log::open(log.into_disk(), SYSTEM_ID, room);
+    let memory = LogMemory::new(alloc, shape(64, 64)?)?;
+    let opened = Log::open(log.into_disk(), SYSTEM_ID, memory);
     assert!(rt; matches!(opened, Err(OpenFailure::NotEmpty(_))));
-    let room = Room::new(alloc, shape(64, 64)?)?;
+    let memory = LogMemory::new(alloc, shape(64, 64)?)?;
     let disk = MemDisk::new(alloc, 4, 1000, Vec::new(alloc), vec![in alloc; 1]?)?;
-    let opened = Log::open(disk, SYSTEM_ID, room);
+    let opened = Log::open(disk, SYSTEM_ID, memory);
     assert!(rt; matches!(opened, Err(OpenFailure::Disk(_))));
     Ok(())
 }

@@ -3,7 +3,8 @@ use Rattle.std.proofs.Common.{◌≡◌, ◌<◌, ◌≤◌, ◌+◌, ◌*◌, �
 use Rattle.byte_position.specs.Position.{end_address_of}
 use Rattle.wal_record.specs.Spelling.{assembled_room}
 use Rattle.wal_page.specs.Placed.{PlacedState}
-use Rattle.serial_log.proofs.CopyLaws.{word_of_placed, placed_on, words_on}
+use Rattle.serial_log.specs.Words.{word_of_placed}
+use Rattle.serial_log.proofs.CopyLaws.{placed_on, words_on}
 use Rattle.serial_log.proofs.copy.copy_words.Goals.{in-Some, in_default}
 use Rattle.serial_log.proofs.copy.copy_words.Goals as goal
 

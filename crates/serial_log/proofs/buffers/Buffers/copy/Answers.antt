@@ -13,13 +13,11 @@ loop-end-preserved g c =
     c.loop-end.placed c.copy.new.placed c.loop-end.self.ring c.hold_page.new.self.ring c.copy.new.self c.loop-end.self.writer c.hold_page.new.self.writer c.end_in_page.result.0
     c.requires.whole.1 left c.loop-end.invariant
     (record {
-      up = held.up;
-      rises = held.rises;
+      writes = held.writes;
+      further = held.further;
       spans = held.spans;
       holds = held.held;
       words = held.words;
-      written = held.written;
-      not_earlier = held.not_earlier;
       upto_is = c.end_in_page.ensures ∙ ap (λ (n : ℕ). min c.args.end.0 ((n / 8192 + 1) * 8192)) here;
       more_is = copied.placed;
       pages = copied.shape.0;

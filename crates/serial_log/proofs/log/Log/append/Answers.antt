@@ -15,6 +15,7 @@ pub returns-clause-inserts : goal.returns-clause-inserts
 returns-clause-inserts g c =
     let D = g.row.D.Denot in
     let tape = g.D.Disk.tape in
+    let moment = g.D.Disk.moment in
     let faults = g.D.Disk.faults in
     let l = c.self.inside in
     let log : LogState D = record { size = l.geometry; capacity = l.capacity; sysid = l.sysid; ring = l.buffers.ring; writer = l.buffers.writer; bytes = l.bytes; prev = l.prev.0; flushed = l.flushed.0; moment = l.moment } in
@@ -25,8 +26,8 @@ returns-clause-inserts g c =
     let body = c.args.body.now in
     let up : writer_fault log.writer ≡ None = ap (λ (v : LogState D). writer_fault v.writer) c.self.view_is ∙ c.requires.up in
     let reaches = c.self.invariant.1.reaches up in
-    rw (← c.self.view_is) (λ before opened s value is same writable.
-    let place : IsPlace D tape faults before opened log up copied.ring copied.writer l.first c.from.result start end body from = record {
+    rw (← c.self.view_is) (λ value same writable tape_at_open faults_at_open s is.
+    let place : IsPlace D tape moment faults tape_at_open faults_at_open log up copied.ring copied.writer l.first c.from.result start end body from = record {
       begins = c.self.invariant.0;
       room_is = c.from.ensures ∙ c.room.ensures.room;
       fits = subst (λ (v : LogState D). v.bytes + assembled_room body ≤ v.capacity) (sym c.self.view_is) c.requires.fits;
@@ -37,11 +38,11 @@ returns-clause-inserts g c =
     elim c.match-copy.branch [
       | in-Ok w ↦
           (let done = w.in-Ok.ensures in
-          inserts_at log.size log.capacity opened s value c.match-copy.result _ _ w.result-is
-          (appended_ok D tape faults before opened log up copied.ring copied.writer l.first c.from.result start end body from place s value is same writable reaches done.up done.rises done.spans done.words done.written))
+          inserts_at log.size log.capacity faults_at_open s value c.match-copy.result _ _ w.result-is
+          (appended_ok D tape moment faults tape_at_open faults_at_open log up copied.ring copied.writer l.first c.from.result start end body from place s value is same writable reaches done.writes done.further done.spans done.words))
       | in-Err w ↦
-          inserts_at log.size log.capacity opened s value c.match-copy.result _ _ w.result-is
-          (appended_err D tape faults before opened log up copied.ring copied.writer l.first c.from.result start end body from place s value is same writable w.in-Err.field-0.faults w.in-Err.ensures.down)
+          inserts_at log.size log.capacity faults_at_open s value c.match-copy.result _ _ w.result-is
+          (appended_err D tape moment faults tape_at_open faults_at_open log up copied.ring copied.writer l.first c.from.result start end body from place s value is same writable w.in-Err.field-0.faults w.in-Err.ensures.fails)
     ])
 
 pub copy-requires-clause-whole : goal.copy-requires-clause-whole
@@ -75,5 +76,14 @@ returns-clause-unflushed g c =
           (let at = unwritten D l.geometry l.first l.bytes c.from.result l.flushed.0 l.buffers.ring l.buffers.writer c.copy.new.self.writer c.self.invariant.0 some (c.self.invariant.1.reaches up) c.new-placed.result.next c.to_end_lsn-end.result.0
           (placed_next c.new-placed.result c.new-placed.ensures) c.to_end_lsn-end.ensures w.in-Ok.ensures.unfinished in
           rw w.result-is (record { written = at.0; flushed = at.1 }))
+      | in-Err w ↦ rw w.result-is tt
+    ]
+
+pub returns-clause-end : goal.returns-clause-end
+returns-clause-end g c =
+    let l = c.self.inside in
+    let more = l.bytes + c.from.result in
+    elim c.match-copy.branch [
+      | in-Ok w ↦ rw w.result-is (c.to_end_lsn-end.ensures ∙ ap (λ (n : ℕ). end_address_of l.geometry (n + more)) c.self.invariant.0.position_is)
       | in-Err w ↦ rw w.result-is tt
     ]
