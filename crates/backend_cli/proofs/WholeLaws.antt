@@ -13,10 +13,10 @@ use Rattle.segment_disk.specs.DiskImage.{DiskImage, ImageSegment}
 use Rattle.wal_page.specs.Order.{Entry, IsChained, rooms_of}
 use Rattle.serial_log.specs.LogImage.{IsLogImage, HoldsLog, HoldsLogSegment, last_segment}
 use Rattle.wal_reader.specs.Pages.{pages_in}
-use Rattle.wal_reader.specs.WrittenLog.{last_position}
-use Rattle.wal_reader.specs.LogSegments.{HoldsSegments, IsLogSegment}
-use Rattle.wal_reader.proofs.LogSegmentLaws.{segments_hold_log}
-use Rattle.wal_reader.proofs.WrittenLogLaws.{written_log_decodes}
+use Rattle.written_log.specs.WrittenLog.{last_position}
+use Rattle.written_log.specs.LogSegments.{HoldsSegments, IsLogSegment}
+use Rattle.written_log.proofs.LogSegmentLaws.{segments_hold_log}
+use Rattle.written_log.proofs.WrittenLogLaws.{written_log_decodes}
 use Rattle.backend_cli.specs.Run.{DecodesTo, IsWhole}
 use Rattle.backend_cli.specs.Whole.{HeldLogIsWhole}
 

@@ -12,7 +12,7 @@ use Rattle.wal_script.specs.declared.line.Action.TheVariants.{Insert, Commit, Fl
 use Rattle.wal_script.specs.Meaning.{meaning_of}
 use Rattle.wal_reader.specs.Pages.{pages_in}
 use Rattle.wal_reader.specs.Decodes.{Decodes, ended}
-use Rattle.wal_reader.specs.Written.{found_of}
+use Rattle.written_log.specs.Written.{found_of}
 use Rattle.backend_cli.specs.declared.outcome.Outcome.{Outcome}
 use Rattle.backend_cli.specs.declared.outcome.Outcome.TheVariants.{Done, OutOfMemory, Usage, SourceFault, ScriptRefused, NotEmpty, DiskFault, Stopped, LogFull, SinkFault}
 use Rattle.backend_cli.specs.declared.told.Told.{Told}

@@ -18,13 +18,13 @@ use Rattle.wal_page.proofs.LogByteLaws.{log_byte-stream}
 use Rattle.wal_page.proofs.StreamLaws.{length-stream_of}
 use Rattle.wal_reader.specs.Pages.{Pages, byte_in_page, bytes_from}
 use Rattle.wal_reader.specs.Decodes.{read_at, is_zero_word, opens_page, ended}
-use Rattle.wal_reader.specs.WrittenLog.{HavePagesOfLog, last_position}
+use Rattle.written_log.specs.WrittenLog.{HavePagesOfLog, last_position}
 use Rattle.wal_reader.proofs.PagesLaws.{take-bytes_from}
-use Rattle.wal_reader.proofs.RecordRows.{IsIn, zero_word_ends, no_page_ends, zero_page_ends}
-use Rattle.wal_reader.proofs.LogPositions.{page_begins, page_from_first, page_of-start}
-use Rattle.wal_reader.proofs.LogHeader.{sound_answers}
-use Rattle.wal_reader.proofs.LogReads.{log_place}
-use Rattle.wal_reader.proofs.LogPages.{IsWritten, some_is, log_byte-page_header, page_is_sound, owner_here, not_opening}
+use Rattle.written_log.proofs.RecordRows.{IsIn, zero_word_ends, no_page_ends, zero_page_ends}
+use Rattle.written_log.proofs.LogPositions.{page_begins, page_from_first, page_of-start}
+use Rattle.written_log.proofs.LogHeader.{sound_answers}
+use Rattle.written_log.proofs.LogReads.{log_place}
+use Rattle.written_log.proofs.LogPages.{IsWritten, some_is, log_byte-page_header, page_is_sound, owner_here, not_opening}
 
 -- the first word of bytes that begin with eight zeros
 pub zero_word : (bytes : List ℕ) → ((k : ℕ) → k < 8 → get_or bytes k 0 ≡ 0) → is_zero_word bytes ≡ true

@@ -7,8 +7,8 @@ use Rattle.wal_page.specs.declared.checks.PageErr.{PageErr}
 use Rattle.wal_page.specs.Page.{page_header, is_first_page, is_continued, is_overwritten, timeline_of, remaining_of, page_rows}
 use Rattle.wal_reader.specs.declared.found.DamageKind.TheVariants as kinds
 use Rattle.wal_reader.specs.Decodes.{damaged, is_zero_word, page_answers}
-use Rattle.wal_reader.proofs.Tables.{NoneHolds, NoneHolds-map}
-use Rattle.wal_reader.proofs.Tables.NoneHolds.{none, past}
+use Rattle.written_log.proofs.Tables.{NoneHolds, NoneHolds-map}
+use Rattle.written_log.proofs.Tables.NoneHolds.{none, past}
 
 -- a page's header, by whether a record continues there and whether it is a long one
 abbrev header_with : Bool → Bool → ℕ → ℕ → ℕ → ℕ → List ℕ

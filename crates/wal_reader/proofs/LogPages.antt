@@ -18,9 +18,9 @@ use Rattle.wal_page.proofs.PageLaws.{length-page_header}
 use Rattle.wal_page.proofs.StreamLaws.{length-stream_of}
 use Rattle.wal_reader.specs.Pages.{Pages, byte_at, bytes_from}
 use Rattle.wal_reader.specs.Decodes.{opens_page, timeline_or}
-use Rattle.wal_reader.specs.WrittenLog.{last_position}
-use Rattle.wal_reader.proofs.LogHeader.{IsSound, log_header_is_sound}
-use Rattle.wal_reader.proofs.LogPositions.{address_of-below_end, opening_position, page_of-start, position_of-log_page, start-le-address_of}
+use Rattle.written_log.specs.WrittenLog.{last_position}
+use Rattle.written_log.proofs.LogHeader.{IsSound, log_header_is_sound}
+use Rattle.written_log.proofs.LogPositions.{address_of-below_end, opening_position, page_of-start, position_of-log_page, start-le-address_of}
 
 -- an order's log stands in pages below the log's end: each page that begins there is there, and each byte is the log's
 pub record IsWritten (size sysid : ℕ) (pages : Pages) (es : List Entry) : Type 0 where

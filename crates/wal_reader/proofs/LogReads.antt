@@ -18,15 +18,15 @@ use Rattle.wal_reader.specs.declared.found.Answer.{Answer}
 use Rattle.wal_reader.specs.declared.found.FoundRecord.{FoundRecord}
 use Rattle.wal_reader.specs.Pages.{Pages}
 use Rattle.wal_reader.specs.Decodes.{Place, ReadsRecords, read_at, place_behind, is_right_prev, opens_page, continuation_rows, continuation_rows_of, rows_of_pages, found_or}
-use Rattle.wal_reader.specs.Written.{found_entry, found_from}
-use Rattle.wal_reader.specs.WrittenLog.{last_position}
-use Rattle.wal_reader.proofs.Tables.{NoneHolds, NoneHolds-append}
-use Rattle.wal_reader.proofs.Tables.NoneHolds.{none, past}
-use Rattle.wal_reader.proofs.RecordBytes.{drop-filled}
-use Rattle.wal_reader.proofs.RecordRows.{IsIn, StandsAt, record_is_read}
-use Rattle.wal_reader.proofs.LogPositions.{address_of-below_end, opening_position, page_begins, page_from_first, position_of-le}
-use Rattle.wal_reader.proofs.LogHeader.{sound_answers}
-use Rattle.wal_reader.proofs.LogPages.{IsWritten, page_is_sound, owner_here, timeline_is, bytes_from-log}
+use Rattle.written_log.specs.Written.{found_entry, found_from}
+use Rattle.written_log.specs.WrittenLog.{last_position}
+use Rattle.written_log.proofs.Tables.{NoneHolds, NoneHolds-append}
+use Rattle.written_log.proofs.Tables.NoneHolds.{none, past}
+use Rattle.written_log.proofs.RecordBytes.{drop-filled}
+use Rattle.written_log.proofs.RecordRows.{IsIn, StandsAt, record_is_read}
+use Rattle.written_log.proofs.LogPositions.{address_of-below_end, opening_position, page_begins, page_from_first, position_of-le}
+use Rattle.written_log.proofs.LogHeader.{sound_answers}
+use Rattle.written_log.proofs.LogPages.{IsWritten, page_is_sound, owner_here, timeline_is, bytes_from-log}
 
 -- where the checks of each page hold, those of a run of pages do
 NoneHolds-run : {K : Type 0} (rows : ℕ → List (Bool × K)) (a n : ℕ) → ((i : ℕ) → a ≤ i → i < a + n → NoneHolds (rows i)) → NoneHolds (flat_map rows (range_with_len a n))

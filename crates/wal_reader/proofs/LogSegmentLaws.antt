@@ -10,8 +10,8 @@ use Rattle.segment_disk.specs.DiskImage.{DiskImage, ImageSegment}
 use Rattle.wal_page.specs.Order.{Entry}
 use Rattle.wal_page.specs.LogPage.{IsLogPage}
 use Rattle.wal_reader.specs.Pages.{page_of_image, pages_in}
-use Rattle.wal_reader.specs.WrittenLog.{HavePagesOfLog, last_position}
-use Rattle.wal_reader.specs.LogSegments.{IsLogSegment, HoldsSegments, SegmentsHoldLog}
+use Rattle.written_log.specs.WrittenLog.{HavePagesOfLog, last_position}
+use Rattle.written_log.specs.LogSegments.{IsLogSegment, HoldsSegments, SegmentsHoldLog}
 
 module _ (size sysid : ℕ) (image : DiskImage) (es : List Entry) (valid : IsSegmentSize size) (bounded : end_address_of size (last_position size es) ≤ 2 ^ 60) (holds : HoldsSegments size sysid image es) where
   module _ (page : ℕ) (from : pages_of size ≤ page) where

@@ -11,10 +11,10 @@ use Rattle.wal_record.specs.Reading.{number_at, reading_of}
 use Rattle.wal_page.specs.Page.{is_continued, first_fault}
 use Rattle.wal_reader.specs.Pages.{Pages, bytes_from}
 use Rattle.wal_reader.specs.Decodes.{Place, is_zero_word, opens_page, page_answers, rows_of_pages, page_of_byte, is_right_prev, record_rows, found_or, answer_or, read_in, read_at, ended}
-use Rattle.wal_reader.proofs.Tables.{NoneHolds, NoneHolds-append, Tells, Tells-append, first_fault-none, first_fault-told}
-use Rattle.wal_reader.proofs.Tables.NoneHolds.{none, past}
-use Rattle.wal_reader.proofs.Tables.Tells.{at_once, behind}
-use Rattle.wal_reader.proofs.RecordBytes.{size_in_word, size_in_header, header_is_no_zero_word, prev_in_header, take-filled, crc_in_spelled}
+use Rattle.written_log.proofs.Tables.{NoneHolds, NoneHolds-append, Tells, Tells-append, first_fault-none, first_fault-told}
+use Rattle.written_log.proofs.Tables.NoneHolds.{none, past}
+use Rattle.written_log.proofs.Tables.Tells.{at_once, behind}
+use Rattle.written_log.proofs.RecordBytes.{size_in_word, size_in_header, header_is_no_zero_word, prev_in_header, take-filled, crc_in_spelled}
 
 -- a place in a page that is there and passes its own checks, and no record continues into it where the place is its first
 pub record IsIn (size : ℕ) (pages : Pages) (place : Place) (page : List ℕ) : Type 0 where

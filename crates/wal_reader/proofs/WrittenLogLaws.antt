@@ -17,15 +17,15 @@ use Rattle.wal_reader.specs.declared.found.Answer.{Answer}
 use Rattle.wal_reader.specs.declared.found.Answer.TheVariants.{End}
 use Rattle.wal_reader.specs.Pages.{Pages}
 use Rattle.wal_reader.specs.Decodes.{Place, Decodes, ReadsRecords, ReadsFrom, beginning, ended}
-use Rattle.wal_reader.specs.Written.{found_entry, found_from, found_of}
-use Rattle.wal_reader.specs.WrittenLog.{HavePagesOfLog, last_position, OwnPagesHoldLog, WrittenLogDecodes}
+use Rattle.written_log.specs.Written.{found_entry, found_from, found_of}
+use Rattle.written_log.specs.WrittenLog.{HavePagesOfLog, last_position, OwnPagesHoldLog, WrittenLogDecodes}
 use Rattle.wal_reader.proofs.PagesLaws.{end_address_of-first_position}
-use Rattle.wal_reader.proofs.BeginLaws.{begins_nowhere, begins_empty, begins_behind_header}
-use Rattle.wal_reader.proofs.Tables.{first_fault-none}
-use Rattle.wal_reader.proofs.LogPositions.{page_of-start, start-le-address_of}
-use Rattle.wal_reader.proofs.LogPages.{IsWritten, page_is_sound}
-use Rattle.wal_reader.proofs.LogReads.{StandFrom, log_place, last_start, entries_are_read}
-use Rattle.wal_reader.proofs.LogEnds.{holds_below_end, page_begins_with_zeros, log_ends}
+use Rattle.written_log.proofs.BeginLaws.{begins_nowhere, begins_empty, begins_behind_header}
+use Rattle.written_log.proofs.Tables.{first_fault-none}
+use Rattle.written_log.proofs.LogPositions.{page_of-start, start-le-address_of}
+use Rattle.written_log.proofs.LogPages.{IsWritten, page_is_sound}
+use Rattle.written_log.proofs.LogReads.{StandFrom, log_place, last_start, entries_are_read}
+use Rattle.written_log.proofs.LogEnds.{holds_below_end, page_begins_with_zeros, log_ends}
 
 -- no record starts below the log's own start
 none_below : (size prev position : ℕ) (es : List Entry) → IsSegmentSize size → FollowsFrom position es → first_position size ≤ position → found_from size prev es ≡ filter (λ f. nat_le size f.start.0) (found_from size prev es)

@@ -6,7 +6,7 @@ use Rattle.segment_disk.specs.DiskImage.{DiskImage, ImageSegment}
 use Rattle.wal_page.specs.Order.{Entry}
 use Rattle.wal_page.specs.LogPage.{IsLogPage}
 use Rattle.wal_reader.specs.Pages.{pages_in}
-use Rattle.wal_reader.specs.WrittenLog.{HavePagesOfLog, last_position}
+use Rattle.written_log.specs.WrittenLog.{HavePagesOfLog, last_position}
 
 -- a segment has all its pages, and each is the log's
 abbrev pub IsLogSegment : ℕ → ℕ → List Entry → ℕ → ImageSegment → Type 0

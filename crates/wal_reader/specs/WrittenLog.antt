@@ -8,7 +8,7 @@ use Rattle.wal_page.specs.Log.{log_byte}
 use Rattle.wal_page.specs.LogPage.{IsLogPage}
 use Rattle.wal_reader.specs.Pages.{Pages}
 use Rattle.wal_reader.specs.Decodes.{Decodes, ended}
-use Rattle.wal_reader.specs.Written.{found_of}
+use Rattle.written_log.specs.Written.{found_of}
 
 -- the byte position behind the last entry of an order
 abbrev pub last_position : ℕ → List Entry → ℕ

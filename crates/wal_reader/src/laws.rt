@@ -1,6 +1,6 @@
 ghost use Rattle.wal_reader.specs.Settled.{DecodingIsSettled, StepsTellDecoding};
-ghost use Rattle.wal_reader.specs.LogSegments.{SegmentsHoldLog};
-ghost use Rattle.wal_reader.specs.WrittenLog.{OwnPagesHoldLog, WrittenLogDecodes};
+ghost use Rattle.written_log.specs.LogSegments.{SegmentsHoldLog};
+ghost use Rattle.written_log.specs.WrittenLog.{OwnPagesHoldLog, WrittenLogDecodes};
 
 /// What the writer puts into the log's pages, however many they are, reads back as exactly its
 /// records, and then a clean end. Each order has such pages, and an image of its segments gives them.

@@ -1,6 +1,6 @@
-use Rattle.wal_reader.proofs.LogSegmentLaws.{segments_hold_log}
-use Rattle.wal_reader.proofs.WrittenLogLaws.{written_log_decodes, own_pages_hold_log}
-use Rattle.wal_reader.proofs.laws.written_log_decodes.Goals as goal
+use Rattle.written_log.proofs.LogSegmentLaws.{segments_hold_log}
+use Rattle.written_log.proofs.WrittenLogLaws.{written_log_decodes, own_pages_hold_log}
+use Rattle.written_log.proofs.laws.written_log_decodes.Goals as goal
 
 pub returns-clause-decodes : goal.returns-clause-decodes
 returns-clause-decodes c = written_log_decodes
