@@ -1,7 +1,7 @@
 -- A line's step, from the log's.
 use Rattle.std.proofs.Common.{◌≡◌, ℕ, Result, subst}
 use Rattle.wal_types.specs.declared.record.Record.{Record}
-use Rattle.wal_record.specs.Spelling.{Assembled, assembled, IsWritable}
+use Rattle.record_spelling.specs.Spelling.{Assembled, assembled, IsWritable}
 use Rattle.log_answers.specs.declared.Receipt.{Receipt}
 use Rattle.log_answers.specs.declared.Hard.{Hard}
 use Rattle.log_answers.specs.declared.Sealed.{Sealed}

@@ -1,7 +1,7 @@
 -- Answers that refuse a line: without a fault of the disk a line is refused only by a full log, and then the script's records do not fit together.
 use Rattle.std.proofs.Common.{◌≡◌, ℕ, ◌+◌, ◌<◌, ◌≤◌, List, [], ◌∷◌, Option, Some, None, sym, ap, ◌∙◌, inl, inr, arith}
 use Rattle.wal_types.specs.declared.record.Record.{Record}
-use Rattle.wal_record.specs.Spelling.{room_of}
+use Rattle.record_spelling.specs.Spelling.{room_of}
 use Rattle.wal_page.specs.Order.{rooms_of}
 use Rattle.wal_page.proofs.OrderLaws.{rooms_of_push}
 use Rattle.wal_script.specs.declared.line.Line.{Line}

@@ -8,7 +8,7 @@ use Rattle.byte_position.proofs.PositionLaws.{position_of-address_of}
 use Rattle.segment_disk.specs.Cause.{Rose}
 use Rattle.wal_types.specs.declared.record.Record.{Record}
 use Rattle.wal_types.specs.declared.lsn.Lsn.{Lsn}
-use Rattle.wal_record.specs.Spelling.{room_of}
+use Rattle.record_spelling.specs.Spelling.{room_of}
 use Rattle.wal_page.specs.Order.{Entry, rooms_of, finish_of}
 use Rattle.wal_page.proofs.OrderLaws.{rooms_of_push, rooms_of-append}
 use Rattle.wal_script.specs.declared.line.Line.{Line}

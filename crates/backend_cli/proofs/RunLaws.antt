@@ -7,8 +7,8 @@ use Rattle.byte_position.specs.Position.{first_position, end_address_of}
 use Rattle.byte_position.specs.Geometry.{IsSegmentSize}
 use Rattle.segment_disk.specs.Tape.{Tape, page_of_segment, state_now}
 use Rattle.wal_types.specs.LsnText.{lsn_text}
-use Rattle.wal_record.specs.Spelling.{assembled}
-use Rattle.wal_record.proofs.SpellingLaws.{room_is}
+use Rattle.record_spelling.specs.Spelling.{assembled}
+use Rattle.record_spelling.proofs.SpellingLaws.{room_is}
 use Rattle.wal_page.specs.Order.{Entry, IsChained, rooms_of}
 use Rattle.wal_page.proofs.OrderLaws.{rooms_of_cons}
 use Rattle.wal_script.specs.declared.line.Line.{Line}

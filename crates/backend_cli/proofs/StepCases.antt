@@ -3,7 +3,7 @@ use Rattle.std.proofs.Common.{◌≡◌, ℕ, ◌+◌, ◌<◌, Option, Some, No
 use Rattle.segment_disk.specs.Cause.{Rose}
 use Rattle.wal_types.specs.declared.record.Record.{Record}
 use Rattle.wal_types.specs.declared.lsn.Lsn.{Lsn}
-use Rattle.wal_record.specs.Spelling.{room_of, IsWritable}
+use Rattle.record_spelling.specs.Spelling.{room_of, IsWritable}
 use Rattle.wal_page.specs.Order.{rooms_of, finish_of}
 use Rattle.log_answers.specs.declared.Receipt.{Receipt}
 use Rattle.log_answers.specs.declared.Hard as hard

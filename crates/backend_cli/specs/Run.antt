@@ -4,7 +4,7 @@ use Rattle.byte_position.specs.Position.{first_position}
 use Rattle.segment_disk.specs.Tape.{Tape, state_now, page_of_segment}
 use Rattle.segment_disk.specs.DiskImage.{DiskImage, MayLeave, image_as_read}
 use Rattle.flush_core.specs.Pages.{HoldsNothing}
-use Rattle.wal_record.specs.Spelling.{room_of}
+use Rattle.record_spelling.specs.Spelling.{room_of}
 use Rattle.wal_page.specs.Order.{Entry, IsChained, rooms_of}
 use Rattle.wal_script.specs.declared.line.Line.{Line}
 use Rattle.wal_script.specs.declared.line.Action.{Action}

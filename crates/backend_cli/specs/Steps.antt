@@ -1,6 +1,6 @@
 -- Lines done by a log, step by step: `capacity` is how many bytes its records may take up, `opened` the disk's count of faults when it was opened.
 use Rattle.std.specs.Prelude.{◌≡◌, ℕ, List, [], ◌∷◌, Result, Ok, Err}
-use Rattle.wal_record.specs.Spelling.{IsWritable}
+use Rattle.record_spelling.specs.Spelling.{IsWritable}
 use Rattle.log_answers.specs.declared.Receipt.{Receipt}
 use Rattle.log_answers.specs.declared.Hard as hard
 use Rattle.log_answers.specs.declared.Sealed.{Sealed}

@@ -1,6 +1,6 @@
 -- Lines made ready.
 use Rattle.std.specs.Prelude.{◌≡◌, List, [], ◌∷◌}
-use Rattle.wal_record.specs.Spelling.{assembled, IsWritable}
+use Rattle.record_spelling.specs.Spelling.{assembled, IsWritable}
 use Rattle.wal_script.specs.declared.line.Line.{Line}
 use Rattle.wal_script.specs.declared.line.Action.{Action}
 use Rattle.wal_script.specs.declared.line.Action.TheVariants.{Insert, Commit, Flush}

@@ -4,7 +4,7 @@ use Rattle.segment_disk.specs.Cause.{Rose}
 use Rattle.wal_types.specs.declared.lsn.Lsn.{Lsn}
 use Rattle.wal_types.specs.declared.record.Record.{Record}
 use Rattle.byte_position.specs.Position.{position_of, address_of, end_address_of, first_position}
-use Rattle.wal_record.specs.Spelling.{room_of}
+use Rattle.record_spelling.specs.Spelling.{room_of}
 use Rattle.wal_page.specs.Order.{Entry, position_behind, rooms_of}
 use Rattle.wal_script.specs.declared.line.Line.{Line}
 use Rattle.wal_script.specs.declared.line.Action.{Action}

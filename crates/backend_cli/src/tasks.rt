@@ -1,10 +1,10 @@
 ghost use Rattle.std.specs.Prelude.{◌≡◌, All, IfOk};
-ghost use Rattle.wal_record.specs.Spelling.{IsWritable, assembled};
+ghost use Rattle.record_spelling.specs.Spelling.{IsWritable, assembled};
 ghost use Rattle.wal_script.specs.Writable.{AsksWritable};
 ghost use Rattle.backend_cli.specs.Tasks.{AreTasks, IsWork};
 
+use record_spelling::{Body, BodyErr};
 use std::alloc::{AllocError, Global};
-use wal_record::{Body, BodyErr};
 use wal_script::{Action, Line};
 use wal_types::Record;
 

@@ -5,7 +5,7 @@ use Rattle.byte_position.specs.Position.{address_of, end_address_of, first_posit
 use Rattle.byte_position.proofs.EndAddresses.{end_address_of-mono_lt}
 use Rattle.wal_types.specs.declared.record.Record.{Record}
 use Rattle.wal_types.specs.declared.lsn.Lsn.{Lsn}
-use Rattle.wal_record.specs.Spelling.{Assembled, assembled, assembled_room, IsWritable}
+use Rattle.record_spelling.specs.Spelling.{Assembled, assembled, assembled_room, IsWritable}
 use Rattle.segment_disk.specs.Cause.{Rose}
 use Rattle.segment_disk.specs.Tape.{Tape}
 use Rattle.wal_page.specs.Order.{Entry, IsChained, rooms_of, prev_of}

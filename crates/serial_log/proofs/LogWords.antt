@@ -5,7 +5,7 @@ use Rattle.std.proofs.lemmas.Bool.{cases_lt}
 use Rattle.byte_position.specs.Geometry.{IsSegmentSize}
 use Rattle.byte_position.specs.Position.{end_address_of, first_position}
 use Rattle.wal_types.specs.declared.record.Record.{Record}
-use Rattle.wal_record.specs.Spelling.{assembled, IsWritable}
+use Rattle.record_spelling.specs.Spelling.{assembled, IsWritable}
 use Rattle.wal_page.specs.Order.{Entry, IsChained, position_behind, rooms_of, prev_of}
 use Rattle.wal_page.specs.Log.{log_word}
 use Rattle.wal_page.specs.Placed.{Owns, PlacedState}

@@ -3,7 +3,7 @@
 use Rattle.std.specs.Prelude.{◌≡◌, ℕ, ◌+◌, ◌<◌, ◌≤◌, ◌⊎◌, Option, Some, None, Result, Ok, Err}
 use Rattle.wal_types.specs.declared.record.Record.{Record}
 use Rattle.wal_types.specs.declared.lsn.Lsn.{Lsn}
-use Rattle.wal_record.specs.Spelling.{room_of}
+use Rattle.record_spelling.specs.Spelling.{room_of}
 use Rattle.segment_disk.specs.Cause.{Rose}
 use Rattle.wal_page.specs.Order.{rooms_of, start_of, finish_of}
 use Rattle.log_answers.specs.declared.Receipt.{Receipt}

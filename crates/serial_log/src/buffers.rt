@@ -1,6 +1,6 @@
 ghost use Rattle.std.specs.Prelude.{◌≡◌, ℕ, ◌+◌, ◌*◌, ◌/◌, ◌%◌, ◌<◌, ◌≤◌, ◌^◌, min, None, OnOk, IfOk, IfErr, false};
 ghost use Rattle.byte_position.specs.Position.{end_address_of};
-ghost use Rattle.wal_record.specs.Spelling.{assembled_room};
+ghost use Rattle.record_spelling.specs.Spelling.{assembled_room};
 ghost use Rattle.flush_core.specs.Pages.{HoldsNothing, no_pages};
 ghost use Rattle.flush_core.specs.Writer.{IsWriter, disk_of, writer_fault, writer_segment_size, is_unsynced, written_of};
 ghost use Rattle.serial_log.specs.Buffers.{GoesDown, IsSameOrFurther, RingHas, RingTakes, Spans, StaysUp, WritesOn};

@@ -1,6 +1,6 @@
 ghost use Rattle.std.specs.Prelude.{◌≡◌, ℕ, ◌+◌, ◌*◌, ◌/◌, ◌<◌, ◌≤◌, length, min, slice_index};
 ghost use Rattle.byte_position.specs.Position.{end_address_of};
-ghost use Rattle.wal_record.specs.Spelling.{assembled_room};
+ghost use Rattle.record_spelling.specs.Spelling.{assembled_room};
 ghost use Rattle.serial_log.specs.Words.{word_of_placed};
 
 use wal_page::Placed;

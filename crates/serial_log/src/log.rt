@@ -1,6 +1,6 @@
 ghost use Rattle.std.specs.Prelude.{◌≡◌, ℕ, ◌+◌, ◌<◌, ◌≤◌, ◌⊎◌, None, Option, Err, IfOk, IfErr, IfSome, OnErr, OnOk};
 ghost use Rattle.segment_disk.specs.Tape.{Tape, page_of_segment, state_now};
-ghost use Rattle.wal_record.specs.Spelling.{assembled, assembled_room, IsWritable};
+ghost use Rattle.record_spelling.specs.Spelling.{assembled, assembled_room, IsWritable};
 ghost use Rattle.wal_types.specs.declared.record.Record.{Record};
 ghost use Rattle.flush_core.specs.Pages.{HoldsNothing};
 ghost use Rattle.flush_core.specs.Writer.{writer_fault};
@@ -16,10 +16,10 @@ use crate::memory::LogMemory;
 use byte_position::Geometry;
 use flush_core::DiskFault;
 use log_answers::{Cause, Hard, Receipt, Refused, Sealed};
+use record_spelling::Body;
 use segment_disk::Disk;
 use std::marker::Model;
 use wal_page::Placed;
-use wal_record::Body;
 use wal_types::Lsn;
 
 /// A log that one backend writes: records follow each other from segment 1's start on (PostgreSQL's

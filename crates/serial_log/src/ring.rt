@@ -1,7 +1,7 @@
 ghost use Rattle.std.specs.Prelude.{◌≡◌, ℕ, ◌+◌, ◌*◌, ◌/◌, ◌%◌, ◌<◌, ◌≤◌, ◌^◌, length, IfOk};
 ghost use Rattle.std.specs.Int.{w64, to_le_bytes};
 ghost use Rattle.byte_position.specs.Position.{end_address_of};
-ghost use Rattle.wal_record.specs.Spelling.{assembled_room};
+ghost use Rattle.record_spelling.specs.Spelling.{assembled_room};
 ghost use Rattle.segment_disk.specs.DiskImage.{word_of};
 ghost use Rattle.serial_log.specs.Ring.{HoldsWords, IsMapped, ring_word};
 ghost use Rattle.serial_log.specs.Words.{AreGiven};

@@ -1,10 +1,10 @@
 use crate::{Log, LogMemory, OpenFailure, Shape};
 use byte_position::Geometry;
 use log_answers::{Cause, Hard, Receipt, Refused, Sealed};
+use record_spelling::Body;
 use segment_disk::{Disk, MemDisk};
 use std::alloc::Global;
 use std::test::Fail;
-use wal_record::Body;
 use wal_types::{BlockList, Bytes, Lsn, Record, Xid};
 
 const SYSTEM_ID: u64 = 1;

@@ -7,8 +7,8 @@ use Rattle.std.proofs.lemmas.List.Elements.{All-from_recursion}
 use Rattle.byte_position.specs.Geometry.{IsSegmentSize}
 use Rattle.byte_position.specs.Position.{is_in_header, position_of, end_address_of, first_position}
 use Rattle.byte_position.proofs.HeaderSizes.{header_size_bounds}
-use Rattle.wal_record.specs.Spelling.{Assembled, assembled, filled, word_at}
-use Rattle.wal_record.proofs.Bytes.{IsBytes-from_All, IsBytes-take, IsBytes-drop, wide64}
+use Rattle.record_spelling.specs.Spelling.{Assembled, assembled, filled, word_at}
+use Rattle.record_spelling.proofs.Bytes.{IsBytes-from_All, IsBytes-take, IsBytes-drop, wide64}
 use Rattle.wal_page.specs.Order.{Entry, IsChained, rooms_of, prev_of}
 use Rattle.wal_page.specs.Page.{header_size, page_header}
 use Rattle.wal_page.specs.Log.{stream_of, owner_of, owner_at, remaining_at, header_byte, log_byte, log_word}

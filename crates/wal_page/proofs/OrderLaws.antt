@@ -3,7 +3,7 @@ use Rattle.std.proofs.Common.{◌≡◌, ℕ, suc, zero, ◌+◌, ◌<◌, ◌�
 use Rattle.std.proofs.lemmas.List.{take-take}
 use Rattle.std.proofs.lemmas.List.Sums.{sum_by_push, sum_by-cons, sum_by-append, sum_by_more, sum_by-take-le}
 use Rattle.byte_position.specs.Position.{address_of, first_position}
-use Rattle.wal_record.specs.Spelling.{room_of, IsWritable}
+use Rattle.record_spelling.specs.Spelling.{room_of, IsWritable}
 use Rattle.wal_page.specs.Order.{Entry, FollowsFrom, IsChained, position_behind, rooms_of, prev_of}
 
 -- no record takes up less than its header

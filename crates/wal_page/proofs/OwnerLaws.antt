@@ -6,7 +6,7 @@ use Rattle.std.proofs.lemmas.Option.{same_Some, none-some}
 use Rattle.byte_position.specs.Geometry.{IsSegmentSize}
 use Rattle.byte_position.specs.Position.{position_of, end_address_of, first_position}
 use Rattle.byte_position.proofs.EndAddresses.{le-position_of, end_address_of-le}
-use Rattle.wal_record.specs.Spelling.{Assembled, assembled, assembled_room}
+use Rattle.record_spelling.specs.Spelling.{Assembled, assembled, assembled_room}
 use Rattle.wal_page.specs.Order.{Entry, FollowsFrom, IsChained, position_behind, rooms_of}
 use Rattle.wal_page.specs.Log.{owner_of, owner_at}
 use Rattle.wal_page.specs.Placed.{Owns}

@@ -5,7 +5,7 @@ use Rattle.byte_position.specs.Geometry.{IsSegmentSize}
 use Rattle.byte_position.specs.Position.{is_in_header, position_of, end_address_of}
 use Rattle.byte_position.proofs.EndAddresses.{end_address_of-le, position_of-end_address_of}
 use Rattle.byte_position.proofs.Words.{end_address_of-mod_word}
-use Rattle.wal_record.specs.Spelling.{Assembled, assembled_size, assembled_room, filled, word_at}
+use Rattle.record_spelling.specs.Spelling.{Assembled, assembled_size, assembled_room, filled, word_at}
 use Rattle.wal_page.specs.Page.{page_header}
 use Rattle.wal_page.specs.Placed.{Owns, StandsAt, entry_word, still_to_come}
 use Rattle.wal_page.proofs.WordPositions.{position_of-header_word, position_of-own_word, position_of-whole, address-bound}

@@ -2,8 +2,8 @@
 use Rattle.std.proofs.Common.{◌≡◌, ℕ, List, [], ◌∷◌, ◌++◌, length, sym, refl, ap, ◌∙◌, arith}
 use Rattle.std.proofs.lemmas.List.{append_assoc, append-nil, length-append}
 use Rattle.byte_position.specs.Position.{address_of}
-use Rattle.wal_record.specs.Spelling.{assembled, filled}
-use Rattle.wal_record.proofs.SpellingLaws.{length-filled}
+use Rattle.record_spelling.specs.Spelling.{assembled, filled}
+use Rattle.record_spelling.proofs.SpellingLaws.{length-filled}
 use Rattle.wal_page.specs.Order.{Entry, rooms_of, prev_of}
 use Rattle.wal_page.specs.Log.{stream_from, stream_of}
 use Rattle.wal_page.proofs.OrderLaws.{rooms_of_cons}

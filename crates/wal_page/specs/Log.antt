@@ -2,7 +2,7 @@
 use Rattle.std.specs.Prelude.{ℕ, ◌+◌, ◌-◌, ◌/◌, ◌%◌, ◌&&◌, List, [], ◌∷◌, ◌++◌, slice_index, Option, Some, None, nat_lt, nat_le, if◌then◌else◌}
 use Rattle.std.specs.Int.{w64, from_le_bytes}
 use Rattle.byte_position.specs.Position.{is_in_header, position_of, address_of, first_position}
-use Rattle.wal_record.specs.Spelling.{assembled, filled, size_of}
+use Rattle.record_spelling.specs.Spelling.{assembled, filled, size_of}
 use Rattle.wal_page.specs.Order.{Entry, position_behind}
 use Rattle.wal_page.specs.Page.{page_header}
 

@@ -2,7 +2,7 @@
 use Rattle.std.specs.Prelude.{◌≡◌, ℕ, ◌+◌, List, [], ◌∷◌, sum_by}
 use Rattle.byte_position.specs.Position.{address_of, end_address_of, first_position}
 use Rattle.wal_types.specs.declared.record.Record.{Record}
-use Rattle.wal_record.specs.Spelling.{room_of, IsWritable}
+use Rattle.record_spelling.specs.Spelling.{room_of, IsWritable}
 
 -- an entry of the log: the pass that reserved it, its record, and the byte position at which it starts
 pub record Entry : Type 0 where

@@ -3,7 +3,7 @@
 use Rattle.std.specs.Prelude.{◌≡◌, ℕ, ◌+◌, ◌-◌, ◌*◌, ◌/◌, ◌%◌, ◌^◌, ◌<◌, ◌≤◌, nat_lt, if◌then◌else◌}
 use Rattle.byte_position.specs.Geometry.{IsSegmentSize}
 use Rattle.byte_position.specs.Position.{is_in_header, position_of, end_address_of}
-use Rattle.wal_record.specs.Spelling.{Assembled, assembled_size, assembled_room, filled, word_at}
+use Rattle.record_spelling.specs.Spelling.{Assembled, assembled_size, assembled_room, filled, word_at}
 use Rattle.wal_page.specs.Page.{page_header}
 
 -- the byte at an address is the record's: its byte position lies in the record's room; a header's bytes have the position of the page's first other byte, and so the same owner

@@ -2,7 +2,7 @@
 
 ghost use Rattle.std.specs.Prelude.{◌≡◌, ℕ, ◌+◌, ◌*◌, ◌/◌, ◌%◌, ◌^◌, ◌<◌, ◌≤◌, ◌==◌, IfOk, MatchResult, Some, None};
 ghost use Rattle.std.specs.Int.{w16, w32, w64};
-ghost use Rattle.wal_record.specs.Reading.{number_at};
+ghost use Rattle.record_spelling.specs.Numbers.{number_at};
 ghost use Rattle.wal_page.specs.Page.{info_of, page_fault, remaining_of, timeline_of};
 
 use crate::layout::*;

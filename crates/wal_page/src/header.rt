@@ -2,7 +2,7 @@
 
 ghost use Rattle.std.specs.Prelude.{◌≡◌, ◌+◌, ◌*◌, ◌^◌, ◌<◌, nat_lt, if◌then◌else◌};
 ghost use Rattle.byte_position.specs.Position.{is_in_header};
-ghost use Rattle.wal_record.specs.Spelling.{word_at};
+ghost use Rattle.record_spelling.specs.Spelling.{word_at};
 ghost use Rattle.wal_page.specs.Page.{header_size, is_first_page, page_header};
 
 use crate::layout::*;

@@ -4,7 +4,7 @@ ghost use Rattle.std.specs.Prelude.{◌≡◌, ℕ, ◌+◌, ◌*◌, ◌%◌, �
 ghost use Rattle.std.specs.Int.{w64, to_le_bytes};
 ghost use Rattle.byte_position.specs.Geometry.{IsSegmentSize};
 ghost use Rattle.byte_position.specs.Position.{address_of, end_address_of, first_position};
-ghost use Rattle.wal_record.specs.Spelling.{Assembled, assembled, assembled_room, filled, room_of, word_at, IsWritable};
+ghost use Rattle.record_spelling.specs.Spelling.{Assembled, assembled, assembled_room, filled, room_of, word_at, IsWritable};
 ghost use Rattle.wal_page.specs.Order.{Entry, FollowsFrom, IsChained, position_behind, prev_of, rooms_of};
 ghost use Rattle.wal_page.specs.Page.{header_size};
 ghost use Rattle.wal_page.specs.Log.{log_byte, log_word, owner_at, stream_of};

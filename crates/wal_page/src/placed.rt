@@ -2,15 +2,15 @@
 
 ghost use Rattle.std.specs.Prelude.{◌≡◌, ◌+◌, ◌-◌, ◌*◌, ◌%◌, ◌^◌, ◌<◌, ◌==◌, IfSome, IfNone, if◌then◌else◌};
 ghost use Rattle.byte_position.specs.Position.{end_address_of};
-ghost use Rattle.wal_record.specs.Spelling.{assembled_room, assembled_size};
+ghost use Rattle.record_spelling.specs.Spelling.{assembled_room, assembled_size};
 ghost use Rattle.wal_page.specs.Page.{header_size};
 ghost use Rattle.wal_page.specs.Placed.{Owns, entry_word, header_word};
 
 use crate::header::{is_in_header, page_header_word};
 use crate::layout::*;
 use byte_position::Geometry;
+use record_spelling::Body;
 use std::marker::Model;
-use wal_record::Body;
 use wal_types::Lsn;
 
 const WORD: u64 = 8;

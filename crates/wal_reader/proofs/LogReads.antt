@@ -6,9 +6,10 @@ use Rattle.std.proofs.lemmas.List.{drop-drop}
 use Rattle.byte_position.specs.Geometry.{pages_of}
 use Rattle.byte_position.specs.Position.{position_of, address_of, first_position}
 use Rattle.byte_position.proofs.Rising.{position_of-mono, lt-position_of}
-use Rattle.wal_record.specs.Record.{is_free_manager}
-use Rattle.wal_record.specs.Spelling.{IsWritable, assembled, size_of, room_of}
-use Rattle.wal_record.proofs.SpellingLaws.{ready, crc_below, spelling_reads}
+use Rattle.record_spelling.specs.Record.{is_free_manager}
+use Rattle.record_spelling.specs.Spelling.{IsWritable, assembled, size_of, room_of}
+use Rattle.wal_record.proofs.SpellingReads.{spelling_reads}
+use Rattle.record_spelling.proofs.SpellingLaws.{ready, crc_below}
 use Rattle.wal_page.specs.Order.{Entry, FollowsFrom, IsChained, position_behind, rooms_of}
 use Rattle.wal_page.specs.Page.{is_continued}
 use Rattle.wal_page.specs.Log.{stream_of, stream_from, owner_of, remaining_at}

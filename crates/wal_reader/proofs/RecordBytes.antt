@@ -6,9 +6,9 @@ use Rattle.std.proofs.lemmas.Bool.{ne_eqb}
 use Rattle.std.proofs.lemmas.List.{take_at, drop_at}
 use Rattle.std.proofs.lemmas.Nat.{from_le_bytes-to_le_bytes_4, from_le_bytes-to_le_bytes_8}
 use Rattle.wal_crc32c.specs.Crc32c.{crc32c}
-use Rattle.wal_record.specs.Spelling.{Assembled, assembled_size, assembled_room, spelled, filled, crc_of}
-use Rattle.wal_record.specs.Reading.{number_at}
-use Rattle.wal_record.proofs.SpellingLaws.{length-spelled, length-filled}
+use Rattle.record_spelling.specs.Spelling.{Assembled, assembled_size, assembled_room, spelled, filled, crc_of}
+use Rattle.record_spelling.specs.Numbers.{number_at}
+use Rattle.record_spelling.proofs.SpellingLaws.{length-spelled, length-filled}
 use Rattle.wal_reader.specs.Decodes.{is_zero_word}
 
 -- the first bytes of what stands where a record does: its header

@@ -5,9 +5,10 @@ use Rattle.std.specs.Int.{w32, w64}
 use Rattle.std.proofs.lemmas.Bool.{eq-eqb, and_from, and_right, not_from_true, le-ltb}
 use Rattle.byte_position.specs.Position.{address_of}
 use Rattle.wal_crc32c.specs.Crc32c.{crc32c}
-use Rattle.wal_record.specs.Record.{is_free_manager}
-use Rattle.wal_record.specs.Spelling.{Assembled, assembled_size, assembled_room, spelled, filled, crc_of}
-use Rattle.wal_record.specs.Reading.{number_at, reading_of}
+use Rattle.record_spelling.specs.Record.{is_free_manager}
+use Rattle.record_spelling.specs.Spelling.{Assembled, assembled_size, assembled_room, spelled, filled, crc_of}
+use Rattle.record_spelling.specs.Numbers.{number_at}
+use Rattle.record_decode.specs.Reading.{reading_of}
 use Rattle.wal_page.specs.Page.{is_continued, first_fault}
 use Rattle.wal_reader.specs.Pages.{Pages, bytes_from}
 use Rattle.wal_reader.specs.Decodes.{Place, is_zero_word, opens_page, page_answers, rows_of_pages, page_of_byte, is_right_prev, record_rows, found_or, answer_or, read_in, read_at, ended}

@@ -5,10 +5,11 @@ use Rattle.std.specs.Int.{w32, w64}
 use Rattle.byte_position.specs.Position.{position_of, address_of, end_address_of}
 use Rattle.wal_types.specs.declared.record.Record.{Record}
 use Rattle.wal_crc32c.specs.Crc32c.{crc32c}
-use Rattle.wal_record.specs.Record.{is_free_manager}
-use Rattle.wal_record.specs.Reading.{number_at, reading_of}
-use Rattle.wal_record.specs.declared.fault.RecErr.{RecErr}
-use Rattle.wal_record.specs.declared.fault.RecErr.TheVariants.{Memory, Malformed, Compressed}
+use Rattle.record_spelling.specs.Record.{is_free_manager}
+use Rattle.record_spelling.specs.Numbers.{number_at}
+use Rattle.record_decode.specs.Reading.{reading_of}
+use Rattle.record_decode.specs.declared.fault.RecErr.{RecErr}
+use Rattle.record_decode.specs.declared.fault.RecErr.TheVariants.{Memory, Malformed, Compressed}
 use Rattle.wal_page.specs.Page.{header_size, timeline_of, remaining_of, is_continued, is_overwritten, first_fault, page_rows}
 use Rattle.wal_reader.specs.declared.found.FoundRecord.{FoundRecord}
 use Rattle.wal_reader.specs.declared.found.Answer.{Answer}

@@ -3,8 +3,9 @@ use Rattle.std.specs.Prelude.{◌≡◌, ◌⊎◌, ℕ, ◌+◌, ◌-◌, ◌/�
 use Rattle.std.specs.Int.{w32, w64}
 use Rattle.byte_position.specs.Position.{address_of}
 use Rattle.wal_crc32c.specs.Crc32c.{crc32c}
-use Rattle.wal_record.specs.Record.{is_free_manager}
-use Rattle.wal_record.specs.Reading.{number_at, reading_of}
+use Rattle.record_spelling.specs.Record.{is_free_manager}
+use Rattle.record_spelling.specs.Numbers.{number_at}
+use Rattle.record_decode.specs.Reading.{reading_of}
 use Rattle.wal_page.specs.Page.{first_fault, is_continued}
 use Rattle.wal_reader.specs.declared.found.Answer.{Answer}
 use Rattle.wal_reader.specs.declared.found.FoundRecord.{FoundRecord}

@@ -2,8 +2,8 @@
 use Rattle.std.specs.Prelude.{◌≡◌, ◌≢◌, ℕ, ◌*◌, ◌<◌, ◌⊎◌, List, ◌++◌, take, drop, Some, slice_get}
 use Rattle.std.specs.Int.{w32, w64}
 use Rattle.wal_crc32c.specs.Crc32c.{crc32c}
-use Rattle.wal_record.specs.Spelling.{assembled, filled, word_at, size_of, room_of}
-use Rattle.wal_record.specs.Reading.{number_at}
+use Rattle.record_spelling.specs.Spelling.{assembled, filled, word_at, size_of, room_of}
+use Rattle.record_spelling.specs.Numbers.{number_at}
 use Rattle.wal_page.specs.Order.{Entry, prev_of}
 use Rattle.wal_reader.specs.Pages.{Pages, bytes_from}
 

@@ -1,7 +1,7 @@
 -- Entries as a reader finds them.
 use Rattle.std.specs.Prelude.{ℕ, List, [], ◌∷◌}
 use Rattle.byte_position.specs.Position.{address_of}
-use Rattle.wal_record.specs.Spelling.{size_of}
+use Rattle.record_spelling.specs.Spelling.{size_of}
 use Rattle.wal_page.specs.Order.{Entry, finish_of}
 use Rattle.wal_reader.specs.declared.found.FoundRecord.{FoundRecord}
 

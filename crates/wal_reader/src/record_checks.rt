@@ -5,8 +5,9 @@ ghost use Rattle.std.specs.Int.{w64};
 ghost use Rattle.byte_position.specs.Position.{address_of};
 ghost use Rattle.wal_crc32c.specs.Crc32c.{crc32c};
 ghost use Rattle.wal_page.specs.Page.{first_fault};
-ghost use Rattle.wal_record.specs.Record.{is_free_manager};
-ghost use Rattle.wal_record.specs.Reading.{number_at, reading_of};
+ghost use Rattle.record_spelling.specs.Record.{is_free_manager};
+ghost use Rattle.record_spelling.specs.Numbers.{number_at};
+ghost use Rattle.record_decode.specs.Reading.{reading_of};
 ghost use Rattle.wal_reader.specs.Decodes.{found_or};
 ghost use Rattle.wal_reader.specs.RecordRows.{crc_rows, header_rows};
 ghost use Rattle.wal_reader.specs.Spelled.{IsSpelled};
@@ -19,9 +20,9 @@ use crate::found::{Answer, DamageKind, FoundRecord};
 use crate::layout::*;
 use crate::numbers::{u32_at, u64_at};
 use byte_position::Geometry;
+use record_decode::{RecErr, decode};
 use std::alloc::{AllocError, Global};
 use wal_crc32c::Crc;
-use wal_record::{RecErr, decode};
 use wal_types::Lsn;
 
 /// Whether a header has a manager that there is, and names the right record before it (PostgreSQL's

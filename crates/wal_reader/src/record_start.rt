@@ -4,7 +4,7 @@ ghost use Rattle.std.specs.Prelude.{◌≡◌, ℕ, ◌+◌, ◌*◌, ◌/◌, �
 ghost use Rattle.std.specs.Int.{w32, w64};
 ghost use Rattle.byte_position.specs.Position.{address_of};
 ghost use Rattle.wal_page.specs.Page.{first_fault};
-ghost use Rattle.wal_record.specs.Reading.{number_at};
+ghost use Rattle.record_spelling.specs.Numbers.{number_at};
 ghost use Rattle.wal_reader.specs.Cursor.{HasGathered, IsOn, Sees};
 ghost use Rattle.wal_reader.specs.Pages.{Pages};
 ghost use Rattle.wal_reader.specs.RecordRows.{opening_of, size_rows};

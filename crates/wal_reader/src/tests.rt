@@ -2,11 +2,11 @@ ghost use Rattle.std.specs.Prelude.{◌≡◌, ◌%◌};
 
 use crate::*;
 use byte_position::Geometry;
+use record_spelling::{Body, BodyErr};
 use segment_disk::{Disk, MemDisk};
 use std::alloc::Global;
 use std::test::Fail;
 use wal_page::{PageErr, Placed};
-use wal_record::{Body, BodyErr};
 use wal_types::{BlockList, Bytes, Lsn, Record, Xid};
 
 const START: Lsn = Lsn(0x10_0000);

@@ -4,7 +4,7 @@ use Rattle.std.specs.Prelude.{IfOk, IfSome, codes}
 use Rattle.std.proofs.lemmas.Bool.{cases_Bool, cond_both, and_parts}
 use Rattle.std.proofs.lemmas.List.Elements.{All-nil, All-cons, All-replicate}
 use Rattle.wal_types.specs.declared.record.Rel.{Rel}
-use Rattle.wal_record.specs.Record.{BlockFits, ImageFits}
+use Rattle.record_spelling.specs.Record.{BlockFits, ImageFits}
 use Rattle.wal_script.specs.declared.blocks.Fork.{Fork}
 use Rattle.wal_script.specs.declared.images.Filler.{Filler}
 use Rattle.wal_script.specs.declared.line.ScriptFault.TheVariants as faults

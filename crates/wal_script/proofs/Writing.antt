@@ -6,12 +6,12 @@ use Rattle.std.specs.Option.{option_or}
 use Rattle.std.proofs.lemmas.Bool.{cond_both}
 use Rattle.std.proofs.lemmas.List.Elements.{All-nil, All-cons, All-from_recursion}
 use Rattle.wal_types.specs.declared.record.Record.{Record}
-use Rattle.wal_record.specs.declared.fault.BodyErr.{BodyErr}
-use Rattle.wal_record.specs.declared.fault.BodyErr.TheVariants.{Memory, TooLong, BadBlock, Switch, BadRmgr}
-use Rattle.wal_record.specs.Record.{Fits, BlockFits, is_free_manager, is_switch}
-use Rattle.wal_record.specs.Refusal.{first_bad_block, refusal_of, too_long}
-use Rattle.wal_record.specs.Spelling.{IsWritable, size_of}
-use Rattle.wal_record.proofs.Acceptance.{refused_or_writable}
+use Rattle.record_spelling.specs.declared.fault.BodyErr.{BodyErr}
+use Rattle.record_spelling.specs.declared.fault.BodyErr.TheVariants.{Memory, TooLong, BadBlock, Switch, BadRmgr}
+use Rattle.record_spelling.specs.Record.{Fits, BlockFits, is_free_manager, is_switch}
+use Rattle.record_spelling.specs.Refusal.{first_bad_block, refusal_of, too_long}
+use Rattle.record_spelling.specs.Spelling.{IsWritable, size_of}
+use Rattle.record_spelling.proofs.Acceptance.{refused_or_writable}
 use Rattle.wal_script.specs.declared.line.Line.{Line}
 use Rattle.wal_script.specs.declared.line.Action.{Action}
 use Rattle.wal_script.specs.declared.line.Action.TheVariants.{Insert, Commit}

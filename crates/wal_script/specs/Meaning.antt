@@ -2,9 +2,9 @@
 use Rattle.std.specs.Prelude.{ℕ, ◌+◌, ◌-◌, ◌^◌, List, [], ◌∷◌, length, take, Option, Some, None, Result, Ok, Err, count_by, codes, ◌==◌, nat_lt, if◌then◌else◌, option_and_then}
 use Rattle.std.specs.Int.{w64, to_le_bytes}
 use Rattle.wal_types.specs.declared.record.Record.{Record}
-use Rattle.wal_record.specs.declared.fault.BodyErr.{BodyErr}
-use Rattle.wal_record.specs.declared.fault.BodyErr.TheVariants.{Memory, TooLong, BadBlock, Switch, BadRmgr}
-use Rattle.wal_record.specs.Refusal.{refusal_of}
+use Rattle.record_spelling.specs.declared.fault.BodyErr.{BodyErr}
+use Rattle.record_spelling.specs.declared.fault.BodyErr.TheVariants.{Memory, TooLong, BadBlock, Switch, BadRmgr}
+use Rattle.record_spelling.specs.Refusal.{refusal_of}
 use Rattle.wal_script.specs.declared.line.Line.{Line}
 use Rattle.wal_script.specs.declared.line.Action.{Action}
 use Rattle.wal_script.specs.declared.line.Action.TheVariants.{Insert, Commit, Flush}

@@ -9,7 +9,7 @@ use Rattle.wal_script.specs.declared.parser.ParseError.TheVariants as errors
 use Rattle.wal_script.specs.declared.line_error.LineError.{LineError}
 use Rattle.wal_script.specs.declared.line_error.LineError.TheVariants as causes
 use Rattle.wal_script.specs.declared.line.ScriptFault.{ScriptFault}
-use Rattle.wal_record.specs.declared.fault.BodyErr.{BodyErr}
+use Rattle.record_spelling.specs.declared.fault.BodyErr.{BodyErr}
 use Rattle.wal_script.specs.Meaning.{LineMeaning, passes, asks, refuses, assembly_fault}
 
 -- a script that is refused so means that refusal

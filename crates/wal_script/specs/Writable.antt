@@ -1,5 +1,5 @@
 -- That what a script asks for can be done.
-use Rattle.wal_record.specs.Spelling.{IsWritable}
+use Rattle.record_spelling.specs.Spelling.{IsWritable}
 use Rattle.wal_script.specs.declared.line.Action.{Action}
 use Rattle.wal_script.specs.declared.line.Action.TheVariants.{Insert, Commit, Flush}
 

@@ -3,8 +3,8 @@ ghost use Rattle.wal_script.specs.Reading.{at_line};
 
 use crate::line::{Refusal, ScriptFault};
 use crate::parser::ParseError;
+use record_spelling::BodyErr;
 use std::alloc::{AllocError, AllocFailed};
-use wal_record::BodyErr;
 
 /// Why a line was not read.
 #[derive(Clone, Copy, Debug)]

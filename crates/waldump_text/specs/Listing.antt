@@ -6,8 +6,8 @@ use Rattle.wal_types.specs.LsnText.{lsn_text}
 use Rattle.wal_types.specs.declared.record.Block.{Block}
 use Rattle.wal_types.specs.declared.record.Image.{Image}
 use Rattle.wal_types.specs.declared.record.Rel.{Rel}
-use Rattle.wal_record.specs.Record.{is_free_manager}
-use Rattle.wal_record.specs.Spelling.{image_bytes}
+use Rattle.record_spelling.specs.Record.{is_free_manager}
+use Rattle.record_spelling.specs.Spelling.{image_bytes}
 use Rattle.wal_reader.specs.declared.found.FoundRecord.{FoundRecord}
 use Rattle.waldump_text.specs.declared.listed.Listed.{Listed}
 use Rattle.waldump_text.specs.Put.{joined, padded_left}

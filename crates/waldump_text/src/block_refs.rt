@@ -1,7 +1,7 @@
 //! The block references of a line (PostgreSQL's xlogdesc.c, XLogRecGetBlockRefInfo).
 
 ghost use Rattle.std.specs.Prelude.{◌≡◌, ◌+◌, ◌^◌, ◌<◌, ◌≤◌, ◌++◌, length, All};
-ghost use Rattle.wal_record.specs.Spelling.{image_bytes};
+ghost use Rattle.record_spelling.specs.Spelling.{image_bytes};
 ghost use Rattle.waldump_text.specs.Put.{PutsBut, joined};
 ghost use Rattle.waldump_text.specs.Listing.{block_pieces, blocks_text, fork_text, image_text, images_len, relation_text};
 ghost use Rattle.waldump_text.specs.declared.line_buffer.TheConstants.{ROOM};

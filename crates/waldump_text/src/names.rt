@@ -1,5 +1,5 @@
 ghost use Rattle.std.specs.Prelude.{◌≡◌, ◌<◌, ◌≤◌, IsTrue, [], length, not, slice_index_or};
-ghost use Rattle.wal_record.specs.Record.{is_free_manager};
+ghost use Rattle.record_spelling.specs.Record.{is_free_manager};
 ghost use Rattle.waldump_text.specs.Names.{manager_name, own_word, record_word, unknown_word, lower_digit, fork_names, name_text, word_text};
 
 /// The name of a resource manager.

@@ -1,5 +1,5 @@
 ghost use Rattle.std.specs.Prelude.{◌≡◌, ◌%◌, IfOk, IsTrue, [], not};
-ghost use Rattle.wal_record.specs.Record.{is_free_manager};
+ghost use Rattle.record_spelling.specs.Record.{is_free_manager};
 ghost use Rattle.waldump_text.specs.Listing.{IsListable};
 
 use crate::dumping::{DumpErr, dump};
@@ -7,13 +7,13 @@ use crate::lines::line;
 use crate::listed::Listed;
 use crate::putting::SinkFault;
 use byte_position::Geometry;
+use record_spelling::Body;
 use segment_disk::{Disk, MemDisk, MemSink};
 use std::alloc::{AllocError, Global};
 use std::process::Abort;
 use std::test::Fail;
 use wal_page::Placed;
 use wal_reader::{Answer, DamageKind};
-use wal_record::Body;
 use wal_types::{Block, BlockList, Bytes, Image, Lsn, Record, Rel, Xid};
 
 const COMMIT_LINE: &[u8; 133] =

@@ -1,9 +1,9 @@
 use Rattle.std.proofs.Common.{◌≡◌, Some, None, refl, sym, ◌∙◌}
 use Rattle.wal_types.specs.declared.record.Record.{Record}
-use Rattle.wal_record.specs.Refusal.{refusal_of, RefusesToAssemble}
-use Rattle.wal_record.specs.declared.fault.BodyErr.{BodyErr}
-use Rattle.wal_record.specs.declared.fault.BodyErr.TheVariants.{Memory, TooLong, BadBlock, Switch, BadRmgr}
-use Rattle.wal_record.proofs.Acceptance.{refused_or_writable}
+use Rattle.record_spelling.specs.Refusal.{refusal_of, RefusesToAssemble}
+use Rattle.record_spelling.specs.declared.fault.BodyErr.{BodyErr}
+use Rattle.record_spelling.specs.declared.fault.BodyErr.TheVariants.{Memory, TooLong, BadBlock, Switch, BadRmgr}
+use Rattle.record_spelling.proofs.Acceptance.{refused_or_writable}
 use Rattle.backend_cli.proofs.tasks.body_of.Goals as goal
 use Rattle.backend_cli.proofs.tasks.body_of.Goals.{in-Memory, in_default}
 

@@ -1,7 +1,7 @@
 -- The next word comes, since the record has further ones.
 use Rattle.std.proofs.Common.{◌≡◌, ◌<◌, ◌≤◌, ◌+◌, ◌*◌, ℕ, List, length, get_or, ap, sym, subst, arith}
 use Rattle.byte_position.specs.Position.{end_address_of}
-use Rattle.wal_record.specs.Spelling.{assembled_room}
+use Rattle.record_spelling.specs.Spelling.{assembled_room}
 use Rattle.wal_page.specs.Placed.{PlacedState}
 use Rattle.serial_log.specs.Words.{word_of_placed}
 use Rattle.serial_log.proofs.CopyLaws.{placed_on, words_on}

@@ -2,7 +2,7 @@ use Rattle.std.proofs.Common.{◌≡◌, ◌-◌, ◌*◌, ◌%◌, ◌||◌, eq
 use Rattle.std.proofs.lemmas.Bool.{or_left, eq-eqb}
 use Rattle.byte_position.specs.Geometry.{IsSegmentSize}
 use Rattle.byte_position.specs.Position.{is_in_header, position_of}
-use Rattle.wal_record.specs.Spelling.{assembled_size, word_at}
+use Rattle.record_spelling.specs.Spelling.{assembled_size, word_at}
 use Rattle.wal_page.specs.Page.{page_header}
 use Rattle.wal_page.specs.Placed.{Owns, PlacedState, still_to_come}
 use Rattle.wal_page.proofs.PlacedSteps.{page-bound, page_position-whole, still_to_come-passed}

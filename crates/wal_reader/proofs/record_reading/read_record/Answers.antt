@@ -1,7 +1,7 @@
 use Rattle.std.proofs.Common.{◌≡◌, Some, option_map, inr, sym, ap, ◌∙◌}
 use Rattle.std.specs.Int.{w32}
 use Rattle.std.proofs.lemmas.Result.{err_from_is_err_and}
-use Rattle.wal_record.specs.Reading.{number_at}
+use Rattle.record_spelling.specs.Numbers.{number_at}
 use Rattle.wal_types.specs.declared.lsn.Lsn.{Lsn}
 use Rattle.wal_reader.specs.declared.cursor.Extent.{Extent}
 use Rattle.wal_reader.specs.Standpoint.{place_of}

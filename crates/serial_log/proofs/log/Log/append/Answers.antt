@@ -4,7 +4,7 @@ use Rattle.byte_position.specs.Position.{end_address_of}
 use Rattle.byte_position.proofs.EndAddresses.{end_address_of-le_address_of}
 use Rattle.byte_position.proofs.Rising.{address_of-bound}
 use Rattle.byte_position.proofs.Words.{end_address_of-mod_word}
-use Rattle.wal_record.specs.Spelling.{assembled_room}
+use Rattle.record_spelling.specs.Spelling.{assembled_room}
 use Rattle.flush_core.specs.Writer.{writer_fault}
 use Rattle.serial_log.specs.LogState.{LogState}
 use Rattle.serial_log.proofs.LogLaws.{IsPlace, appended_ok, appended_err, inserts_at, placed_next, unwritten}

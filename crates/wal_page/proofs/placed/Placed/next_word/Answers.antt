@@ -1,5 +1,5 @@
 use Rattle.std.proofs.Common.{◌-◌, ◌/◌, ◌%◌, ◌<◌, cond, eqb, ℕ, ap, sym, ◌∙◌, arith}
-use Rattle.wal_record.specs.Spelling.{assembled_size, assembled_room, word_at}
+use Rattle.record_spelling.specs.Spelling.{assembled_size, assembled_room, word_at}
 use Rattle.wal_page.specs.Page.{page_header}
 use Rattle.wal_page.proofs.PlacedSteps.{passed-whole, next-bound, stands_behind, stands_over_header, stands_over_own, header_word_next, own_word_next}
 use Rattle.wal_page.proofs.placed.Placed.next_word.Goals as goal
