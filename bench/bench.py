@@ -3,9 +3,13 @@
 
 Makes scripts of 100-byte and of 8,000-byte records, of records with a block's data and with a page's image, with a commit
 for each thousand, about 200 MB of log each, and one of half as many small records (twice the records are to take about
-twice the time). Prints records and megabytes a second and the peak memory, with pg_waldump's listing of the same segments
-beside it where one is installed.
-Usage: bench/bench.py [MEGABYTES]
+twice the time). Prints instructions for each record, records and megabytes a second and the peak memory, with pg_waldump's
+listing of the same segments beside it where one is installed.
+
+Instructions are counted by valgrind's callgrind, which the machine's load does not disturb, in two smaller runs, of which
+one has a thousand records more: their difference, divided by a thousand, is without what starting costs. What the system
+does in its calls is not counted. Without valgrind the column is empty.
+Usage: bench/bench.py [MEGABYTES]; with 0 megabytes the instructions alone
 """
 import os
 import re
@@ -62,11 +66,43 @@ def timed(words, folder, stdin=None):
     return tail, lines, seconds, usage.ru_maxrss / 1024
 
 
-def row(name, records, size, seconds, memory):
-    print(f"| {name} | {records:,} | {records / seconds / 1e6:.3f} | {size / seconds / 1e6:.0f} | {seconds:.2f} | {memory:.0f} |", flush=True)
+def instructions(words, folder, stdin=None):
+    """The instructions that a program takes in a folder: all, and those of the log's inserts."""
+    counts = os.path.join(folder, "callgrind")
+    counted = ["valgrind", "--tool=callgrind", f"--callgrind-out-file={counts}", *words]
+    with open(stdin or os.devnull, "rb") as given:
+        done = subprocess.run(counted, cwd=folder, stdin=given, stdout=subprocess.DEVNULL, stderr=subprocess.PIPE)
+    told = done.stderr.decode()
+    found = re.search(r"Collected : (\d+)", told)
+    if done.returncode or not found:
+        sys.exit(f"{' '.join(counted)}: status {done.returncode}: {told}")
+    listed = ["callgrind_annotate", "--inclusive=yes", "--threshold=100", counts]
+    names = subprocess.run(listed, capture_output=True, text=True).stdout
+    inserts = re.search(r"^ *([\d,]+) .*\bLog::insert\b", names, re.M)
+    return int(found[1]), int(inserts[1].replace(",", "")) if inserts else 0
 
 
-def measure(name, case, records):
+def instructions_per_record(fields):
+    """Those that `run` takes for one record more, its insert alone, and `dump`; each log lies in segments of 16 MiB."""
+    counts = []
+    for records in (1000, 2000):
+        with tempfile.TemporaryDirectory() as folder:
+            path = os.path.join(folder, "script")
+            write_script(path, fields, records)
+            run, insert = instructions([PROGRAM, "run"], folder, path)
+            dump, _ = instructions([PROGRAM, "dump"], folder)
+            counts.append((run, insert, dump))
+    return [(more - less) / 1000 for less, more in zip(*counts)]
+
+
+def row(name, counted, records, size, seconds, memory):
+    print(
+        f"| {name} | {counted} | {records:,} | {records / seconds / 1e6:.3f} | {size / seconds / 1e6:.0f} | {seconds:.2f} | {memory:.0f} |",
+        flush=True,
+    )
+
+
+def measure(name, case, records, of_run, of_dump):
     fields, total = CASES[case]
     with tempfile.TemporaryDirectory() as folder:
         path = os.path.join(folder, "script")
@@ -76,30 +112,43 @@ def measure(name, case, records):
         want = f"records {records} commits {records // 1000} bytes {size} "
         if not tail.startswith(want):
             sys.exit(f"run printed {tail!r}, not {want!r}")
-        row(f"run, {name}", records, size, seconds, memory)
+        row(f"run, {name}", of_run, records, size, seconds, memory)
         tail, lines, seconds, memory = timed([PROGRAM, "dump"], folder)
         if lines != records:
             sys.exit(f"dump listed {lines} records of {records}")
-        row(f"dump, {name}", records, size, seconds, memory)
+        row(f"dump, {name}", of_dump, records, size, seconds, memory)
         peer = shutil.which("pg_waldump")
         if peer:
             first = os.path.join(folder, "pg_wal", "000000010000000000000001")
             begin = time.monotonic()
             done = subprocess.run([peer, first], stdout=subprocess.DEVNULL, stderr=subprocess.PIPE)
-            print(f"| pg_waldump of segment 1, {name} | | | | {time.monotonic() - begin:.2f} | {done.stderr.decode()[-80:].strip()} |")
+            print(f"| pg_waldump of segment 1, {name} | | | | | {time.monotonic() - begin:.2f} | {done.stderr.decode()[-80:].strip()} |")
 
 
 def main():
     if not os.access(PROGRAM, os.X_OK):
         sys.exit("build the program first: run ./pgwal once")
     megabytes = int(sys.argv[1]) if len(sys.argv) > 1 else 200
-    print("| what | records | million records/s | MB/s | s | peak MB |")
-    print("|---|---|---|---|---|---|")
-    for case, (_, total) in CASES.items():
+    if not (megabytes or shutil.which("valgrind")):
+        sys.exit("instructions are counted by valgrind, which is not here")
+    if megabytes:
+        print("| what | instructions a record | records | million records/s | MB/s | s | peak MB |")
+        print("|---|---|---|---|---|---|---|")
+    else:
+        print("| what | instructions a record |")
+        print("|---|---|")
+    for case, (fields, total) in CASES.items():
+        of_run = of_dump = ""
+        if shutil.which("valgrind"):
+            run, insert, dump = instructions_per_record(fields)
+            of_run, of_dump = f"{run:,.0f}, of them the insert {insert:,.0f}", f"{dump:,.0f}"
+        if not megabytes:
+            print(f"| run, {case} | {of_run} |\n| dump, {case} | {of_dump} |", flush=True)
+            continue
         records = megabytes * 1_000_000 // room(total)
         if case == "100 bytes":
-            measure("100 bytes, half", case, records // 2)
-        measure(case, case, records)
+            measure("100 bytes, half", case, records // 2, "", "")
+        measure(case, case, records, of_run, of_dump)
 
 
 if __name__ == "__main__":

@@ -15,7 +15,6 @@ pub mod Capacities
 pub mod RunLaws
 pub mod TaskLines
 pub mod ReadLaws
-pub mod WordLaws
 pub mod AnswerLoops
 pub mod ScriptReading
 pub mod MomentLaws

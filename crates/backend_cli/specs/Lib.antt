@@ -1,4 +1,3 @@
-pub mod Words
 pub mod Told
 pub mod Texts
 pub mod Moments

@@ -4,8 +4,8 @@ use Rattle.serial_log.specs.History.{capacity_of}
 use Rattle.backend_cli.specs.declared.outcome.Outcome.{Outcome}
 use Rattle.backend_cli.specs.declared.outcome.Outcome.TheVariants.{Usage}
 use Rattle.backend_cli.specs.declared.told.Told.{Told}
-use Rattle.backend_cli.specs.declared.words.Command.{Command}
-use Rattle.backend_cli.specs.declared.words.Command.TheVariants.{Run, Dump}
+use Rattle.command_words.specs.declared.words.Command.{Command}
+use Rattle.command_words.specs.declared.words.Command.TheVariants.{Run, Dump}
 use Rattle.backend_cli.specs.Outside.{Outside, IsUntouched}
 use Rattle.backend_cli.specs.Run.{RunHolds}
 use Rattle.backend_cli.specs.Dumping.{DumpHolds}

@@ -12,7 +12,6 @@ mod reading;
 mod run;
 mod tasks;
 mod told;
-mod words;
 
 pub use laws::{
     law_of_played_down, law_of_played_entries, law_of_played_full, law_of_played_tells,
@@ -22,4 +21,3 @@ pub use log_answers::Cause;
 pub use outcome::Outcome;
 pub use program::{Ended, Gate, pgwal};
 pub use told::{Told, ToldLists};
-pub use words::{Command, RunOptions};

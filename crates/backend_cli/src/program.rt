@@ -1,6 +1,6 @@
 ghost use Rattle.std.specs.Prelude.{◌≡◌, map, string_bytes};
 ghost use Rattle.waldump_text.specs.Put.{joined};
-ghost use Rattle.backend_cli.specs.Words.{AsksInRange, asks};
+ghost use Rattle.command_words.specs.Words.{AsksInRange, asks};
 ghost use Rattle.backend_cli.specs.Outcome.{status_of, outcome_text};
 ghost use Rattle.backend_cli.specs.Outside.{Took};
 ghost use Rattle.backend_cli.specs.Obeying.{Obeys, AsksRun};
@@ -10,8 +10,9 @@ use crate::dump::list;
 use crate::outcome::Outcome;
 use crate::run::{Finished, run};
 use crate::told::ToldLists;
-use crate::words::{Command, asked};
+use command_words::{Command, asked};
 use segment_disk::{Disk, Sink, Source};
+use serial_log::Shape;
 use std::alloc::Global;
 use std::sync::Wait;
 use std::thread::Threads;
@@ -64,7 +65,11 @@ fn obey<S: Source, O: Sink, D: Disk, G: Gate>(
             told: ToldLists::none(alloc),
         },
         Some(Command::Run(options)) => {
-            let shape = options.shape().unwrap();
+            let shape = Shape::new(
+                options.geometry,
+                options.ring_pages,
+                options.cap_segments,
+            ).unwrap();
             run(alloc, shape, options.list, script, disk, out, gate)
         }
         Some(Command::Dump(geometry)) => list(alloc, *geometry, disk, out),

@@ -2,7 +2,8 @@
 #![tactic(auto)]
 
 use backend_cli::{Gate, pgwal};
-use segment_disk::{FileDisk, Memory, StandardSink, StandardSource};
+use segment_disk::Memory;
+use segment_files::{FileDisk, StandardSink, StandardSource};
 use std::alloc::AllocError;
 use std::env;
 use std::io::ErrorKind;

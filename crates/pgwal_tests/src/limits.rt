@@ -2,23 +2,29 @@
 
 use crate::played::{Open, empty_disk};
 use backend_cli::pgwal;
-use segment_disk::{Disk, Failed, MemSink, Source};
+use segment_disk::{Disk, Failed, HandedOut, MemSink, Source};
 use std::test::Fail;
 
 /// A source of line feeds without an end, which tells nothing of what is left.
 #[derive(Drop)]
-struct LineFeeds;
+struct LineFeeds {
+    handed: HandedOut,
+}
 
 impl Source for LineFeeds {
     ghost use Rattle.std.specs.Prelude.{None};
 
     ghost left = { λ _. None };
 
+    ghost handed = { λ s. s.handed.bytes };
+
     ghost faults = { λ _. 0 };
 
     fn read(&mut self, into: &mut [u8]) -> Result<usize, Failed> {
         into.fill(b'\n');
-        Ok(into.len())
+        let count = into.len();
+        self.handed.add(&into[..count]);
+        Ok(count)
     }
 
     fn faults(&self) -> u64 {
@@ -37,11 +43,14 @@ fn a_script_beyond_its_limit_is_refused_at_its_first_byte_too_many(
     words.push(String::from_str(alloc, "run")?)?;
     let mut out = MemSink::new(alloc, 1024, Vec::new(alloc))?;
     let mut err = MemSink::new(alloc, 1024, Vec::new(alloc))?;
+    let mut source = LineFeeds {
+        handed: HandedOut::new(),
+    };
     let ended = pgwal(
         &rt,
         alloc,
         &words,
-        &mut LineFeeds,
+        &mut source,
         empty_disk(alloc, &[])?,
         &mut out,
         &mut err,

@@ -1,3 +1,4 @@
 pub mod Pieces
+pub mod Handing
 pub mod Reading
 pub mod Presence

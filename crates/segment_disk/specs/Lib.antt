@@ -6,4 +6,3 @@ pub mod Failing
 pub mod Present
 pub mod MemStream
 pub mod MemDisk
-pub mod Adapter

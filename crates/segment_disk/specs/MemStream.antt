@@ -1,5 +1,5 @@
 -- A source and a sink in memory: what is left, what was taken, and what they fail at.
-use Rattle.std.specs.Prelude.{ℕ, ◌-◌, Bool, List, length, drop, Option, Some, nat_lt, ◌==◌, ◌&&◌, ◌||◌}
+use Rattle.std.specs.Prelude.{ℕ, ◌-◌, Bool, List, length, take, drop, Option, Some, nat_lt, ◌==◌, ◌&&◌, ◌||◌}
 use Rattle.segment_disk.specs.Failing.{Failing, fails_next}
 use Rattle.segment_disk.specs.declared.memory.source.MemSource.{MemSource}
 use Rattle.segment_disk.specs.declared.memory.sink.MemSink.{MemSink}
@@ -7,6 +7,10 @@ use Rattle.segment_disk.specs.declared.memory.sink.MemSink.{MemSink}
 -- the bytes that are left in a source
 abbrev pub source_left : MemSource → Option (List ℕ)
 source_left source = Some (drop source.taken source.bytes.items)
+
+-- the bytes that a source has handed out
+abbrev pub source_handed : MemSource → List ℕ
+source_handed source = take source.taken source.bytes.items
 
 -- how often a source has failed
 abbrev pub source_faults : MemSource → ℕ

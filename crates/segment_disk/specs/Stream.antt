@@ -1,12 +1,23 @@
 -- What sources and sinks do with their bytes, where they tell them.
 use Rattle.std.specs.Prelude.{◌≡◌, ℕ, List, ◌++◌, take, Option, Some, None, option_map}
 
+-- these bytes are taken off the front of what is left, where that is told
+abbrev pub LosesFront : Option (List ℕ) → Option (List ℕ) → List ℕ → Type 0
+LosesFront None None front = Unit {0}
+LosesFront (Some old) (Some new) front = old ≡ front ++ new
+LosesFront None (Some new) front = ⊥
+LosesFront (Some old) None front = ⊥
+
 -- a read of n bytes into a piece takes them off the front of what is left
 abbrev pub Takes : Option (List ℕ) → Option (List ℕ) → ℕ → List ℕ → Type 0
-Takes None None n piece = Unit {0}
-Takes (Some old) (Some new) n piece = old ≡ take n piece ++ new
-Takes None (Some new) n piece = ⊥
-Takes (Some old) None n piece = ⊥
+Takes old new n piece = LosesFront old new (take n piece)
+
+-- from one moment of a source to a later one: what was left is what it handed out in between, and
+-- then what is left now
+abbrev pub HandsOut : Option (List ℕ) → Option (List ℕ) → List ℕ → List ℕ → Type 0
+HandsOut old_left new_left old_handed new_handed =
+    (between : List ℕ) × (new_handed ≡ old_handed ++ between)
+    × LosesFront old_left new_left between
 
 -- what was taken, with further bytes behind it
 abbrev pub with_behind : Option (List ℕ) → List ℕ → Option (List ℕ)

@@ -5,7 +5,7 @@ ghost use Rattle.std.specs.Prelude.{◌≡◌, ℕ, ◌+◌, ◌-◌, ◌^◌, �
 pub struct Failed;
 
 /// Counts a fault. The count stops at the last value that it can have.
-pub(crate) fn count_fault(faults: &mut u64) -> Failed
+pub fn count_fault(faults: &mut u64) -> Failed
     ensures { (faults.new ≡ faults.old + 1) ⊎ ((faults.new ≡ faults.old) × (faults.new ≡ 2 ^ 64 - 1)) }
 {
     *faults = faults.saturating_add(1);

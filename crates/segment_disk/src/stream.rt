@@ -1,13 +1,17 @@
-ghost use Rattle.std.specs.Prelude.{◌≡◌, ℕ, ◌<◌, ◌≤◌, List, [], length, take, Option, IfOk, OnErr, IfSome};
+ghost use Rattle.std.specs.Prelude.{◌≡◌, ℕ, ◌<◌, ◌≤◌, List, [], ◌++◌, length, take, Option, IfOk, OnErr, IfSome};
 ghost use Rattle.segment_disk.specs.Cause.{HasCause};
 ghost use Rattle.segment_disk.specs.Stream.{Takes, with_behind};
 
 use crate::failed::Failed;
 
-/// Bytes that come from outside, piece by piece.
+/// Bytes that come from outside, piece by piece. What each source tells is what it has handed out; one that also tells what
+/// is left has handed out the front of that and of nothing else, in order (`HandsOut` of specs/Stream.antt).
 pub trait Source {
     /// The bytes that are left, where the source tells them.
     ghost left: { Self → Option (List ℕ) };
+
+    /// All bytes that it has handed out so far.
+    ghost handed: { Self → List ℕ };
 
     /// How often the source has failed.
     ghost faults: { Self → ℕ };
@@ -16,8 +20,11 @@ pub trait Source {
     /// exactly where nothing is left. A failed call takes nothing.
     fn read(&mut self, into: &mut [u8]) -> Result<usize, Failed>
         ensures within { IfOk result (λ n. n ≤ length into.old) }
+        ensures handed { IfOk result (λ n. handed self.new ≡ handed self.old ++ take n into.new) }
+        ensures none_handed { OnErr result (handed self.new ≡ handed self.old) }
         ensures taken { IfOk result (λ n. Takes (left self.old) (left self.new) n into.new) }
-        ensures end { IfOk result (λ n. n ≡ 0 → 0 < length into.old → IfSome (left self.old) (λ bytes. bytes ≡ [])) }
+        ensures end { IfOk result (λ n. n ≡ 0 → 0 < length into.old
+            → IfSome (left self.old) (λ bytes. bytes ≡ [])) }
         ensures failed { OnErr result (left self.new ≡ left self.old) }
         ensures cause { HasCause (faults self.old) (faults self.new) result };
 

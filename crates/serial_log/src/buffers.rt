@@ -66,9 +66,12 @@ impl<D: Disk> Buffers<D> {
         requires up { writer_fault self.old.writer ≡ None }
         requires spans { Spans self.old.ring self.old.writer upto.0 }
         requires rises { written_of self.old.writer < upto.0 }
-        ensures writes { OnOk result (WritesOn D.tape D.moment D.faults (RingHas self.old.ring upto.0) self.old.writer self.new.writer) }
-        ensures fails { IfErr result (λ e. GoesDown D.moment D.faults self.old.writer self.new.writer e.faults) }
-        ensures written { OnOk result (written_of self.new.writer ≡ min upto.0 ((written_of self.old.writer / 8192 + 1) * 8192)) }
+        ensures writes { OnOk result (WritesOn D.tape D.moment D.faults
+            (RingHas self.old.ring upto.0) self.old.writer self.new.writer) }
+        ensures fails { IfErr result (λ e.
+            GoesDown D.moment D.faults self.old.writer self.new.writer e.faults) }
+        ensures written { OnOk result (written_of self.new.writer
+            ≡ min upto.0 ((written_of self.old.writer / 8192 + 1) * 8192)) }
         ensures ring { self.new.ring ≡ self.old.ring }
     {
         let written = self.writer.written();
@@ -82,8 +85,10 @@ impl<D: Disk> Buffers<D> {
     fn write_upto(&mut self, upto: Lsn) -> Result<(), DiskFault>
         requires up { writer_fault self.old.writer ≡ None }
         requires spans { Spans self.old.ring self.old.writer upto.0 }
-        ensures writes { OnOk result (WritesOn D.tape D.moment D.faults (RingHas self.old.ring upto.0) self.old.writer self.new.writer) }
-        ensures fails { IfErr result (λ e. GoesDown D.moment D.faults self.old.writer self.new.writer e.faults) }
+        ensures writes { OnOk result (WritesOn D.tape D.moment D.faults
+            (RingHas self.old.ring upto.0) self.old.writer self.new.writer) }
+        ensures fails { IfErr result (λ e.
+            GoesDown D.moment D.faults self.old.writer self.new.writer e.faults) }
         ensures further { OnOk result (IsSameOrFurther self.old.writer self.new.writer) }
         ensures written { OnOk result (written_of self.new.writer ≡ upto.0) }
         ensures ring { self.new.ring ≡ self.old.ring }
@@ -100,12 +105,15 @@ impl<D: Disk> Buffers<D> {
         requires up { writer_fault self.old.writer ≡ None }
         requires spans { Spans self.old.ring self.old.writer next.0 }
         requires bound { next.0 < 2 ^ 62 }
-        ensures writes { OnOk result (WritesOn D.tape D.moment D.faults (RingHas self.old.ring next.0) self.old.writer self.new.writer) }
-        ensures fails { IfErr result (λ e. GoesDown D.moment D.faults self.old.writer self.new.writer e.faults) }
+        ensures writes { OnOk result (WritesOn D.tape D.moment D.faults
+            (RingHas self.old.ring next.0) self.old.writer self.new.writer) }
+        ensures fails { IfErr result (λ e.
+            GoesDown D.moment D.faults self.old.writer self.new.writer e.faults) }
         ensures further { OnOk result (IsSameOrFurther self.old.writer self.new.writer) }
         ensures spans { OnOk result (Spans self.new.ring self.new.writer next.0) }
         ensures held { OnOk result (next.0 < self.new.ring.mapped * 8192) }
-        ensures words { OnOk result ((word : ℕ → ℕ) → RingHas self.old.ring next.0 word → RingHas self.new.ring next.0 word) }
+        ensures words { OnOk result ((word : ℕ → ℕ)
+            → RingHas self.old.ring next.0 word → RingHas self.new.ring next.0 word) }
     {
         if next < self.ring.end() {
             return Ok(());
@@ -123,14 +131,18 @@ impl<D: Disk> Buffers<D> {
         requires up { writer_fault self.old.writer ≡ None }
         requires spans { Spans self.old.ring self.old.writer placed.old.next }
         requires whole { (placed.old.next % 8 ≡ 0) × (end.0 % 8 ≡ 0) }
-        requires end { end.0 ≡ end_address_of placed.old.size (placed.old.start + assembled_room placed.old.body) }
+        requires end { end.0
+            ≡ end_address_of placed.old.size (placed.old.start + assembled_room placed.old.body) }
         requires begins { placed.old.next ≤ end.0 }
         requires bound { end.0 < 2 ^ 62 }
-        ensures writes { OnOk result (WritesOn D.tape D.moment D.faults (RingTakes self.old.ring placed.old end.0) self.old.writer self.new.writer) }
-        ensures fails { IfErr result (λ e. GoesDown D.moment D.faults self.old.writer self.new.writer e.faults) }
+        ensures writes { OnOk result (WritesOn D.tape D.moment D.faults
+            (RingTakes self.old.ring placed.old end.0) self.old.writer self.new.writer) }
+        ensures fails { IfErr result (λ e.
+            GoesDown D.moment D.faults self.old.writer self.new.writer e.faults) }
         ensures further { OnOk result (IsSameOrFurther self.old.writer self.new.writer) }
         ensures spans { OnOk result (Spans self.new.ring self.new.writer end.0) }
-        ensures words { OnOk result ((word : ℕ → ℕ) → RingTakes self.old.ring placed.old end.0 word → RingHas self.new.ring end.0 word) }
+        ensures words { OnOk result ((word : ℕ → ℕ)
+            → RingTakes self.old.ring placed.old end.0 word → RingHas self.new.ring end.0 word) }
         ensures unfinished { OnOk result (placed.old.next < end.0 → written_of self.new.writer < end.0) }
     {
         while placed.next_lsn() < end {
@@ -145,8 +157,10 @@ impl<D: Disk> Buffers<D> {
     pub(crate) fn flush(&mut self, upto: Lsn) -> Result<u64, DiskFault>
         requires up { writer_fault self.old.writer ≡ None }
         requires spans { Spans self.old.ring self.old.writer upto.0 }
-        ensures writes { OnOk result (WritesOn D.tape D.moment D.faults (RingHas self.old.ring upto.0) self.old.writer self.new.writer) }
-        ensures fails { IfErr result (λ e. GoesDown D.moment D.faults self.old.writer self.new.writer e.faults) }
+        ensures writes { OnOk result (WritesOn D.tape D.moment D.faults
+            (RingHas self.old.ring upto.0) self.old.writer self.new.writer) }
+        ensures fails { IfErr result (λ e.
+            GoesDown D.moment D.faults self.old.writer self.new.writer e.faults) }
         ensures written { OnOk result (written_of self.new.writer ≡ upto.0) }
         ensures synced { OnOk result (is_unsynced self.new.writer ≡ false) }
         ensures ring { self.new.ring ≡ self.old.ring }

@@ -23,9 +23,11 @@ pub(crate) fn end_in_page(at: Lsn, upto: Lsn) -> Lsn
 
 /// Copies the next words of a record, as many as there is place for.
 pub(crate) fn copy_words(placed: &mut Placed, words: &mut [u64])
-    requires { placed.old.next + 8 * length words.old ≤ end_address_of placed.old.size (placed.old.start + assembled_room placed.old.body) }
+    requires { placed.old.next + 8 * length words.old
+        ≤ end_address_of placed.old.size (placed.old.start + assembled_room placed.old.body) }
     ensures placed { placed.new ≡ record placed.old { next = placed.old.next + 8 * length words.old } }
-    ensures words { (k : ℕ) → k < length words.old → slice_index words.new k ≡ word_of_placed placed.old (placed.old.next + 8 * k) }
+    ensures words { (k : ℕ) → k < length words.old
+        → slice_index words.new k ≡ word_of_placed placed.old (placed.old.next + 8 * k) }
 {
     for word in words.iter_mut() {
         if let Some((_, next)) = placed.next_word() {

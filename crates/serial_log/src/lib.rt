@@ -1,5 +1,5 @@
-//! The log as one backend writes it: records are reserved one behind another, copied into a ring of pages, and flushed
-//! (PostgreSQL's xlog.c).
+//! The log as one backend writes it: records are reserved one behind another, copied into a ring of
+//! pages, and flushed (PostgreSQL's xlog.c).
 #![tactic(auto)]
 
 mod buffers;

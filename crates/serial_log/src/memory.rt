@@ -43,7 +43,8 @@ impl LogMemory {
 
     /// Whether page 0 of segment 1 is there: reads it.
     pub(crate) fn read_first_page<D: Disk>(&mut self, disk: &mut D) -> Result<bool, Failed>
-        ensures there { IfOk result (λ there. IfSome (D.tape disk.old) (λ t. IsTrue there ↔ IsSome (page_of_segment (state_now t 1) 0))) }
+        ensures there { IfOk result (λ there. IfSome (D.tape disk.old) (λ t.
+            IsTrue there ↔ IsSome (page_of_segment (state_now t 1) 0))) }
         ensures uncalled { IsUncalled D.tape D.moment disk.old disk.new }
         ensures cause { HasCause (D.faults disk.old) (D.faults disk.new) result }
         ensures same { self.new ≡ self.old }

@@ -23,7 +23,7 @@ const WORD: u64 = 8;
 pub(crate) struct Ring {
     words: Vec<u64>,
     pages: u32,
-    // The number of the page behind the last one that the ring holds, counted from the log's byte 0.
+    // The number of the page behind the last one that the ring holds, from the log's byte 0.
     mapped: u64,
 }
 
@@ -34,7 +34,8 @@ impl Model for Ring {
 
     ghost view = { λ r. record { pages = r.pages; mapped = r.mapped; words = r.words.items } };
 
-    ghost invariant = { λ r. IsRing (record { pages = r.pages; mapped = r.mapped; words = r.words.items }) };
+    ghost invariant = { λ r.
+        IsRing (record { pages = r.pages; mapped = r.mapped; words = r.words.items }) };
 }
 
 impl Ring {
@@ -80,8 +81,10 @@ impl Ring {
     /// Holds the next page, all words zero, in the place of the oldest.
     pub(crate) fn map_next(&mut self)
         requires { self.old.mapped < 2 ^ 50 }
-        ensures shape { (self.new.pages ≡ self.old.pages) × (self.new.mapped ≡ self.old.mapped + 1) }
-        ensures words { (word : ℕ → ℕ) → RingHas self.old (self.old.mapped * 8192) word → RingHas self.new (self.old.mapped * 8192) word }
+        ensures shape { (self.new.pages ≡ self.old.pages)
+            × (self.new.mapped ≡ self.old.mapped + 1) }
+        ensures words { (word : ℕ → ℕ) → RingHas self.old (self.old.mapped * 8192) word
+            → RingHas self.new (self.old.mapped * 8192) word }
     {
         let place = self.place(self.mapped);
         self.words[place..place + PAGE_WORDS].fill(0);
@@ -94,10 +97,12 @@ impl Ring {
         requires begins { placed.old.next ≤ upto.0 }
         requires within { upto.0 ≤ (placed.old.next / 8192 + 1) * 8192 }
         requires whole { (placed.old.next % 8 ≡ 0) × (upto.0 % 8 ≡ 0) }
-        requires owned { upto.0 ≤ end_address_of placed.old.size (placed.old.start + assembled_room placed.old.body) }
+        requires owned { upto.0
+            ≤ end_address_of placed.old.size (placed.old.start + assembled_room placed.old.body) }
         ensures placed { placed.new ≡ record placed.old { next = upto.0 } }
         ensures shape { (self.new.pages ≡ self.old.pages) × (self.new.mapped ≡ self.old.mapped) }
-        ensures words { (word : ℕ → ℕ) → AreGiven placed.old upto.0 word → RingHas self.old placed.old.next word → RingHas self.new upto.0 word }
+        ensures words { (word : ℕ → ℕ) → AreGiven placed.old upto.0 word
+            → RingHas self.old placed.old.next word → RingHas self.new upto.0 word }
     {
         let next = placed.next_lsn().0;
         let place = self.place(next / PAGE_SIZE);
@@ -108,7 +113,8 @@ impl Ring {
 
     /// The bytes of a page.
     pub(crate) fn put_bytes(&self, page: u64, into: &mut [u8; 8192])
-        ensures { (n : ℕ) → n < 1024 → word_of into.new n ≡ to_le_bytes w64 (ring_word self.now page n) }
+        ensures { (n : ℕ) → n < 1024
+            → word_of into.new n ≡ to_le_bytes w64 (ring_word self.now page n) }
     {
         let place = self.place(page);
         let words = &self.words[place..place + PAGE_WORDS];

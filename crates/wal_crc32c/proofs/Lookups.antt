@@ -43,6 +43,6 @@ lists_tables-TABLES : lists_tables 0 TABLES ≡ true
 unfolding times_power lists_tables lists_remainders
 lists_tables-TABLES = refl
 
-pub get_or-TABLES : (bytes_after byte : ℕ) → bytes_after < 8 → byte < 256 → get_or (get_or TABLES bytes_after []) byte 0 ≡ times_power (8 * (bytes_after + 1)) byte
+pub get_or-TABLES : (bytes_after byte : ℕ) → bytes_after < 16 → byte < 256 → get_or (get_or TABLES bytes_after []) byte 0 ≡ times_power (8 * (bytes_after + 1)) byte
 get_or-TABLES bytes_after byte within small =
     get_or-lists_tables 0 TABLES lists_tables-TABLES bytes_after within byte small ∙ ap (λ bits. times_power bits byte) (omega arith)

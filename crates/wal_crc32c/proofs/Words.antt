@@ -79,3 +79,53 @@ lookups_of_word w small =
     ∙ lookups 8 0 w 0
     ∙ ap (bit_xor (xor_lookups 0 (to_le_bytes w64 w))) (omega arith)
     ∙ xor_zero_r (xor_lookups 0 (to_le_bytes w64 w))
+
+-- the same with n more bytes of 0 after all
+abbrev xor_lookups_ahead : ℕ → ℕ → List ℕ → ℕ
+xor_lookups_ahead n sum [] = sum
+xor_lookups_ahead n sum (byte ∷ bytes) = xor_lookups_ahead n (bit_xor sum (times_power (8 * (n + suc (length bytes))) byte)) bytes
+
+lookups_further : (n sum : ℕ) (bytes : List ℕ) → times_power (8 * n) (xor_lookups sum bytes) ≡ xor_lookups_ahead n (times_power (8 * n) sum) bytes
+lookups_further n sum [] = refl
+lookups_further n sum (byte ∷ bytes) =
+    let bits = 8 * suc (length bytes) in
+    lookups_further n (bit_xor sum (times_power bits byte)) bytes
+    ∙ ap (λ s. xor_lookups_ahead n s bytes)
+    (times_power-xor (8 * n) sum (times_power bits byte)
+    ∙ ap (bit_xor (times_power (8 * n) sum)) (sym (times_power-add (8 * n) bits byte) ∙ ap (λ k. times_power k byte) (omega arith)))
+
+none_further : times_power 64 0 ≡ 0
+unfolding times_power
+none_further = refl
+
+pub lookups_ahead : (w : ℕ) → w < 2 ^ 64 → times_power 128 w ≡ xor_lookups_ahead 8 0 (to_le_bytes w64 w)
+lookups_ahead w small =
+    times_power-add 64 64 w
+    ∙ ap (times_power 64) (lookups_of_word w small)
+    ∙ lookups_further 8 0 (to_le_bytes w64 w)
+    ∙ ap (λ s. xor_lookups_ahead 8 s (to_le_bytes w64 w)) none_further
+
+pub fold_sixteen : (r : ℕ) (bytes : List ℕ) → length bytes ≡ 16 → ((i : ℕ) → get_or bytes i 0 < 2 ^ 8)
+    → fold after_byte r bytes ≡ bit_xor (times_power 64 (from_le_bytes w64 (get_or bytes 8 0 ∷ get_or bytes 9 0 ∷ get_or bytes 10 0 ∷ get_or bytes 11 0 ∷ get_or bytes 12 0 ∷ get_or bytes 13 0 ∷ get_or bytes 14 0 ∷ get_or bytes 15 0 ∷ []))) (times_power 128 (bit_xor r (from_le_bytes w64 (get_or bytes 0 0 ∷ get_or bytes 1 0 ∷ get_or bytes 2 0 ∷ get_or bytes 3 0 ∷ get_or bytes 4 0 ∷ get_or bytes 5 0 ∷ get_or bytes 6 0 ∷ get_or bytes 7 0 ∷ []))))
+fold_sixteen r (b0 ∷ b1 ∷ b2 ∷ b3 ∷ b4 ∷ b5 ∷ b6 ∷ b7 ∷ b8 ∷ b9 ∷ b10 ∷ b11 ∷ b12 ∷ b13 ∷ b14 ∷ b15 ∷ []) e small =
+    let first = (b0 ∷ b1 ∷ b2 ∷ b3 ∷ b4 ∷ b5 ∷ b6 ∷ b7 ∷ []) in
+    let second = (b8 ∷ b9 ∷ b10 ∷ b11 ∷ b12 ∷ b13 ∷ b14 ∷ b15 ∷ []) in
+    let after_first = fold after_byte r first in
+    let word = from_le_bytes w64 second in
+    fold-eight after_first second refl (λ i. small (suc (suc (suc (suc (suc (suc (suc (suc i)))))))))
+    ∙ times_power-xor 64 after_first word
+    ∙ xor_comm (times_power 64 after_first) (times_power 64 word)
+    ∙ ap (λ x. bit_xor (times_power 64 word) (times_power 64 x)) (fold-eight r first refl (first_small b0 b1 b2 b3 b4 b5 b6 b7 (small 0) (small 1) (small 2) (small 3) (small 4) (small 5) (small 6) (small 7)))
+    ∙ ap (bit_xor (times_power 64 word)) (sym (times_power-add 64 64 (bit_xor r (from_le_bytes w64 first))))
+  where
+    first_small : (b0 b1 b2 b3 b4 b5 b6 b7 : ℕ) → b0 < 2 ^ 8 → b1 < 2 ^ 8 → b2 < 2 ^ 8 → b3 < 2 ^ 8 → b4 < 2 ^ 8 → b5 < 2 ^ 8 → b6 < 2 ^ 8 → b7 < 2 ^ 8 → (i : ℕ) → get_or (b0 ∷ b1 ∷ b2 ∷ b3 ∷ b4 ∷ b5 ∷ b6 ∷ b7 ∷ []) i 0 < 2 ^ 8
+    first_small b0 b1 b2 b3 b4 b5 b6 b7 p0 p1 p2 p3 p4 p5 p6 p7 zero = p0
+    first_small b0 b1 b2 b3 b4 b5 b6 b7 p0 p1 p2 p3 p4 p5 p6 p7 (suc zero) = p1
+    first_small b0 b1 b2 b3 b4 b5 b6 b7 p0 p1 p2 p3 p4 p5 p6 p7 (suc (suc zero)) = p2
+    first_small b0 b1 b2 b3 b4 b5 b6 b7 p0 p1 p2 p3 p4 p5 p6 p7 (suc (suc (suc zero))) = p3
+    first_small b0 b1 b2 b3 b4 b5 b6 b7 p0 p1 p2 p3 p4 p5 p6 p7 (suc (suc (suc (suc zero)))) = p4
+    first_small b0 b1 b2 b3 b4 b5 b6 b7 p0 p1 p2 p3 p4 p5 p6 p7 (suc (suc (suc (suc (suc zero))))) = p5
+    first_small b0 b1 b2 b3 b4 b5 b6 b7 p0 p1 p2 p3 p4 p5 p6 p7 (suc (suc (suc (suc (suc (suc zero)))))) = p6
+    first_small b0 b1 b2 b3 b4 b5 b6 b7 p0 p1 p2 p3 p4 p5 p6 p7 (suc (suc (suc (suc (suc (suc (suc zero))))))) = p7
+    first_small b0 b1 b2 b3 b4 b5 b6 b7 p0 p1 p2 p3 p4 p5 p6 p7 (suc (suc (suc (suc (suc (suc (suc (suc i)))))))) = omega arith
+fold_sixteen _ _ e small = absurd (omega arith)

@@ -1,4 +1,5 @@
--- CRC-32C, the Castagnoli polynomial with its bits reflected, by division bit by bit (PostgreSQL's pg_crc32c.h).
+-- CRC-32C, the Castagnoli polynomial with its bits reflected, by division bit by bit (PostgreSQL's
+-- pg_crc32c.h).
 use Rattle.std.specs.Prelude.{◌≡◌, ℕ, zero, suc, ◌*◌, ◌/◌, ◌%◌, List, fold}
 use Rattle.std.specs.Int.Bits.{bit_xor}
 

@@ -3,7 +3,7 @@
 ghost use Rattle.std.specs.Prelude.{◌≡◌, ℕ, List, [], ◌++◌, fold};
 ghost use Rattle.wal_crc32c.specs.Crc32c.{HasFed, after_byte, crc32c};
 
-use crate::tables::{byte_remainder, word_remainder};
+use crate::tables::{byte_remainder, word_remainder, word_remainder_ahead};
 use std::marker::Model;
 
 /// A CRC-32C under way. Contracts see its remainder.
@@ -45,16 +45,26 @@ impl Crc {
     }
 }
 
-// Eight bytes at a time, and the fewer than eight that are left one by one.
+// Sixteen bytes at a time, and the fewer than sixteen that are left: eight where there are so many,
+// and then one by one.
 fn after_bytes(mut remainder: u32, bytes: &[u8]) -> u32
     ensures { result ≡ fold after_byte remainder bytes.now }
 {
     let mut rest = bytes;
-    while let Some((eight, others)) = rest.split_first_chunk::<8>() {
-        remainder = after_eight_bytes(remainder, eight);
+    while let Some((sixteen, others)) = rest.split_first_chunk::<16>() {
+        remainder = after_sixteen_bytes(remainder, sixteen);
         rest = others;
     }
-    after_each_byte(remainder, rest)
+    after_few_bytes(remainder, rest)
+}
+
+fn after_few_bytes(remainder: u32, bytes: &[u8]) -> u32
+    ensures { result ≡ fold after_byte remainder bytes.now }
+{
+    match bytes.split_first_chunk::<8>() {
+        Some((eight, others)) => after_each_byte(after_eight_bytes(remainder, eight), others),
+        None => after_each_byte(remainder, bytes),
+    }
 }
 
 fn after_each_byte(mut remainder: u32, bytes: &[u8]) -> u32
@@ -77,4 +87,31 @@ fn after_eight_bytes(remainder: u32, bytes: &[u8; 8]) -> u32
     ensures { result ≡ fold after_byte remainder bytes.now }
 {
     word_remainder(u64::from(remainder) ^ u64::from_le_bytes(*bytes))
+}
+
+// The second eight bytes are looked up apart from the first, which wait for what stands before.
+fn after_sixteen_bytes(remainder: u32, bytes: &[u8; 16]) -> u32
+    ensures { result ≡ fold after_byte remainder bytes.now }
+{
+    let [
+        b0,
+        b1,
+        b2,
+        b3,
+        b4,
+        b5,
+        b6,
+        b7,
+        b8,
+        b9,
+        b10,
+        b11,
+        b12,
+        b13,
+        b14,
+        b15,
+    ] = *bytes;
+    let first = u64::from_le_bytes([b0, b1, b2, b3, b4, b5, b6, b7]);
+    let second = u64::from_le_bytes([b8, b9, b10, b11, b12, b13, b14, b15]);
+    word_remainder(second) ^ word_remainder_ahead(u64::from(remainder) ^ first)
 }

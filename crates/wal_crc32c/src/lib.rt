@@ -4,8 +4,6 @@
 mod crc;
 mod division;
 mod tables;
-#[cfg(test)]
-mod tests;
 
 pub use crc::Crc;
 pub use division::crc32c_by_division;

@@ -1,9 +1,5 @@
 pub mod Pages
 pub mod Decodes
-pub mod Torn
-pub mod Written
-pub mod WrittenLog
-pub mod LogSegments
 pub mod Names
 pub mod Spelled
 pub mod Cache

@@ -22,7 +22,7 @@ mod standpoint;
 mod stop;
 
 pub use found::{Answer, DamageKind, FoundRecord};
-pub use laws::{decoding_is_settled, written_log_decodes};
+pub use laws::decoding_is_settled;
 pub use log_reader::Reader;
 pub use standing::{ReadErr, Step};
 

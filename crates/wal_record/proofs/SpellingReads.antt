@@ -1,5 +1,5 @@
 -- The writer's spelling of a record is one that a reader accepts.
-use Rattle.std.proofs.Common.{◌≡◌, ℕ, ◌+◌, ◌^◌, ◌<◌, ◌≤◌, true, ◌&&◌, eqb, ltb, leb, List, [], ◌∷◌, ◌++◌, length, map, Option, Some, None, refl, sym, ap, ◌∙◌, append_assoc, arith, inl, inr}
+use Rattle.std.proofs.Common.{◌≡◌, ℕ, ◌+◌, ◌^◌, ◌<◌, ◌≤◌, Ok, true, ◌&&◌, eqb, ltb, leb, List, [], ◌∷◌, ◌++◌, length, map, Option, Some, None, refl, sym, ap, ◌∙◌, append_assoc, arith, inl, inr}
 use Rattle.std.specs.Bool.{MatchBool, OnTrue}
 use Rattle.std.specs.Prelude.{IfSome, option_map, if◌then◌else◌}
 use Rattle.std.specs.Int.{w16, w32, w64, to_le_bytes}
@@ -12,11 +12,12 @@ use Rattle.wal_types.specs.declared.record.Image.{Image}
 use Rattle.wal_types.specs.declared.record.Record.{Record}
 use Rattle.wal_types.specs.declared.record.Rel.{Rel}
 use Rattle.wal_types.specs.declared.record.Xid.{Xid}
-use Rattle.wal_record.specs.declared.head.BlockHead.{BlockHead}
-use Rattle.wal_record.specs.Record.{BlockFits, Fits, IsWellFormed, are_right_blocks, is_right_block, is_right_image, is_right_option}
-use Rattle.wal_record.specs.Spelling.{assembled, block_header, block_headers, block_payload, crc_of, flag, has_image, image_header, is_same_relation, main_header, origin_item, relation_bytes, size_of, spelling, top_xid_item}
-use Rattle.wal_record.specs.Reading.{least_id}
-use Rattle.wal_record.specs.Spells.{HasRelation, IsPageImage, Spells, SpellsHeads, SpellsItems, SpellsMainHead, StandsBehind, head_of, head_text, image_flag, image_head, image_head_text, item_text, items_in}
+use Rattle.record_decode.specs.declared.head.BlockHead.{BlockHead}
+use Rattle.record_spelling.specs.Record.{BlockFits, Fits, IsWellFormed, are_right_blocks, is_right_block, is_right_image, is_right_option}
+use Rattle.record_spelling.specs.Spelling.{IsWritable, assembled, block_header, block_headers, block_payload, crc_of, flag, has_image, image_header, is_same_relation, main_header, origin_item, relation_bytes, size_of, spelling, top_xid_item}
+use Rattle.record_decode.specs.Reading.{least_id, reading_of}
+use Rattle.record_decode.proofs.Readings.{only}
+use Rattle.record_decode.specs.Spells.{HasRelation, IsPageImage, Spells, SpellsHeads, SpellsItems, SpellsMainHead, StandsBehind, head_of, head_text, image_flag, image_head, image_head_text, item_text, items_in}
 
 -- ---- the headers of blocks
 
@@ -168,3 +169,11 @@ spelling_spells r prev right fits size = record {
   main_spelled = main_spelled r.main (omega (arith, main_shorter r));
   spelled = spelled_so r prev;
 }
+
+-- ---- the round trip
+
+pub well_formed_reads : (r : Record) (prev : ℕ) → IsWellFormed r → Fits r → size_of r < 2 ^ 32 → reading_of (spelling r prev) ≡ Ok r
+well_formed_reads r prev right fits size = only (spelling r prev) r (spelling_spells r prev right fits size)
+
+pub spelling_reads : (r : Record) (prev : ℕ) → IsWritable r → prev < 2 ^ 64 → reading_of (spelling r prev) ≡ Ok r
+spelling_reads r prev w lt = well_formed_reads r prev w.well_formed w.fits (omega (arith, w.size))

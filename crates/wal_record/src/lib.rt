@@ -1,27 +1,7 @@
-//! A record's spelling in the log, and back.
+//! A record's spelling in the log, and back: what holds of both together.
 #![tactic(auto)]
 
-mod assembly;
-#[cfg(test)]
-mod assembly_tests;
-mod blocks;
-mod body;
-mod decoding;
-#[cfg(test)]
-mod decoding_tests;
-mod fault;
-mod head;
 pub mod laws;
-mod layout;
-mod manager;
-mod plain;
-mod plain_blocks;
-mod refusing;
-#[cfg(test)]
-mod tests;
 
-pub use body::Body;
-pub use decoding::decode;
-pub use fault::{BodyErr, RecErr, RecKind};
-pub use plain::spell_plainly;
-pub use refusing::refusal;
+pub use record_decode::{RecErr, RecKind, decode};
+pub use record_spelling::{Body, BodyErr, refusal, spell_plainly};

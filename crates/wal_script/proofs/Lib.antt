@@ -1,6 +1,5 @@
 pub mod BlockLists
 pub mod Cuts
-pub mod Decimals
 pub mod Fits
 pub mod FittingBlocks
 pub mod Pairs

@@ -1,6 +1,6 @@
 -- Bytes as scripts spell them.
 use Rattle.std.specs.Prelude.{ℕ, ◌+◌, ◌-◌, ◌*◌, Bool, ◌&&◌, List, [], ◌∷◌, length, take, drop, replicate, slice_index, Option, Some, None, codes, ◌==◌, nat_le, if◌then◌else◌}
-use Rattle.wal_script.specs.Numbers.{number_of}
+use Rattle.decimal_numbers.specs.Numbers.{number_of}
 use Rattle.wal_script.specs.Text.{is_text}
 
 -- the value of a hexadecimal digit: `0` is 48, `A` 65 and `a` 97

@@ -1,5 +1,4 @@
 pub mod Text
-pub mod Numbers
 pub mod Hexadecimal
 pub mod Names
 pub mod Fields

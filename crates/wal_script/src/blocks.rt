@@ -8,8 +8,8 @@ use crate::hexadecimal::data;
 use crate::images::image;
 use crate::line::ScriptFault;
 use crate::line_error::LineError;
-use crate::numbers::number;
 use crate::text::Pieces;
+use decimal_numbers::number;
 use std::alloc::Global;
 use wal_types::{Block, BlockList, Rel};
 

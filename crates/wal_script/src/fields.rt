@@ -3,15 +3,15 @@
 ghost use Rattle.std.specs.Prelude.{◌-◌, ◌^◌, ◌≤◌, IfOk};
 ghost use Rattle.wal_script.specs.Fields.{next_as, no_more};
 ghost use Rattle.wal_script.specs.Hexadecimal.{byte_spelled, data_of};
-ghost use Rattle.wal_script.specs.Numbers.{number_of, time_of};
+ghost use Rattle.decimal_numbers.specs.Numbers.{number_of, time_of};
 ghost use Rattle.wal_script.specs.Reading.{Judges, JudgesAs};
 ghost use Rattle.wal_script.specs.declared.line.ScriptFault.TheVariants as faults;
 
 use crate::hexadecimal::{byte, data};
 use crate::line::ScriptFault;
 use crate::line_error::LineError;
-use crate::numbers::{number, time};
 use crate::text::Pieces;
+use decimal_numbers::{number, time};
 use std::alloc::Global;
 use wal_types::Bytes;
 

@@ -8,7 +8,7 @@ ghost use Rattle.wal_script.specs.declared.line.ScriptFault.TheVariants as fault
 
 use crate::line::ScriptFault;
 use crate::line_error::LineError;
-use crate::numbers::number;
+use decimal_numbers::number;
 use std::alloc::Global;
 use wal_types::Bytes;
 

@@ -7,8 +7,8 @@ ghost use Rattle.wal_script.specs.Reading.{Judges};
 use crate::hexadecimal::byte;
 use crate::line::ScriptFault;
 use crate::line_error::LineError;
-use crate::numbers::number;
 use crate::text::{Pieces, is_dash};
+use decimal_numbers::number;
 use std::alloc::Global;
 use wal_types::{Bytes, Image};
 

@@ -8,14 +8,9 @@ mod images;
 pub mod laws;
 mod line;
 mod line_error;
-mod numbers;
 mod parser;
 mod records;
 mod text;
 
 pub use line::{Action, Line, Refusal, ScriptFault};
-pub use numbers::{number, time};
 pub use parser::{ParseError, SCRIPT_LIMIT, parse};
-
-#[cfg(test)]
-mod tests;

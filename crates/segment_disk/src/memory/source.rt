@@ -1,4 +1,4 @@
-ghost use Rattle.std.specs.Prelude.{◌≡◌, ◌≤◌, ◌<◌, [], Some, drop, length, min, is_err, IfOk, OnErr, IfSome};
+ghost use Rattle.std.specs.Prelude.{◌≡◌, ◌≤◌, ◌<◌, [], ◌++◌, Some, take, drop, length, min, is_err, IfOk, OnErr, IfSome};
 ghost use Rattle.segment_disk.specs.Cause.{HasCause};
 ghost use Rattle.segment_disk.specs.Failing.{fails_next, after_next};
 ghost use Rattle.segment_disk.specs.Stream.{Takes};
@@ -23,6 +23,7 @@ impl MemSource {
     /// A source of these bytes. It fails at the calls that are listed by their numbers, from 1, and at these alone.
     pub fn new(bytes: Vec<u8>, fail: Vec<u64>) -> MemSource
         ensures left { ⟦<MemSource as Source>⟧.left result ≡ Some bytes.items }
+        ensures handed { ⟦<MemSource as Source>⟧.handed result ≡ [] }
         ensures faults { ⟦<MemSource as Source>⟧.faults result ≡ 0 }
         ensures failing { source_failing result ≡ record { numbers = fail.items; made = 0 } }
     {
@@ -36,23 +37,29 @@ impl MemSource {
 }
 
 impl Source for MemSource {
-    ghost use Rattle.segment_disk.specs.MemStream.{source_left, source_faults, source_failing};
+    ghost use Rattle.segment_disk.specs.MemStream.{source_left, source_handed, source_faults, source_failing};
 
     ghost left = { source_left };
+
+    ghost handed = { source_handed };
 
     ghost faults = { source_faults };
 
     fn read(&mut self, into: &mut [u8]) -> Result<usize, Failed>
         ensures within { IfOk result (λ n. n ≤ length into.old) }
+        ensures handed { IfOk result (λ n. source_handed self.new ≡ source_handed self.old ++ take n into.new) }
+        ensures none_handed { OnErr result (source_handed self.new ≡ source_handed self.old) }
         ensures taken { IfOk result (λ n. Takes (source_left self.old) (source_left self.new) n into.new) }
-        ensures end { IfOk result (λ n. n ≡ 0 → 0 < length into.old → IfSome (source_left self.old) (λ bytes. bytes ≡ [])) }
+        ensures end { IfOk result (λ n. n ≡ 0 → 0 < length into.old
+            → IfSome (source_left self.old) (λ bytes. bytes ≡ [])) }
         ensures failed { OnErr result (source_left self.new ≡ source_left self.old) }
         ensures cause { HasCause (source_faults self.old) (source_faults self.new) result }
 
         // It fails at the listed calls alone, and reads as much as there is room for.
         ensures fails { is_err result ≡ fails_next (source_failing self.old) }
         ensures failing { source_failing self.new ≡ after_next (source_failing self.old) }
-        ensures count { IfOk result (λ n. IfSome (source_left self.old) (λ bytes. n ≡ min (length into.old) (length bytes))) }
+        ensures count { IfOk result (λ n. IfSome (source_left self.old)
+            (λ bytes. n ≡ min (length into.old) (length bytes))) }
     {
         if self.schedule.next_fails() {
             return Err(count_fault(&mut self.faults));

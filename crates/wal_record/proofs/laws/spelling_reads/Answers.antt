@@ -1,5 +1,4 @@
-use Rattle.wal_record.proofs.SpellingLaws.{well_formed_reads}
-use Rattle.wal_record.proofs.SpellingReads.{spelling_spells}
+use Rattle.wal_record.proofs.SpellingReads.{spelling_spells, well_formed_reads}
 use Rattle.wal_record.proofs.laws.spelling_reads.Goals as goal
 
 pub returns : goal.returns

@@ -1,0 +1,9 @@
+//! Tests of the bodies over the system: files of a folder, readers and writers that fail.
+#![tactic(auto)]
+
+#[cfg(test)]
+mod adapters;
+#[cfg(test)]
+mod calls;
+#[cfg(test)]
+mod files;

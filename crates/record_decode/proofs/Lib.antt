@@ -1,0 +1,17 @@
+pub mod HeaderParts
+pub mod Tables
+pub mod Resuming
+pub mod ItemSteps
+pub mod Failing
+pub mod Steps
+pub mod Flags
+pub mod FlagBits
+pub mod HeadsTaken
+pub mod HeadsAgain
+pub mod HeadLists
+pub mod Items
+pub mod HeaderLists
+pub mod Readings
+pub mod BlockHeadSteps
+pub mod Payload
+pub mod SpelledBlocks

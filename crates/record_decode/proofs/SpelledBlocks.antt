@@ -1,0 +1,38 @@
+-- The blocks of a record that is spelled.
+use Rattle.std.proofs.Common.{ℕ, ◌≤◌, List, [], ◌∷◌, ◌++◌, length, map, All, Option, Some, None, ap, arith}
+use Rattle.std.specs.Int.{w32, to_le_bytes}
+use Rattle.std.specs.List.{flat_map, sum_by}
+use Rattle.std.proofs.lemmas.List.{length-append}
+use Rattle.std.proofs.lemmas.List.Elements.{All-cons, All-nil}
+use Rattle.std.proofs.lemmas.List.Sums.{sum_by-cons}
+use Rattle.wal_types.specs.declared.record.Block.{Block}
+use Rattle.wal_types.specs.declared.record.Record.{Record}
+use Rattle.record_decode.specs.declared.head.BlockHead.{BlockHead}
+use Rattle.record_spelling.specs.Spelling.{block_payload, image_bytes}
+use Rattle.record_decode.specs.Spells.{Spells, SpellsHeads, head_of}
+
+-- ---- their forks
+
+forks_of_heads : (before : Option BlockHead) (blocks : List Block) (text : List ℕ) → SpellsHeads before (map head_of blocks) text → All (λ b. b.fork ≤ 3) blocks
+forks_of_heads before [] text spelled = All-nil (λ b. b.fork ≤ 3)
+forks_of_heads before (b ∷ blocks) text spelled = All-cons (λ b. b.fork ≤ 3) b blocks spelled.1.1.1.0.fork (forks_of_heads (Some (head_of b)) blocks spelled.1.0 spelled.1.1.1.1)
+
+pub forks_spelled : (bytes : List ℕ) (r : Record) → Spells bytes r → All (λ b. b.fork ≤ 3) r.blocks
+forks_spelled bytes r s = forks_of_heads None r.blocks s.items_spelled.heads s.items_spelled.heads_spelled
+
+-- ---- their images
+
+images-le-payload : (blocks : List Block) → sum_by (λ (b : Block). length (image_bytes b.image)) blocks ≤ length (flat_map block_payload blocks)
+images-le-payload [] = omega arith
+images-le-payload (b ∷ blocks) =
+    let image = image_bytes b.image in
+    omega (arith, sum_by-cons (λ (x : Block). length (image_bytes x.image)) b blocks, length-append (image ++ b.content) (flat_map block_payload blocks), length-append image b.content, images-le-payload blocks)
+
+part-le-whole : (front part behind : List ℕ) → length part ≤ length (front ++ part ++ behind)
+part-le-whole front part behind = omega (arith, length-append (front ++ part) behind, length-append front part)
+
+pub images_spelled : (bytes : List ℕ) (r : Record) → Spells bytes r → sum_by (λ (b : Block). length (image_bytes b.image)) r.blocks ≤ length bytes
+images_spelled bytes r s =
+    let front = to_le_bytes w32 (length bytes) ++ to_le_bytes w32 r.xid.0 ++ s.prev ++ (r.info ∷ r.rmid ∷ s.spare) ++ s.crc ++ s.items ++ s.main_head in
+    let whole = part-le-whole front (flat_map block_payload r.blocks) r.main in
+    omega (arith, ap length s.spelled, images-le-payload r.blocks)

@@ -1,0 +1,4 @@
+pub mod Reading
+pub mod Unread
+pub mod Spells
+pub mod Fails

@@ -1,0 +1,126 @@
+//! Reading a record's bytes (PostgreSQL's DecodeXLogRecord of xlogreader.c).
+
+mod blocks;
+mod cursor;
+mod items;
+mod payload;
+mod unread;
+
+ghost use Rattle.std.specs.Prelude.{◌≡◌, ◌+◌, ◌<◌, ◌≤◌, ◌^◌, length, IfErr, IfOk, Ok, Err};
+ghost use Rattle.std.specs.List.{sum_by};
+ghost use Rattle.std.specs.Int.{w32};
+ghost use Rattle.wal_types.specs.declared.record.Record.{Record};
+ghost use Rattle.record_spelling.specs.Numbers.{number_at};
+ghost use Rattle.record_decode.specs.Reading.{GivesReading, GivesAs, headers_of, items_of, payload_len, reading_of, record_of};
+ghost use Rattle.record_decode.specs.Fails.{FailsAt, FailsSo};
+ghost use Rattle.record_decode.specs.Spells.{Spells};
+
+use crate::fault::{RecErr, RecKind};
+use crate::head::BlockHead;
+use blocks::block_items;
+use cursor::malformed;
+use items::{main_item, optional_u16, optional_u32};
+use payload::blocks_of;
+use record_spelling::is_free_manager;
+use record_spelling::layout::*;
+use std::alloc::Global;
+use unread::Unread;
+use wal_types::{BlockList, Bytes, Record, Xid};
+
+/// What a record's headers say, and the payload behind them.
+#[derive(Drop)]
+struct Headers<'a> {
+    blocks: Vec<BlockHead>,
+    origin: Option<u16>,
+    top_xid: Option<u32>,
+    payload: &'a [u8],
+}
+
+#[tactic(auto, unfolding(crate::specs::Reading::headers_of))]
+fn read_headers<'a>(alloc: Global, behind_header: &'a [u8]) -> Result<Headers<'a>, RecErr>
+    requires { length behind_header.now + 24 < 2 ^ 64 }
+    ensures exact { GivesAs (λ h. record { blocks = h.blocks.items; origin = h.origin; top_xid = h.top_xid; payload = h.payload.now }) result (headers_of (record { at = 24; rest = behind_header.now; owed = 0 })) }
+    ensures promised { IfOk result (λ h. sum_by payload_len h.blocks.items ≤ length h.payload.now) }
+{
+    let unread = Unread {
+        at: HEADER_LEN as u64,
+        bytes: behind_header,
+        owed: 0,
+    };
+    let (blocks, unread) = block_items(alloc, unread)?;
+    let (origin, unread) = optional_u16(ORIGIN, unread)?;
+    let (top_xid, unread) = optional_u32(TOP_XID, unread)?;
+    let end = main_item(unread)?;
+    if end.owed != end.bytes.len() as u64 {
+        return Err(malformed(end.at, RecKind::Fill));
+    }
+    Ok(Headers {
+        blocks,
+        origin,
+        top_xid,
+        payload: end.bytes,
+    })
+}
+
+fn u32_at(bytes: &[u8], at: usize) -> u32
+    requires { at + 4 ≤ length bytes.now }
+    ensures { result ≡ number_at w32 bytes.now at }
+{
+    u32::from_le_bytes([bytes[at], bytes[at + 1], bytes[at + 2], bytes[at + 3]])
+}
+
+fn record_of(alloc: Global, bytes: &[u8], headers: Headers) -> Result<Record, RecErr>
+    requires header { 24 ≤ length bytes.now }
+    requires promised { sum_by payload_len headers.blocks.items ≤ length headers.payload.now }
+    ensures { GivesReading result (Ok (record_of bytes.now (record { blocks = headers.entry.blocks.items; origin = headers.entry.origin; top_xid = headers.entry.top_xid; payload = headers.entry.payload.now }))) }
+{
+    let (blocks, main) = blocks_of(alloc, &headers.blocks, headers.payload)?;
+    Ok(Record {
+        xid: Xid(u32_at(bytes, XID_AT)),
+        rmid: bytes[RMID_AT],
+        info: bytes[INFO_AT],
+        origin: headers.origin,
+        top_xid: headers.top_xid.map(Xid),
+        blocks: BlockList::of(blocks),
+        main: Bytes::of(Vec::from_slice(alloc, main)?),
+    })
+}
+
+#[tactic(auto, unfolding(crate::specs::Reading::items_of))]
+fn read_items(alloc: Global, bytes: &[u8]) -> Result<Record, RecErr>
+    requires { 24 ≤ length bytes.now }
+    ensures { GivesReading result (items_of bytes.now) }
+{
+    let (_, behind_header) = bytes.split_at(HEADER_LEN);
+    let headers = read_headers(alloc, behind_header)?;
+    record_of(alloc, bytes, headers)
+}
+
+#[tactic(auto, unfolding(crate::specs::Reading::reading_of))]
+fn reading(alloc: Global, bytes: &[u8]) -> Result<Record, RecErr>
+    ensures { GivesReading result (reading_of bytes.now) }
+{
+    if bytes.len() < HEADER_LEN || u32_at(bytes, LEN_AT) as usize != bytes.len() {
+        return Err(malformed(0, RecKind::Length));
+    }
+    if is_free_manager(bytes[RMID_AT]) {
+        return Err(malformed(RMID_AT as u64, RecKind::Rmgr));
+    }
+    read_items(alloc, bytes)
+}
+
+/// Reads a record's bytes, all of them. It looks at neither the CRC nor the start of the record before.
+pub fn decode(alloc: Global, bytes: &[u8]) -> Result<Record, RecErr>
+    // What is read is spelled so.
+    ensures found { IfOk result (λ r. Spells bytes.now r) }
+    // What is spelled so is read, unless memory runs out.
+    ensures only { (r : Record) → Spells bytes.now r → GivesReading result (Ok r) }
+    // An error is the first check that fails.
+    ensures fails { IfErr result (FailsSo bytes.now) }
+    // The first check that fails is the error, unless memory runs out.
+    ensures refuses { (e : RecErr) → FailsAt bytes.now e → GivesReading result (Err e) }
+    // All of it as one reading from left to right.
+    ensures exact { GivesReading result (reading_of bytes.now) }
+{
+    reading(alloc, bytes)
+}

@@ -1,0 +1,11 @@
+//! A record as it is read from its bytes (PostgreSQL's DecodeXLogRecord of xlogreader.c).
+#![tactic(auto)]
+
+mod decoding;
+mod fault;
+mod head;
+pub mod laws;
+
+pub use decoding::decode;
+pub use fault::{RecErr, RecKind};
+pub use head::{BlockHead, ImageHead};

@@ -1,0 +1,50 @@
+-- The words of a record.
+use Rattle.std.proofs.Common.{◌≡◌, ℕ, ◌+◌, ◌-◌, ◌*◌, ◌^◌, ◌<◌, ◌≤◌, List, ◌++◌, length, get_or, take, drop, replicate, refl, sym, ap, ◌∙◌, arith, inl, inr}
+use Rattle.std.specs.Int.{w32, w64, from_le_bytes, to_le_bytes}
+use Rattle.std.proofs.lemmas.Bool.{cases_lt}
+use Rattle.std.proofs.lemmas.List.{length-append, length-take, get_or-take, get_or_past, get_or_append_left, get_or-append_right, get_or-replicate, length-replicate, drop-append-le, drop-drop, drop_at}
+use Rattle.std.proofs.lemmas.Nat.{from_le_bytes-to_le_bytes_8}
+use Rattle.record_spelling.specs.Spelling.{Assembled, assembled_size, assembled_room, header_front, crc_of, spelled, filled, word_at}
+
+-- a word is told by the bytes that are read at its places
+same_word : (xs ys : List ℕ) → ((i : ℕ) → get_or xs i 0 ≡ get_or ys i 0) → from_le_bytes w64 xs ≡ from_le_bytes w64 ys
+same_word xs ys h = rw (h 0, h 1, h 2, h 3, h 4, h 5, h 6, h 7) refl
+
+zeros_read : (k i : ℕ) → get_or {A = ℕ} (replicate k 0) i 0 ≡ 0
+zeros_read k i =
+    let zero : ℕ = 0 in
+    elim (cases_lt i k) [
+      | inl lt ↦ get_or-replicate k i zero zero lt
+      | inr le ↦ get_or_past (replicate k zero) i zero (omega (arith, length-replicate k zero))
+    ]
+
+-- zeros behind a list read as what is past its end
+padded_read : (xs : List ℕ) (k i : ℕ) → get_or (xs ++ replicate k 0) i 0 ≡ get_or xs i 0
+padded_read xs k i =
+    elim (cases_lt i (length xs)) [
+      | inl lt ↦ get_or_append_left xs (replicate k 0) 0 i lt
+      | inr le ↦ get_or-append_right xs (replicate k 0) (length xs) i 0 refl le ∙ zeros_read k (i - length xs) ∙ sym (get_or_past xs i 0 le)
+    ]
+
+front_read : (xs ys : List ℕ) (n i : ℕ) → ((i : ℕ) → get_or xs i 0 ≡ get_or ys i 0) → get_or (take n xs) i 0 ≡ get_or (take n ys) i 0
+front_read xs ys n i h =
+    elim (cases_lt i n) [
+      | inl lt ↦ get_or-take n xs i 0 lt ∙ h i ∙ sym (get_or-take n ys i 0 lt)
+      | inr le ↦ get_or_past (take n xs) i 0 (omega (arith, length-take n xs)) ∙ sym (get_or_past (take n ys) i 0 (omega (arith, length-take n ys)))
+    ]
+
+padded_word : (xs : List ℕ) (k : ℕ) → from_le_bytes w64 (take 8 (xs ++ replicate k 0)) ≡ from_le_bytes w64 (take 8 xs)
+padded_word xs k = same_word _ _ (λ i. front_read (xs ++ replicate k 0) xs 8 i (padded_read xs k))
+
+pub second_word : (a : Assembled) (prev n : ℕ) → n ≡ 1 → prev < 2 ^ 64 → prev ≡ word_at (filled a prev) n
+second_word a prev n e lt = rw e (sym (from_le_bytes-to_le_bytes_8 prev lt))
+
+behind_header : (front crc carried : List ℕ) (m : ℕ) → length front ≡ 20 → length crc ≡ 4 → drop (24 + m) (front ++ crc ++ carried) ≡ drop m carried
+behind_header front crc carried m f c = sym (drop-drop m 24 (front ++ crc ++ carried)) ∙ ap (drop m) (drop_at (front ++ crc) carried 24 (omega (arith, length-append front crc)))
+
+pub carried_word : (a : Assembled) (prev n m : ℕ) → 8 * n ≡ 24 + m → 8 * n < assembled_room a → word_at (filled a prev) n ≡ from_le_bytes w64 (take 8 (drop m a.carried))
+carried_word a prev n m e within =
+    let inside : 8 * n ≤ length (spelled a prev) = omega arith in
+    let front = drop-append-le (8 * n) (spelled a prev) (replicate (assembled_room a - assembled_size a) 0) inside in
+    let rest : drop (8 * n) (spelled a prev) ≡ drop m a.carried = rw e (behind_header (header_front a prev) (to_le_bytes w32 (crc_of a prev)) a.carried m refl refl) in
+    ap (λ (l : List ℕ). from_le_bytes w64 (take 8 l)) (front ∙ ap (λ (l : List ℕ). l ++ replicate (assembled_room a - assembled_size a) 0) rest) ∙ padded_word (drop m a.carried) (assembled_room a - assembled_size a)

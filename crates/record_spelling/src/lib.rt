@@ -1,0 +1,19 @@
+//! A record as it is spelled in the log (PostgreSQL's xlogrecord.h and xloginsert.c).
+#![tactic(auto)]
+
+mod assembly;
+mod blocks;
+mod body;
+mod fault;
+pub mod laws;
+pub mod layout;
+mod manager;
+mod plain;
+mod plain_blocks;
+mod refusing;
+
+pub use body::Body;
+pub use fault::BodyErr;
+pub use manager::is_free_manager;
+pub use plain::spell_plainly;
+pub use refusing::refusal;

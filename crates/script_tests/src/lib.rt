@@ -1,0 +1,9 @@
+//! Tests of scripts and of command lines. The crate itself is empty.
+#![tactic(auto)]
+
+#[cfg(test)]
+mod numbers;
+#[cfg(test)]
+mod scripts;
+#[cfg(test)]
+mod words;

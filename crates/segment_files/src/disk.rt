@@ -1,0 +1,102 @@
+ghost use Rattle.std.specs.Prelude.{◌≡◌, ◌<◌, ◌/◌, ◌^◌, None, IfOk};
+
+use crate::segments::SegmentFiles;
+use byte_position::Geometry;
+use segment_disk::{Disk, Failed, Memory, count_fault};
+use std::alloc::Global;
+use std::fs::Files;
+
+/// A disk of segment files in a folder, by PostgreSQL's names. It tells nothing of what they hold.
+#[derive(Drop)]
+pub struct FileDisk<R: Files> {
+    files: SegmentFiles<R>,
+    moment: u64,
+    faults: u64,
+}
+
+impl<R: Files + Drop> FileDisk<R> {
+    /// Takes its room, and touches no file. The folder is made by the first `create` that needs it.
+    pub fn open(rt: R, alloc: Global, folder: &str) -> Result<FileDisk<R>, Memory>
+        ensures tape { IfOk result (λ disk. ⟦<FileDisk<R> as Disk>⟧.tape disk ≡ None) }
+        ensures moment { IfOk result (λ disk. ⟦<FileDisk<R> as Disk>⟧.moment disk ≡ 0) }
+        ensures faults { IfOk result (λ disk. ⟦<FileDisk<R> as Disk>⟧.faults disk ≡ 0) }
+    {
+        Ok(FileDisk {
+            files: SegmentFiles::new(rt, alloc, folder)?,
+            moment: 0,
+            faults: 0,
+        })
+    }
+}
+
+impl<R: Files> Disk for FileDisk<R> {
+    ghost use Rattle.std.specs.Prelude.{None};
+
+    ghost tape = { λ d. None };
+
+    ghost moment = { λ d. d.moment };
+
+    ghost faults = { λ d. d.faults };
+
+    ghost counts = { λ d. tt };
+
+    fn create(&mut self, geometry: Geometry, segment: u64) -> Result<(), Failed> {
+        if self.moment == u64::MAX {
+            return Err(count_fault(&mut self.faults));
+        }
+        self.moment += 1;
+        match self.files.create(geometry, segment) {
+            Ok(()) => Ok(()),
+            Err(_) => Err(count_fault(&mut self.faults)),
+        }
+    }
+
+    fn write_page(
+        &mut self,
+        geometry: Geometry,
+        segment: u64,
+        page: u32,
+        bytes: &[u8; 8192],
+    ) -> Result<(), Failed> {
+        if self.moment == u64::MAX {
+            return Err(count_fault(&mut self.faults));
+        }
+        self.moment += 1;
+        match self.files.write_page(geometry, segment, page, bytes) {
+            Ok(()) => Ok(()),
+            Err(_) => Err(count_fault(&mut self.faults)),
+        }
+    }
+
+    fn sync(&mut self, geometry: Geometry, segment: u64) -> Result<(), Failed> {
+        if self.moment == u64::MAX {
+            return Err(count_fault(&mut self.faults));
+        }
+        self.moment += 1;
+        match self.files.sync(geometry, segment) {
+            Ok(()) => Ok(()),
+            Err(_) => Err(count_fault(&mut self.faults)),
+        }
+    }
+
+    fn read_page(
+        &mut self,
+        geometry: Geometry,
+        segment: u64,
+        page: u32,
+        bytes: &mut [u8; 8192],
+    ) -> Result<bool, Failed> {
+        match self.files.read_page(geometry, segment, page, bytes) {
+            Ok(there) => Ok(there),
+            Err(_) => Err(count_fault(&mut self.faults)),
+        }
+    }
+
+    fn moment(&self) -> u64 {
+        self.moment
+    }
+
+    fn faults(&self) -> u64 {
+        self.faults
+    }
+}

@@ -1,0 +1,11 @@
+pub mod BeginLaws
+pub mod LogEnds
+pub mod LogHeader
+pub mod LogPages
+pub mod LogPositions
+pub mod LogReads
+pub mod LogSegmentLaws
+pub mod RecordBytes
+pub mod RecordRows
+pub mod Tables
+pub mod WrittenLogLaws

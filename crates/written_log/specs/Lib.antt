@@ -1,0 +1,4 @@
+pub mod Written
+pub mod WrittenLog
+pub mod LogSegments
+pub mod Torn
