@@ -143,7 +143,8 @@ impl<D: Disk> Buffers<D> {
         ensures spans { OnOk result (Spans self.new.ring self.new.writer end.0) }
         ensures words { OnOk result ((word : ℕ → ℕ)
             → RingTakes self.old.ring placed.old end.0 word → RingHas self.new.ring end.0 word) }
-        ensures unfinished { OnOk result (placed.old.next < end.0 → written_of self.new.writer < end.0) }
+        ensures unfinished { OnOk result
+            (placed.old.next < end.0 → written_of self.new.writer < end.0) }
     {
         while placed.next_lsn() < end {
             let next = placed.next_lsn();

@@ -25,7 +25,8 @@ pub(crate) fn end_in_page(at: Lsn, upto: Lsn) -> Lsn
 pub(crate) fn copy_words(placed: &mut Placed, words: &mut [u64])
     requires { placed.old.next + 8 * length words.old
         ≤ end_address_of placed.old.size (placed.old.start + assembled_room placed.old.body) }
-    ensures placed { placed.new ≡ record placed.old { next = placed.old.next + 8 * length words.old } }
+    ensures placed { placed.new
+        ≡ record placed.old { next = placed.old.next + 8 * length words.old } }
     ensures words { (k : ℕ) → k < length words.old
         → slice_index words.new k ≡ word_of_placed placed.old (placed.old.next + 8 * k) }
 {

@@ -72,12 +72,12 @@ impl<D> Model for Log<D> {
 }
 
 // A record passes through a log in five steps, as in PostgreSQL's xlog.c: it is reserved (its bytes
-// are counted and its start is known; from here on it has its place, whatever happens), copied (its
-// words go into the ring behind the log's), written (its pages go to the disk), flushed (the segment
-// under way is synced) and told. Four positions follow each other: flushed ≤ written ≤ copied ≤
-// reserved. Between two calls all that is reserved is copied, so a flush reaches the log's end. The
-// ring's pages are written oldest first, since the page that a new one replaces must be written, and
-// all below the written position has to be on the disk. A fault leaves the log down: what was
+// are counted and its start is known: from here on it has its place, whatever happens), copied (its
+// words go into the ring behind the log's), written (its pages go to the disk), flushed (the
+// segment under way is synced) and told. Four positions follow each other: flushed, written,
+// copied, reserved. Between two calls all that is reserved is copied, so a flush reaches the log's
+// end. The ring's pages are written oldest first: the page that a new one replaces must be written,
+// and all below the written position has to be on the disk. A fault leaves the log down: what was
 // reserved stays reserved, what was flushed stays on the disk, and no device call follows. No one
 // but the log touches its ring, its writer and its disk.
 impl<D: Disk> Log<D> {
@@ -103,7 +103,8 @@ impl<D: Disk> Log<D> {
     }
 
     fn on_empty_disk(disk: D, sysid: u64, memory: LogMemory) -> Log<D>
-        ensures opened { IsLog D.tape D.faults (D.tape disk) (D.faults disk) result (at_opening result.size) }
+        ensures opened { IsLog D.tape D.faults (D.tape disk) (D.faults disk) result
+            (at_opening result.size) }
         ensures shape { (result.size ≡ memory.geometry)
             × (result.capacity ≡ capacity_of memory.geometry memory.cap_segments)
             × (result.sysid ≡ sysid) }
@@ -166,7 +167,8 @@ impl<D: Disk> Log<D> {
         ensures down_again { IfSome (writer_fault self.old.writer) (λ faults.
             (result ≡ Err (down_again faults)) × (self.new ≡ self.old)) }
         ensures same_log { IsSameLog self.old self.new }
-        ensures left_by_refusal { IfErr result (λ refused. IsLeftBy refused.cause self.old self.new) }
+        ensures left_by_refusal { IfErr result (λ refused.
+            IsLeftBy refused.cause self.old self.new) }
         ensures told_moment_same { self.new.moment ≡ self.old.moment }
         ensures unflushed { OnOk result (HasUnwritten self.new) }
         ensures end { IfOk result (λ receipt. receipt.end.0 ≡ log_end self.new) }
@@ -183,9 +185,9 @@ impl<D: Disk> Log<D> {
         self.append(body)
     }
 
-    /// Makes all records durable, where the log is not flushed as far as the position asked for, and
-    /// answers how far it is. A position above the log's end is never reached: then the log is
-    /// flushed to its end.
+    /// Makes all records durable, where the log is not flushed as far as the position asked for,
+    /// and answers how far it is. A position above the log's end is never reached: then the log is
+    /// flushed to its end, and the answer's position tells so.
     pub fn flush(&mut self, upto: Lsn) -> Result<Hard, Refused>
         ensures flushes { StepsLog D.tape D.faults self.old self.new (λ faults_at_open before after.
             Flushes self.old.size faults_at_open before upto.0 result after) }
@@ -225,12 +227,14 @@ impl<D: Disk> Log<D> {
         ensures down_again { IfSome (writer_fault self.old.writer) (λ faults.
             (result ≡ Err (down_again faults)) × (self.new ≡ self.old)) }
         ensures same_log { IsSameLog self.old self.new }
-        ensures left_by_refusal { IfErr result (λ refused. IsLeftBy refused.cause self.old self.new) }
+        ensures left_by_refusal { IfErr result (λ refused.
+            IsLeftBy refused.cause self.old self.new) }
         ensures flushed { OnOk result (self.new.flushed ≡ log_end self.new) }
         ensures tells_moment { IfOk result (λ sealed. (sealed.moment ≡ self.new.moment)
             × (sealed.moment ≡ D.moment (log_disk self.new))) }
         ensures told_moment_same { OnErr result (self.new.moment ≡ self.old.moment) }
-        ensures moment_rises { OnOk result (D.moment (log_disk self.old) < D.moment (log_disk self.new)) }
+        ensures moment_rises { OnOk result
+            (D.moment (log_disk self.old) < D.moment (log_disk self.new)) }
         ensures moment_never_falls { D.moment (log_disk self.old) ≤ D.moment (log_disk self.new) }
     {
         let Receipt { start, end } = self.insert(body)?;
@@ -270,7 +274,8 @@ impl<D: Disk> Log<D> {
             → StepsLog D.tape D.faults self.old self.new (λ faults_at_open before after.
             Inserts self.old.size self.old.capacity faults_at_open before value result after) }
         ensures same_log { IsSameLog self.old self.new }
-        ensures left_by_refusal { IfErr result (λ refused. IsLeftBy refused.cause self.old self.new) }
+        ensures left_by_refusal { IfErr result (λ refused.
+            IsLeftBy refused.cause self.old self.new) }
         ensures told_moment_same { self.new.moment ≡ self.old.moment }
         ensures unflushed { OnOk result (HasUnwritten self.new) }
         ensures end { IfOk result (λ receipt. receipt.end.0 ≡ log_end self.new) }
