@@ -1,11 +1,11 @@
 -- The copy of a record, page by page.
 use Rattle.std.proofs.Common.{◌≡◌, ℕ, ◌+◌, ◌*◌, ◌/◌, ◌%◌, ◌<◌, ◌≤◌, min, Option, sym, ap, subst, ◌∙◌, arith}
 use Rattle.segment_disk.specs.Tape.{Tape}
-use Rattle.wal_page.specs.Placed.{PlacedState}
+use Rattle.wal_page.specs.Placed.{PlacedState, placed_word}
 use Rattle.flush_core.specs.declared.writer.Writer.{Writer}
 use Rattle.flush_core.specs.Writer.{written_of}
 use Rattle.serial_log.specs.Ring.{RingState}
-use Rattle.serial_log.specs.Words.{AreGiven, word_of_placed}
+use Rattle.serial_log.specs.Words.{AreGiven}
 use Rattle.serial_log.specs.Buffers.{IsSameOrFurther, RingHas, RingTakes, Spans, WritesOn}
 use Rattle.serial_log.proofs.WritingLaws.{IsSameOrFurther-then, WritesOn-given, WritesOn-then}
 
@@ -40,7 +40,7 @@ module _ (D : Type 0) (tape : D → Option Tape) (moment faults : D → ℕ) (fr
     IsCopied-more whole_end left is copies =
         let at : more.next ≡ upto = ap (λ (p : PlacedState). p.next) copies.more_is in
         let from_here : (word : ℕ → ℕ) → AreGiven from end word → AreGiven placed upto word = λ word given address le lt aligned.
-        given address (omega (arith, is.begun)) (omega (arith, copies.upto_is)) aligned ∙ sym (ap (λ (p : PlacedState). word_of_placed p address) is.placed_is) in
+        given address (omega (arith, is.begun)) (omega (arith, copies.upto_is)) aligned ∙ sym (ap (λ (p : PlacedState). placed_word p address) is.placed_is) in
         record {
           placed_is = copies.more_is ∙ ap (λ (p : PlacedState). record p { next = upto }) is.placed_is ∙ ap (λ (n : ℕ). record from { next = n }) (sym at);
           whole = omega (arith, copies.upto_is, whole_end);
