@@ -33,6 +33,13 @@ CASES = {
 }
 
 
+# Scripts that are short for what they ask, or long for what they do: a line, and how often it stands there.
+SHAPES = {
+    "40 records of 1 MiB": ("I 1 10 00 1048547*5a", 40),
+    "2,000,000 lines F": ("F", 2_000_000),
+}
+
+
 def room(total):
     """The bytes that a record of this size takes up."""
     return (total + 7) // 8 * 8
@@ -125,6 +132,19 @@ def measure(name, case, records, of_run, of_dump):
             print(f"| pg_waldump of segment 1, {name} | | | | | {time.monotonic() - begin:.2f} | {done.stderr.decode()[-80:].strip()} |")
 
 
+def measure_memory(name):
+    """The peak memory of `run`, beside the script's size, the records' and the count of lines."""
+    line, count = SHAPES[name]
+    with tempfile.TemporaryDirectory() as folder:
+        path = os.path.join(folder, "script")
+        with open(path, "w") as out:
+            for _ in range(count):
+                out.write(line + "\n")
+        tail, _, seconds, memory = timed([PROGRAM, "run"], folder, path)
+        size = int(re.search(r" bytes (\d+) ", tail)[1])
+        print(f"| {name} | {os.path.getsize(path) / 1e6:.1f} | {size / 1e6:.1f} | {count:,} | {seconds:.2f} | {memory:.0f} |", flush=True)
+
+
 def main():
     if not os.access(PROGRAM, os.X_OK):
         sys.exit("build the program first: run ./pgwal once")
@@ -149,6 +169,10 @@ def main():
         if case == "100 bytes":
             measure("100 bytes, half", case, records // 2, "", "")
         measure(case, case, records, of_run, of_dump)
+    if megabytes:
+        print("\n| run | script MB | records MB | lines | s | peak MB |\n|---|---|---|---|---|---|")
+        for name in SHAPES:
+            measure_memory(name)
 
 
 if __name__ == "__main__":

@@ -1,14 +1,13 @@
 ghost use Rattle.std.specs.Prelude.{◌≡◌, ℕ, ◌+◌, ◌*◌, ◌/◌, ◌^◌, ◌<◌, ◌≤◌, SomeIff};
 ghost use Rattle.byte_position.specs.Geometry.{IsSegmentSize, file_name, pages_of};
 
+use crate::layout::PAGE_SIZE;
 use std::marker::Model;
 use wal_types::upper_hexadecimal;
 
 const MIN_SEGMENT_SIZE: u64 = 1 << 20;
 
 const MAX_SEGMENT_SIZE: u64 = 1 << 30;
-
-pub(crate) const PAGE_SIZE: u64 = 8192;
 
 const TIMELINE: u32 = 1;
 
@@ -32,7 +31,8 @@ impl Model for Geometry {
 }
 
 impl Geometry {
-    /// None where the size is no power of two from 1 MiB to 1 GiB (PostgreSQL's `IsValidWalSegSize`).
+    /// None where the size is no power of two from 1 MiB to 1 GiB (PostgreSQL's
+    /// `IsValidWalSegSize`).
     pub fn new(segment_size: u64) -> Option<Geometry>
         ensures { SomeIff result (IsSegmentSize segment_size) segment_size }
     {
@@ -83,33 +83,3 @@ pub fn segment_sizes_are_whole_pages()
     ensures bounds { (size : ℕ) → IsSegmentSize size → (2 ^ 20 ≤ size) × (size ≤ 2 ^ 30) }
     ensures pages { (size : ℕ) → IsSegmentSize size → 128 ≤ pages_of size }
 {}
-
-#[cfg(test)]
-mod tests {
-    use super::*;
-    use std::test::Fail;
-
-    #[test]
-    fn segment_sizes_are_powers_of_two_in_range(rt: HostRuntime) {
-        for size in [1_048_576, 16_777_216, 1_073_741_824] {
-            assert!(rt; Geometry::new(size).is_some(), "{size}");
-        }
-        for size in [0, 524_288, 1_048_577, 2_147_483_648] {
-            assert!(rt; Geometry::new(size).is_none(), "{size}");
-        }
-    }
-
-    #[test]
-    fn file_names_part_the_number(rt: HostRuntime) -> Result<(), Fail> {
-        let geometry = Geometry::new(1_048_576).ok_or("1 MiB is a segment's size")?;
-        assert_eq!(rt; geometry.pages(), 128);
-        for (segment, name) in [
-            (1, *b"000000010000000000000001"),
-            (2, *b"000000010000000000000002"),
-            (4096, *b"000000010000000100000000"),
-        ] {
-            assert_eq!(rt; geometry.file_name(segment), name, "segment {segment}");
-        }
-        Ok(())
-    }
-}

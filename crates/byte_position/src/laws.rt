@@ -12,7 +12,8 @@ pub fn positions_and_addresses_correspond()
         → is_in_header size (address_of size position) ≡ false }
 {}
 
-/// A law: on the log's first page, that of segment 1, positions count on from the header's end to the page's end.
+/// A law: on the log's first page, that of segment 1, positions count on from the header's end to
+/// the page's end.
 pub fn first_page_counts_on()
     ensures outside_header { (size k : ℕ) → IsSegmentSize size → k < 8152
         → is_in_header size (size + 40 + k) ≡ false }
@@ -26,7 +27,8 @@ pub fn first_page_counts_on()
         → address_of size (first_position size + 8152) ≡ size + 8192 + 24 }
 {}
 
-/// A law: each page is a header, whose bytes have no position of their own, and bytes that count on.
+/// A law: each page is a header, whose bytes have no position of their own, and bytes that count
+/// on.
 pub fn pages_count_on()
     ensures header { (size page k : ℕ) → IsSegmentSize size → k < header_size size page
         → is_in_header size (8192 * page + k) ≡ true }
@@ -67,7 +69,8 @@ pub fn words_stay_whole()
         → is_in_header size (8 * k + i) ≡ is_in_header size (8 * k) }
     ensures inside { (size k i : ℕ) → IsSegmentSize size → i ≤ 8 → is_in_header size (8 * k) ≡ true
         → position_of size (8 * k + i) ≡ position_of size (8 * k) }
-    ensures outside { (size k i : ℕ) → IsSegmentSize size → i ≤ 8 → is_in_header size (8 * k) ≡ false
+    ensures outside { (size k i : ℕ) → IsSegmentSize size → i ≤ 8
+        → is_in_header size (8 * k) ≡ false
         → position_of size (8 * k + i) ≡ position_of size (8 * k) + i }
     ensures position { (size k : ℕ) → IsSegmentSize size → position_of size (8 * k) % 8 ≡ 0 }
     ensures address { (size p : ℕ) → IsSegmentSize size → p % 8 ≡ 0 → address_of size p % 8 ≡ 0 }

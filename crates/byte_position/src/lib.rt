@@ -3,6 +3,7 @@
 
 mod geometry;
 mod laws;
+mod layout;
 mod position;
 
 pub use geometry::{Geometry, segment_sizes_are_whole_pages};
@@ -11,4 +12,5 @@ pub use laws::{
     positions_and_addresses_correspond, positions_and_addresses_rise, segments_count_on,
     words_stay_whole,
 };
+pub use layout::{LONG_HEADER_LEN, PAGE_SIZE, SHORT_HEADER_LEN};
 pub use position::address_by_counting;

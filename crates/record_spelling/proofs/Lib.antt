@@ -1,5 +1,6 @@
 pub mod Bytes
 pub mod Words
+mod WordRuns
 pub mod RightBlocks
 pub mod BlockSteps
 pub mod Acceptance

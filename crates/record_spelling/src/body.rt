@@ -109,6 +109,14 @@ impl Body {
         }
     }
 
+    // The bytes behind the header.
+    pub(crate) fn after_header(&self) -> &[u8]
+        ensures bytes { result.now ≡ self.now.carried }
+        ensures ready { AssembledFits self.now }
+    {
+        &self.carried
+    }
+
     // The first 20 bytes.
     fn header_front(&self, prev: Lsn) -> [u8; 20]
         ensures { result ≡ header_front self.now prev.0 }
@@ -132,7 +140,7 @@ impl Body {
 }
 
 // The first eight bytes as a number, with zeros for those that are not there.
-fn first_word(bytes: &[u8]) -> u64
+pub(crate) fn first_word(bytes: &[u8]) -> u64
     ensures { result ≡ from_le_bytes w64 (take 8 bytes.now) }
 {
     match bytes.first_chunk::<8>() {

@@ -10,6 +10,7 @@ pub mod layout;
 mod manager;
 mod plain;
 mod plain_blocks;
+mod putting;
 mod refusing;
 
 pub use body::Body;

@@ -1,26 +1,10 @@
 -- Words that are copied one behind another, and the bytes of words that are put one behind another.
-use Rattle.std.proofs.Common.{◌≡◌, ℕ, ◌+◌, ◌-◌, ◌*◌, ◌<◌, ◌≤◌, inl, inr, List, length, get_or, take, drop, set, sym, ap, ◌∙◌, below_more, get_or-set_other, get_or-set_same, ◌≢◌, arith}
+use Rattle.std.proofs.Common.{◌≡◌, ℕ, ◌+◌, ◌-◌, ◌*◌, ◌<◌, ◌≤◌, inl, inr, List, length, get_or, take, drop, sym, ap, ◌∙◌, arith}
 use Rattle.std.specs.Int.{w64, to_le_bytes}
 use Rattle.std.proofs.lemmas.Bool.{cases_lt}
 use Rattle.std.proofs.lemmas.Slice.{between_is, between-put_mid, take-put_mid_below}
 use borrow.Rule.Slice.PartMut.{put_mid}
-use Rattle.wal_page.specs.Placed.{PlacedState}
 use Rattle.segment_disk.specs.DiskImage.{word_of}
-use Rattle.serial_log.specs.Words.{word_of_placed}
-
-module _ (first placed new : PlacedState) (index : ℕ) (at : placed ≡ record first { next = first.next + 8 * index }) (step : new ≡ record placed { next = placed.next + 8 }) where
-  pub placed_on : new ≡ record first { next = first.next + 8 * (index + 1) }
-  placed_on =
-      let sum : first.next + 8 * index + 8 ≡ first.next + 8 * (index + 1) = omega arith in
-      step ∙ ap (λ (p : PlacedState). record p { next = p.next + 8 }) at ∙ ap (λ (n : ℕ). record first { next = n }) sum
-
-  pub words_on : (words : List ℕ) (word : ℕ) → index < length words → word ≡ word_of_placed placed placed.next → ((k : ℕ) → k < index → get_or words k 0 ≡ word_of_placed first (first.next + 8 * k))
-      → (k : ℕ) → k < index + 1 → get_or (set words index word) k 0 ≡ word_of_placed first (first.next + 8 * k)
-  words_on words word within gives so_far =
-      let P : ℕ → Type 0 = λ k. get_or (set words index word) k 0 ≡ word_of_placed first (first.next + 8 * k) in
-      below_more P index
-      (λ k less. let other : k ≢ index = omega arith in rw get_or-set_other (so_far k less))
-      (rw get_or-set_same (gives ∙ ap (λ (p : PlacedState). word_of_placed p p.next) at))
 
 -- a word of bytes whose words up to one were put
 module _ (n : ℕ) (into piece : List ℕ) (long : length piece ≡ 8) (within : 8 * n + 8 ≤ length into) where

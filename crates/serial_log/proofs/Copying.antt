@@ -1,13 +1,15 @@
 -- The copy of a record, page by page.
-use Rattle.std.proofs.Common.{◌≡◌, ℕ, ◌+◌, ◌*◌, ◌/◌, ◌%◌, ◌<◌, ◌≤◌, min, Option, sym, ap, subst, ◌∙◌, arith}
+use Rattle.std.proofs.Common.{◌≡◌, ℕ, ◌+◌, ◌*◌, ◌/◌, ◌%◌, ◌<◌, ◌≤◌, inl, min, Option, None, refl, sym, ap, subst, ◌∙◌, arith}
 use Rattle.segment_disk.specs.Tape.{Tape}
-use Rattle.wal_page.specs.Placed.{PlacedState}
+use Rattle.wal_page.specs.Placed.{PlacedState, placed_word}
 use Rattle.flush_core.specs.declared.writer.Writer.{Writer}
-use Rattle.flush_core.specs.Writer.{written_of}
+use Rattle.flush_core.specs.Writer.{written_of, writer_fault}
 use Rattle.serial_log.specs.Ring.{RingState}
-use Rattle.serial_log.specs.Words.{AreGiven, word_of_placed}
+use Rattle.serial_log.specs.Words.{AreGiven}
 use Rattle.serial_log.specs.Buffers.{IsSameOrFurther, RingHas, RingTakes, Spans, WritesOn}
-use Rattle.serial_log.proofs.WritingLaws.{IsSameOrFurther-then, WritesOn-given, WritesOn-then}
+use Rattle.serial_log.specs.DeviceCalls.{MakesWrites}
+use Rattle.serial_log.proofs.CallLaws.{makes_no_writes, MakesWrites-then}
+use Rattle.serial_log.proofs.WritingLaws.{IsSameOrFurther-then, WritesOn-given, WritesOn-none, WritesOn-then}
 
 module _ (D : Type 0) (tape : D → Option Tape) (moment faults : D → ℕ) (from : PlacedState) (end : ℕ) (old_ring : RingState) (old : Writer D) where
   -- the words of a record are copied up to its next one
@@ -19,14 +21,30 @@ module _ (D : Type 0) (tape : D → Option Tape) (moment faults : D → ℕ) (fr
     pub spans : Spans ring new placed.next
     pub writes : WritesOn tape moment faults (RingTakes old_ring from end) old new
     pub further : IsSameOrFurther old new
+    pub calls : MakesWrites tape moment old new
     pub words : (word : ℕ → ℕ) → RingTakes old_ring from end word → RingHas ring placed.next word
     pub unfinished : from.next < end → written_of new < end
+
+  pub IsCopied-none : writer_fault old ≡ None → Spans old_ring old from.next → from.next % 8 ≡ 0 → from.next ≤ end → IsCopied from old_ring old
+  IsCopied-none up spans whole begins = record {
+    placed_is = refl;
+    whole = whole;
+    begun = omega arith;
+    within = begins;
+    spans = spans;
+    writes = WritesOn-none D tape moment faults (RingTakes old_ring from end) old up;
+    further = inl refl;
+    calls = makes_no_writes D tape moment old;
+    words = λ word takes. takes.1;
+    unfinished = λ some. omega (arith, spans.written_within);
+  }
 
   -- a further page is held, and the words that lie in it are copied
   module _ (placed more : PlacedState) (ring held copied : RingState) (mid new : Writer D) (upto : ℕ) where
     pub record CopiesPage : Type 0 where
       pub writes : WritesOn tape moment faults (RingHas ring placed.next) mid new
       pub further : IsSameOrFurther mid new
+      pub calls : MakesWrites tape moment mid new
       pub spans : Spans held new placed.next
       pub holds : placed.next < held.mapped * 8192
       pub words : (word : ℕ → ℕ) → RingHas ring placed.next word → RingHas held placed.next word
@@ -40,7 +58,7 @@ module _ (D : Type 0) (tape : D → Option Tape) (moment faults : D → ℕ) (fr
     IsCopied-more whole_end left is copies =
         let at : more.next ≡ upto = ap (λ (p : PlacedState). p.next) copies.more_is in
         let from_here : (word : ℕ → ℕ) → AreGiven from end word → AreGiven placed upto word = λ word given address le lt aligned.
-        given address (omega (arith, is.begun)) (omega (arith, copies.upto_is)) aligned ∙ sym (ap (λ (p : PlacedState). word_of_placed p address) is.placed_is) in
+        given address (omega (arith, is.begun)) (omega (arith, copies.upto_is)) aligned ∙ sym (ap (λ (p : PlacedState). placed_word p address) is.placed_is) in
         record {
           placed_is = copies.more_is ∙ ap (λ (p : PlacedState). record p { next = upto }) is.placed_is ∙ ap (λ (n : ℕ). record from { next = n }) (sym at);
           whole = omega (arith, copies.upto_is, whole_end);
@@ -54,6 +72,7 @@ module _ (D : Type 0) (tape : D → Option Tape) (moment faults : D → ℕ) (fr
           writes = WritesOn-then D tape moment faults (RingTakes old_ring from end) old mid new is.writes
               (WritesOn-given D tape moment faults (RingHas ring placed.next) (RingTakes old_ring from end) mid new is.words copies.writes);
           further = IsSameOrFurther-then D tape moment faults old mid new is.further copies.further;
+          calls = MakesWrites-then D tape moment old mid new is.calls copies.calls;
           words = λ word takes. subst (λ (n : ℕ). RingHas copied n word) (sym at) (copies.copies word (from_here word takes.0) (copies.words word (is.words word takes)));
           unfinished = λ some. omega (arith, copies.spans.written_within);
         }

@@ -4,6 +4,7 @@ pub mod RingLaws
 pub mod CopyLaws
 pub mod BufferLaws
 pub mod WritingLaws
+pub mod CallLaws
 pub mod Copying
 pub mod ShapeLaws
 pub mod LogWords

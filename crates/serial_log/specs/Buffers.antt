@@ -6,6 +6,7 @@ use Rattle.wal_page.specs.Placed.{PlacedState}
 use Rattle.flush_core.specs.declared.writer.Writer.{Writer}
 use Rattle.flush_core.specs.Writer.{disk_of, writer_segment_size, written_of, writer_fault}
 use Rattle.serial_log.specs.Ring.{RingState, HoldsWords}
+use Rattle.serial_log.specs.OnDisk.{Preserves}
 use Rattle.serial_log.specs.Words.{AreGiven, HasWritten, words_upto}
 
 -- all below a position is written or in the ring, and nothing at or above it is written
@@ -40,13 +41,16 @@ pub record WritesOn {D : Type 0} (tape : D → Option Tape) (moment faults : D �
   pub moment_never_falls : moment (disk_of old) ≤ moment (disk_of new)
   pub moment_rises : written_of old < written_of new
       → moment (disk_of old) < moment (disk_of new)
+  pub written_never_falls : written_of old ≤ written_of new
   pub words : (word : ℕ → ℕ) → Has word → HasWritten tape old word → HasWritten tape new word
+  pub preserves : Preserves tape Has old new
 
--- the disk failed: its count of faults is told from now on
-pub record GoesDown {D : Type 0} (moment faults : D → ℕ) (old new : Writer D) (told : ℕ)
-    : Type 0 where
+-- the disk failed: its count of faults is told from now on, and nothing is lost that was kept
+pub record GoesDown {D : Type 0} (tape : D → Option Tape) (moment faults : D → ℕ)
+    (Has : (ℕ → ℕ) → Type 0) (old new : Writer D) (told : ℕ) : Type 0 where
   pub size : writer_segment_size new ≡ writer_segment_size old
   pub down : writer_fault new ≡ Some told
   pub count_told : told ≡ faults (disk_of new)
   pub rose : Rose (faults (disk_of old)) told
   pub moment_never_falls : moment (disk_of old) ≤ moment (disk_of new)
+  pub preserves : Preserves tape Has old new

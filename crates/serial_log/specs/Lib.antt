@@ -1,5 +1,7 @@
 pub mod Ring
 pub mod Words
+pub mod OnDisk
+pub mod DeviceCalls
 pub mod Buffers
 pub mod Shape
 pub mod LogMemory

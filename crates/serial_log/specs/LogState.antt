@@ -11,6 +11,7 @@ use Rattle.flush_core.specs.Pages.{HoldsNothing}
 use Rattle.flush_core.specs.Writer.{disk_of, writer_segment_size, written_of, is_unsynced, writer_fault}
 use Rattle.serial_log.specs.Ring.{RingState, HoldsWords}
 use Rattle.serial_log.specs.Words.{HasWritten}
+use Rattle.serial_log.specs.OnDisk.{KeepsBelow, LeavesOnly, moments_of}
 use Rattle.serial_log.specs.Buffers.{Spans}
 use Rattle.serial_log.specs.History.{LogHistory}
 
@@ -89,6 +90,13 @@ IsUpOrDown tape faults tape_at_open faults_at_open log es None =
 IsUpOrDown tape faults tape_at_open faults_at_open log es (Some down) =
     IsDown faults faults_at_open log down
 
+-- what every crash leaves of a log on a disk that held nothing when it was opened: from then on
+-- nothing but its words and zeros, and from the moment told last on all that is flushed
+pub record LeavesLog {D : Type 0} (tape : D → Option Tape) (tape_at_open : Option Tape)
+    (log : LogState D) (es : List Entry) : Type 0 where
+  pub only : LeavesOnly tape log.writer (moments_of tape_at_open) (log_word log.size log.sysid es)
+  pub kept : KeepsBelow tape log.writer log.moment log.flushed (log_word log.size log.sysid es)
+
 -- a log that was opened on a disk with this tape and count of faults stands at this history
 pub record IsLog {D : Type 0} (tape : D → Option Tape) (faults : D → ℕ)
     (tape_at_open : Option Tape) (faults_at_open : ℕ) (log : LogState D) (s : LogHistory)
@@ -102,6 +110,7 @@ pub record IsLog {D : Type 0} (tape : D → Option Tape) (faults : D → ℕ)
   pub flushed : log.flushed ≡ s.flushed
   pub down : writer_fault log.writer ≡ s.down
   pub state : IsUpOrDown tape faults tape_at_open faults_at_open log s.entries s.down
+  pub left : HoldsNothing tape_at_open → LeavesLog tape tape_at_open log s.entries
 
 -- whatever disk a log was opened on, and whatever history it stands at: a call takes it to a
 -- history as the step says, which is told the count of faults at the opening and both histories
@@ -112,6 +121,16 @@ StepsLog tape faults old new Step =
     → IsLog tape faults tape_at_open faults_at_open old before
     → (after : LogHistory) × Step faults_at_open before after
     × IsLog tape faults tape_at_open faults_at_open new after
+
+-- a promise that was given stays: from whichever moment on a log is kept below a position that is
+-- flushed, it is kept behind the call, done or failed
+abbrev pub KeepsFlushed : {D : Type 0} → (D → Option Tape) → (D → ℕ) → LogState D → LogState D
+    → Type 0
+KeepsFlushed tape faults old new =
+    (tape_at_open : Option Tape) (faults_at_open : ℕ) (s : LogHistory) (moment position : ℕ)
+    → IsLog tape faults tape_at_open faults_at_open old s → position ≤ old.flushed
+    → KeepsBelow tape old.writer moment position (log_word old.size old.sysid s.entries)
+    → KeepsBelow tape new.writer moment position (log_word old.size old.sysid s.entries)
 
 -- the same log: what an opening says once and for all
 pub record IsSameLog {D : Type 0} (old new : LogState D) : Type 0 where

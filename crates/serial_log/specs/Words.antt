@@ -3,7 +3,7 @@ use Rattle.std.specs.Prelude.{◌≡◌, ℕ, ◌+◌, ◌*◌, ◌%◌, ◌<◌
 use Rattle.std.specs.Int.{w64, to_le_bytes}
 use Rattle.segment_disk.specs.Tape.{Tape}
 use Rattle.segment_disk.specs.DiskImage.{word_of}
-use Rattle.wal_page.specs.Placed.{PlacedState, entry_word}
+use Rattle.wal_page.specs.Placed.{PlacedState, placed_word}
 use Rattle.flush_core.specs.declared.writer.Writer.{Writer}
 use Rattle.flush_core.specs.Pages.{PutPages}
 use Rattle.flush_core.specs.Writer.{IsWriter, written_of}
@@ -12,14 +12,10 @@ use Rattle.flush_core.specs.Writer.{IsWriter, written_of}
 abbrev pub words_upto : (ℕ → ℕ) → ℕ → ℕ → ℕ
 words_upto word upto address = if nat_lt address upto then word address else 0
 
--- the word of a record at its place
-abbrev pub word_of_placed : PlacedState → ℕ → ℕ
-word_of_placed p address = entry_word p.size p.sysid p.body p.start p.prev address
-
 -- words are those of a record from its next one on, up to an end
 abbrev pub AreGiven : PlacedState → ℕ → (ℕ → ℕ) → Type 0
 AreGiven from end word = (address : ℕ) → from.next ≤ address → address < end → address % 8 ≡ 0
-    → word address ≡ word_of_placed from address
+    → word address ≡ placed_word from address
 
 -- pages have these words, each at its address, the lowest byte first
 pub record HaveWords (pages : PutPages) (word : ℕ → ℕ) : Type 0 where

@@ -1,8 +1,12 @@
-ghost use Rattle.std.specs.Prelude.{◌≡◌, ℕ, ◌+◌, ◌*◌, ◌/◌, ◌%◌, ◌<◌, ◌≤◌, ◌^◌, min, None, OnOk, IfOk, IfErr, false};
+ghost use Rattle.std.specs.Prelude.{◌≡◌, ℕ, ◌+◌, ◌*◌, ◌/◌, ◌%◌, ◌<◌, ◌≤◌, ◌^◌, min, None, MatchResult, OnOk, IfOk, IfErr, false};
 ghost use Rattle.byte_position.specs.Position.{end_address_of};
 ghost use Rattle.record_spelling.specs.Spelling.{assembled_room};
 ghost use Rattle.flush_core.specs.Pages.{HoldsNothing, no_pages};
-ghost use Rattle.flush_core.specs.Writer.{IsWriter, disk_of, writer_fault, writer_segment_size, is_unsynced, written_of};
+ghost use Rattle.flush_core.specs.Left.{no_puts};
+ghost use Rattle.flush_core.specs.Writer.{HoldsOnly, IsWriter, disk_of, writer_fault, writer_segment_size, is_unsynced, written_of};
+ghost use Rattle.serial_log.specs.DeviceCalls.{BreaksFlush, BreaksWrites, MakesFlush, MakesWrites};
+ghost use Rattle.serial_log.specs.OnDisk.{KeepsBelow};
+ghost use Rattle.serial_log.specs.Words.{HasWritten};
 ghost use Rattle.serial_log.specs.Buffers.{GoesDown, IsSameOrFurther, RingHas, RingTakes, Spans, StaysUp, WritesOn};
 
 use crate::copy::{PAGE_SIZE, end_in_page};
@@ -40,6 +44,8 @@ impl<D: Disk> Buffers<D> {
         ensures synced { is_unsynced result.writer ≡ false }
         ensures up { writer_fault result.writer ≡ None }
         ensures pages { HoldsNothing (D.tape disk) → IsWriter D.tape result.writer no_pages }
+        ensures only { HoldsNothing (D.tape disk)
+            → HoldsOnly D.tape result.writer (D.moment disk) no_puts }
     {
         Buffers {
             writer: Writer::new(disk, geometry),
@@ -68,8 +74,11 @@ impl<D: Disk> Buffers<D> {
         requires rises { written_of self.old.writer < upto.0 }
         ensures writes { OnOk result (WritesOn D.tape D.moment D.faults
             (RingHas self.old.ring upto.0) self.old.writer self.new.writer) }
-        ensures fails { IfErr result (λ e.
-            GoesDown D.moment D.faults self.old.writer self.new.writer e.faults) }
+        ensures fails { IfErr result (λ e. GoesDown D.tape D.moment D.faults
+            (RingHas self.old.ring upto.0) self.old.writer self.new.writer e.faults) }
+        ensures calls { MatchResult result
+            (λ _. MakesWrites D.tape D.moment self.old.writer self.new.writer)
+            (λ _. BreaksWrites D.tape D.moment self.old.writer self.new.writer) }
         ensures written { OnOk result (written_of self.new.writer
             ≡ min upto.0 ((written_of self.old.writer / 8192 + 1) * 8192)) }
         ensures ring { self.new.ring ≡ self.old.ring }
@@ -87,8 +96,11 @@ impl<D: Disk> Buffers<D> {
         requires spans { Spans self.old.ring self.old.writer upto.0 }
         ensures writes { OnOk result (WritesOn D.tape D.moment D.faults
             (RingHas self.old.ring upto.0) self.old.writer self.new.writer) }
-        ensures fails { IfErr result (λ e.
-            GoesDown D.moment D.faults self.old.writer self.new.writer e.faults) }
+        ensures fails { IfErr result (λ e. GoesDown D.tape D.moment D.faults
+            (RingHas self.old.ring upto.0) self.old.writer self.new.writer e.faults) }
+        ensures calls { MatchResult result
+            (λ _. MakesWrites D.tape D.moment self.old.writer self.new.writer)
+            (λ _. BreaksWrites D.tape D.moment self.old.writer self.new.writer) }
         ensures further { OnOk result (IsSameOrFurther self.old.writer self.new.writer) }
         ensures written { OnOk result (written_of self.new.writer ≡ upto.0) }
         ensures ring { self.new.ring ≡ self.old.ring }
@@ -101,14 +113,18 @@ impl<D: Disk> Buffers<D> {
 
     // Holds the page of the next word, below which all words are copied. A page that is new takes
     // the place of the oldest; where that is not written, all words so far are.
+    #[tactic(auto, using(crate::proofs::CallLaws::makes_no_writes))]
     fn hold_page(&mut self, next: Lsn) -> Result<(), DiskFault>
         requires up { writer_fault self.old.writer ≡ None }
         requires spans { Spans self.old.ring self.old.writer next.0 }
         requires bound { next.0 < 2 ^ 62 }
         ensures writes { OnOk result (WritesOn D.tape D.moment D.faults
             (RingHas self.old.ring next.0) self.old.writer self.new.writer) }
-        ensures fails { IfErr result (λ e.
-            GoesDown D.moment D.faults self.old.writer self.new.writer e.faults) }
+        ensures fails { IfErr result (λ e. GoesDown D.tape D.moment D.faults
+            (RingHas self.old.ring next.0) self.old.writer self.new.writer e.faults) }
+        ensures calls { MatchResult result
+            (λ _. MakesWrites D.tape D.moment self.old.writer self.new.writer)
+            (λ _. BreaksWrites D.tape D.moment self.old.writer self.new.writer) }
         ensures further { OnOk result (IsSameOrFurther self.old.writer self.new.writer) }
         ensures spans { OnOk result (Spans self.new.ring self.new.writer next.0) }
         ensures held { OnOk result (next.0 < self.new.ring.mapped * 8192) }
@@ -137,8 +153,11 @@ impl<D: Disk> Buffers<D> {
         requires bound { end.0 < 2 ^ 62 }
         ensures writes { OnOk result (WritesOn D.tape D.moment D.faults
             (RingTakes self.old.ring placed.old end.0) self.old.writer self.new.writer) }
-        ensures fails { IfErr result (λ e.
-            GoesDown D.moment D.faults self.old.writer self.new.writer e.faults) }
+        ensures fails { IfErr result (λ e. GoesDown D.tape D.moment D.faults
+            (RingTakes self.old.ring placed.old end.0) self.old.writer self.new.writer e.faults) }
+        ensures calls { MatchResult result
+            (λ _. MakesWrites D.tape D.moment self.old.writer self.new.writer)
+            (λ _. BreaksWrites D.tape D.moment self.old.writer self.new.writer) }
         ensures further { OnOk result (IsSameOrFurther self.old.writer self.new.writer) }
         ensures spans { OnOk result (Spans self.new.ring self.new.writer end.0) }
         ensures words { OnOk result ((word : ℕ → ℕ)
@@ -160,12 +179,18 @@ impl<D: Disk> Buffers<D> {
         requires spans { Spans self.old.ring self.old.writer upto.0 }
         ensures writes { OnOk result (WritesOn D.tape D.moment D.faults
             (RingHas self.old.ring upto.0) self.old.writer self.new.writer) }
-        ensures fails { IfErr result (λ e.
-            GoesDown D.moment D.faults self.old.writer self.new.writer e.faults) }
+        ensures fails { IfErr result (λ e. GoesDown D.tape D.moment D.faults
+            (RingHas self.old.ring upto.0) self.old.writer self.new.writer e.faults) }
+        ensures calls { MatchResult result
+            (λ _. MakesFlush D.tape D.moment self.old.writer self.new.writer)
+            (λ _. BreaksFlush D.tape D.moment self.old.writer self.new.writer) }
         ensures written { OnOk result (written_of self.new.writer ≡ upto.0) }
         ensures synced { OnOk result (is_unsynced self.new.writer ≡ false) }
         ensures ring { self.new.ring ≡ self.old.ring }
         ensures moment { IfOk result (λ moment. moment ≡ D.moment (disk_of self.new.writer)) }
+        ensures hardened { IfOk result (λ moment. (word : ℕ → ℕ) → RingHas self.old.ring upto.0 word
+            → HasWritten D.tape self.old.writer word
+            → KeepsBelow D.tape self.new.writer moment upto.0 word) }
     {
         self.write_upto(upto)?;
         self.writer.harden(upto)

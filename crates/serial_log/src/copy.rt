@@ -1,7 +1,7 @@
 ghost use Rattle.std.specs.Prelude.{◌≡◌, ℕ, ◌+◌, ◌*◌, ◌/◌, ◌<◌, ◌≤◌, length, min, slice_index};
 ghost use Rattle.byte_position.specs.Position.{end_address_of};
 ghost use Rattle.record_spelling.specs.Spelling.{assembled_room};
-ghost use Rattle.serial_log.specs.Words.{word_of_placed};
+ghost use Rattle.wal_page.specs.Placed.{placed_word};
 
 use wal_page::Placed;
 use wal_types::Lsn;
@@ -28,11 +28,7 @@ pub(crate) fn copy_words(placed: &mut Placed, words: &mut [u64])
     ensures placed { placed.new
         ≡ record placed.old { next = placed.old.next + 8 * length words.old } }
     ensures words { (k : ℕ) → k < length words.old
-        → slice_index words.new k ≡ word_of_placed placed.old (placed.old.next + 8 * k) }
+        → slice_index words.new k ≡ placed_word placed.old (placed.old.next + 8 * k) }
 {
-    for word in words.iter_mut() {
-        if let Some((_, next)) = placed.next_word() {
-            *word = next;
-        }
-    }
+    placed.put_words(words);
 }

@@ -1,11 +1,12 @@
-ghost use Rattle.std.specs.Prelude.{◌≡◌, ℕ, ◌+◌, ◌<◌, ◌≤◌, ◌⊎◌, None, Option, Err, IfOk, IfErr, IfSome, OnErr, OnOk};
+ghost use Rattle.std.specs.Prelude.{◌≡◌, ℕ, ◌+◌, ◌<◌, ◌≤◌, ◌⊎◌, None, Option, Err, IfOk, IfErr, IfSome, MatchResult, OnErr, OnOk};
 ghost use Rattle.segment_disk.specs.Tape.{Tape, page_of_segment, state_now};
 ghost use Rattle.record_spelling.specs.Spelling.{assembled, assembled_room, IsWritable};
 ghost use Rattle.wal_types.specs.declared.record.Record.{Record};
 ghost use Rattle.flush_core.specs.Pages.{HoldsNothing};
 ghost use Rattle.flush_core.specs.Writer.{writer_fault};
 ghost use Rattle.serial_log.specs.LogImage.{HoldsLog};
-ghost use Rattle.serial_log.specs.LogState.{IsLog, IsSameLog, HasUnwritten, StepsLog, log_disk, log_end};
+ghost use Rattle.serial_log.specs.LogState.{IsLog, IsSameLog, HasUnwritten, KeepsFlushed, StepsLog, log_disk, log_end};
+ghost use Rattle.serial_log.specs.DeviceCalls.{BreaksFlush, BreaksWrites, MakesFlush, MakesWrites};
 ghost use Rattle.serial_log.specs.Opening.{IsUncalled, RefusesToOpen};
 ghost use Rattle.serial_log.specs.Refusing.{HasFailed, IsLeftBy, down_again};
 ghost use Rattle.serial_log.specs.History.{LogHistory, at_opening, capacity_of, end_of};
@@ -160,12 +161,19 @@ impl<D: Disk> Log<D> {
     }
 
     /// Puts a record behind the others. It is not durable before a flush.
+    #[tactic(auto, using(crate::proofs::CallLaws::makes_no_writes))]
     pub fn insert(&mut self, body: &Body) -> Result<Receipt, Refused>
         ensures inserts { (value : Record) → body.now ≡ assembled value → IsWritable value
             → StepsLog D.tape D.faults self.old self.new (λ faults_at_open before after.
             Inserts self.old.size self.old.capacity faults_at_open before value result after) }
         ensures down_again { IfSome (writer_fault self.old.writer) (λ faults.
             (result ≡ Err (down_again faults)) × (self.new ≡ self.old)) }
+        ensures keeps { (value : Record) → body.now ≡ assembled value → IsWritable value
+            → KeepsFlushed D.tape D.faults self.old self.new }
+        ensures calls { MatchResult result
+            (λ _. MakesWrites D.tape D.moment self.old.writer self.new.writer)
+            (λ _. MakesWrites D.tape D.moment self.old.writer self.new.writer
+            ⊎ BreaksWrites D.tape D.moment self.old.writer self.new.writer) }
         ensures same_log { IsSameLog self.old self.new }
         ensures left_by_refusal { IfErr result (λ refused.
             IsLeftBy refused.cause self.old self.new) }
@@ -188,11 +196,17 @@ impl<D: Disk> Log<D> {
     /// Makes all records durable, where the log is not flushed as far as the position asked for,
     /// and answers how far it is. A position above the log's end is never reached: then the log is
     /// flushed to its end, and the answer's position tells so.
+    #[tactic(auto, using(crate::proofs::CallLaws::makes_no_flush))]
     pub fn flush(&mut self, upto: Lsn) -> Result<Hard, Refused>
         ensures flushes { StepsLog D.tape D.faults self.old self.new (λ faults_at_open before after.
             Flushes self.old.size faults_at_open before upto.0 result after) }
         ensures down_again { IfSome (writer_fault self.old.writer) (λ faults.
             (result ≡ Err (down_again faults)) × (self.new ≡ self.old)) }
+        ensures keeps { KeepsFlushed D.tape D.faults self.old self.new }
+        ensures calls { MatchResult result
+            (λ _. MakesFlush D.tape D.moment self.old.writer self.new.writer)
+            (λ _. MakesFlush D.tape D.moment self.old.writer self.new.writer
+            ⊎ BreaksFlush D.tape D.moment self.old.writer self.new.writer) }
         ensures same_log { IsSameLog self.old self.new }
         ensures has_failed { IfErr result (λ refused. HasFailed refused.cause self.new) }
         ensures flushed { OnOk result (log_end self.old ≤ upto.0
@@ -226,6 +240,12 @@ impl<D: Disk> Log<D> {
             Commits self.old.size self.old.capacity faults_at_open before value result after) }
         ensures down_again { IfSome (writer_fault self.old.writer) (λ faults.
             (result ≡ Err (down_again faults)) × (self.new ≡ self.old)) }
+        ensures keeps { (value : Record) → body.now ≡ assembled value → IsWritable value
+            → KeepsFlushed D.tape D.faults self.old self.new }
+        ensures calls { MatchResult result
+            (λ _. MakesFlush D.tape D.moment self.old.writer self.new.writer)
+            (λ _. MakesFlush D.tape D.moment self.old.writer self.new.writer
+            ⊎ BreaksFlush D.tape D.moment self.old.writer self.new.writer) }
         ensures same_log { IsSameLog self.old self.new }
         ensures left_by_refusal { IfErr result (λ refused.
             IsLeftBy refused.cause self.old self.new) }
@@ -273,6 +293,12 @@ impl<D: Disk> Log<D> {
         ensures inserts { (value : Record) → body.now ≡ assembled value → IsWritable value
             → StepsLog D.tape D.faults self.old self.new (λ faults_at_open before after.
             Inserts self.old.size self.old.capacity faults_at_open before value result after) }
+        ensures keeps { (value : Record) → body.now ≡ assembled value → IsWritable value
+            → KeepsFlushed D.tape D.faults self.old self.new }
+        ensures calls { MatchResult result
+            (λ _. MakesWrites D.tape D.moment self.old.writer self.new.writer)
+            (λ _. MakesWrites D.tape D.moment self.old.writer self.new.writer
+            ⊎ BreaksWrites D.tape D.moment self.old.writer self.new.writer) }
         ensures same_log { IsSameLog self.old self.new }
         ensures left_by_refusal { IfErr result (λ refused.
             IsLeftBy refused.cause self.old self.new) }
@@ -303,6 +329,11 @@ impl<D: Disk> Log<D> {
         requires above { self.old.flushed < asked.0 }
         ensures flushes { StepsLog D.tape D.faults self.old self.new (λ faults_at_open before after.
             Flushes self.old.size faults_at_open before asked.0 result after) }
+        ensures keeps { KeepsFlushed D.tape D.faults self.old self.new }
+        ensures calls { MatchResult result
+            (λ _. MakesFlush D.tape D.moment self.old.writer self.new.writer)
+            (λ _. MakesFlush D.tape D.moment self.old.writer self.new.writer
+            ⊎ BreaksFlush D.tape D.moment self.old.writer self.new.writer) }
         ensures same_log { IsSameLog self.old self.new }
         ensures has_failed { IfErr result (λ refused. HasFailed refused.cause self.new) }
         ensures flushed { OnOk result (self.new.flushed ≡ log_end self.new) }

@@ -1,6 +1,7 @@
 mod Flags
 mod HeaderWords
 mod PlacedSteps
+mod RunSteps
 pub mod OrderLaws
 pub mod PageLaws
 pub mod StreamLaws

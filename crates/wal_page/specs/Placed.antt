@@ -1,6 +1,6 @@
 -- The words that a record gives the log at its place (PostgreSQL's xlog.c, CopyXLogRecordToWAL).
 -- Everywhere `size` is the size of a segment in bytes, and `start` the byte position at which the record `a` starts.
-use Rattle.std.specs.Prelude.{◌≡◌, ℕ, ◌+◌, ◌-◌, ◌*◌, ◌/◌, ◌%◌, ◌^◌, ◌<◌, ◌≤◌, nat_lt, if◌then◌else◌}
+use Rattle.std.specs.Prelude.{◌≡◌, ℕ, ◌+◌, ◌-◌, ◌*◌, ◌/◌, ◌%◌, ◌^◌, ◌<◌, ◌≤◌, false, List, slice_index, nat_lt, if◌then◌else◌}
 use Rattle.byte_position.specs.Geometry.{IsSegmentSize}
 use Rattle.byte_position.specs.Position.{is_in_header, position_of, end_address_of}
 use Rattle.record_spelling.specs.Spelling.{Assembled, assembled_size, assembled_room, filled, word_at}
@@ -33,6 +33,23 @@ pub record PlacedState : Type 0 where
   pub start : ℕ
   pub prev : ℕ
   pub next : ℕ
+
+-- the word that it gives at an address, and where its last word ends
+abbrev pub placed_word : PlacedState → ℕ → ℕ
+placed_word p address = entry_word p.size p.sysid p.body p.start p.prev address
+
+abbrev pub placed_end : PlacedState → ℕ
+placed_end p = end_address_of p.size (p.start + assembled_room p.body)
+
+-- these are the first `count` of the words that it gives from its next one on
+abbrev pub HasWordsFrom : PlacedState → ℕ → List ℕ → Type 0
+HasWordsFrom p count words = (k : ℕ) → k < count → slice_index words k ≡ placed_word p (p.next + 8 * k)
+
+-- its next `count` words lie together on a page, behind the page's header, and the record's own header lies before them
+pub record LieTogether (p : PlacedState) (count : ℕ) : Type 0 where
+  pub outside : is_in_header p.size p.next ≡ false
+  pub behind_header : p.start + 24 ≤ position_of p.size p.next
+  pub on_page : p.next % 8192 + 8 * count ≤ 8192
 
 -- the next word is at `next`, and `passed` bytes of the record's room lie before it
 pub record StandsAt (size : ℕ) (a : Assembled) (start next passed : ℕ) : Type 0 where

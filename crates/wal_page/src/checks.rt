@@ -6,7 +6,7 @@ ghost use Rattle.record_spelling.specs.Numbers.{number_at};
 ghost use Rattle.wal_page.specs.Page.{info_of, page_fault, remaining_of, timeline_of};
 
 use crate::layout::*;
-use byte_position::Geometry;
+use byte_position::{Geometry, PAGE_SIZE};
 
 /// Which check of a page failed.
 #[derive(Clone, Copy, Debug, PartialEq, Eq)]
@@ -31,15 +31,16 @@ pub enum PageErr {
     Timeline,
 }
 
-/// The fields of a page's header that a reader goes on with, as they stand (PostgreSQL's XLogPageHeaderData of
-/// xlog_internal.h).
+/// The fields of a page's header that a reader goes on with, as they stand (PostgreSQL's
+/// XLogPageHeaderData of xlog_internal.h).
 #[derive(Clone, Copy, Debug, PartialEq, Eq)]
 pub struct PageInfo {
     /// The header's flags.
     pub info: u16,
     /// The timeline on which the page was written.
     pub timeline: u32,
-    /// How many bytes of the record that continues into the page are still to come; 0 where none does.
+    /// How many bytes of the record that continues into the page are still to come; 0 where none
+    /// does.
     pub rem_len: u32,
 }
 
@@ -51,7 +52,8 @@ impl PageInfo {
         self.info & CONTINUED != 0
     }
 
-    /// Whether the record that began before the page was overwritten (`XLP_FIRST_IS_OVERWRITE_CONTRECORD`).
+    /// Whether the record that began before the page was overwritten
+    /// (`XLP_FIRST_IS_OVERWRITE_CONTRECORD`).
     pub fn is_overwritten(&self) -> bool
         ensures { result ≡ (self.now.info / 8 % 2 == 1) }
     {
@@ -66,9 +68,10 @@ impl PageInfo {
     }
 }
 
-/// Checks a page that is read, in this order: its magic number, its flags, whether it has the long header just where it
-/// is its segment's first, what a long header says, its address, and that its timeline is none before that of the page
-/// read before it (0 where there is none). `page` counts from the log's byte 0.
+/// Checks a page that is read, in this order: its magic number, its flags, whether it has the long
+/// header just where it is its segment's first, what a long header says, its address, and that its
+/// timeline is none before that of the page read before it (0 where there is none). `page` counts
+/// from the log's byte 0.
 pub fn check_page(
     geometry: Geometry,
     page: u64,
@@ -76,8 +79,10 @@ pub fn check_page(
     last_timeline: u32,
 ) -> Result<PageInfo, PageErr>
     requires { page * 8192 < 2 ^ 64 }
-    ensures info { IfOk result (λ i. (i.info ≡ info_of bytes.now) × (i.timeline ≡ timeline_of bytes.now) × (i.rem_len ≡ remaining_of bytes.now)) }
-    ensures which { MatchResult result (λ _. page_fault geometry page bytes.now last_timeline ≡ None) (λ e. page_fault geometry page bytes.now last_timeline ≡ Some e) }
+    ensures info { IfOk result (λ i. (i.info ≡ info_of bytes.now) × (i.timeline
+        ≡ timeline_of bytes.now) × (i.rem_len ≡ remaining_of bytes.now)) }
+    ensures which { MatchResult result (λ _. page_fault geometry page bytes.now last_timeline
+        ≡ None) (λ e. page_fault geometry page bytes.now last_timeline ≡ Some e) }
 {
     let found = PageInfo {
         info: u16_at(bytes, INFO_AT),
@@ -101,13 +106,13 @@ pub fn check_page(
     if is_long && u64::from(u32_at(bytes, SEGMENT_SIZE_AT)) != geometry.segment_size() {
         return Err(PageErr::SegSize);
     }
-    if is_long && u32_at(bytes, PAGE_SIZE_AT) != PAGE_SIZE as u32 {
+    if is_long && u64::from(u32_at(bytes, PAGE_SIZE_AT)) != PAGE_SIZE {
         return Err(PageErr::PageSize);
     }
     if is_long && u64_at(bytes, SYSTEM_ID_AT) == 0 {
         return Err(PageErr::SysId);
     }
-    if u64_at(bytes, ADDRESS_AT) != page * PAGE_SIZE as u64 {
+    if u64_at(bytes, ADDRESS_AT) != page * PAGE_SIZE {
         return Err(PageErr::Address);
     }
     if found.timeline < last_timeline {
@@ -144,47 +149,4 @@ fn u64_at(page: &[u8; 8192], at: usize) -> u64
         page[at + 6],
         page[at + 7],
     ])
-}
-
-#[cfg(test)]
-mod tests {
-    use super::*;
-    use std::test::Fail;
-
-    #[test]
-    fn each_fault_is_found(rt: HostRuntime) -> Result<(), Fail> {
-        let geometry = Geometry::new(1 << 20).ok_or("1 MiB is a segment's size")?;
-        let mut page = [0; 8192];
-        page[..40].copy_from_slice(&FIRST_HEADER);
-        let whole = PageInfo {
-            info: 6,
-            timeline: 1,
-            rem_len: 0,
-        };
-        assert_eq!(rt; check_page(geometry, 128, &page, 1), Ok(whole));
-        assert_eq!(rt;
-            check_page(geometry, 129, &page, 1),
-            Err(PageErr::LongInside)
-        );
-        assert_eq!(rt; check_page(geometry, 256, &page, 1), Err(PageErr::Address));
-        assert_eq!(rt; check_page(geometry, 128, &page, 2), Err(PageErr::Timeline));
-        for (at, byte, fault) in [
-            (1u8, 0xd0, PageErr::Magic),
-            (2, 22, PageErr::Flags),
-            (2, 4, PageErr::NoLong),
-            (34, 0x20, PageErr::SegSize),
-            (37, 0x10, PageErr::PageSize),
-            (24, 0, PageErr::SysId),
-            (12, 1, PageErr::Address),
-        ] {
-            let mut changed = page;
-            changed[usize::from(at)] = byte;
-            assert_eq!(rt;
-                check_page(geometry, 128, &changed, 1),
-                Err(fault),
-                "{fault:?}"
-            );
-        }
-        Ok(())
-    }
 }

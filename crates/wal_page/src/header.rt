@@ -1,17 +1,16 @@
 //! The header that a page is given.
 
 ghost use Rattle.std.specs.Prelude.{◌≡◌, ◌+◌, ◌*◌, ◌^◌, ◌<◌, nat_lt, if◌then◌else◌};
-ghost use Rattle.byte_position.specs.Position.{is_in_header};
 ghost use Rattle.record_spelling.specs.Spelling.{word_at};
 ghost use Rattle.wal_page.specs.Page.{header_size, is_first_page, page_header};
 
-use crate::layout::*;
-use byte_position::Geometry;
+use crate::layout::{BACKUP_REMOVABLE, CONTINUED, LONG, MAGIC};
+use byte_position::{Geometry, PAGE_SIZE};
 
 const TIMELINE: u32 = 1;
 
-/// The n-th word of a page's header (PostgreSQL's XLogLongPageHeaderData of xlog_internal.h), where a record continues into
-/// the page with `remaining` bytes still to come (0: none does).
+/// The n-th word of a page's header (PostgreSQL's XLogLongPageHeaderData of xlog_internal.h), where
+/// a record continues into the page with `remaining` bytes still to come (0: none does).
 pub(crate) fn page_header_word(
     geometry: Geometry,
     sysid: u64,
@@ -27,29 +26,21 @@ pub(crate) fn page_header_word(
         0 => u64::from(MAGIC)
             + (u64::from(info(geometry, page, remaining)) << 16)
             + (u64::from(TIMELINE) << 32),
-        1 => page * PAGE_SIZE as u64,
+        1 => page * PAGE_SIZE,
         2 => u64::from(remaining),
         3 => sysid,
-        _ => geometry.segment_size() + ((PAGE_SIZE as u64) << 32),
+        _ => geometry.segment_size() + (PAGE_SIZE << 32),
     }
 }
 
 // A header's flags.
 fn info(geometry: Geometry, page: u64, remaining: u32) -> u16
-    ensures { result ≡ (if nat_lt 0 remaining then 1 else 0) + (if is_first_page geometry page then 2 else 0) + 4 }
+    ensures { result
+        ≡ (if nat_lt 0 remaining then 1 else 0)
+        + (if is_first_page geometry page then 2 else 0) + 4 }
 {
     let is_first = page % u64::from(geometry.pages()) == 0;
     let continued = if remaining > 0 { CONTINUED } else { 0 };
     let long = if is_first { LONG } else { 0 };
     continued + long + BACKUP_REMOVABLE
-}
-
-/// Whether the byte at an address is in a page header. Only near a page's start does it look at the segment.
-pub(crate) fn is_in_header(geometry: Geometry, address: u64) -> bool
-    ensures { result ≡ is_in_header geometry address }
-{
-    let in_page = address % PAGE_SIZE as u64;
-    in_page < SHORT_HEADER_LEN as u64
-        || (in_page < LONG_HEADER_LEN as u64
-            && address % geometry.segment_size() < LONG_HEADER_LEN as u64)
 }

@@ -11,52 +11,100 @@ ghost use Rattle.wal_page.specs.Log.{log_byte, log_word, owner_at, stream_of};
 ghost use Rattle.wal_page.specs.LogPage.{IsLogPage};
 ghost use Rattle.wal_page.specs.Placed.{Owns, entry_word, header_word};
 
-/// What an entry adds to the order that it follows: its room, its start as the next record's one before, its bytes.
-pub fn law_of_entry_that_follows()
-    ensures rooms { (es : List Entry) (e : Entry) → rooms_of (es ++ e ∷ []) ≡ rooms_of es + room_of e.value }
-    ensures prev { (size prev : ℕ) (es : List Entry) (e : Entry) → prev_of size prev (es ++ e ∷ []) ≡ address_of size e.start }
-    ensures stream { (size : ℕ) (es : List Entry) (e : Entry) → stream_of size (es ++ e ∷ []) ≡ stream_of size es ++ filled (assembled e.value) (prev_of size 0 es) }
-    ensures chained { (size : ℕ) (es : List Entry) (e : Entry) → IsChained size es → e.start ≡ first_position size + rooms_of es → IsWritable e.value → IsChained size (es ++ e ∷ []) }
+/// What an entry adds to the order that it follows: its room, its start as the next record's one
+/// before, its bytes.
+pub fn orders_grow_entry_by_entry()
+    ensures rooms { (es : List Entry) (e : Entry)
+        → rooms_of (es ++ e ∷ []) ≡ rooms_of es + room_of e.value }
+    ensures prev { (size prev : ℕ) (es : List Entry) (e : Entry)
+        → prev_of size prev (es ++ e ∷ []) ≡ address_of size e.start }
+    ensures stream { (size : ℕ) (es : List Entry) (e : Entry)
+        → stream_of size (es ++ e ∷ []) ≡ stream_of size es
+        ++ filled (assembled e.value) (prev_of size 0 es) }
+    ensures chained { (size : ℕ) (es : List Entry) (e : Entry) → IsChained size es
+        → e.start ≡ first_position size + rooms_of es → IsWritable e.value
+        → IsChained size (es ++ e ∷ []) }
 {}
 
 /// Where the entries of an order stand: each behind those before it, so that no two overlap.
-pub fn law_of_starts()
-    ensures start { (position : ℕ) (es : List Entry) → FollowsFrom position es → (k : ℕ) (d : Entry) → k < length es → (slice_index_or es k d).start ≡ position + rooms_of (take k es) }
-    ensures apart { (position : ℕ) (es : List Entry) → FollowsFrom position es → (i j : ℕ) (d : Entry) → i < j → j < length es → position_behind (slice_index_or es i d) ≤ (slice_index_or es j d).start }
-    ensures rise { (position : ℕ) (es : List Entry) → FollowsFrom position es → (i j : ℕ) (d : Entry) → i < j → j < length es → (slice_index_or es i d).start < (slice_index_or es j d).start }
+pub fn entries_start_behind_those_before()
+    ensures start { (position : ℕ) (es : List Entry) → FollowsFrom position es → (k : ℕ) (d : Entry)
+        → k < length es → (slice_index_or es k d).start ≡ position + rooms_of (take k es) }
+    ensures apart { (position : ℕ) (es : List Entry) → FollowsFrom position es
+        → (i j : ℕ) (d : Entry) → i < j → j < length es
+        → position_behind (slice_index_or es i d) ≤ (slice_index_or es j d).start }
+    ensures rise { (position : ℕ) (es : List Entry) → FollowsFrom position es
+        → (i j : ℕ) (d : Entry) → i < j → j < length es
+        → (slice_index_or es i d).start < (slice_index_or es j d).start }
 {}
 
 /// Records take up just their rooms.
-pub fn law_of_lengths()
+pub fn records_take_up_their_rooms()
     ensures { (size : ℕ) (es : List Entry) → length (stream_of size es) ≡ rooms_of es }
 {}
 
-/// Who owns an address: each entry those from its start's end form up to its finish, and so all entries together those from
-/// segment 1 on up to the order's end.
-pub fn law_of_owners()
-    ensures owner { (size : ℕ) (front back : List Entry) (e : Entry) → IsChained size (front ++ e ∷ back) → (address : ℕ) → (owner_at size (front ++ e ∷ back) address ≡ Some e) ↔ Owns size (assembled e.value) e.start address }
-    ensures owned { (size : ℕ) (a : Assembled) (start address : ℕ) → IsSegmentSize size → Owns size a start address ↔ ((end_address_of size start ≤ address) × (address < end_address_of size (start + assembled_room a))) }
-    ensures together { (size : ℕ) (es : List Entry) (address : ℕ) → IsSegmentSize size → IsChained size es → IsSome (owner_at size es address) ↔ ((size ≤ address) × (address < end_address_of size (first_position size + rooms_of es))) }
+/// Who owns an address: each entry those from its start's end form up to its finish, and so all
+/// entries together those from segment 1 on up to the order's end.
+pub fn entries_own_stretches()
+    ensures owner { (size : ℕ) (front back : List Entry) (e : Entry)
+        → IsChained size (front ++ e ∷ back) → (address : ℕ)
+        → (owner_at size (front ++ e ∷ back) address ≡ Some e)
+        ↔ Owns size (assembled e.value) e.start address }
+    ensures owned { (size : ℕ) (a : Assembled) (start address : ℕ) → IsSegmentSize size
+        → Owns size a start address ↔ ((end_address_of size start ≤ address)
+        × (address < end_address_of size (start + assembled_room a))) }
+    ensures together { (size : ℕ) (es : List Entry) (address : ℕ) → IsSegmentSize size
+        → IsChained size es
+        → IsSome (owner_at size es address) ↔ ((size ≤ address)
+        × (address < end_address_of size (first_position size + rooms_of es))) }
 {}
 
-/// The log's words: each is the one that its owner gives, and 0 where nobody owns it, as behind the order's end.
-pub fn law_of_log_words()
-    ensures entry { (size sysid : ℕ) (front back : List Entry) (e : Entry) → IsSegmentSize size → IsChained size (front ++ e ∷ back) → (address : ℕ) → address % 8 ≡ 0 → Owns size (assembled e.value) e.start address → log_word size sysid (front ++ e ∷ back) address ≡ entry_word size sysid (assembled e.value) e.start (prev_of size 0 front) address }
-    ensures header { (size sysid : ℕ) (a : Assembled) (start prev page n : ℕ) → IsSegmentSize size → 8 * n < header_size size page → entry_word size sysid a start prev (page * 8192 + 8 * n) ≡ header_word size sysid page a start n }
-    ensures unowned { (size sysid : ℕ) (es : List Entry) (address : ℕ) → IsSegmentSize size → IsChained size es → address % 8 ≡ 0 → owner_at size es address ≡ None → log_word size sysid es address ≡ 0 }
-    ensures behind { (size sysid : ℕ) (es : List Entry) (address : ℕ) → IsSegmentSize size → IsChained size es → end_address_of size (first_position size + rooms_of es) ≤ address → log_word size sysid es address ≡ 0 }
+/// The log's words: each is the one that its owner gives, and 0 where nobody owns it, as behind the
+/// order's end.
+pub fn words_are_their_owners()
+    ensures entry { (size sysid : ℕ) (front back : List Entry) (e : Entry) → IsSegmentSize size
+        → IsChained size (front ++ e ∷ back) → (address : ℕ) → address % 8 ≡ 0
+        → Owns size (assembled e.value) e.start address
+        → log_word size sysid (front ++ e ∷ back) address
+        ≡ entry_word size sysid (assembled e.value) e.start (prev_of size 0 front) address }
+    ensures header { (size sysid : ℕ) (a : Assembled) (start prev page n : ℕ) → IsSegmentSize size
+        → 8 * n < header_size size page
+        → entry_word size sysid a start prev (page * 8192 + 8 * n)
+        ≡ header_word size sysid page a start n }
+    ensures unowned { (size sysid : ℕ) (es : List Entry) (address : ℕ) → IsSegmentSize size
+        → IsChained size es → address % 8 ≡ 0 → owner_at size es address ≡ None
+        → log_word size sysid es address ≡ 0 }
+    ensures behind { (size sysid : ℕ) (es : List Entry) (address : ℕ) → IsSegmentSize size
+        → IsChained size es → end_address_of size (first_position size + rooms_of es) ≤ address
+        → log_word size sysid es address ≡ 0 }
 {}
 
 /// An entry that follows changes no byte and no word that it does not own.
-pub fn law_of_log_that_grows()
-    ensures bytes { (size sysid : ℕ) (es : List Entry) (e : Entry) (address : ℕ) → e.start ≡ first_position size + rooms_of es → ¬ Owns size (assembled e.value) e.start address → log_byte size sysid (es ++ e ∷ []) address ≡ log_byte size sysid es address }
-    ensures words { (size sysid : ℕ) (es : List Entry) (e : Entry) (address : ℕ) → IsSegmentSize size → e.start ≡ first_position size + rooms_of es → address % 8 ≡ 0 → ¬ Owns size (assembled e.value) e.start address → log_word size sysid (es ++ e ∷ []) address ≡ log_word size sysid es address }
+pub fn further_entries_change_only_their_own()
+    ensures bytes { (size sysid : ℕ) (es : List Entry) (e : Entry) (address : ℕ)
+        → e.start ≡ first_position size + rooms_of es
+        → ¬ Owns size (assembled e.value) e.start address
+        → log_byte size sysid (es ++ e ∷ []) address ≡ log_byte size sysid es address }
+    ensures words { (size sysid : ℕ) (es : List Entry) (e : Entry) (address : ℕ)
+        → IsSegmentSize size → e.start ≡ first_position size + rooms_of es → address % 8 ≡ 0
+        → ¬ Owns size (assembled e.value) e.start address
+        → log_word size sysid (es ++ e ∷ []) address ≡ log_word size sysid es address }
 {}
 
 /// The log's bytes fit, its words are its bytes, and so its pages are their words.
-pub fn law_of_log_bytes()
-    ensures fit { (size sysid : ℕ) (es : List Entry) (address : ℕ) → IsChained size es → log_byte size sysid es address < 256 }
-    ensures words { (size sysid : ℕ) (es : List Entry) (address k : ℕ) → IsChained size es → k < 8 → slice_index (to_le_bytes w64 (log_word size sysid es address)) k ≡ log_byte size sysid es (address + k) }
-    ensures page { (size sysid : ℕ) (es : List Entry) (page : ℕ) (bytes : List ℕ) → IsChained size es → length bytes ≡ 8192 → ((n : ℕ) → n < 1024 → take 8 (drop (8 * n) bytes) ≡ to_le_bytes w64 (log_word size sysid es (page * 8192 + 8 * n))) → IsLogPage size sysid es page bytes }
-    ensures page_by_numbers { (size sysid : ℕ) (es : List Entry) (page : ℕ) (bytes : List ℕ) → IsChained size es → length bytes ≡ 8192 → All (λ b. b < 256) bytes → ((n : ℕ) → n < 1024 → word_at bytes n ≡ log_word size sysid es (page * 8192 + 8 * n)) → IsLogPage size sysid es page bytes }
+pub fn words_and_pages_are_their_bytes()
+    ensures fit { (size sysid : ℕ) (es : List Entry) (address : ℕ) → IsChained size es
+        → log_byte size sysid es address < 256 }
+    ensures words { (size sysid : ℕ) (es : List Entry) (address k : ℕ) → IsChained size es → k < 8
+        → slice_index (to_le_bytes w64 (log_word size sysid es address)) k
+        ≡ log_byte size sysid es (address + k) }
+    ensures page { (size sysid : ℕ) (es : List Entry) (page : ℕ) (bytes : List ℕ)
+        → IsChained size es → length bytes ≡ 8192 → ((n : ℕ) → n < 1024
+        → take 8 (drop (8 * n) bytes)
+        ≡ to_le_bytes w64 (log_word size sysid es (page * 8192 + 8 * n)))
+        → IsLogPage size sysid es page bytes }
+    ensures page_by_numbers { (size sysid : ℕ) (es : List Entry) (page : ℕ) (bytes : List ℕ)
+        → IsChained size es → length bytes ≡ 8192 → All (λ b. b < 256) bytes → ((n : ℕ) → n < 1024
+        → word_at bytes n ≡ log_word size sysid es (page * 8192 + 8 * n))
+        → IsLogPage size sysid es page bytes }
 {}

@@ -1,13 +1,5 @@
 //! Where a page's header has its fields, and its flags (PostgreSQL's xlog_internal.h).
 
-pub(crate) const PAGE_SIZE: usize = 8192;
-
-/// SizeOfXLogShortPHD: the length of the header of each other page.
-pub(crate) const SHORT_HEADER_LEN: usize = 24;
-
-/// SizeOfXLogLongPHD: the length of the header of a segment's first page.
-pub(crate) const LONG_HEADER_LEN: usize = 40;
-
 /// XLOG_PAGE_MAGIC
 pub(crate) const MAGIC: u16 = 0xD113;
 
@@ -37,11 +29,3 @@ pub(crate) const BACKUP_REMOVABLE: u16 = 4;
 pub(crate) const OVERWRITTEN: u16 = 8;
 /// XLP_ALL_FLAGS
 pub(crate) const ALL_FLAGS: u16 = CONTINUED | LONG | BACKUP_REMOVABLE | OVERWRITTEN;
-
-/// The header of a log's first page, where segments have 1 MiB and the system id is 1.
-#[cfg(test)]
-#[rattlefmt::skip]
-pub(crate) const FIRST_HEADER: [u8; 40] = [
-    0x13, 0xd1, 6, 0, 1, 0, 0, 0, 0, 0, 0x10, 0, 0, 0, 0, 0, 0, 0, 0, 0, 0, 0, 0, 0,
-    1, 0, 0, 0, 0, 0, 0, 0, 0, 0, 0x10, 0, 0, 0x20, 0, 0,
-];

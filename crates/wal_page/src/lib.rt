@@ -9,7 +9,8 @@ mod placed;
 
 pub use checks::{PageErr, PageInfo, check_page};
 pub use laws::{
-    law_of_entry_that_follows, law_of_lengths, law_of_log_bytes, law_of_log_that_grows,
-    law_of_log_words, law_of_owners, law_of_starts,
+    entries_own_stretches, entries_start_behind_those_before,
+    further_entries_change_only_their_own, orders_grow_entry_by_entry, records_take_up_their_rooms,
+    words_and_pages_are_their_bytes, words_are_their_owners,
 };
 pub use placed::{Placed, header_word};

@@ -25,6 +25,3 @@ pub use found::{Answer, DamageKind, FoundRecord};
 pub use laws::decoding_is_settled;
 pub use log_reader::Reader;
 pub use standing::{ReadErr, Step};
-
-#[cfg(test)]
-mod tests;

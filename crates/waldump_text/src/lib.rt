@@ -9,8 +9,6 @@ mod lines;
 mod listed;
 mod names;
 mod putting;
-#[cfg(test)]
-mod tests;
 
 pub use dumping::{DumpErr, dump};
 pub use laws::decoding_is_settled;

@@ -1,8 +1,11 @@
 -- The record is inserted, and then flushed.
-use Rattle.std.proofs.Common.{◌∙◌, ℕ, inl, inr, refl, subst}
+use Rattle.std.proofs.Common.{◌∙◌, ℕ, inl, inr, refl, ap, subst}
 use Rattle.std.proofs.lemmas.Result.{err_from_is_err_and}
 use Rattle.serial_log.specs.Steps.{HasFlushed}
 use Rattle.serial_log.proofs.LogWords.{end_of_more}
+use Rattle.serial_log.specs.History.{LogHistory}
+use Rattle.serial_log.proofs.LogLaws.{keeps_committed}
+use Rattle.serial_log.proofs.CallLaws.{MakesFlush-then, flush_calls, refused_behind}
 use Rattle.serial_log.proofs.StepLaws.{InsertsThenFlushes-err, InsertsThenFlushes-ok}
 use Rattle.serial_log.proofs.log.Log.commit.Goals as goal
 
@@ -33,3 +36,36 @@ returns-in-Err-clause-commits g c =
     let first = c.in_ok-start.ensures.inserts value same writable tape_at_open faults_at_open s is in
     let second = c.in-Err.ensures.flushes tape_at_open faults_at_open first.0 first.2 in
     (second.0, inr (receipt, refl, InsertsThenFlushes-err log.size log.capacity faults_at_open s first.0 second.0 value receipt first.1 c.in-Err.refused second.1), second.2)
+
+pub returns-in-Ok-clause-keeps : goal.returns-in-Ok-clause-keeps
+returns-in-Ok-clause-keeps g c =
+    let log = c.args.self.now in
+    let same_log = c.in_ok-start.ensures.same_log in
+    λ value same writable tape_at_open faults_at_open s moment position is within kept.
+    let first = c.in_ok-start.ensures.inserts value same writable tape_at_open faults_at_open s is in
+    let behind = c.in_ok-start.ensures.keeps value same writable tape_at_open faults_at_open s moment position is within kept in
+    keeps_committed g.row.D.Denot g.D.Disk.tape g.D.Disk.faults tape_at_open faults_at_open log c.insert.new.self c.flush.new.self.writer s first.0 value is first.2 same_log writable (ap (λ (h : LogHistory). h.entries) first.1.after_is) (ap (λ (h : LogHistory). h.flushed) first.1.after_is) first.1.reserved.up moment position within behind
+    (c.in-Ok.ensures.keeps tape_at_open faults_at_open first.0 moment position first.2)
+
+pub returns-in-Err-clause-keeps : goal.returns-in-Err-clause-keeps
+returns-in-Err-clause-keeps g c =
+    let log = c.args.self.now in
+    let same_log = c.in_ok-start.ensures.same_log in
+    λ value same writable tape_at_open faults_at_open s moment position is within kept.
+    let first = c.in_ok-start.ensures.inserts value same writable tape_at_open faults_at_open s is in
+    let behind = c.in_ok-start.ensures.keeps value same writable tape_at_open faults_at_open s moment position is within kept in
+    keeps_committed g.row.D.Denot g.D.Disk.tape g.D.Disk.faults tape_at_open faults_at_open log c.insert.new.self c.flush.new.self.writer s first.0 value is first.2 same_log writable (ap (λ (h : LogHistory). h.entries) first.1.after_is) (ap (λ (h : LogHistory). h.flushed) first.1.after_is) first.1.reserved.up moment position within behind
+    (c.in-Err.ensures.keeps tape_at_open faults_at_open first.0 moment position first.2)
+
+pub returns-in_err-start-clause-calls : goal.returns-in_err-start-clause-calls
+returns-in_err-start-clause-calls g c =
+    let p = err_from_is_err_and c.from_residual.result c.from_residual.ensures.1 in
+    rw p.1 (flush_calls g.row.D.Denot g.D.Disk.tape g.D.Disk.moment c.args.self.now.writer c.insert.new.self.writer c.in_err-start.ensures.calls)
+
+pub returns-in-Ok-clause-calls : goal.returns-in-Ok-clause-calls
+returns-in-Ok-clause-calls g c =
+    MakesFlush-then g.row.D.Denot g.D.Disk.tape g.D.Disk.moment c.args.self.now.writer c.insert.new.self.writer c.flush.new.self.writer c.in_ok-start.ensures.calls c.in-Ok.ensures.calls
+
+pub returns-in-Err-clause-calls : goal.returns-in-Err-clause-calls
+returns-in-Err-clause-calls g c =
+    refused_behind g.row.D.Denot g.D.Disk.tape g.D.Disk.moment c.args.self.now.writer c.insert.new.self.writer c.flush.new.self.writer c.in_ok-start.ensures.calls c.in-Err.ensures.calls

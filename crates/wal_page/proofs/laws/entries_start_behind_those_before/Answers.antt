@@ -1,0 +1,9 @@
+use Rattle.wal_page.proofs.OrderLaws.{FollowsFrom-start, FollowsFrom-rises}
+use Rattle.wal_page.proofs.laws.entries_start_behind_those_before.Goals as goal
+
+pub returns : goal.returns
+returns c = record {
+  start = FollowsFrom-start;
+  apart = λ position es chain i j d before within. (FollowsFrom-rises position es chain i j d before within).0;
+  rise = λ position es chain i j d before within. (FollowsFrom-rises position es chain i j d before within).1;
+}

@@ -1,9 +1,0 @@
-use Rattle.wal_page.proofs.OrderLaws.{FollowsFrom-start, FollowsFrom-rises}
-use Rattle.wal_page.proofs.laws.law_of_starts.Goals as goal
-
-pub returns : goal.returns
-returns c = record {
-  start = FollowsFrom-start;
-  apart = λ position es chain i j d before within. (FollowsFrom-rises position es chain i j d before within).0;
-  rise = λ position es chain i j d before within. (FollowsFrom-rises position es chain i j d before within).1;
-}

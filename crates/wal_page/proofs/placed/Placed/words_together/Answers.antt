@@ -1,0 +1,10 @@
+use Rattle.std.proofs.Common.{rules, sym, ◌∙◌, arith}
+use Rattle.wal_page.proofs.placed.Placed.words_together.Goals as goal
+
+pub returns-clause-together : goal.returns-clause-together
+returns-clause-together c = λ some.
+    rw (← c.self.view_is) (record {
+      outside = sym c.is_in_header.ensures ∙ c.if-is_in_header.false;
+      behind_header = omega (arith, c.self.invariant.position);
+      on_page = omega arith;
+    })
