@@ -11,7 +11,7 @@ use Rattle.wal_types.specs.declared.record.Image.{Image}
 use Rattle.wal_types.specs.declared.record.Rel.{Rel}
 use Rattle.wal_types.specs.declared.record.Xid.{Xid}
 use Rattle.record_spelling.specs.Record.{BlockFits, ImageFits, are_right_blocks, is_right_block, is_right_option}
-use Rattle.record_spelling.specs.Spelling.{flag, has_image, image_header, image_bytes, is_same_relation, relation_bytes, block_header, block_headers, block_payload, origin_item, top_xid_item, main_header, carried}
+use Rattle.record_spelling.specs.Spelling.{flag, has_image, image_header, image_bytes, is_same_relation, relation_bytes, block_header, block_headers, block_payload, origin_item, top_xid_item, main_header, after_header}
 
 -- each element is a byte; a record, so that the lists are found from the facts
 pub record AreBytes (bytes : List ℕ) : Type 0 where
@@ -90,7 +90,7 @@ main_header_bytes main =
     cond_both (eqb (length main) 0) _ _ AreBytes (λ _. no_bytes) (λ _.
     cond_both (ltb (length main) 256) _ _ AreBytes (λ few. byte_and 255 (length main ∷ []) (omega arith) (byte_and (length main) [] (ltb-true _ _ few) no_bytes)) (λ _. byte_and 254 (to_le_bytes w32 (length main)) (omega arith) (bytes32 (length main))))
 
-pub carried_bytes : (r : Record) → are_right_blocks 0 r.blocks ≡ true → All BlockFits r.blocks → All (λ b. b < 256) r.main → AreBytes (carried r)
-carried_bytes r right fits main =
+pub after_header_bytes : (r : Record) → are_right_blocks 0 r.blocks ≡ true → All BlockFits r.blocks → All (λ b. b < 256) r.main → AreBytes (after_header r)
+after_header_bytes r right fits main =
     let each = recursion_from_All BlockFits r.blocks fits in
     bytes_and (bytes_and (bytes_and (bytes_and (bytes_and (block_headers_bytes None 0 r.blocks right each) (origin_bytes r.origin)) (top_xid_bytes r.top_xid)) (main_header_bytes r.main)) (payload_bytes r.blocks each)) (record { each = main })

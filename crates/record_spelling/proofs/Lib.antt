@@ -4,6 +4,6 @@ mod WordRuns
 pub mod RightBlocks
 pub mod BlockSteps
 pub mod Acceptance
-pub mod CarriedBytes
+pub mod AfterHeader
 pub mod CrcBounds
 pub mod SpellingLaws

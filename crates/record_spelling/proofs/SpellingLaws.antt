@@ -7,7 +7,7 @@ use Rattle.wal_types.specs.declared.record.Record.{Record}
 use Rattle.record_spelling.specs.Spelling.{Assembled, AssembledFits, IsWritable, assembled, assembled_size, assembled_room, header_front, crc_of, size_of, spelled, filled, spelling, word_at}
 use Rattle.record_spelling.specs.Header.{HasHeader}
 use Rattle.record_spelling.proofs.Bytes.{wide32, wide64, IsBytes-drop, IsBytes-from_All, IsBytes-take}
-use Rattle.record_spelling.proofs.CarriedBytes.{AreBytes, bytes_and, bytes32, bytes64, carried_bytes}
+use Rattle.record_spelling.proofs.AfterHeader.{AreBytes, bytes_and, bytes32, bytes64, after_header_bytes}
 use Rattle.record_spelling.proofs.CrcBounds.{crc32c_below}
 
 -- ---- lengths
@@ -29,14 +29,14 @@ ready r w = record {
   xid = w.fits.xid;
   manager = w.fits.manager;
   info = w.fits.info;
-  bytes = (carried_bytes r w.well_formed.blocks w.fits.blocks w.fits.main).each;
+  bytes = (after_header_bytes r w.well_formed.blocks w.fits.blocks w.fits.main).each;
 }
 
 front_bytes : (a : Assembled) (prev : ℕ) → AssembledFits a → AreBytes (header_front a prev)
 front_bytes a prev ready = bytes_and (bytes_and (bytes_and (bytes32 (assembled_size a)) (bytes32 a.xid)) (bytes64 prev)) (record { each = All-from_recursion (λ b. b < 256) (a.info ∷ a.rmid ∷ 0 ∷ 0 ∷ []) (ready.info, (ready.manager, (omega arith, (omega arith, tt)))) })
 
 pub crc_below : (a : Assembled) (prev : ℕ) → AssembledFits a → crc_of a prev < 2 ^ 32
-crc_below a prev ready = crc32c_below (a.carried ++ header_front a prev) (bytes_and (record { each = ready.bytes }) (front_bytes a prev ready)).each
+crc_below a prev ready = crc32c_below (a.after_header ++ header_front a prev) (bytes_and (record { each = ready.bytes }) (front_bytes a prev ready)).each
 
 pub bytes_spelled : (a : Assembled) (prev : ℕ) → AssembledFits a → All (λ b. b < 256) (spelled a prev)
 bytes_spelled a prev ready = (bytes_and (bytes_and (front_bytes a prev ready) (bytes32 (crc_of a prev))) (record { each = ready.bytes })).each
@@ -61,7 +61,7 @@ header_spelled a prev ready lt = record {
   manager = refl;
   crc = wide32.again (crc_of a prev) (crc_below a prev ready);
   front = refl;
-  carried_is = refl;
+  after_header_is = refl;
 }
 
 pub fields_spelled : (r : Record) (prev : ℕ) → IsWritable r → prev < 2 ^ 64 → HasHeader (spelling r prev) (assembled r) prev

@@ -39,12 +39,12 @@ padded_word xs k = same_word _ _ (λ i. front_read (xs ++ replicate k 0) xs 8 i 
 pub second_word : (a : Assembled) (prev n : ℕ) → n ≡ 1 → prev < 2 ^ 64 → prev ≡ word_at (filled a prev) n
 second_word a prev n e lt = rw e (sym (from_le_bytes-to_le_bytes_8 prev lt))
 
-behind_header : (front crc carried : List ℕ) (m : ℕ) → length front ≡ 20 → length crc ≡ 4 → drop (24 + m) (front ++ crc ++ carried) ≡ drop m carried
-behind_header front crc carried m f c = sym (drop-drop m 24 (front ++ crc ++ carried)) ∙ ap (drop m) (drop_at (front ++ crc) carried 24 (omega (arith, length-append front crc)))
+behind_header : (front crc after_header : List ℕ) (m : ℕ) → length front ≡ 20 → length crc ≡ 4 → drop (24 + m) (front ++ crc ++ after_header) ≡ drop m after_header
+behind_header front crc after_header m f c = sym (drop-drop m 24 (front ++ crc ++ after_header)) ∙ ap (drop m) (drop_at (front ++ crc) after_header 24 (omega (arith, length-append front crc)))
 
-pub carried_word : (a : Assembled) (prev n m : ℕ) → 8 * n ≡ 24 + m → 8 * n < assembled_room a → word_at (filled a prev) n ≡ from_le_bytes w64 (take 8 (drop m a.carried))
-carried_word a prev n m e within =
+pub word_after_header : (a : Assembled) (prev n m : ℕ) → 8 * n ≡ 24 + m → 8 * n < assembled_room a → word_at (filled a prev) n ≡ from_le_bytes w64 (take 8 (drop m a.after_header))
+word_after_header a prev n m e within =
     let inside : 8 * n ≤ length (spelled a prev) = omega arith in
     let front = drop-append-le (8 * n) (spelled a prev) (replicate (assembled_room a - assembled_size a) 0) inside in
-    let rest : drop (8 * n) (spelled a prev) ≡ drop m a.carried = rw e (behind_header (header_front a prev) (to_le_bytes w32 (crc_of a prev)) a.carried m refl refl) in
-    ap (λ (l : List ℕ). from_le_bytes w64 (take 8 l)) (front ∙ ap (λ (l : List ℕ). l ++ replicate (assembled_room a - assembled_size a) 0) rest) ∙ padded_word (drop m a.carried) (assembled_room a - assembled_size a)
+    let rest : drop (8 * n) (spelled a prev) ≡ drop m a.after_header = rw e (behind_header (header_front a prev) (to_le_bytes w32 (crc_of a prev)) a.after_header m refl refl) in
+    ap (λ (l : List ℕ). from_le_bytes w64 (take 8 l)) (front ∙ ap (λ (l : List ℕ). l ++ replicate (assembled_room a - assembled_size a) 0) rest) ∙ padded_word (drop m a.after_header) (assembled_room a - assembled_size a)

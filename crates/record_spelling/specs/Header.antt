@@ -13,4 +13,4 @@ pub record HasHeader (bytes : List ℕ) (a : Assembled) (prev : ℕ) : Type 0 wh
   pub manager : slice_index bytes 17 ≡ a.rmid
   pub crc : number_at w32 bytes 20 ≡ crc_of a prev
   pub front : take 20 bytes ≡ header_front a prev
-  pub carried_is : drop 24 bytes ≡ a.carried
+  pub after_header_is : drop 24 bytes ≡ a.after_header

@@ -64,22 +64,22 @@ abbrev pub main_header : List ℕ → List ℕ
 main_header main = if length main == 0 then [] else (if nat_lt (length main) 256 then 255 ∷ length main ∷ [] else 254 ∷ to_le_bytes w32 (length main))
 
 -- what stands behind a record's header of 24 bytes
-abbrev pub carried : Record → List ℕ
-carried r = block_headers None r.blocks ++ origin_item r.origin ++ top_xid_item r.top_xid ++ main_header r.main ++ flat_map block_payload r.blocks ++ r.main
+abbrev pub after_header : Record → List ℕ
+after_header r = block_headers None r.blocks ++ origin_item r.origin ++ top_xid_item r.top_xid ++ main_header r.main ++ flat_map block_payload r.blocks ++ r.main
 
 -- a record as it is ready to be written: all of its spelling but what depends on its place
 pub record Assembled : Type 0 where
   pub xid : ℕ
   pub rmid : ℕ
   pub info : ℕ
-  pub carried : List ℕ
+  pub after_header : List ℕ
 
 abbrev pub assembled : Record → Assembled
-assembled r = record { xid = r.xid.0; rmid = r.rmid; info = r.info; carried = carried r }
+assembled r = record { xid = r.xid.0; rmid = r.rmid; info = r.info; after_header = after_header r }
 
 -- how many bytes it is spelled in, and how many it takes up: the next multiple of 8
 abbrev pub assembled_size : Assembled → ℕ
-assembled_size a = 24 + length a.carried
+assembled_size a = 24 + length a.after_header
 
 abbrev pub assembled_room : Assembled → ℕ
 assembled_room a = (assembled_size a + 7) / 8 * 8
@@ -96,10 +96,10 @@ header_front a prev = to_le_bytes w32 (assembled_size a) ++ to_le_bytes w32 a.xi
 
 -- the CRC runs over what the header carries, and then over the header's front
 abbrev pub crc_of : Assembled → ℕ → ℕ
-crc_of a prev = crc32c (a.carried ++ header_front a prev)
+crc_of a prev = crc32c (a.after_header ++ header_front a prev)
 
 abbrev pub spelled : Assembled → ℕ → List ℕ
-spelled a prev = header_front a prev ++ to_le_bytes w32 (crc_of a prev) ++ a.carried
+spelled a prev = header_front a prev ++ to_le_bytes w32 (crc_of a prev) ++ a.after_header
 
 -- filled with zeros up to its room
 abbrev pub filled : Assembled → ℕ → List ℕ
@@ -125,4 +125,4 @@ pub record AssembledFits (a : Assembled) : Type 0 where
   pub xid : a.xid < 2 ^ 32
   pub manager : a.rmid < 256
   pub info : a.info < 256
-  pub bytes : All (λ b. b < 256) a.carried
+  pub bytes : All (λ b. b < 256) a.after_header

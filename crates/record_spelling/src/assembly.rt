@@ -3,7 +3,7 @@
 ghost use Rattle.std.specs.Prelude.{◌≡◌, ◌+◌, ◌^◌, ◌<◌, ◌++◌, length, All, IfOk, IfSome, IsTrue, OnOk};
 ghost use Rattle.wal_types.specs.declared.record.Record.{Record};
 ghost use Rattle.record_spelling.specs.Record.{BlockFits, are_right_blocks};
-ghost use Rattle.record_spelling.specs.Spelling.{carried, main_header, origin_item, top_xid_item};
+ghost use Rattle.record_spelling.specs.Spelling.{after_header, main_header, origin_item, top_xid_item};
 
 use crate::blocks::{blocks_len, put_block_headers, put_bytes, put_payloads};
 use crate::layout::*;
@@ -11,9 +11,9 @@ use std::alloc::{AllocError, Global};
 use wal_types::{Record, Xid};
 
 // How many bytes stand behind the header.
-pub(crate) fn carried_len(r: &Record) -> usize
+pub(crate) fn after_header_len(r: &Record) -> usize
     requires { IsTrue (are_right_blocks 0 r.now.blocks) }
-    ensures length { result ≡ length (carried r.now) }
+    ensures length { result ≡ length (after_header r.now) }
     ensures bound { result < 2 ^ 63 + 2 ^ 22 + 13 }
 {
     let origin = if r.origin.is_some() { 3 } else { 0 };
@@ -28,20 +28,20 @@ pub(crate) fn carried_len(r: &Record) -> usize
 }
 
 // What stands behind the header.
-pub(crate) fn carried(alloc: Global, r: &Record) -> Result<Vec<u8>, AllocError>
+pub(crate) fn after_header(alloc: Global, r: &Record) -> Result<Vec<u8>, AllocError>
     requires blocks { IsTrue (are_right_blocks 0 r.now.blocks) }
     requires short { length r.now.main < 2 ^ 32 }
-    ensures ok { IfOk result (λ v. v.items ≡ carried r.now) }
+    ensures ok { IfOk result (λ v. v.items ≡ after_header r.now) }
     ensures fits { OnOk result (IfSome r.now.origin (λ n. n < 2 ^ 16) × IfSome r.now.top_xid (λ x. x.0 < 2 ^ 32) × All (λ b. b < 256) r.now.main × All BlockFits r.now.blocks) }
 {
-    let mut carried = Vec::with_capacity(alloc, carried_len(r))?;
-    put_block_headers(&mut carried, r.blocks.as_slice())?;
-    put_origin(&mut carried, r.origin)?;
-    put_top_xid(&mut carried, r.top_xid)?;
-    put_main_header(&mut carried, r.main.as_slice())?;
-    put_payloads(&mut carried, r.blocks.as_slice())?;
-    put_bytes(&mut carried, r.main.as_slice())?;
-    Ok(carried)
+    let mut after_header = Vec::with_capacity(alloc, after_header_len(r))?;
+    put_block_headers(&mut after_header, r.blocks.as_slice())?;
+    put_origin(&mut after_header, r.origin)?;
+    put_top_xid(&mut after_header, r.top_xid)?;
+    put_main_header(&mut after_header, r.main.as_slice())?;
+    put_payloads(&mut after_header, r.blocks.as_slice())?;
+    put_bytes(&mut after_header, r.main.as_slice())?;
+    Ok(after_header)
 }
 
 fn put_origin(out: &mut Vec<u8>, origin: Option<u16>) -> Result<(), AllocError>

@@ -6,7 +6,7 @@ ghost use Rattle.wal_types.specs.declared.record.Record.{Record};
 ghost use Rattle.record_spelling.specs.Refusal.{RefusesToAssemble, refusal_of};
 ghost use Rattle.record_spelling.specs.Spelling.{AssembledFits, IsWritable, assembled, assembled_room, assembled_size, crc_of, filled, header_front, word_at};
 
-use crate::assembly::carried;
+use crate::assembly::after_header;
 use crate::fault::BodyErr;
 use crate::layout::HEADER_LEN;
 use crate::refusing::refusal;
@@ -21,8 +21,8 @@ pub struct Body {
     xid: Xid,
     rmid: u8,
     info: u8,
-    carried: Vec<u8>,
-    /// The CRC of `carried`, which goes on over the header.
+    after_header: Vec<u8>,
+    /// The CRC of `after_header`, which goes on over the header.
     crc: Crc,
 }
 
@@ -33,9 +33,9 @@ impl Model for Body {
 
     ghost Value = { Assembled };
 
-    ghost view = { λ b. record { xid = b.xid.0; rmid = b.rmid; info = b.info; carried = b.carried.items } };
+    ghost view = { λ b. record { xid = b.xid.0; rmid = b.rmid; info = b.info; after_header = b.after_header.items } };
 
-    ghost invariant = { λ b. HasFed b.crc b.carried.items × AssembledFits (record { xid = b.xid.0; rmid = b.rmid; info = b.info; carried = b.carried.items }) };
+    ghost invariant = { λ b. HasFed b.crc b.after_header.items × AssembledFits (record { xid = b.xid.0; rmid = b.rmid; info = b.info; after_header = b.after_header.items }) };
 }
 
 impl Body {
@@ -48,23 +48,23 @@ impl Body {
         if let Some(refusal) = refusal(r) {
             return Err(refusal);
         }
-        let carried = carried(alloc, r)?;
-        Ok(Body::of_parts(r.xid, r.rmid, r.info, carried))
+        let after_header = after_header(alloc, r)?;
+        Ok(Body::of_parts(r.xid, r.rmid, r.info, after_header))
     }
 
-    fn of_parts(xid: Xid, rmid: u8, info: u8, carried: Vec<u8>) -> Body
-        requires size { length carried.items ≤ 1048552 }
-        requires bytes { All (λ b. b < 256) carried.items }
-        ensures body { result ≡ record { xid = xid.0; rmid = rmid; info = info; carried = carried.items } }
+    fn of_parts(xid: Xid, rmid: u8, info: u8, after_header: Vec<u8>) -> Body
+        requires size { length after_header.items ≤ 1048552 }
+        requires bytes { All (λ b. b < 256) after_header.items }
+        ensures body { result ≡ record { xid = xid.0; rmid = rmid; info = info; after_header = after_header.items } }
         ensures ready { AssembledFits result }
     {
         let mut crc = Crc::new();
-        crc.update(&carried);
+        crc.update(&after_header);
         Body {
             xid,
             rmid,
             info,
-            carried,
+            after_header,
             crc,
         }
     }
@@ -75,7 +75,7 @@ impl Body {
         ensures bounds { (24 ≤ result) × (result ≤ 1048576) }
         ensures ready { AssembledFits self.now }
     {
-        (HEADER_LEN + self.carried.len()) as u32
+        (HEADER_LEN + self.after_header.len()) as u32
     }
 
     /// How many bytes the record takes up: a multiple of 8.
@@ -105,16 +105,16 @@ impl Body {
                 let [c0, c1, c2, c3] = self.crc(prev).to_le_bytes();
                 u64::from_le_bytes([self.info, self.rmid, 0, 0, c0, c1, c2, c3])
             }
-            _ => first_word(&self.carried[(n as usize - 3) * 8..]),
+            _ => first_word(&self.after_header[(n as usize - 3) * 8..]),
         }
     }
 
     // The bytes behind the header.
     pub(crate) fn after_header(&self) -> &[u8]
-        ensures bytes { result.now ≡ self.now.carried }
+        ensures bytes { result.now ≡ self.now.after_header }
         ensures ready { AssembledFits self.now }
     {
-        &self.carried
+        &self.after_header
     }
 
     // The first 20 bytes.

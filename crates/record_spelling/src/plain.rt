@@ -3,7 +3,7 @@
 ghost use Rattle.std.specs.Prelude.{◌≡◌, ◌^◌, ◌<◌, ◌++◌, length, IfOk, IsTrue};
 ghost use Rattle.wal_types.specs.declared.record.Record.{Record};
 ghost use Rattle.record_spelling.specs.Record.{are_right_blocks};
-ghost use Rattle.record_spelling.specs.Spelling.{IsWritable, assembled, carried, header_front, main_header, origin_item, size_of, spelling, top_xid_item};
+ghost use Rattle.record_spelling.specs.Spelling.{IsWritable, assembled, after_header, header_front, main_header, origin_item, size_of, spelling, top_xid_item};
 
 use crate::layout::*;
 use crate::plain_blocks::{block_headers, payloads};
@@ -16,12 +16,12 @@ pub fn spell_plainly(alloc: Global, r: &Record, prev: Lsn) -> Result<Vec<u8>, Al
     requires { IsWritable r.now }
     ensures { IfOk result (λ v. v.items ≡ spelling r.now prev.0) }
 {
-    let carried = carried(alloc, r)?;
-    let front = header_front(alloc, r, prev, (HEADER_LEN + carried.len()) as u32)?;
-    let covered = joined(alloc, &carried, &front)?;
+    let after_header = after_header(alloc, r)?;
+    let front = header_front(alloc, r, prev, (HEADER_LEN + after_header.len()) as u32)?;
+    let covered = joined(alloc, &after_header, &front)?;
     let crc = crc32c_by_division(&covered).to_le_bytes();
     let header = joined(alloc, &front, &crc)?;
-    joined(alloc, &header, &carried)
+    joined(alloc, &header, &after_header)
 }
 
 pub(crate) fn joined(alloc: Global, first: &[u8], second: &[u8]) -> Result<Vec<u8>, AllocError>
@@ -45,20 +45,20 @@ fn header_front(alloc: Global, r: &Record, prev: Lsn, len: u32) -> Result<Vec<u8
 }
 
 // What stands behind the header.
-fn carried(alloc: Global, r: &Record) -> Result<Vec<u8>, AllocError>
+fn after_header(alloc: Global, r: &Record) -> Result<Vec<u8>, AllocError>
     requires blocks { IsTrue (are_right_blocks 0 r.now.blocks) }
     requires short { length r.now.main < 2 ^ 32 }
-    ensures { IfOk result (λ v. v.items ≡ carried r.now) }
+    ensures { IfOk result (λ v. v.items ≡ after_header r.now) }
 {
     let main = r.main.as_slice();
     let blocks = r.blocks.as_slice();
-    let mut carried = block_headers(alloc, blocks)?;
-    carried.extend_from_slice(&origin_item(alloc, r.origin)?)?;
-    carried.extend_from_slice(&top_xid_item(alloc, r.top_xid)?)?;
-    carried.extend_from_slice(&main_header(alloc, main)?)?;
-    carried.extend_from_slice(&payloads(alloc, blocks)?)?;
-    carried.extend_from_slice(main)?;
-    Ok(carried)
+    let mut after_header = block_headers(alloc, blocks)?;
+    after_header.extend_from_slice(&origin_item(alloc, r.origin)?)?;
+    after_header.extend_from_slice(&top_xid_item(alloc, r.top_xid)?)?;
+    after_header.extend_from_slice(&main_header(alloc, main)?)?;
+    after_header.extend_from_slice(&payloads(alloc, blocks)?)?;
+    after_header.extend_from_slice(main)?;
+    Ok(after_header)
 }
 
 fn origin_item(alloc: Global, origin: Option<u16>) -> Result<Vec<u8>, AllocError>

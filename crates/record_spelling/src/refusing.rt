@@ -5,7 +5,7 @@ ghost use Rattle.wal_types.specs.declared.record.Record.{Record};
 ghost use Rattle.record_spelling.specs.Record.{is_right_block, is_right_image, is_right_option, is_switch};
 ghost use Rattle.record_spelling.specs.Refusal.{first_bad_block, refusal_of};
 
-use crate::assembly::carried_len;
+use crate::assembly::after_header_len;
 use crate::fault::BodyErr;
 use crate::layout::*;
 use crate::manager::is_free_manager;
@@ -25,7 +25,7 @@ pub fn refusal(r: &Record) -> Option<BodyErr>
     if let Some(index) = first_bad_block(r.blocks.as_slice()) {
         return Some(BodyErr::BadBlock { index });
     }
-    let len = (HEADER_LEN + carried_len(r)) as u64;
+    let len = (HEADER_LEN + after_header_len(r)) as u64;
     if len > MAX_LEN {
         return Some(BodyErr::TooLong { len });
     }

@@ -60,11 +60,11 @@ fn blocks_of_one_relation_name_it_once(rt: HostRuntime) -> Result<(), Fail> {
     let blocks = vec![in alloc; first, second]?;
     let bytes = spelled(alloc, &record(alloc, 5, blocks, no_bytes(alloc)))?;
     assert_eq!(rt; bytes.len(), 58);
-    let carried = [
+    let after_header = [
         0x00, 0x20, 0x03, 0x00, 0x7f, 0x06, 0, 0, 0x05, 0, 0, 0, 0, 0x40, 0, 0, 0x07, 0, 0, 0,
         0x01, 0xa0, 0x03, 0x00, 0x08, 0, 0, 0, 0xaa, 0xbb, 0xcc, 0xdd, 0xee, 0xff,
     ];
-    assert_eq!(rt; bytes.get(24..), Some(carried.as_slice()));
+    assert_eq!(rt; bytes.get(24..), Some(after_header.as_slice()));
     Ok(())
 }
 
@@ -129,7 +129,7 @@ fn main_data_has_the_shortest_header(rt: HostRuntime) -> Result<(), Fail> {
         assert!(rt;
             bytes
                 .get(24..)
-                .is_some_and(|carried| carried.starts_with(header))
+                .is_some_and(|after_header| after_header.starts_with(header))
         );
     }
     Ok(())

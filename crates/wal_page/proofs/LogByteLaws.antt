@@ -8,7 +8,7 @@ use Rattle.byte_position.specs.Geometry.{IsSegmentSize}
 use Rattle.byte_position.specs.Position.{is_in_header, position_of, address_of, end_address_of, first_position}
 use Rattle.record_spelling.specs.Spelling.{assembled, filled, room_of}
 use Rattle.record_spelling.proofs.Bytes.{IsBytes-from_All}
-use Rattle.record_spelling.proofs.CarriedBytes.{AreBytes, bytes_and, bytes16, bytes32, bytes64}
+use Rattle.record_spelling.proofs.AfterHeader.{AreBytes, bytes_and, bytes16, bytes32, bytes64}
 use Rattle.record_spelling.proofs.SpellingLaws.{length-filled, ready, bytes_filled}
 use Rattle.wal_page.specs.Order.{Entry, FollowsFrom, IsChained, position_behind, rooms_of, prev_of}
 use Rattle.wal_page.specs.Page.{is_first_page, page_header}

@@ -3,7 +3,7 @@ use Rattle.std.specs.Int.{from_le_bytes, w64}
 use Rattle.std.specs.List.{between}
 use Rattle.std.proofs.lemmas.List.{drop-drop}
 use Rattle.std.proofs.lemmas.Slice.{between_to_end}
-use Rattle.record_spelling.proofs.Words.{carried_word}
+use Rattle.record_spelling.proofs.Words.{word_after_header}
 use Rattle.record_spelling.proofs.body.Body.put_words.Goals as goal
 
 pub returns-clause-words : goal.returns-clause-words
@@ -12,9 +12,9 @@ returns-clause-words c = λ prev k lt.
     let a = c.args.self.now in
     let bytes = c.after_header.result.now in
     let put = c.put_words_of.new.words in
-    let behind : between m (length bytes) bytes ≡ drop m a.carried = between_to_end bytes m (length bytes) (omega arith) ∙ ap (drop m) c.after_header.ensures.bytes in
+    let behind : between m (length bytes) bytes ≡ drop m a.after_header = between_to_end bytes m (length bytes) (omega arith) ∙ ap (drop m) c.after_header.ensures.bytes in
     let read : get_or put k 0 ≡ from_le_bytes w64 (take 8 (drop (8 * k) (between m (length bytes) bytes))) = c.put_words_of.ensures k lt in
     read
     ∙ ap (λ (l : List ℕ). from_le_bytes w64 (take 8 (drop (8 * k) l))) behind
-    ∙ ap (λ (l : List ℕ). from_le_bytes w64 (take 8 l)) (drop-drop (8 * k) m a.carried)
-    ∙ sym (carried_word a prev (c.args.n + k) (m + 8 * k) (omega arith) (omega arith))
+    ∙ ap (λ (l : List ℕ). from_le_bytes w64 (take 8 l)) (drop-drop (8 * k) m a.after_header)
+    ∙ sym (word_after_header a prev (c.args.n + k) (m + 8 * k) (omega arith) (omega arith))
