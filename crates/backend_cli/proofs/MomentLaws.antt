@@ -74,7 +74,7 @@ module _ (D : Type 0) (moment : D → ℕ) (last : LastTold) (old new : LogState
       → (old.flushed < upto → HasUnwritten old → moment (log_disk old) < moment (log_disk new)) → FlushMoment is_latest last.moment told × (new.moment ≤ moment (log_disk new))
   flush_told true told upto all latest is idle latter later =
       let same = idle (inr latest) in
-      (is ∙ ap (λ (log : LogState D). log.moment) same ∙ tracked.kept, subst (λ (log : LogState D). log.moment ≤ moment (log_disk log)) (sym same) tracked.within)
+      (omega (arith, is, ap (λ (log : LogState D). log.moment) same, tracked.kept), subst (λ (log : LogState D). log.moment ≤ moment (log_disk log)) (sym same) tracked.within)
   flush_told false told upto all latest is idle latter later =
       let above : old.flushed < upto = omega (arith, latest.flushed) in
       let at = latter above latest.flushed in

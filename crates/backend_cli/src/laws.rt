@@ -1,9 +1,13 @@
 //! Laws of the definitions, each proved by a function that does nothing.
 
-ghost use Rattle.std.specs.Prelude.{◌≡◌, ℕ, ◌<◌, List, [], ◌∷◌, None, IfSome};
+ghost use Rattle.std.specs.Prelude.{◌≡◌, ℕ, ◌<◌, List, [], ◌∷◌, None, Result, IfSome};
 ghost use Rattle.byte_position.specs.Geometry.{IsSegmentSize};
 ghost use Rattle.wal_page.specs.Order.{IsChained};
 ghost use Rattle.wal_script.specs.declared.line.Line.{Line};
+ghost use Rattle.wal_script.specs.declared.line.Refusal.{Refusal};
+ghost use Rattle.wal_script.specs.Meaning.{meaning_of};
+ghost use Rattle.backend_cli.specs.Outside.{SourceView};
+ghost use Rattle.backend_cli.specs.Reading.{ScriptMeans};
 ghost use Rattle.backend_cli.specs.declared.told.Told.{Told};
 ghost use Rattle.backend_cli.specs.Told.{IsFullAnswer, IsRefused, RiseInLineOrder, SomeAnswer, StaysDown, TellsAll, entries_of, order_of};
 ghost use Rattle.serial_log.specs.History.{LogHistory, at_opening};
@@ -34,6 +38,12 @@ pub fn law_of_played_down()
 pub fn law_of_played_tells()
     ensures { (size capacity opened last : ℕ) (lines : List Line) (told : List Told) (after : LogHistory) → IsSegmentSize size → Plays size capacity opened (at_opening size) lines told after → IfSome after.down (λ faults. faults ≡ last)
         → TellsAll (record { size = size; capacity = capacity; order = after.entries; opened = opened; last = last }) 0 (lines ∷ []) (told ∷ []) }
+{}
+
+/// Where a source tells what it had left, the script that was read off it means what all of that means.
+pub fn read_scripts_mean_all_that_was_left()
+    ensures { (before after : SourceView) (meaning : Result (List (List Line)) Refusal) → ScriptMeans before after meaning
+        → IfSome before.left (λ bytes. meaning_of bytes ≡ meaning) }
 {}
 
 /// A log that a disk holds for good survives a crash whole: every image that the crash may leave reads

@@ -6,4 +6,8 @@ mod adapters;
 #[cfg(test)]
 mod calls;
 #[cfg(test)]
+mod faulty;
+#[cfg(test)]
 mod files;
+#[cfg(test)]
+mod folders;

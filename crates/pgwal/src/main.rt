@@ -5,11 +5,13 @@ use backend_cli::{Gate, pgwal};
 use segment_disk::Memory;
 use segment_files::{FileDisk, StandardSink, StandardSource};
 use std::alloc::AllocError;
-use std::env;
+use std::fs::File;
 use std::io::ErrorKind;
+use std::os::fd::AsRawFd;
 use std::process::ExitCode;
 use std::sync::Wait;
 use std::thread::Threads;
+use std::{env, fs, io, process};
 
 /// Lets every line pass.
 struct Open;
@@ -20,6 +22,23 @@ impl Gate for Open {
 
 // The folder of segment files, in the working directory.
 const FOLDER: &str = "pg_wal";
+
+// The folder that takes the place of a standard stream that is closed: its reads and writes fail.
+const CLOSED: &str = "/";
+
+// Takes the numbers 0 to 2 that are free, so that no segment's file is given one and takes what is
+// printed. A stream that was closed then fails: a source's fault, or a sink's.
+fn take_free_numbers(rt: HostRuntime) -> io::Result<Vec<File>> {
+    let mut taken = Vec::new(rt.alloc());
+    for _ in 0..3 {
+        let file = fs::open(&rt, CLOSED)?;
+        if file.as_raw_fd() > 2 {
+            break;
+        }
+        taken.push(file)?;
+    }
+    Ok(taken)
+}
 
 // The words of the command line; where one of them is no text, none, so that the usage is told.
 fn words(rt: HostRuntime) -> Result<Vec<String>, AllocError> {
@@ -43,7 +62,7 @@ fn run<R: Threads + Wait + Sync>(threads: &R, rt: HostRuntime) -> Result<u8, Mem
     let mut source = StandardSource::new(rt.stdin());
     let mut out = StandardSink::new(alloc, rt.stdout())?;
     let mut err = StandardSink::new(alloc, rt.stderr())?;
-    let disk = FileDisk::open(rt, alloc, FOLDER)?;
+    let disk = FileDisk::open(rt, alloc, FOLDER, process::id(rt.process()))?;
     let ended = pgwal(
         threads,
         alloc,
@@ -65,6 +84,10 @@ fn run<R: Threads + Wait + Sync>(threads: &R, rt: HostRuntime) -> Result<u8, Mem
 }
 
 fn main(rt: HostRuntime) -> ExitCode {
+    // They stay taken until the end.
+    let Ok(_taken) = take_free_numbers(rt) else {
+        return ExitCode::from(7);
+    };
     match run(&rt, rt) {
         Ok(status) => ExitCode::from(status),
         Err(Memory) => {

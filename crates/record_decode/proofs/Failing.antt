@@ -1,10 +1,10 @@
 -- The first cause for which bytes are no record is what the reading tells, and it tells no other.
-use Rattle.std.proofs.Common.{◌≡◌, ℕ, zero, suc, ◌+◌, ◌^◌, ◌<◌, ◌≤◌, ◌⊎◌, Bool, true, false, ◌&&◌, ◌||◌, eqb, ltb, not, List, [], ◌∷◌, ◌++◌, length, get_or, drop, All, Option, Some, None, Result, Ok, Err, refl, sym, ap, subst, ◌∙◌, append_assoc, arith, inl, inr}
+use Rattle.std.proofs.Common.{◌≡◌, ℕ, zero, suc, ◌+◌, ◌^◌, ◌<◌, ◌≤◌, ◌⊎◌, Bool, true, false, ◌&&◌, ◌||◌, eqb, ltb, not, List, [], ◌∷◌, ◌++◌, length, get_or, drop, All, Option, Some, None, Result, Ok, Err, ◌↔◌, refl, sym, ap, subst, ◌∙◌, append_assoc, arith, inl, inr}
 use Rattle.std.specs.List.{sum_by}
 use Rattle.std.specs.Prelude.{IfErr}
 use Rattle.std.specs.Int.{w16, w32, to_le_bytes}
 use Rattle.std.proofs.lemmas.Bool.{and_from, and_right, cases_Bool, eqb-true, eqb-false, eq-eqb, ne_eqb, lt-ltb, le-ltb, ltb-true, ltb-false, not-true, not_from_false, not-false, or_from, or_parts, not_from_true, le-leb, both_ways, true_from_ne_false}
-use Rattle.std.proofs.lemmas.List.{length-append, append-nil, drop_at}
+use Rattle.std.proofs.lemmas.List.{length-append, append-nil, drop-drop, drop_at}
 use Rattle.std.proofs.lemmas.List.Sums.{sum_by_push}
 use Rattle.wal_types.specs.declared.record.Record.{Record}
 use Rattle.record_decode.specs.declared.fault.RecErr.{RecErr}
@@ -13,9 +13,11 @@ use Rattle.record_decode.specs.declared.fault.RecKind.TheVariants as kinds
 use Rattle.record_decode.specs.declared.head.BlockHead.{BlockHead}
 use Rattle.record_spelling.specs.Record.{is_free_manager}
 use Rattle.record_spelling.specs.Numbers.{number_at}
-use Rattle.record_decode.specs.Reading.{◌>>=◌, After, GivesReading, Headers, HeaderCursor, begins_block, begins_with, has_header, items_of, main_item, payload_len, reading_of, record_of}
+use Rattle.record_spelling.specs.Checks.{first_fault}
+use Rattle.record_decode.specs.Reading.{◌>>=◌, After, Checks, GivesReading, Headers, HeaderCursor, begins_block, begins_with, has_header, items_of, main_item, payload_len, reading_of, record_of}
 use Rattle.record_decode.specs.Spells.{Items, Spells, SpellsHeads, SpellsItems, StandsBehind, head_text, item_text}
-use Rattle.record_decode.specs.Fails.{BreaksItem, EndsHeaders, FailsAt, FailsSo, HasLength, IsMainHead, LeavesFill, NextBlock, NextOrigin, NextTopXid, ReachesItem, last_of}
+use Rattle.record_decode.specs.Fails.{BreaksItem, EndsHeaders, FailsAt, FailsSo, HasLength, IsMainHead, LeavesFill, NextBlock, NextOrigin, NextTopXid, ReachesItem, item_rows, last_of}
+use Rattle.record_decode.proofs.ItemTables.{StandsIn, item_checks, item_same}
 use Rattle.record_spelling.proofs.Bytes.{IsBytes, IsBytes-drop, IsBytes-from_All, wide16, wide32}
 use Rattle.record_decode.proofs.HeadsTaken.{BeforeFits}
 use Rattle.record_decode.proofs.HeadsAgain.{standing_at, block_again, head_some, number_again}
@@ -81,6 +83,18 @@ reaches_next bytes items more s next text promised r b spelled sum left = record
   more = ltb-true _ _ left;
 }
 
+-- ---- the checks of an item, at its offset and at the cursor
+
+reached_stands : (bytes : List ℕ) (items : Items) (s : HeaderCursor) → ReachesItem bytes items s → StandsIn bytes s
+reached_stands bytes items s r =
+    sym (ap (λ (n : ℕ). drop n bytes) r.at_is
+    ∙ sym (drop-drop (length r.text) 24 bytes)
+    ∙ ap (drop (length r.text)) r.rest_is
+    ∙ drop_at r.text s.rest (length r.text) refl)
+
+rows_reached : (bytes : List ℕ) (items : Items) (s : HeaderCursor) → ReachesItem bytes items s → first_fault (item_rows items bytes s.at) ≡ first_fault (item_checks items s)
+rows_reached bytes items s r = ap (λ (rows : Checks). first_fault rows) (item_same items bytes s (reached_stands bytes items s r) (omega (arith, r.more)))
+
 -- ---- what the reading tells is the first cause
 
 finish_fails : (blocks : List BlockHead) (origin top : Option ℕ) (end : HeaderCursor) (e : RecErr) → finish blocks origin top end ≡ Err e → (length end.rest ≡ end.owed → ⊥) × (e ≡ Malformed end.at kinds.Fill)
@@ -118,7 +132,7 @@ fails_from zero bytes items s e r fits short resumes = absurd (omega (arith, r.m
 fails_from (suc k) bytes items s e r fits short resumes =
     let more : has_header s ≡ true = lt-ltb _ _ r.more in
     elim (step items s (Err e) more fits (last_fits None items.blocks r.spelled.heads tt r.spelled.heads_spelled) resumes) [
-      | inl b ↦ inl (record { items = items; place = s; reaches = r; breaks = b.fails ∙ ap (λ (d : RecErr). Some d) (same_error b.error e b.gives) })
+      | inl b ↦ inl (record { items = items; place = s; reaches = r; breaks = rows_reached bytes items s r ∙ b.fails ∙ ap (λ (d : RecErr). Some d) (same_error b.error e b.gives) })
       | inr (inl d) ↦ inr (leaves_fill bytes items s d.end d.text d.promised e items.blocks items.origin items.top_xid r d.behind (inl d.main) d.gives)
       | inr (inr (inl g)) ↦
           let more_items : Items = record { blocks = items.blocks ++ g.item.head ∷ []; origin = None; top_xid = None } in
@@ -148,12 +162,13 @@ breaks_told bytes e fits b =
     let items = b.items in
     let s = b.place in
     let r = b.reaches in
+    let breaks = sym (rows_reached bytes items s r) ∙ b.breaks in
     elim (step items s (reads_headers bytes) (lt-ltb _ _ r.more) (rest_fits bytes items s fits r) (last_fits None items.blocks r.spelled.heads tt r.spelled.heads_spelled) (reaches_resumes bytes items s r)) [
-      | inl d ↦ d.gives ∙ ap (λ (k : RecErr). Err k) (some_is d.error e (sym d.fails ∙ b.breaks))
-      | inr (inl d) ↦ absurd (none_some e (sym d.passes ∙ b.breaks))
-      | inr (inr (inl d)) ↦ absurd (none_some e (sym d.passes ∙ b.breaks))
-      | inr (inr (inr (inl d))) ↦ absurd (none_some e (sym d.passes ∙ b.breaks))
-      | inr (inr (inr (inr d))) ↦ absurd (none_some e (sym d.passes ∙ b.breaks))
+      | inl d ↦ d.gives ∙ ap (λ (k : RecErr). Err k) (some_is d.error e (sym d.fails ∙ breaks))
+      | inr (inl d) ↦ absurd (none_some e (sym d.passes ∙ breaks))
+      | inr (inr (inl d)) ↦ absurd (none_some e (sym d.passes ∙ breaks))
+      | inr (inr (inr (inl d))) ↦ absurd (none_some e (sym d.passes ∙ breaks))
+      | inr (inr (inr (inr d))) ↦ absurd (none_some e (sym d.passes ∙ breaks))
     ]
   where
     some_is : (d e : RecErr) → (let x : Option RecErr = Some d in x ≡ Some e) → d ≡ e
@@ -371,3 +386,11 @@ not_both bytes r e fits a b = apart r e (sym (only bytes r a) ∙ cause_told byt
   where
     apart : (r : Record) (e : RecErr) → (let y : Result Record RecErr = Ok r in y ≡ Err e) → ⊥
     apart r e k = cc
+
+-- ---- the reading is the spelling
+
+pub reads_spelled : (bytes : List ℕ) (r : Record) → All (λ b. b < 256) bytes → (reading_of bytes ≡ Ok r) ↔ Spells bytes r
+reads_spelled bytes r fits = (found bytes r (IsBytes-from_All bytes fits), only bytes r)
+
+pub refuses_failing : (bytes : List ℕ) (e : RecErr) → All (λ b. b < 256) bytes → (reading_of bytes ≡ Err e) ↔ FailsAt bytes e
+refuses_failing bytes e fits = let small = IsBytes-from_All bytes fits in (cause_of bytes e small, cause_told bytes e small)

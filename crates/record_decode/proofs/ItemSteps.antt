@@ -10,7 +10,9 @@ use Rattle.record_decode.specs.declared.head.BlockHead.{BlockHead}
 use Rattle.record_spelling.specs.Numbers.{number_at}
 use Rattle.record_decode.specs.Reading.{◌>>=◌, After, Headers, HeaderCursor, begins_block, begins_with, block_item, block_items, has_header, main_item, optional_item, payload_len, promising, skip}
 use Rattle.record_decode.specs.Spells.{Items, head_text}
-use Rattle.record_decode.specs.Fails.{IsMainHead, NextBlock, NextOrigin, NextTopXid, block_checks, first_failing, item_checks, last_of}
+use Rattle.record_spelling.specs.Checks.{first_fault}
+use Rattle.record_decode.specs.Fails.{IsMainHead, NextBlock, NextOrigin, NextTopXid, last_of}
+use Rattle.record_decode.proofs.ItemTables.{block_checks, item_checks}
 use Rattle.record_spelling.proofs.Bytes.{IsBytes, IsBytes-drop, IsWide, wide16, wide32}
 use Rattle.record_decode.proofs.BlockHeadSteps.{fails_so, goes_on}
 use Rattle.record_decode.proofs.HeadsTaken.{BeforeFits, block_takes, number_back, number_below}
@@ -69,11 +71,11 @@ items_so blocks origin top = record { blocks = blocks; origin = origin; top_xid 
 
 pub record Broken (items : Items) (s : HeaderCursor) (r : Result Headers RecErr) : Type 0 where
   pub error : RecErr
-  pub fails : first_failing (item_checks items s) ≡ Some error
+  pub fails : first_fault (item_checks items s) ≡ Some error
   pub gives : r ≡ Err error
 
 pub record Ended (items : Items) (s : HeaderCursor) (r : Result Headers RecErr) : Type 0 where
-  pub passes : first_failing (item_checks items s) ≡ None
+  pub passes : first_fault (item_checks items s) ≡ None
   pub text : List ℕ
   pub promised : ℕ
   pub end : HeaderCursor
@@ -82,7 +84,7 @@ pub record Ended (items : Items) (s : HeaderCursor) (r : Result Headers RecErr) 
   pub gives : finish items.blocks items.origin items.top_xid end ≡ r
 
 pub record GoesBlock (items : Items) (s : HeaderCursor) (r : Result Headers RecErr) : Type 0 where
-  pub passes : first_failing (item_checks items s) ≡ None
+  pub passes : first_fault (item_checks items s) ≡ None
   pub text : List ℕ
   pub promised : ℕ
   pub next : HeaderCursor
@@ -91,7 +93,7 @@ pub record GoesBlock (items : Items) (s : HeaderCursor) (r : Result Headers RecE
   pub resumes : Resumes (items.blocks ++ item.head ∷ []) None None next r
 
 pub record GoesOrigin (items : Items) (s : HeaderCursor) (r : Result Headers RecErr) : Type 0 where
-  pub passes : first_failing (item_checks items s) ≡ None
+  pub passes : first_fault (item_checks items s) ≡ None
   pub text : List ℕ
   pub promised : ℕ
   pub next : HeaderCursor
@@ -100,7 +102,7 @@ pub record GoesOrigin (items : Items) (s : HeaderCursor) (r : Result Headers Rec
   pub resumes : Resumes items.blocks (Some item.number) None next r
 
 pub record GoesTop (items : Items) (s : HeaderCursor) (r : Result Headers RecErr) : Type 0 where
-  pub passes : first_failing (item_checks items s) ≡ None
+  pub passes : first_fault (item_checks items s) ≡ None
   pub text : List ℕ
   pub promised : ℕ
   pub next : HeaderCursor
@@ -121,12 +123,12 @@ main_unknown : (s : HeaderCursor) → has_header s ≡ true → Begins false fal
 unfolding main_item
 main_unknown s more b = rw (more, b.short_is, b.long_is, b.origin_is, b.top_is, b.block_is) refl
 
-main_fails : (blocks : List BlockHead) (origin top : Option ℕ) (s : HeaderCursor) (r : Result Headers RecErr) (e : RecErr) → first_failing (item_checks (items_so blocks origin top) s) ≡ Some e → main_item s ≡ Err e → after_top blocks origin top s ≡ r → Step (items_so blocks origin top) s r
+main_fails : (blocks : List BlockHead) (origin top : Option ℕ) (s : HeaderCursor) (r : Result Headers RecErr) (e : RecErr) → first_fault (item_checks (items_so blocks origin top) s) ≡ Some e → main_item s ≡ Err e → after_top blocks origin top s ≡ r → Step (items_so blocks origin top) s r
 main_fails blocks origin top s r e fails read gives = inl (record { error = e; fails = fails; gives = sym gives ∙ ap (λ (x : Result HeaderCursor RecErr). x >>= finish blocks origin top) read })
 
 -- ---- main data
 
-main_ends : (blocks : List BlockHead) (origin top : Option ℕ) (s end : HeaderCursor) (r : Result Headers RecErr) → first_failing (item_checks (items_so blocks origin top) s) ≡ None → main_item s ≡ Ok end → (text : List ℕ) (promised : ℕ) → IsMainHead text promised → IsBehind s text promised end → after_top blocks origin top s ≡ r → Step (items_so blocks origin top) s r
+main_ends : (blocks : List BlockHead) (origin top : Option ℕ) (s end : HeaderCursor) (r : Result Headers RecErr) → first_fault (item_checks (items_so blocks origin top) s) ≡ None → main_item s ≡ Ok end → (text : List ℕ) (promised : ℕ) → IsMainHead text promised → IsBehind s text promised end → after_top blocks origin top s ≡ r → Step (items_so blocks origin top) s r
 main_ends blocks origin top s end r passes read text promised main behind gives = inr (inl (record { passes = passes; text = text; promised = promised; end = end; main = main; behind = behind; gives = ap (λ (x : Result HeaderCursor RecErr). x >>= finish blocks origin top) (sym read) ∙ gives }))
 
 short_cut : (s : HeaderCursor) → has_header s ≡ true → begins_with 255 s.rest ≡ true → ltb (length s.rest) 2 ≡ true → main_item s ≡ Err (Malformed (s.at + 1) kinds.Short)

@@ -1,4 +1,5 @@
 pub mod HeaderParts
+pub mod ItemTables
 pub mod Tables
 pub mod Resuming
 pub mod ItemSteps

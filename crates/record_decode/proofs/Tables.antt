@@ -10,7 +10,8 @@ use Rattle.record_decode.specs.declared.head.ImageHead.{ImageHead}
 use Rattle.std.specs.Int.{w16, w32}
 use Rattle.record_spelling.specs.Numbers.{number_at}
 use Rattle.record_decode.specs.Reading.{◌>>=◌, After, Checks, HeaderCursor, block_item, checked, fork_checks, fork_flags, fork_item, image_checks, image_head_of, image_item, is_cut, least_id, number_item, payload_len, relation_item, skip}
-use Rattle.record_decode.specs.Fails.{block_checks, first_failing, relation_checks}
+use Rattle.record_spelling.specs.Checks.{first_fault}
+use Rattle.record_decode.proofs.ItemTables.{block_checks, relation_checks}
 
 -- ---- a table, and its first failing check
 
@@ -18,25 +19,25 @@ told_row : {A : Type 0} (b : Bool) (d e : RecErr) (rest : Option RecErr) (more :
 told_row true d e rest more on h = let same : d ≡ e = cc in ap (λ (k : RecErr). Err k) same
 told_row false d e rest more on h = on h
 
-pub failing_told : {A : Type 0} (rows : Checks) (x : A) (e : RecErr) → first_failing rows ≡ Some e → checked rows x ≡ Err e
+pub failing_told : {A : Type 0} (rows : Checks) (x : A) (e : RecErr) → first_fault rows ≡ Some e → checked rows x ≡ Err e
 failing_told [] x e h = absurd cc
-failing_told (row ∷ rows) x e h = told_row row.0 row.1 e (first_failing rows) (checked rows x) (λ k. failing_told rows x e k) h
+failing_told (row ∷ rows) x e h = told_row row.0 row.1 e (first_fault rows) (checked rows x) (λ k. failing_told rows x e k) h
 
 failing_row : {A : Type 0} (b : Bool) (d e : RecErr) (rest : Option RecErr) (more : Result A RecErr) → (more ≡ Err e → rest ≡ Some e) → cond b (Err d) more ≡ Err e → cond b (Some d) rest ≡ Some e
 failing_row true d e rest more on h = let same : d ≡ e = cc in ap (λ (k : RecErr). Some k) same
 failing_row false d e rest more on h = on h
 
-pub told_failing : {A : Type 0} (rows : Checks) (x : A) (e : RecErr) → checked rows x ≡ Err e → first_failing rows ≡ Some e
+pub told_failing : {A : Type 0} (rows : Checks) (x : A) (e : RecErr) → checked rows x ≡ Err e → first_fault rows ≡ Some e
 told_failing [] x e h = absurd cc
-told_failing (row ∷ rows) x e h = failing_row row.0 row.1 e (first_failing rows) (checked rows x) (λ k. told_failing rows x e k) h
+told_failing (row ∷ rows) x e h = failing_row row.0 row.1 e (first_fault rows) (checked rows x) (λ k. told_failing rows x e k) h
 
 passing_row : {A : Type 0} (b : Bool) (d : RecErr) (y : A) (rest : Option RecErr) (more : Result A RecErr) → (more ≡ Ok y → rest ≡ None) → cond b (Err d) more ≡ Ok y → cond b (Some d) rest ≡ None
 passing_row true d y rest more on h = absurd cc
 passing_row false d y rest more on h = on h
 
-pub read_passes : {A : Type 0} (rows : Checks) (x y : A) → checked rows x ≡ Ok y → first_failing rows ≡ None
+pub read_passes : {A : Type 0} (rows : Checks) (x y : A) → checked rows x ≡ Ok y → first_fault rows ≡ None
 read_passes [] x y h = refl
-read_passes (row ∷ rows) x y h = passing_row row.0 row.1 y (first_failing rows) (checked rows x) (λ k. read_passes rows x y k) h
+read_passes (row ∷ rows) x y h = passing_row row.0 row.1 y (first_fault rows) (checked rows x) (λ k. read_passes rows x y k) h
 
 then_row : {A B : Type 0} (b : Bool) (d : RecErr) (r : Result A RecErr) (more : Result B RecErr) (f : A → Result B RecErr) → (r >>= f) ≡ more → (cond b (Err d) r >>= f) ≡ cond b (Err d) more
 then_row true d r more f e = refl

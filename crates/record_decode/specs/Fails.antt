@@ -1,37 +1,80 @@
 -- The first check of a record's bytes that fails, and where.
-use Rattle.std.specs.Prelude.{◌≡◌, ◌≢◌, ℕ, ◌+◌, ◌^◌, ◌<◌, ◌≤◌, ◌⊎◌, Bool, true, false, ◌||◌, not, IsTrue, List, [], ◌∷◌, ◌++◌, length, drop, slice_index, Option, Some, None, is_some, nat_lt, if◌then◌else◌}
+--
+-- A record's first number is the count of its bytes, its manager is one that there may be, and
+-- behind its header stand the headers of its items (Spelling of record_spelling has the layout).
+-- Whole items are spelled (`ReachesItem`) up to one that breaks a check (`BreaksItem`), or up to
+-- the last, behind which something else is left than the payload that they promise (`LeavesFill`).
+-- The checks of an item stand here by offsets in the record's bytes, apart from the reading.
+use Rattle.std.specs.Prelude.{◌≡◌, ◌≢◌, ℕ, ◌+◌, ◌-◌, ◌/◌, ◌%◌, ◌^◌, ◌<◌, ◌≤◌, ◌⊎◌, Bool, true, false, ◌&&◌, ◌||◌, not, IsTrue, List, [], ◌∷◌, ◌++◌, length, drop, slice_index, Option, Some, None, is_some, ◌==◌, nat_lt, nat_le, if◌then◌else◌}
 use Rattle.std.specs.Int.{w16, w32, to_le_bytes}
 use Rattle.std.specs.List.{sum_by}
 use Rattle.record_decode.specs.declared.head.BlockHead.{BlockHead}
 use Rattle.record_decode.specs.declared.fault.RecErr.{RecErr}
 use Rattle.record_decode.specs.declared.fault.RecErr.TheVariants.{Memory, Malformed, Compressed}
 use Rattle.record_decode.specs.declared.fault.RecKind.TheVariants as kinds
+use Rattle.record_spelling.specs.Checks.{first_fault}
+use Rattle.record_spelling.specs.Layout.{data_page_size, last_block_id, last_fork, long_main_tag, manager_offset, origin_tag, record_header_size, short_main_tag, size_offset, top_xid_tag}
 use Rattle.record_spelling.specs.Record.{is_free_manager}
 use Rattle.record_spelling.specs.Numbers.{number_at}
-use Rattle.record_decode.specs.Reading.{Checks, HeaderCursor, begins_block, begins_with, fork_checks, fork_flags, image_checks, is_cut, least_id, payload_len, skip}
+use Rattle.record_decode.specs.Reading.{Checks, HeaderCursor, least_id, payload_len}
 use Rattle.record_decode.specs.Spells.{Items, SpellsItems, StandsBehind, head_text}
 
--- the error of the first check that fails
-abbrev pub first_failing : Checks → Option RecErr
-first_failing [] = None
-first_failing (row ∷ rows) = if row.0 then Some row.1 else first_failing rows
+-- ---- the checks of one item, in their order; `at` is its offset in the record's bytes
 
--- ---- the checks of one item, in their order
+-- fewer than n bytes are left at an offset
+abbrev pub is_cut_at : List ℕ → ℕ → ℕ → Bool
+is_cut_at bytes at n = nat_lt (length bytes) (at + n)
+
+-- a fork with its flags, and the length of the block's data: the fork is one of four, and there is
+-- data (flag 32) exactly where its length is not 0
+abbrev pub fork_rows : List ℕ → ℕ → Checks
+fork_rows bytes at =
+    let flags = slice_index bytes at in
+    let len = number_at w16 bytes (at + 1) in
+    (is_cut_at bytes at 3, Malformed at kinds.Short)
+    ∷ (nat_lt last_fork (flags % 16), Malformed at kinds.Fork)
+    ∷ ((if flags / 32 % 2 == 1 then len == 0 else nat_lt 0 len), Malformed at kinds.Data)
+    ∷ []
+
+-- an image's length, its hole's offset and its flags: it is that of a page, not compressed (flags
+-- 4, 8 and 16), and its hole (flag 1) lies within the page, behind its first byte
+abbrev pub image_rows : ℕ → List ℕ → ℕ → Checks
+image_rows block bytes at =
+    let len = number_at w16 bytes at in
+    let hole_offset = number_at w16 bytes (at + 2) in
+    let flags = slice_index bytes (at + 4) in
+    let hole_end = hole_offset + (data_page_size - len) in
+    let no_hole = (hole_offset == 0) && (len == data_page_size) in
+    let wrong_hole =
+    (hole_offset == 0) || (len == data_page_size) || nat_lt data_page_size hole_end in
+    (is_cut_at bytes at 5, Malformed at kinds.Short)
+    ∷ (nat_lt data_page_size len || nat_le 32 flags, Malformed at kinds.Image)
+    ∷ (nat_lt 0 (flags / 4 % 8), Compressed block)
+    ∷ ((if flags % 2 == 1 then wrong_hole else not no_hole), Malformed at kinds.Image)
+    ∷ []
 
 -- the relation is spelled, or there is a block before that has it
-abbrev pub relation_checks : Bool → Option BlockHead → HeaderCursor → Checks
-relation_checks true None s = (true, Malformed s.at kinds.Same) ∷ []
-relation_checks true (Some before) s = []
-relation_checks false before s = is_cut 12 s ∷ []
+abbrev pub relation_rows : Bool → Option BlockHead → List ℕ → ℕ → Checks
+relation_rows true None bytes at = (true, Malformed at kinds.Same) ∷ []
+relation_rows true (Some before) bytes at = []
+relation_rows false before bytes at = (is_cut_at bytes at 12, Malformed at kinds.Short) ∷ []
 
--- a block's header behind the block before: its number, its fork and flags, its image's header, its relation, its block number, each where the group before ends
-abbrev pub block_checks : Option BlockHead → HeaderCursor → Checks
-block_checks before s =
-    let flags = fork_flags (slice_index (skip 1 s).rest 0) in
-    let image = skip 3 (skip 1 s) in
-    let relation = if flags.has_image then skip 5 image else image in
-    let number = if flags.same then relation else skip 12 relation in
-    (nat_lt (slice_index s.rest 0) (least_id before), Malformed s.at kinds.Order) ∷ fork_checks (skip 1 s) ++ (if flags.has_image then image_checks (slice_index s.rest 0) image else []) ++ relation_checks flags.same before relation ++ is_cut 4 number ∷ []
+-- a block's header behind that of the block before: its number, its fork and data, its image (flag
+-- 16), its relation (unless flag 128 says that the block before has it), and its block number
+abbrev pub block_rows : Option BlockHead → List ℕ → ℕ → Checks
+block_rows before bytes at =
+    let id = slice_index bytes at in
+    let flags = slice_index bytes (at + 1) in
+    let has_image = flags / 16 % 2 == 1 in
+    let same = flags / 128 % 2 == 1 in
+    let image = at + 1 + 3 in
+    let relation = if has_image then image + 5 else image in
+    let number = if same then relation else relation + 12 in
+    (nat_lt id (least_id before), Malformed at kinds.Order)
+    ∷ fork_rows bytes (at + 1)
+    ++ (if has_image then image_rows id bytes image else [])
+    ++ relation_rows same before bytes relation
+    ++ (is_cut_at bytes number 4, Malformed number kinds.Short) ∷ []
 
 -- the last of some blocks
 abbrev pub last_of : Option BlockHead → List BlockHead → Option BlockHead
@@ -39,37 +82,45 @@ last_of before [] = before
 last_of before (h ∷ hs) = last_of (Some h) hs
 
 -- an item that is cut short behind its first byte
-abbrev pub is_cut_behind : ℕ → HeaderCursor → Bool × RecErr
-is_cut_behind n s = (nat_lt (length s.rest) n, Malformed (s.at + 1) kinds.Short)
+abbrev pub cut_row : List ℕ → ℕ → ℕ → Bool × RecErr
+cut_row bytes at n = (is_cut_at bytes at n, Malformed (at + 1) kinds.Short)
 
--- the item that stands behind others: by its first byte a block, an origin (253), a top-level transaction (252), main data (255 and 254), or none of them
-abbrev pub item_checks : Items → HeaderCursor → Checks
-item_checks items s =
-    if begins_block s.rest then (is_some items.origin || is_some items.top_xid, Malformed s.at kinds.Order) ∷ block_checks (last_of None items.blocks) s
-    else (if begins_with 253 s.rest then (is_some items.origin || is_some items.top_xid, Malformed s.at kinds.Order) ∷ is_cut_behind 3 s ∷ []
-    else (if begins_with 252 s.rest then (is_some items.top_xid, Malformed s.at kinds.Order) ∷ is_cut_behind 5 s ∷ []
-    else (if begins_with 255 s.rest then is_cut_behind 2 s ∷ []
-    else (if begins_with 254 s.rest then is_cut_behind 5 s ∷ []
-    else (true, Malformed s.at kinds.Id) ∷ []))))
+-- the item that stands behind others: by its first byte a block, an origin, a top-level
+-- transaction, main data in its two forms, or none of them; blocks stand before the origin, and
+-- both before the top-level transaction
+abbrev pub item_rows : Items → List ℕ → ℕ → Checks
+item_rows items bytes at =
+    let first = slice_index bytes at in
+    let is_late = is_some items.origin || is_some items.top_xid in
+    let before = last_of None items.blocks in
+    if nat_le first last_block_id then
+    (is_late, Malformed at kinds.Order) ∷ block_rows before bytes at
+    else (if first == origin_tag then (is_late, Malformed at kinds.Order) ∷ cut_row bytes at 3 ∷ []
+    else (if first == top_xid_tag then
+    (is_some items.top_xid, Malformed at kinds.Order) ∷ cut_row bytes at 5 ∷ []
+    else (if first == short_main_tag then cut_row bytes at 2 ∷ []
+    else (if first == long_main_tag then cut_row bytes at 5 ∷ []
+    else (true, Malformed at kinds.Id) ∷ []))))
 
 -- ---- the causes
 
 -- the bytes have a header, whose first number is their count
 pub record HasLength (bytes : List ℕ) : Type 0 where
-  pub long : 24 ≤ length bytes
-  pub counted : number_at w32 bytes 0 ≡ length bytes
+  pub long : record_header_size ≤ length bytes
+  pub counted : number_at w32 bytes size_offset ≡ length bytes
 
 -- and its manager is one that there may be
 pub record HasHead (bytes : List ℕ) : Type 0 where
   pub length_is : HasLength bytes
-  pub manager : IsTrue (not (is_free_manager (slice_index bytes 17)))
+  pub manager : IsTrue (not (is_free_manager (slice_index bytes manager_offset)))
 
--- whole items, none of them main data, fill the bytes behind the header up to this place, and more is left there than they owe
+-- whole items, none of them main data, fill the bytes behind the header up to this place, and more
+-- is left there than they owe
 pub record ReachesItem (bytes : List ℕ) (items : Items) (s : HeaderCursor) : Type 0 where
   pub text : List ℕ
   pub spelled : SpellsItems items text
-  pub rest_is : drop 24 bytes ≡ text ++ s.rest
-  pub at_is : s.at ≡ 24 + length text
+  pub rest_is : drop record_header_size bytes ≡ text ++ s.rest
+  pub at_is : s.at ≡ record_header_size + length text
   pub owed_is : s.owed ≡ sum_by payload_len items.blocks
   pub more : s.owed < length s.rest
 
@@ -78,9 +129,10 @@ pub record BreaksItem (bytes : List ℕ) (e : RecErr) : Type 0 where
   pub items : Items
   pub place : HeaderCursor
   pub reaches : ReachesItem bytes items place
-  pub breaks : first_failing (item_checks items place) ≡ Some e
+  pub breaks : first_fault (item_rows items bytes place.at) ≡ Some e
 
--- these bytes are one more item behind others, which promises so much payload; `ends` says whether it is that of main data
+-- these bytes are one more item behind others, which promises so much payload: a block, an origin,
+-- a top-level transaction
 pub record NextBlock (items : Items) (text : List ℕ) (promised : ℕ) : Type 0 where
   pub no_origin : items.origin ≡ None
   pub no_top_xid : items.top_xid ≡ None
@@ -95,23 +147,29 @@ pub record NextOrigin (items : Items) (text : List ℕ) (promised : ℕ) : Type 
   pub no_top_xid : items.top_xid ≡ None
   pub number : ℕ
   pub fits : number < 2 ^ 16
-  pub spelled : text ≡ 253 ∷ to_le_bytes w16 number
+  pub spelled : text ≡ origin_tag ∷ to_le_bytes w16 number
   pub promises : promised ≡ 0
 
 pub record NextTopXid (items : Items) (text : List ℕ) (promised : ℕ) : Type 0 where
   pub no_top_xid : items.top_xid ≡ None
   pub number : ℕ
   pub fits : number < 2 ^ 32
-  pub spelled : text ≡ 252 ∷ to_le_bytes w32 number
+  pub spelled : text ≡ top_xid_tag ∷ to_le_bytes w32 number
   pub promises : promised ≡ 0
 
 -- the header of main data, in either form
 abbrev pub IsMainHead : List ℕ → ℕ → Type 0
-IsMainHead text len = ((len < 256) × (text ≡ 255 ∷ len ∷ [])) ⊎ ((len < 2 ^ 32) × (text ≡ 254 ∷ to_le_bytes w32 len))
+IsMainHead text len =
+    ((len < 256) × (text ≡ short_main_tag ∷ len ∷ []))
+    ⊎ ((len < 2 ^ 32) × (text ≡ long_main_tag ∷ to_le_bytes w32 len))
 
 -- the headers end behind this item: it is that of main data, or no more is left than is owed
 abbrev pub EndsHeaders : Items → List ℕ → ℕ → ℕ → ℕ → Type 0
-EndsHeaders items text promised left owed = IsMainHead text promised ⊎ ((left ≤ owed) × (NextBlock items text promised ⊎ (NextOrigin items text promised ⊎ NextTopXid items text promised)))
+EndsHeaders items text promised left owed =
+    IsMainHead text promised
+    ⊎ ((left ≤ owed)
+    × (NextBlock items text promised
+    ⊎ (NextOrigin items text promised ⊎ NextTopXid items text promised)))
 
 -- behind the item where the headers end, what is left is not what is owed
 pub record LeavesFill (bytes : List ℕ) (e : RecErr) : Type 0 where
@@ -129,8 +187,10 @@ pub record LeavesFill (bytes : List ℕ) (e : RecErr) : Type 0 where
 -- the first of four causes for which bytes are no record
 abbrev pub FailsAt : List ℕ → RecErr → Type 0
 FailsAt bytes e =
-    ((HasLength bytes → ⊥) × (e ≡ Malformed 0 kinds.Length))
-    ⊎ ((HasLength bytes × IsTrue (is_free_manager (slice_index bytes 17)) × (e ≡ Malformed 17 kinds.Rmgr))
+    ((HasLength bytes → ⊥) × (e ≡ Malformed size_offset kinds.Length))
+    ⊎ ((HasLength bytes
+    × IsTrue (is_free_manager (slice_index bytes manager_offset))
+    × (e ≡ Malformed manager_offset kinds.Rmgr))
     ⊎ (HasHead bytes × (BreaksItem bytes e ⊎ LeavesFill bytes e)))
 
 -- an error that a call answered is the first cause; a want of memory says nothing

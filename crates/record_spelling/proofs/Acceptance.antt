@@ -1,15 +1,16 @@
 -- What is not refused can be written.
-use Rattle.std.proofs.Common.{◌≡◌, ℕ, ◌<◌, ◌≤◌, ◌^◌, Bool, true, false, cond, ltb, All, length, Option, Some, None, refl, ◌↔◌, arith}
-use Rattle.std.specs.Prelude.{IfSome, option_map}
+use Rattle.std.proofs.Common.{◌≡◌, ℕ, ◌<◌, ◌≤◌, ◌^◌, Bool, true, false, cond, ltb, length, Option, Some, None, refl, ◌↔◌, arith}
+use Rattle.std.specs.Prelude.{option_map}
 use Rattle.std.specs.Option.{option_or}
 use Rattle.std.proofs.lemmas.Bool.{le-ltb, ltb-false, not-true, not_from_false}
 use Rattle.std.proofs.lemmas.List.{length-append}
 use Rattle.wal_types.specs.declared.record.Record.{Record}
 use Rattle.record_spelling.specs.declared.fault.BodyErr.{BodyErr}
 use Rattle.record_spelling.specs.declared.fault.BodyErr.TheVariants.{TooLong, BadBlock, Switch, BadRmgr}
-use Rattle.record_spelling.specs.Record.{BlockFits, Fits, IsWellFormed, is_free_manager, is_switch}
+use Rattle.record_spelling.specs.Fitting.{FitsAfterHeader}
+use Rattle.record_spelling.specs.Record.{Fits, IsWellFormed, is_free_manager, is_switch}
 use Rattle.record_spelling.specs.Refusal.{first_bad_block, refusal_of, too_long}
-use Rattle.record_spelling.specs.Spelling.{AssembledFits, IsWritable, assembled, size_of}
+use Rattle.record_spelling.specs.Spelling.{IsWritable, size_of}
 use Rattle.record_spelling.proofs.RightBlocks.{none_bad, right_none_bad}
 
 -- a test of a table's row that did not hold
@@ -49,11 +50,20 @@ unfolding refusal_of
 not_refused r w =
     rw (not-true (is_free_manager r.rmid) w.well_formed.manager, not-true (is_switch r) w.well_formed.no_switch, right_none_bad 0 r.blocks w.well_formed.blocks, le-ltb 1048576 (size_of r) w.size) refl
 
--- what was made of an accepted record shows that the record could be written
-pub writable : (r : Record) → IsAccepted r → AssembledFits (assembled r) → IfSome r.origin (λ n. n < 2 ^ 16) → IfSome r.top_xid (λ x. x.0 < 2 ^ 32) → All (λ b. b < 256) r.main → All BlockFits r.blocks → IsWritable r
-writable r accepted ready origin top main blocks = record {
+-- an accepted record whose numbers fit could be written
+pub writable : (r : Record) → IsAccepted r → r.xid.0 < 2 ^ 32 → r.rmid < 256 → r.info < 256
+    → FitsAfterHeader r → IsWritable r
+writable r accepted xid manager info fits = record {
   well_formed = accepted.well_formed;
-  fits = record { xid = ready.xid; manager = ready.manager; info = ready.info; origin = origin; top_xid = top; blocks = blocks; main = main };
+  fits = record {
+    xid = xid;
+    manager = manager;
+    info = info;
+    origin = fits.0;
+    top_xid = fits.1;
+    blocks = fits.3;
+    main = fits.2;
+  };
   size = accepted.size;
 }
 

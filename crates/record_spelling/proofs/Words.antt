@@ -1,9 +1,8 @@
 -- The words of a record.
-use Rattle.std.proofs.Common.{◌≡◌, ℕ, ◌+◌, ◌-◌, ◌*◌, ◌^◌, ◌<◌, ◌≤◌, List, ◌++◌, length, get_or, take, drop, replicate, refl, sym, ap, ◌∙◌, arith, inl, inr}
+use Rattle.std.proofs.Common.{◌≡◌, ℕ, ◌+◌, ◌-◌, ◌*◌, ◌^◌, ◌<◌, ◌≤◌, List, ◌∷◌, ◌++◌, length, get_or, take, drop, replicate, refl, sym, ap, ◌∙◌, arith, inl, inr}
 use Rattle.std.specs.Int.{w32, w64, from_le_bytes, to_le_bytes}
 use Rattle.std.proofs.lemmas.Bool.{cases_lt}
 use Rattle.std.proofs.lemmas.List.{length-append, length-take, get_or-take, get_or_past, get_or_append_left, get_or-append_right, get_or-replicate, length-replicate, drop-append-le, drop-drop, drop_at}
-use Rattle.std.proofs.lemmas.Nat.{from_le_bytes-to_le_bytes_8}
 use Rattle.record_spelling.specs.Spelling.{Assembled, assembled_size, assembled_room, header_front, crc_of, spelled, filled, word_at}
 
 -- a word is told by the bytes that are read at its places
@@ -36,8 +35,15 @@ front_read xs ys n i h =
 padded_word : (xs : List ℕ) (k : ℕ) → from_le_bytes w64 (take 8 (xs ++ replicate k 0)) ≡ from_le_bytes w64 (take 8 xs)
 padded_word xs k = same_word _ _ (λ i. front_read (xs ++ replicate k 0) xs 8 i (padded_read xs k))
 
-pub second_word : (a : Assembled) (prev n : ℕ) → n ≡ 1 → prev < 2 ^ 64 → prev ≡ word_at (filled a prev) n
-second_word a prev n e lt = rw e (sym (from_le_bytes-to_le_bytes_8 prev lt))
+-- the words of the header, by its bytes up to the CRC
+pub first_of_front : (a : Assembled) (prev n : ℕ) → n ≡ 0 → from_le_bytes w64 (take 8 (header_front a prev)) ≡ word_at (filled a prev) n
+first_of_front a prev n e = rw e refl
+
+pub second_of_front : (a : Assembled) (prev n : ℕ) → n ≡ 1 → from_le_bytes w64 (take 8 (drop 8 (header_front a prev))) ≡ word_at (filled a prev) n
+second_of_front a prev n e = rw e refl
+
+pub third_of_front : (a : Assembled) (prev n : ℕ) → n ≡ 2 → from_le_bytes w64 (a.info ∷ a.rmid ∷ 0 ∷ 0 ∷ to_le_bytes w32 (crc_of a prev)) ≡ word_at (filled a prev) n
+third_of_front a prev n e = rw e refl
 
 behind_header : (front crc after_header : List ℕ) (m : ℕ) → length front ≡ 20 → length crc ≡ 4 → drop (24 + m) (front ++ crc ++ after_header) ≡ drop m after_header
 behind_header front crc after_header m f c = sym (drop-drop m 24 (front ++ crc ++ after_header)) ∙ ap (drop m) (drop_at (front ++ crc) after_header 24 (omega (arith, length-append front crc)))

@@ -1,6 +1,8 @@
--- What of a block fits its fields: what its header spells, and what it carries.
+-- What of a record and of its blocks fits its fields: what is spelled, part by part.
 use Rattle.std.specs.Prelude.{◌^◌, ◌<◌, All, IfSome}
 use Rattle.wal_types.specs.declared.record.Block.{Block}
+use Rattle.wal_types.specs.declared.record.Record.{Record}
+use Rattle.record_spelling.specs.Record.{BlockFits}
 
 -- the numbers that its header spells
 pub record HeaderFits (b : Block) : Type 0 where
@@ -16,3 +18,11 @@ pub record HeaderFits (b : Block) : Type 0 where
 pub record PayloadFits (b : Block) : Type 0 where
   pub image : IfSome b.image (λ i. All (λ n. n < 256) i.bytes)
   pub content : All (λ n. n < 256) b.content
+
+-- all of a record that stands behind its header
+abbrev pub FitsAfterHeader : Record → Type 0
+FitsAfterHeader r =
+    IfSome r.origin (λ n. n < 2 ^ 16)
+    × IfSome r.top_xid (λ x. x.0 < 2 ^ 32)
+    × All (λ b. b < 256) r.main
+    × All BlockFits r.blocks

@@ -1,4 +1,6 @@
 pub use Rattle.wal_crc32c.specs.Crc32c
+pub mod Layout
+pub mod Checks
 pub mod Record
 pub mod Numbers
 pub mod Spelling

@@ -3,18 +3,22 @@ use Rattle.std.specs.Prelude.{ℕ, ◌+◌, ◌/◌, ◌%◌, ◌^◌, ◌<◌, 
 use Rattle.wal_types.specs.declared.record.Record.{Record}
 use Rattle.wal_types.specs.declared.record.Block.{Block}
 use Rattle.wal_types.specs.declared.record.Image.{Image}
+use Rattle.record_spelling.specs.Layout.{data_page_size, first_free_manager, last_block_id, last_fork, last_free_manager, longest_content}
 
--- whether no manager has this number: 22 to 127 are left free by PostgreSQL, 128 on are custom ones
+-- whether no manager has this number
 abbrev pub is_free_manager : ℕ → Bool
-is_free_manager rmid = nat_le 22 rmid && nat_le rmid 127
+is_free_manager rmid = nat_le first_free_manager rmid && nat_le rmid last_free_manager
 
 -- whether the record would end its segment (XLOG_SWITCH), which is no record to insert
 abbrev pub is_switch : Record → Bool
 is_switch r = (r.rmid == 0) && (r.info / 16 % 16 == 4)
 
--- whether an image is that of a page of 8192 bytes; a hole is not at the page's start
+-- whether an image is that of a page; a hole is not at the page's start
 abbrev pub is_right_image : Image → Bool
-is_right_image i = (length i.bytes + i.hole_len == 8192) && (if i.hole_len == 0 then i.hole_offset == 0 else nat_lt 0 i.hole_offset && nat_le (i.hole_offset + i.hole_len) 8192)
+is_right_image i =
+    (length i.bytes + i.hole_len == data_page_size)
+    && (if i.hole_len == 0 then i.hole_offset == 0
+    else nat_lt 0 i.hole_offset && nat_le (i.hole_offset + i.hole_len) data_page_size)
 
 abbrev pub is_right_option : Option Image → Bool
 is_right_option None = true
@@ -22,7 +26,12 @@ is_right_option (Some i) = is_right_image i
 
 -- whether a block may stand where the next number is at least `floor`
 abbrev pub is_right_block : ℕ → Block → Bool
-is_right_block floor b = nat_le floor b.id && nat_le b.id 32 && nat_le b.fork 3 && nat_le (length b.content) 65535 && is_right_option b.image
+is_right_block floor b =
+    nat_le floor b.id
+    && nat_le b.id last_block_id
+    && nat_le b.fork last_fork
+    && nat_le (length b.content) longest_content
+    && is_right_option b.image
 
 -- whether blocks have rising numbers up to 32, and each is right
 abbrev pub are_right_blocks : ℕ → List Block → Bool

@@ -5,16 +5,18 @@ use Rattle.wal_types.specs.declared.record.Record.{Record}
 use Rattle.wal_types.specs.declared.record.Block.{Block}
 use Rattle.record_spelling.specs.declared.fault.BodyErr.{BodyErr}
 use Rattle.record_spelling.specs.declared.fault.BodyErr.TheVariants.{Memory, TooLong, BadBlock, Switch, BadRmgr}
+use Rattle.record_spelling.specs.Layout.{longest_record}
 use Rattle.record_spelling.specs.Record.{is_free_manager, is_switch, is_right_block}
 use Rattle.record_spelling.specs.Spelling.{size_of}
 
--- the place of the first block that is not right, where the first one's number is to be at least `floor`
+-- the place of the first block that is not right, where the first number is to be at least `floor`
 abbrev pub first_bad_block : ℕ → List Block → Option ℕ
 first_bad_block floor [] = None
-first_bad_block floor (b ∷ bs) = if is_right_block floor b then option_map suc (first_bad_block (b.id + 1) bs) else Some 0
+first_bad_block floor (b ∷ bs) =
+    if is_right_block floor b then option_map suc (first_bad_block (b.id + 1) bs) else Some 0
 
 abbrev pub too_long : ℕ → Option BodyErr
-too_long size = if nat_lt 1048576 size then Some (TooLong size) else None
+too_long size = if nat_lt longest_record size then Some (TooLong size) else None
 
 -- the first reason not to assemble a record
 unfoldable pub refusal_of : Record → Option BodyErr

@@ -1,5 +1,17 @@
--- How a record is spelled in the log: the writer's one spelling (PostgreSQL's xlogrecord.h and xloginsert.c).
-use Rattle.std.specs.Prelude.{ℕ, ◌+◌, ◌-◌, ◌*◌, ◌/◌, ◌^◌, ◌<◌, ◌≤◌, Bool, true, false, ◌&&◌, All, List, [], ◌∷◌, ◌++◌, length, take, drop, replicate, Option, Some, None, ◌==◌, nat_lt, if◌then◌else◌}
+-- How a record is spelled in the log: the writer's one spelling (PostgreSQL's xloginsert.c).
+--
+-- A record's bytes are, numbers with their lowest byte first:
+--   the header of 24 bytes: the record's size (4), the transaction (4), the start of the record
+--     before (8), info (1), the manager (1), two zeros, and the CRC (4)
+--   the headers of its block references, by rising numbers: the number (1), the fork with flags (1),
+--     the length of the data (2); where it has an image the image's length (2), its hole's offset (2)
+--     and its flags (1); unless it is that of the block before the relation (12); the block's (4)
+--   the origin, where there is one: 253 and two bytes
+--   the top-level transaction, where there is one: 252 and four bytes
+--   the main data's header, where there is any: 255 and a byte of length, or 254 and four
+--   the payload: for each block its image and its data, and then the main data
+-- The CRC runs over all that stands behind the header, and then over the header's first 20 bytes.
+use Rattle.std.specs.Prelude.{◌≡◌, ℕ, ◌+◌, ◌-◌, ◌*◌, ◌/◌, ◌^◌, ◌<◌, ◌≤◌, Bool, true, false, ◌&&◌, All, List, [], ◌∷◌, ◌++◌, length, take, drop, replicate, Option, Some, None, ◌==◌, nat_lt, if◌then◌else◌}
 use Rattle.std.specs.List.{flat_map}
 use Rattle.std.specs.Int.{w16, w32, w64, to_le_bytes, from_le_bytes}
 use Rattle.wal_crc32c.specs.Crc32c.{crc32c}
@@ -8,6 +20,7 @@ use Rattle.wal_types.specs.declared.record.Block.{Block}
 use Rattle.wal_types.specs.declared.record.Image.{Image}
 use Rattle.wal_types.specs.declared.record.Rel.{Rel}
 use Rattle.wal_types.specs.declared.record.Xid.{Xid}
+use Rattle.record_spelling.specs.Layout.{long_main_tag, longest_record, origin_tag, record_header_size, short_main_tag, top_xid_tag}
 use Rattle.record_spelling.specs.Record.{IsWellFormed, Fits}
 
 -- a bit of a flag byte
@@ -17,7 +30,10 @@ flag is worth = if is then worth else 0
 -- an image's header: its length, where its hole begins, and flags for a hole (1) and for redo (2)
 abbrev pub image_header : Option Image → List ℕ
 image_header None = []
-image_header (Some i) = to_le_bytes w16 (length i.bytes) ++ to_le_bytes w16 i.hole_offset ++ (flag (nat_lt 0 i.hole_len) 1 + flag i.apply 2) ∷ []
+image_header (Some i) =
+    to_le_bytes w16 (length i.bytes)
+    ++ to_le_bytes w16 i.hole_offset
+    ++ (flag (nat_lt 0 i.hole_len) 1 + flag i.apply 2) ∷ []
 
 abbrev pub has_image : Option Image → Bool
 has_image None = false
@@ -26,16 +42,30 @@ has_image (Some i) = true
 -- whether a block's relation is that of the block just before it, which is then not spelled again
 abbrev pub is_same_relation : Option Rel → Rel → Bool
 is_same_relation None rel = false
-is_same_relation (Some before) rel = (before.spc == rel.spc) && (before.db == rel.db) && (before.rel == rel.rel)
+is_same_relation (Some before) rel =
+    (before.spc == rel.spc) && (before.db == rel.db) && (before.rel == rel.rel)
 
 abbrev pub relation_bytes : Rel → List ℕ
 relation_bytes rel = to_le_bytes w32 rel.spc ++ to_le_bytes w32 rel.db ++ to_le_bytes w32 rel.rel
 
--- a block's header: its number, its fork with flags, its data's length, its image's header, its relation, its block number
+-- a block's fork, with flags for an image (16), for data (32), for a page that is made anew (64) and
+-- for the relation of the block before (128)
+abbrev pub fork_byte : Block → Bool → ℕ
+fork_byte b same =
+    b.fork
+    + flag (has_image b.image) 16
+    + flag (nat_lt 0 (length b.content)) 32
+    + flag b.will_init 64
+    + flag same 128
+
+-- a block's header, behind a block of the relation `before`
 abbrev pub block_header : Option Rel → Block → List ℕ
 block_header before b =
     let same = is_same_relation before b.rel in
-    b.id ∷ (b.fork + flag (has_image b.image) 16 + flag (nat_lt 0 (length b.content)) 32 + flag b.will_init 64 + flag same 128) ∷ to_le_bytes w16 (length b.content) ++ image_header b.image ++ (if same then [] else relation_bytes b.rel) ++ to_le_bytes w32 b.blk
+    b.id ∷ fork_byte b same ∷ to_le_bytes w16 (length b.content)
+    ++ image_header b.image
+    ++ (if same then [] else relation_bytes b.rel)
+    ++ to_le_bytes w32 b.blk
 
 abbrev pub block_headers : Option Rel → List Block → List ℕ
 block_headers before [] = []
@@ -49,23 +79,32 @@ image_bytes (Some i) = i.bytes
 abbrev pub block_payload : Block → List ℕ
 block_payload b = image_bytes b.image ++ b.content
 
--- the replication origin: 253 and two bytes
+-- the replication origin
 abbrev pub origin_item : Option ℕ → List ℕ
 origin_item None = []
-origin_item (Some n) = 253 ∷ to_le_bytes w16 n
+origin_item (Some n) = origin_tag ∷ to_le_bytes w16 n
 
--- the top-level transaction: 252 and four bytes
+-- the top-level transaction
 abbrev pub top_xid_item : Option Xid → List ℕ
 top_xid_item None = []
-top_xid_item (Some x) = 252 ∷ to_le_bytes w32 x.0
+top_xid_item (Some x) = top_xid_tag ∷ to_le_bytes w32 x.0
 
--- the main data's header: nothing where there is none, 255 and a byte of length, or above 255 bytes 254 and four
+-- the main data's header: none, a short one, or above 255 bytes a long one
 abbrev pub main_header : List ℕ → List ℕ
-main_header main = if length main == 0 then [] else (if nat_lt (length main) 256 then 255 ∷ length main ∷ [] else 254 ∷ to_le_bytes w32 (length main))
+main_header main =
+    if length main == 0 then []
+    else (if nat_lt (length main) 256 then short_main_tag ∷ length main ∷ []
+    else long_main_tag ∷ to_le_bytes w32 (length main))
 
--- what stands behind a record's header of 24 bytes
+-- what stands behind a record's header
 abbrev pub after_header : Record → List ℕ
-after_header r = block_headers None r.blocks ++ origin_item r.origin ++ top_xid_item r.top_xid ++ main_header r.main ++ flat_map block_payload r.blocks ++ r.main
+after_header r =
+    block_headers None r.blocks
+    ++ origin_item r.origin
+    ++ top_xid_item r.top_xid
+    ++ main_header r.main
+    ++ flat_map block_payload r.blocks
+    ++ r.main
 
 -- a record as it is ready to be written: all of its spelling but what depends on its place
 pub record Assembled : Type 0 where
@@ -74,12 +113,16 @@ pub record Assembled : Type 0 where
   pub info : ℕ
   pub after_header : List ℕ
 
+abbrev pub assembled_of : ℕ → ℕ → ℕ → List ℕ → Assembled
+assembled_of xid rmid info bytes =
+    record { xid = xid; rmid = rmid; info = info; after_header = bytes }
+
 abbrev pub assembled : Record → Assembled
-assembled r = record { xid = r.xid.0; rmid = r.rmid; info = r.info; after_header = after_header r }
+assembled r = assembled_of r.xid.0 r.rmid r.info (after_header r)
 
 -- how many bytes it is spelled in, and how many it takes up: the next multiple of 8
 abbrev pub assembled_size : Assembled → ℕ
-assembled_size a = 24 + length a.after_header
+assembled_size a = record_header_size + length a.after_header
 
 abbrev pub assembled_room : Assembled → ℕ
 assembled_room a = (assembled_size a + 7) / 8 * 8
@@ -90,11 +133,15 @@ size_of r = assembled_size (assembled r)
 abbrev pub room_of : Record → ℕ
 room_of r = assembled_room (assembled r)
 
--- the first 20 bytes of the header: size, transaction, the start of the record before, info, manager, two zeros
+-- the header up to its CRC
 abbrev pub header_front : Assembled → ℕ → List ℕ
-header_front a prev = to_le_bytes w32 (assembled_size a) ++ to_le_bytes w32 a.xid ++ to_le_bytes w64 prev ++ a.info ∷ a.rmid ∷ 0 ∷ 0 ∷ []
+header_front a prev =
+    to_le_bytes w32 (assembled_size a)
+    ++ to_le_bytes w32 a.xid
+    ++ to_le_bytes w64 prev
+    ++ a.info ∷ a.rmid ∷ 0 ∷ 0 ∷ []
 
--- the CRC runs over what the header carries, and then over the header's front
+-- the CRC runs over what stands behind the header, and then over the header's front
 abbrev pub crc_of : Assembled → ℕ → ℕ
 crc_of a prev = crc32c (a.after_header ++ header_front a prev)
 
@@ -117,12 +164,18 @@ word_at bytes n = from_le_bytes w64 (take 8 (drop (8 * n) bytes))
 pub record IsWritable (r : Record) : Type 0 where
   pub well_formed : IsWellFormed r
   pub fits : Fits r
-  pub size : size_of r ≤ 1048576
+  pub size : size_of r ≤ longest_record
 
 -- what is assembled of such a record
 pub record AssembledFits (a : Assembled) : Type 0 where
-  pub size : assembled_size a ≤ 1048576
+  pub size : assembled_size a ≤ longest_record
   pub xid : a.xid < 2 ^ 32
   pub manager : a.rmid < 256
   pub info : a.info < 256
   pub bytes : All (λ b. b < 256) a.after_header
+
+-- the record that it was assembled of
+pub record RecordOf (a : Assembled) : Type 0 where
+  pub value : Record
+  pub writable : IsWritable value
+  pub same : a ≡ assembled value

@@ -2,7 +2,8 @@
 
 ghost use Rattle.std.specs.Prelude.{◌≡◌, ◌+◌, ◌^◌, ◌<◌, ◌++◌, length, All, IfOk, IfSome, IsTrue, OnOk};
 ghost use Rattle.wal_types.specs.declared.record.Record.{Record};
-ghost use Rattle.record_spelling.specs.Record.{BlockFits, are_right_blocks};
+ghost use Rattle.record_spelling.specs.Fitting.{FitsAfterHeader};
+ghost use Rattle.record_spelling.specs.Record.{are_right_blocks};
 ghost use Rattle.record_spelling.specs.Spelling.{after_header, main_header, origin_item, top_xid_item};
 
 use crate::blocks::{blocks_len, put_block_headers, put_bytes, put_payloads};
@@ -32,7 +33,7 @@ pub(crate) fn after_header(alloc: Global, r: &Record) -> Result<Vec<u8>, AllocEr
     requires blocks { IsTrue (are_right_blocks 0 r.now.blocks) }
     requires short { length r.now.main < 2 ^ 32 }
     ensures ok { IfOk result (λ v. v.items ≡ after_header r.now) }
-    ensures fits { OnOk result (IfSome r.now.origin (λ n. n < 2 ^ 16) × IfSome r.now.top_xid (λ x. x.0 < 2 ^ 32) × All (λ b. b < 256) r.now.main × All BlockFits r.now.blocks) }
+    ensures fits { OnOk result (FitsAfterHeader r.now) }
 {
     let mut after_header = Vec::with_capacity(alloc, after_header_len(r))?;
     put_block_headers(&mut after_header, r.blocks.as_slice())?;

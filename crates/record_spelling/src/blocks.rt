@@ -1,10 +1,11 @@
-//! How a record's references to blocks are spelled (PostgreSQL's XLogRecordBlockHeader of xlogrecord.h).
+//! How a record's references to blocks are spelled (XLogRecordBlockHeader of PostgreSQL's
+//! xlogrecord.h).
 
 ghost use Rattle.std.specs.Prelude.{◌≡◌, ◌+◌, ◌^◌, ◌<◌, ◌≤◌, ◌++◌, length, All, IfSome, IsTrue, OnOk, if◌then◌else◌, nat_lt, None, []};
 ghost use Rattle.std.specs.List.{flat_map};
 ghost use Rattle.record_spelling.specs.Fitting.{HeaderFits, PayloadFits};
 ghost use Rattle.record_spelling.specs.Record.{are_right_blocks, is_right_block, is_right_option};
-ghost use Rattle.record_spelling.specs.Spelling.{block_header, block_headers, block_payload, flag, has_image, image_bytes, image_header, is_same_relation, relation_bytes};
+ghost use Rattle.record_spelling.specs.Spelling.{block_header, block_headers, block_payload, flag, fork_byte, image_bytes, image_header, is_same_relation, relation_bytes};
 
 use crate::layout::*;
 use std::alloc::AllocError;
@@ -78,7 +79,7 @@ pub(crate) fn is_same_relation(before: Option<Rel>, rel: Rel) -> bool
 // A block's fork, with its flags.
 pub(crate) fn block_flags(block: &Block, same: bool) -> u8
     requires { block.now.fork ≤ 3 }
-    ensures { result ≡ block.now.fork + flag (has_image block.now.image) 16 + flag (nat_lt 0 (length block.now.content)) 32 + flag block.now.will_init 64 + flag same 128 }
+    ensures { result ≡ fork_byte block.now same }
 {
     block.fork
         + flag(block.image.is_some(), HAS_IMAGE)

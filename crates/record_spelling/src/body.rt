@@ -1,10 +1,10 @@
 //! A record made ready to be written (PostgreSQL's XLogRecordAssemble of xloginsert.c).
 
-ghost use Rattle.std.specs.Prelude.{◌≡◌, ◌+◌, ◌*◌, ◌<◌, ◌≤◌, ◌++◌, length, take, All, None, IfOk, OnOk, IfErr};
+ghost use Rattle.std.specs.Prelude.{◌≡◌, ◌+◌, ◌*◌, ◌^◌, ◌<◌, ◌≤◌, ◌++◌, length, take, All, None, IfOk, OnOk, IfErr};
 ghost use Rattle.std.specs.Int.{w64, from_le_bytes};
 ghost use Rattle.wal_types.specs.declared.record.Record.{Record};
 ghost use Rattle.record_spelling.specs.Refusal.{RefusesToAssemble, refusal_of};
-ghost use Rattle.record_spelling.specs.Spelling.{AssembledFits, IsWritable, assembled, assembled_room, assembled_size, crc_of, filled, header_front, word_at};
+ghost use Rattle.record_spelling.specs.Spelling.{AssembledFits, IsWritable, RecordOf, assembled, assembled_of, assembled_room, assembled_size, crc_of, filled, header_front, word_at};
 
 use crate::assembly::after_header;
 use crate::fault::BodyErr;
@@ -15,7 +15,8 @@ use std::marker::Model;
 use wal_crc32c::Crc;
 use wal_types::{Lsn, Record, Xid};
 
-/// A record ready to be written: all of its spelling but what depends on its place. At most 1,048,576 bytes.
+/// A record ready to be written: all of its spelling but what depends on its place. At most
+/// 1,048,576 bytes.
 #[derive(Debug, Drop)]
 pub struct Body {
     xid: Xid,
@@ -29,17 +30,20 @@ pub struct Body {
 impl Model for Body {
     ghost use Rattle.std.specs.Prelude.{◌≡◌};
     ghost use Rattle.wal_crc32c.specs.Crc32c.{HasFed};
-    ghost use Rattle.record_spelling.specs.Spelling.{Assembled, AssembledFits};
+    ghost use Rattle.record_spelling.specs.Spelling.{Assembled, AssembledFits, RecordOf, assembled_of};
 
     ghost Value = { Assembled };
 
-    ghost view = { λ b. record { xid = b.xid.0; rmid = b.rmid; info = b.info; after_header = b.after_header.items } };
+    ghost view = { λ b. assembled_of b.xid.0 b.rmid b.info b.after_header.items };
 
-    ghost invariant = { λ b. HasFed b.crc b.after_header.items × AssembledFits (record { xid = b.xid.0; rmid = b.rmid; info = b.info; after_header = b.after_header.items }) };
+    ghost invariant = { λ b.
+        let value = assembled_of b.xid.0 b.rmid b.info b.after_header.items in
+        HasFed b.crc b.after_header.items × AssembledFits value × RecordOf value };
 }
 
 impl Body {
-    /// Makes a record ready. Where several reasons forbid it, the error is the first of BadRmgr, Switch, BadBlock and TooLong.
+    /// Makes a record ready. Where several reasons forbid it, the error is the first of BadRmgr,
+    /// Switch, BadBlock and TooLong.
     pub fn assemble(alloc: Global, r: &Record) -> Result<Body, BodyErr>
         ensures ok { IfOk result (λ body. (body ≡ assembled r.now) × IsWritable r.now) }
         ensures not_refused { OnOk result (refusal_of r.now ≡ None) }
@@ -49,14 +53,19 @@ impl Body {
             return Err(refusal);
         }
         let after_header = after_header(alloc, r)?;
-        Ok(Body::of_parts(r.xid, r.rmid, r.info, after_header))
+        let Record {
+            xid,
+            rmid,
+            info,
+            ..
+        } = *r;
+        header_fits(xid, rmid, info);
+        Ok(Body::of_parts(xid, rmid, info, after_header))
     }
 
     fn of_parts(xid: Xid, rmid: u8, info: u8, after_header: Vec<u8>) -> Body
-        requires size { length after_header.items ≤ 1048552 }
-        requires bytes { All (λ b. b < 256) after_header.items }
-        ensures body { result ≡ record { xid = xid.0; rmid = rmid; info = info; after_header = after_header.items } }
-        ensures ready { AssembledFits result }
+        requires { RecordOf (assembled_of xid.0 rmid info after_header.items) }
+        ensures { result ≡ assembled_of xid.0 rmid info after_header.items }
     {
         let mut crc = Crc::new();
         crc.update(&after_header);
@@ -74,6 +83,8 @@ impl Body {
         ensures size { result ≡ assembled_size self.now }
         ensures bounds { (24 ≤ result) × (result ≤ 1048576) }
         ensures ready { AssembledFits self.now }
+        // It was assembled of a record (of one alone, as reading it back shows).
+        ensures known { RecordOf self.now }
     {
         (HEADER_LEN + self.after_header.len()) as u32
     }
@@ -82,6 +93,7 @@ impl Body {
     pub fn room(&self) -> u32
         ensures room { result ≡ assembled_room self.now }
         ensures bounds { (24 ≤ result) × (result ≤ 1048576) }
+        ensures known { RecordOf self.now }
     {
         self.len().div_ceil(8) * 8
     }
@@ -98,14 +110,26 @@ impl Body {
         requires { 8 * n < assembled_room self.now }
         ensures { result ≡ word_at (filled self.now prev.0) n }
     {
+        if n < 3 {
+            self.header_word(prev, n)
+        } else {
+            first_word(&self.after_header[(n as usize - 3) * 8..])
+        }
+    }
+
+    // One of the three words of the header.
+    fn header_word(&self, prev: Lsn, n: u32) -> u64
+        requires { n < 3 }
+        ensures { result ≡ word_at (filled self.now prev.0) n }
+    {
+        let front = self.header_front(prev);
         match n {
-            0 => u64::from(self.len()) + (u64::from(self.xid.0) << 32),
-            1 => prev.0,
-            2 => {
-                let [c0, c1, c2, c3] = self.crc(prev).to_le_bytes();
-                u64::from_le_bytes([self.info, self.rmid, 0, 0, c0, c1, c2, c3])
+            0 => first_word(&front),
+            1 => first_word(&front[8..]),
+            _ => {
+                let [c0, c1, c2, c3] = self.crc(&front, prev).to_le_bytes();
+                u64::from_le_bytes([front[16], front[17], front[18], front[19], c0, c1, c2, c3])
             }
-            _ => first_word(&self.after_header[(n as usize - 3) * 8..]),
         }
     }
 
@@ -130,14 +154,21 @@ impl Body {
         ]
     }
 
-    fn crc(&self, prev: Lsn) -> u32
+    // The CRC runs over what stands behind the header, and then over the header's front.
+    fn crc(&self, front: &[u8; 20], prev: Lsn) -> u32
+        requires { front.now ≡ header_front self.now prev.0 }
         ensures { result ≡ crc_of self.now prev.0 }
     {
         let mut crc = self.crc;
-        crc.update(&self.header_front(prev));
+        crc.update(front);
         crc.value()
     }
 }
+
+// The numbers of a value of the program fit their fields.
+fn header_fits(xid: Xid, rmid: u8, info: u8)
+    ensures { (xid.0 < 2 ^ 32) × (rmid < 256) × (info < 256) }
+{}
 
 // The first eight bytes as a number, with zeros for those that are not there.
 pub(crate) fn first_word(bytes: &[u8]) -> u64

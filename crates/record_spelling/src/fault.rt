@@ -6,7 +6,8 @@ ghost use Rattle.record_spelling.specs.declared.fault.BodyErr.TheVariants as bod
 use std::alloc::{AllocError, AllocFailed};
 use thiserror::Error;
 
-/// Why a record cannot be assembled: of those that hold, the one that stands last here. `Memory` comes whenever memory runs out.
+/// Why a record cannot be assembled: of those that hold, the one that stands last here. `Memory`
+/// comes whenever memory runs out.
 #[derive(Clone, Copy, Debug, PartialEq, Eq, Error)]
 pub enum BodyErr {
     #[error("out of memory")]

@@ -1,4 +1,5 @@
-//! What holds of each record as it is spelled, whatever reads it. The functions do nothing: their contracts are the laws.
+//! What holds of each record as it is spelled, whatever reads it. The functions do nothing: their
+//! contracts are the laws.
 
 ghost use Rattle.std.specs.Prelude.{◌≡◌, ℕ, ◌+◌, ◌*◌, ◌%◌, ◌^◌, ◌<◌, ◌≤◌, length, take, drop, All, IsFalse, IsTrue, List, None, Some, ◌↔◌};
 ghost use Rattle.std.specs.Int.{w64, to_le_bytes};
@@ -13,7 +14,11 @@ ghost use Rattle.record_spelling.specs.Spelling.{Assembled, AssembledFits, IsWri
 pub fn spelled_lengths()
     ensures spelled { (a : Assembled) (prev : ℕ) → length (spelled a prev) ≡ assembled_size a }
     ensures filled { (a : Assembled) (prev : ℕ) → length (filled a prev) ≡ assembled_room a }
-    ensures room { (a : Assembled) → (assembled_room a % 8 ≡ 0) × (24 ≤ assembled_room a) × (assembled_size a ≤ assembled_room a) × (assembled_room a < assembled_size a + 8) }
+    ensures room { (a : Assembled)
+        → (assembled_room a % 8 ≡ 0)
+        × (24 ≤ assembled_room a)
+        × (assembled_size a ≤ assembled_room a)
+        × (assembled_room a < assembled_size a + 8) }
 {}
 
 /// A record's bytes and its CRC fit, and its words are its bytes.
@@ -21,7 +26,8 @@ pub fn spelled_bytes()
     ensures ready { (r : Record) → IsWritable r → AssembledFits (assembled r) }
     ensures crc { (a : Assembled) (prev : ℕ) → AssembledFits a → crc_of a prev < 2 ^ 32 }
     ensures bytes { (a : Assembled) (prev : ℕ) → AssembledFits a → All (λ b. b < 256) (filled a prev) }
-    ensures words { (a : Assembled) (prev n : ℕ) → AssembledFits a → 8 * n < assembled_room a → to_le_bytes w64 (word_at (filled a prev) n) ≡ take 8 (drop (8 * n) (filled a prev)) }
+    ensures words { (a : Assembled) (prev n : ℕ) → AssembledFits a → 8 * n < assembled_room a
+        → to_le_bytes w64 (word_at (filled a prev) n) ≡ take 8 (drop (8 * n) (filled a prev)) }
 {}
 
 /// A reader finds each field of the header where it was put.
@@ -34,7 +40,12 @@ pub fn refused_or_writable()
     ensures { (r : Record) → Fits r → (refusal_of r ≡ None) ↔ IsWritable r }
 {}
 
-/// A refusal names the first block that is not right: those before it are right, and with it they are not.
+/// A refusal names the first block that is not right: those before it are right, and with it they
+/// are not.
 pub fn bad_block_is_first()
-    ensures { (bs : List Block) (k : ℕ) → (first_bad_block 0 bs ≡ Some k) ↔ ((k < length bs) × IsTrue (are_right_blocks 0 (take k bs)) × IsFalse (are_right_blocks 0 (take (k + 1) bs))) }
+    ensures { (bs : List Block) (k : ℕ)
+        → (first_bad_block 0 bs ≡ Some k)
+        ↔ ((k < length bs)
+        × IsTrue (are_right_blocks 0 (take k bs))
+        × IsFalse (are_right_blocks 0 (take (k + 1) bs))) }
 {}

@@ -1,4 +1,5 @@
-//! Where a record's header has its fields, and the bytes that items begin with (PostgreSQL's xlogrecord.h).
+//! Where a record's header has its fields, and the bytes that items begin with (PostgreSQL's
+//! xlogrecord.h).
 
 /// The header's length, SizeOfXLogRecord.
 pub const HEADER_LEN: usize = 24;

@@ -1,4 +1,5 @@
-//! The plain slow program for a record's spelling, which tests compare with: each piece is made by itself, and the CRC by division.
+//! The plain slow program for a record's spelling, which tests compare with: each piece is made by
+//! itself, and the CRC by division.
 
 ghost use Rattle.std.specs.Prelude.{◌≡◌, ◌^◌, ◌<◌, ◌++◌, length, IfOk, IsTrue};
 ghost use Rattle.wal_types.specs.declared.record.Record.{Record};

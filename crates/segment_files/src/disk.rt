@@ -5,8 +5,13 @@ use byte_position::Geometry;
 use segment_disk::{Disk, Failed, Memory, count_fault};
 use std::alloc::Global;
 use std::fs::Files;
+use std::os::unix::fs::FileExt;
 
 /// A disk of segment files in a folder, by PostgreSQL's names. It tells nothing of what they hold.
+///
+/// Pages that were written reach the file with the next sync of their segment at the latest, and a
+/// segment that is there is not made again. After a failed sync, or a failed write of pages that
+/// were answered Ok, each call fails.
 #[derive(Drop)]
 pub struct FileDisk<R: Files> {
     files: SegmentFiles<R>,
@@ -14,22 +19,29 @@ pub struct FileDisk<R: Files> {
     faults: u64,
 }
 
-impl<R: Files + Drop> FileDisk<R> {
+impl<R: Files + Drop> FileDisk<R>
+where
+    R::File: FileExt,
+{
     /// Takes its room, and touches no file. The folder is made by the first `create` that needs it.
-    pub fn open(rt: R, alloc: Global, folder: &str) -> Result<FileDisk<R>, Memory>
+    /// The number of the process is part of the names that its files have while they are made.
+    pub fn open(rt: R, alloc: Global, folder: &str, process: u32) -> Result<FileDisk<R>, Memory>
         ensures tape { IfOk result (λ disk. ⟦<FileDisk<R> as Disk>⟧.tape disk ≡ None) }
         ensures moment { IfOk result (λ disk. ⟦<FileDisk<R> as Disk>⟧.moment disk ≡ 0) }
         ensures faults { IfOk result (λ disk. ⟦<FileDisk<R> as Disk>⟧.faults disk ≡ 0) }
     {
         Ok(FileDisk {
-            files: SegmentFiles::new(rt, alloc, folder)?,
+            files: SegmentFiles::new(rt, alloc, folder, process)?,
             moment: 0,
             faults: 0,
         })
     }
 }
 
-impl<R: Files> Disk for FileDisk<R> {
+impl<R: Files> Disk for FileDisk<R>
+where
+    R::File: FileExt,
+{
     ghost use Rattle.std.specs.Prelude.{None};
 
     ghost tape = { λ d. None };

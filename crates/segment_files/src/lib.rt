@@ -3,6 +3,8 @@
 #![tactic(auto)]
 
 mod disk;
+mod folder;
+mod pages;
 mod segments;
 mod sink;
 mod source;

@@ -1,107 +1,87 @@
 ghost use Rattle.std.specs.Prelude.{◌<◌, ◌/◌, ◌^◌};
 
+use crate::folder::Folder;
+use crate::pages;
+use crate::pages::{PagesAhead, PagesHeld};
 use byte_position::Geometry;
 use std::alloc::{AllocError, Global};
-use std::fs::{Files, OpenFile, OpenOptions};
-use std::io::{ErrorKind, Read, Seek, SeekFrom, Write};
-use std::{fs, io};
-
-const PAGE_SIZE: u64 = 8192;
-
-// How many zeros are written at a time.
-const PIECE: usize = 64 * 1024;
-
-// A segment is written under this name before it gets its own (PostgreSQL's `XLogFileInitInternal`).
-const TEMPORARY: &str = "xlogtemp";
+use std::fs::{Files, OpenFile};
+use std::io;
+use std::io::ErrorKind;
+use std::os::unix::fs::FileExt;
 
 /// A segment's file, which stays open from one call to the next.
 #[derive(Drop)]
 struct OpenSegment<F> {
     geometry: Geometry,
     segment: u64,
-    is_writable: bool,
     file: F,
 }
 
 impl<F> OpenSegment<F> {
-    fn serves(&self, geometry: Geometry, segment: u64, is_writable: bool) -> bool {
-        self.segment == segment
-            && self.geometry.segment_size() == geometry.segment_size()
-            && (self.is_writable || !is_writable)
+    fn is_of(&self, geometry: Geometry, segment: u64) -> bool {
+        self.segment == segment && self.geometry.segment_size() == geometry.segment_size()
     }
 }
 
-/// The calls of the system for the segment files of a folder.
+/// The segment files of a folder, as pages are put into them and read back.
+///
+/// One segment is written at a time. A page that was put is held until a page elsewhere, a sync or a
+/// read makes it go to the file together with its neighbours; what fails then is that call's fault,
+/// and from then on nothing answers Ok, since pages that were answered Ok are not in the file. The file that was
+/// written stays open until it was synced: the system tells a failed write to those that had the
+/// file open, and not surely to who opens it later. Before another segment is written it is synced.
+///
+/// Reads have an open file of their own, and read pages ahead, which are forgotten with each page that is put.
 #[derive(Drop)]
 pub struct SegmentFiles<R: Files> {
-    rt: R,
-    folder: String,
-    temporary: String,
-    // Room for a path, so that no call but the first takes memory.
-    path: String,
-    zeros: Vec<u8>,
-    last: Option<OpenSegment<R::File>>,
-    has_sync_failed: bool,
-}
-
-fn join(path: &mut String, folder: &str, name: &str) -> Result<(), AllocError> {
-    path.clear();
-    path.push_str(folder)?;
-    path.push('/')?;
-    path.push_str(name)
+    folder: Folder<R>,
+    writing: Option<OpenSegment<R::File>>,
+    held: PagesHeld,
+    is_synced: bool,
+    reading: Option<OpenSegment<R::File>>,
+    ahead: PagesAhead,
 }
 
 impl<R: Files + Drop> SegmentFiles<R> {
-    /// Takes room for the paths and for a piece of zeros.
-    pub fn new(rt: R, alloc: Global, folder: &str) -> Result<SegmentFiles<R>, AllocError> {
-        let folder = if folder.is_empty() { "." } else { folder };
-        let mut temporary = String::new(alloc);
-        join(&mut temporary, folder, TEMPORARY)?;
-        let mut path = String::new(alloc);
-        join(&mut path, folder, "000000010000000000000000")?;
+    /// Takes room for the paths and the pages.
+    pub fn new(
+        rt: R,
+        alloc: Global,
+        folder: &str,
+        process: u32,
+    ) -> Result<SegmentFiles<R>, AllocError> {
         Ok(SegmentFiles {
-            rt,
-            folder: String::from_str(alloc, folder)?,
-            temporary,
-            path,
-            zeros: vec![in alloc; 0; PIECE]?,
-            last: None,
-            has_sync_failed: false,
+            folder: Folder::new(rt, alloc, folder, process)?,
+            writing: None,
+            held: PagesHeld::new(alloc)?,
+            is_synced: true,
+            reading: None,
+            ahead: PagesAhead::new(alloc)?,
         })
     }
 }
 
-impl<R: Files> SegmentFiles<R> {
-    /// Makes a file of zeros, which is on the disk under its name at Ok.
+impl<R: Files> SegmentFiles<R>
+where
+    R::File: FileExt,
+{
+    /// Makes a file of zeros, which is on the disk under its name at Ok. Fails where it is there.
     pub fn create(&mut self, geometry: Geometry, segment: u64) -> io::Result<()>
         requires { segment < 2 ^ 64 / geometry }
     {
-        // The file that is kept may be the one that this one replaces.
-        self.last = None;
-        self.make_folder()?;
-        let mut file = OpenOptions::new()
-            .read(true)
-            .write(true)
-            .create(true)
-            .truncate(true)
-            .open(&self.rt, self.temporary.as_str())?;
-        for _ in 0..geometry.segment_size() / PIECE as u64 {
-            file.write_all(&self.zeros)?;
-        }
-        file.sync_all()?;
-        self.set_path(geometry, segment)?;
-        fs::rename(&self.rt, self.temporary.as_str(), self.path.as_str())?;
-        self.sync_folder(".")?;
-        self.last = Some(OpenSegment {
+        self.folder.check()?;
+        self.leave_written()?;
+        let file = self.folder.make_segment(geometry, segment)?;
+        self.writing = Some(OpenSegment {
             geometry,
             segment,
-            is_writable: true,
             file,
         });
         Ok(())
     }
 
-    /// Writes a page in place.
+    /// Writes a page in place. It is in the file, at the latest, when the segment is synced.
     pub fn write_page(
         &mut self,
         geometry: Geometry,
@@ -111,27 +91,25 @@ impl<R: Files> SegmentFiles<R> {
     ) -> io::Result<()>
         requires { segment < 2 ^ 64 / geometry }
     {
-        let mut open = self.take_open(geometry, segment, true)?;
-        open.file
-            .seek(SeekFrom::Start(u64::from(page) * PAGE_SIZE))?;
-        open.file.write_all(bytes)?;
-        self.last = Some(open);
+        self.folder.check()?;
+        self.turn_to(geometry, segment)?;
+        if !self.held.is_followed_by(page) {
+            self.write_held()?;
+        }
+        self.held.push(page, bytes)?;
+        self.is_synced = false;
+        self.ahead.clear();
         Ok(())
     }
 
-    /// Puts a segment's data on the disk. After one that failed each later one fails: the system may have dropped the
-    /// pages that it could not write, and would then answer Ok (PostgreSQL stops for this, by its `data_sync_elevel`).
+    /// Puts a segment's data on the disk, and the folder's name where that was not done yet.
     pub fn sync(&mut self, geometry: Geometry, segment: u64) -> io::Result<()>
         requires { segment < 2 ^ 64 / geometry }
     {
-        if self.has_sync_failed {
-            return Err(ErrorKind::Other.into());
-        }
-        let open = self.take_open(geometry, segment, true)?;
-        let result = open.file.sync_data();
-        self.has_sync_failed = result.is_err();
-        self.last = Some(open);
-        result
+        self.folder.check()?;
+        self.turn_to(geometry, segment)?;
+        self.folder.settle()?;
+        self.sync_written()
     }
 
     /// Reads a page, and answers false where the file is not there or ends before the page does.
@@ -144,80 +122,106 @@ impl<R: Files> SegmentFiles<R> {
     ) -> io::Result<bool>
         requires { segment < 2 ^ 64 / geometry }
     {
-        let mut open = match self.take_open(geometry, segment, false) {
-            Ok(open) => open,
+        self.folder.check()?;
+        self.write_held()?;
+        match self.open_read(geometry, segment) {
+            Ok(()) => {}
             Err(e) if e.kind() == ErrorKind::NotFound => return Ok(false),
             Err(e) => return Err(e),
-        };
-        open.file
-            .seek(SeekFrom::Start(u64::from(page) * PAGE_SIZE))?;
-        let is_whole = match open.file.read_exact(bytes) {
-            Ok(()) => true,
-            Err(e) if e.kind() == ErrorKind::UnexpectedEof => false,
-            Err(e) => return Err(e),
-        };
-        self.last = Some(open);
-        Ok(is_whole)
+        }
+        if self.ahead.copy(page, bytes) {
+            return Ok(true);
+        }
+        self.read_ahead(geometry, page, bytes)
     }
 
-    // The segment's file, out of the one that is kept or opened anew.
-    fn take_open(
+    // Reads pages from this one on; where these are not all there, or not all readable, this one alone.
+    fn read_ahead(
         &mut self,
         geometry: Geometry,
-        segment: u64,
-        is_writable: bool,
-    ) -> io::Result<OpenSegment<R::File>>
-        requires { segment < 2 ^ 64 / geometry }
-    {
-        let last = self.last.take();
-        match last.filter(|open| open.serves(geometry, segment, is_writable)) {
-            Some(open) => Ok(open),
-            None => self.open_anew(geometry, segment, is_writable),
+        page: u32,
+        bytes: &mut [u8; 8192],
+    ) -> io::Result<bool> {
+        let Some(open) = &self.reading else {
+            return Ok(false);
+        };
+        let most = geometry.pages().saturating_sub(page);
+        if self.ahead.fill(&open.file, page, most).is_ok() && self.ahead.copy(page, bytes) {
+            return Ok(true);
+        }
+        match pages::read_page(&open.file, page, bytes) {
+            Ok(()) => Ok(true),
+            Err(e) if e.kind() == ErrorKind::UnexpectedEof => Ok(false),
+            Err(e) => Err(e),
         }
     }
 
-    fn open_anew(
-        &mut self,
-        geometry: Geometry,
-        segment: u64,
-        is_writable: bool,
-    ) -> io::Result<OpenSegment<R::File>>
+    // Makes this segment the one that is read.
+    fn open_read(&mut self, geometry: Geometry, segment: u64) -> io::Result<()>
         requires { segment < 2 ^ 64 / geometry }
     {
-        self.set_path(geometry, segment)?;
-        let file = OpenOptions::new()
-            .read(true)
-            .write(is_writable)
-            .open(&self.rt, self.path.as_str())?;
-        Ok(OpenSegment {
+        if let Some(open) = &self.reading {
+            if open.is_of(geometry, segment) {
+                return Ok(());
+            }
+        }
+        self.ahead.clear();
+        let file = self.folder.open_segment(geometry, segment, false)?;
+        self.reading = Some(OpenSegment {
             geometry,
             segment,
-            is_writable,
             file,
-        })
+        });
+        Ok(())
     }
 
-    fn set_path(&mut self, geometry: Geometry, segment: u64) -> io::Result<()>
+    // Makes this segment the one that is written.
+    fn turn_to(&mut self, geometry: Geometry, segment: u64) -> io::Result<()>
         requires { segment < 2 ^ 64 / geometry }
     {
-        let name = geometry.file_name(segment);
-        match str::from_utf8(&name) {
-            Ok(name) => Ok(join(&mut self.path, self.folder.as_str(), name)?),
-            Err(_) => Err(ErrorKind::InvalidInput.into()),
+        if let Some(open) = &self.writing {
+            if open.is_of(geometry, segment) {
+                return Ok(());
+            }
         }
+        self.leave_written()?;
+        let file = self.folder.open_segment(geometry, segment, true)?;
+        self.writing = Some(OpenSegment {
+            geometry,
+            segment,
+            file,
+        });
+        Ok(())
     }
 
-    // Where it makes the folder, its entry is on the disk too.
-    fn make_folder(&mut self) -> io::Result<()> {
-        if fs::exists(&self.rt, self.folder.as_str())? {
+    // Syncs the segment that is written before its file is closed, where it has pages that were not.
+    fn leave_written(&mut self) -> io::Result<()> {
+        if self.is_synced {
             return Ok(());
         }
-        fs::create_dir_all(&self.rt, self.folder.as_str())?;
-        self.sync_folder("..")
+        self.sync_written()
     }
 
-    fn sync_folder(&mut self, name: &str) -> io::Result<()> {
-        join(&mut self.path, self.folder.as_str(), name)?;
-        fs::open(&self.rt, self.path.as_str())?.sync_all()
+    fn sync_written(&mut self) -> io::Result<()> {
+        self.write_held()?;
+        if let Some(open) = &self.writing {
+            let synced = open.file.sync_data();
+            self.folder.noted(synced)?;
+        }
+        self.is_synced = true;
+        Ok(())
+    }
+
+    // Writes the pages that are held, in one call.
+    fn write_held(&mut self) -> io::Result<()> {
+        if self.held.is_empty() {
+            return Ok(());
+        }
+        if let Some(open) = &self.writing {
+            let written = self.held.write_to(&open.file);
+            self.folder.noted(written)?;
+        }
+        self.held.clear();
+        Ok(())
     }
 }

@@ -1,0 +1,224 @@
+ghost use Rattle.std.specs.Prelude.{◌<◌, ◌/◌, ◌^◌};
+
+use byte_position::Geometry;
+use std::alloc::{AllocError, Global};
+use std::fs::{DirBuilder, Files, OpenFile, OpenOptions};
+use std::io::{ErrorKind, Write};
+use std::os::unix::fs::{DirBuilderExt, OpenOptionsExt};
+use std::{fs, io};
+
+// How many zeros are written at a time.
+const PIECE: usize = 64 * 1024;
+
+// How many temporary names a process tries.
+const MOST_NAMES: u32 = 1000;
+
+// Files and folders are the user's own, from the moment they are made.
+const FILE_MODE: u32 = 0o600;
+
+const FOLDER_MODE: u32 = 0o700;
+
+/// The folder of the segment files: their names, how they are made, and every sync of the log.
+///
+/// A segment is made under a temporary name that nothing else has, filled and synced, and only then
+/// linked to its own name, so that a file under that name is whole; the folder is synced behind it,
+/// since a name that is not on the disk is lost with its file (PostgreSQL's `XLogFileInitInternal` and
+/// `durable_rename`). A link replaces nothing: of two processes that make one segment, one fails.
+///
+/// The folder's own name may be lost too, so it is put on the disk once, before anything in it is
+/// promised, also where the folder was there already: who made it may not have synced it.
+#[derive(Drop)]
+pub struct Folder<R: Files> {
+    rt: R,
+    // The number of this process, which its temporary names have.
+    process: u32,
+    name: String,
+    // Room for two paths, so that no call but the first takes memory.
+    path: String,
+    temporary: String,
+    zeros: Vec<u8>,
+    is_settled: bool,
+    has_failed: bool,
+}
+
+fn join(path: &mut String, folder: &str, name: &str) -> Result<(), AllocError> {
+    path.clear();
+    path.push_str(folder)?;
+    path.push('/')?;
+    path.push_str(name)
+}
+
+impl<R: Files + Drop> Folder<R> {
+    /// Takes room for the paths and for a piece of zeros.
+    pub fn new(rt: R, alloc: Global, name: &str, process: u32) -> Result<Folder<R>, AllocError> {
+        let name = if name.is_empty() { "." } else { name };
+        let mut path = String::new(alloc);
+        join(&mut path, name, "000000010000000000000000")?;
+        Ok(Folder {
+            rt,
+            process,
+            name: String::from_str(alloc, name)?,
+            path,
+            temporary: format!(in alloc; "{name}/xlogtemp.{process}.{MOST_NAMES}")?,
+            zeros: vec![in alloc; 0; PIECE]?,
+            is_settled: false,
+            has_failed: false,
+        })
+    }
+}
+
+impl<R: Files> Folder<R> {
+    /// An error for good once a sync has failed, or a write of pages that were promised: the system may
+    /// have dropped what it could not write, and would answer Ok to the next sync (PostgreSQL
+    /// stops for this, by its `data_sync_elevel`).
+    pub fn check(&self) -> io::Result<()> {
+        if self.has_failed {
+            Err(ErrorKind::Other.into())
+        } else {
+            Ok(())
+        }
+    }
+
+    /// Hands on the answer of a call after whose failure nothing may answer Ok.
+    pub fn noted(&mut self, answer: io::Result<()>) -> io::Result<()> {
+        if answer.is_err() {
+            self.has_failed = true;
+        }
+        answer
+    }
+
+    /// Opens a segment's file that is there.
+    pub fn open_segment(
+        &mut self,
+        geometry: Geometry,
+        segment: u64,
+        is_written: bool,
+    ) -> io::Result<R::File>
+        requires { segment < 2 ^ 64 / geometry }
+    {
+        self.set_path(geometry, segment)?;
+        OpenOptions::new()
+            .read(true)
+            .write(is_written)
+            .open(&self.rt, self.path.as_str())
+    }
+
+    /// Makes a file of zeros, which is on the disk under its name at Ok. A file that is there is left
+    /// as it is, and the call fails.
+    pub fn make_segment(&mut self, geometry: Geometry, segment: u64) -> io::Result<R::File>
+        requires { segment < 2 ^ 64 / geometry }
+    {
+        self.settle()?;
+        let mut file = self.open_temporary()?;
+        let linked = self.fill_and_link(&mut file, geometry, segment);
+        // Linked or not, the temporary name has served.
+        let removed = fs::remove_file(&self.rt, self.temporary.as_str());
+        linked?;
+        removed?;
+        self.sync_folder(".")?;
+        Ok(file)
+    }
+
+    /// Puts the folder's name on the disk, and makes the folder where it is missing.
+    pub fn settle(&mut self) -> io::Result<()> {
+        if self.is_settled {
+            return Ok(());
+        }
+        self.make_folders()?;
+        self.sync_folder(".")?;
+        self.sync_folder("..")?;
+        self.is_settled = true;
+        Ok(())
+    }
+
+    // The file is synced before it has its name: one that a crash leaves under it has all its zeros.
+    fn fill_and_link(
+        &mut self,
+        file: &mut R::File,
+        geometry: Geometry,
+        segment: u64,
+    ) -> io::Result<()>
+        requires { segment < 2 ^ 64 / geometry }
+    {
+        for _ in 0..geometry.segment_size() / PIECE as u64 {
+            file.write_all(&self.zeros)?;
+        }
+        let synced = file.sync_all();
+        self.noted(synced)?;
+        self.set_path(geometry, segment)?;
+        fs::hard_link(&self.rt, self.temporary.as_str(), self.path.as_str())
+    }
+
+    // A new file under a name that nothing had: what a process of this number left behind stays.
+    fn open_temporary(&mut self) -> io::Result<R::File> {
+        for number in 0..MOST_NAMES {
+            self.set_temporary(number)?;
+            let opened = OpenOptions::new()
+                .read(true)
+                .write(true)
+                .create_new(true)
+                .mode(FILE_MODE)
+                .open(&self.rt, self.temporary.as_str());
+            match opened {
+                Err(e) if e.kind() == ErrorKind::AlreadyExists => {}
+                _ => return opened,
+            }
+        }
+        Err(ErrorKind::AlreadyExists.into())
+    }
+
+    fn set_temporary(&mut self, number: u32) -> io::Result<()> {
+        self.temporary.clear();
+        let (name, process) = (self.name.as_str(), self.process);
+        if write!(self.temporary, "{name}/xlogtemp.{process}.{number}").is_err() {
+            return Err(AllocError.into());
+        }
+        Ok(())
+    }
+
+    fn set_path(&mut self, geometry: Geometry, segment: u64) -> io::Result<()>
+        requires { segment < 2 ^ 64 / geometry }
+    {
+        let name = geometry.file_name(segment);
+        match str::from_utf8(&name) {
+            Ok(name) => Ok(join(&mut self.path, self.name.as_str(), name)?),
+            Err(_) => Err(ErrorKind::InvalidInput.into()),
+        }
+    }
+
+    fn make_folders(&mut self) -> io::Result<()> {
+        if fs::exists(&self.rt, self.name.as_str())? {
+            return Ok(());
+        }
+        for end in 0..self.name.len() {
+            self.make_folder(end + 1)?;
+        }
+        Ok(())
+    }
+
+    // Makes the folder whose name ends there, if one does, and puts that name on the disk.
+    fn make_folder(&mut self, end: usize) -> io::Result<()> {
+        match self.name.as_str().split_at_checked(end) {
+            Some((folder, rest)) if rest.is_empty() || rest.starts_with('/') => {
+                match DirBuilder::new().mode(FOLDER_MODE).create(&self.rt, folder) {
+                    Ok(()) => join(&mut self.path, folder, "..")?,
+                    Err(e) if e.kind() == ErrorKind::AlreadyExists => return Ok(()),
+                    Err(e) => return Err(e),
+                }
+            }
+            _ => return Ok(()),
+        }
+        self.sync_path()
+    }
+
+    fn sync_folder(&mut self, name: &str) -> io::Result<()> {
+        join(&mut self.path, self.name.as_str(), name)?;
+        self.sync_path()
+    }
+
+    // Puts the names of the folder at the path on the disk.
+    fn sync_path(&mut self) -> io::Result<()> {
+        let synced = fs::open(&self.rt, self.path.as_str())?.sync_all();
+        self.noted(synced)
+    }
+}

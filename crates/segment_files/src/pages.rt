@@ -1,0 +1,114 @@
+//! Neighbouring pages of a segment, which go to its file and come from it in one call.
+ghost use Rattle.std.specs.Prelude.{◌≡◌, ◌*◌};
+
+use std::alloc::{AllocError, Global};
+use std::io;
+use std::os::unix::fs::FileExt;
+
+const PAGE_SIZE: usize = 8192;
+
+// How many pages are kept at most.
+const MOST_PAGES: usize = 32;
+
+// Where a page begins in its file.
+fn offset_of(page: u32) -> u64
+    ensures { result ≡ page * 8192 }
+{
+    u64::from(page) * PAGE_SIZE as u64
+}
+
+/// Reads a page alone.
+pub fn read_page(file: &impl FileExt, page: u32, bytes: &mut [u8; 8192]) -> io::Result<()> {
+    file.read_exact_at(bytes, offset_of(page))
+}
+
+/// Pages that were put and are not in the file yet.
+#[derive(Drop)]
+pub struct PagesHeld {
+    first: u32,
+    bytes: Vec<u8>,
+}
+
+impl PagesHeld {
+    /// Takes its room.
+    pub fn new(alloc: Global) -> Result<PagesHeld, AllocError> {
+        Ok(PagesHeld {
+            first: 0,
+            bytes: Vec::with_capacity(alloc, MOST_PAGES * PAGE_SIZE)?,
+        })
+    }
+
+    pub fn is_empty(&self) -> bool {
+        self.bytes.is_empty()
+    }
+
+    /// Whether the page stands right behind those that are held, and has room there.
+    pub fn is_followed_by(&self, page: u32) -> bool {
+        let len = self.bytes.len();
+        len < MOST_PAGES * PAGE_SIZE && offset_of(self.first) + len as u64 == offset_of(page)
+    }
+
+    /// Holds a page behind the others, or the first one.
+    pub fn push(&mut self, page: u32, bytes: &[u8; 8192]) -> Result<(), AllocError> {
+        if self.bytes.is_empty() {
+            self.first = page;
+        }
+        self.bytes.extend_from_slice(bytes)
+    }
+
+    pub fn write_to(&self, file: &impl FileExt) -> io::Result<()> {
+        file.write_all_at(&self.bytes, offset_of(self.first))
+    }
+
+    pub fn clear(&mut self) {
+        self.bytes.clear();
+    }
+}
+
+/// Pages that were read before they were asked for.
+#[derive(Drop)]
+pub struct PagesAhead {
+    first: u32,
+    count: usize,
+    bytes: Vec<u8>,
+}
+
+impl PagesAhead {
+    /// Takes its room.
+    pub fn new(alloc: Global) -> Result<PagesAhead, AllocError> {
+        Ok(PagesAhead {
+            first: 0,
+            count: 0,
+            bytes: vec![in alloc; 0; MOST_PAGES * PAGE_SIZE]?,
+        })
+    }
+
+    pub fn clear(&mut self) {
+        self.count = 0;
+    }
+
+    /// Copies a page that is here, and answers whether it is.
+    pub fn copy(&self, page: u32, bytes: &mut [u8; 8192]) -> bool {
+        if page < self.first || (page - self.first) as usize >= self.count {
+            return false;
+        }
+        let start = (page - self.first) as usize * PAGE_SIZE;
+        let end = start + PAGE_SIZE;
+        if end > self.bytes.len() {
+            return false;
+        }
+        bytes.copy_from_slice(&self.bytes[start..end]);
+        true
+    }
+
+    /// Reads pages in one call, from this one on, up to so many.
+    pub fn fill(&mut self, file: &impl FileExt, page: u32, most: u32) -> io::Result<()> {
+        self.count = 0;
+        let count = (most as usize).min(MOST_PAGES);
+        let len = (count * PAGE_SIZE).min(self.bytes.len());
+        file.read_exact_at(&mut self.bytes[..len], offset_of(page))?;
+        self.first = page;
+        self.count = count;
+        Ok(())
+    }
+}

@@ -1,0 +1,179 @@
+#!/usr/bin/env bash
+# Tries the built program where the gate cannot: standard streams that are closed, two runs side by
+# side in one folder, names that are in the way, and what a run leaves in its folder.
+#
+#     tests/program.sh            tries what the launcher ./pgwal starts
+#     tests/program.sh PROGRAM    tries another build
+#
+# It is run by hand, outside the gate. Each check has a folder of its own below a temporary one,
+# which is removed. Prints a line for each check that failed, and at the end 'N passed, M failed';
+# its status is 1 where one failed.
+set -u
+top=$(cd "$(dirname "${BASH_SOURCE[0]}")/.." && pwd) || exit 1
+program=$(realpath "${1:-$top/pgwal}") || exit 1
+base=$(mktemp -d) || exit 1
+trap 'rm -rf "$base"' EXIT
+passed=0
+failed=0
+size=1048576
+segment=pg_wal/000000010000000000000001
+
+run() { "$program" run --seg $size "$@"; }
+dump() { "$program" dump --seg $size; }
+
+# fresh: an empty folder of the next check's own, as the working directory
+fresh() {
+  mkdir "$base/$((passed + failed))" && cd "$base/$((passed + failed))" || exit 1
+}
+
+# equal NAME FOUND WANTED
+equal() {
+  if [ "$2" = "$3" ]; then
+    passed=$((passed + 1))
+  else
+    failed=$((failed + 1))
+    printf '%s: found "%s", wanted "%s"\n' "$1" "$2" "$3"
+  fi
+}
+
+# commits FIRST COUNT: so many commits, by transactions from this one on
+commits() {
+  local xid
+  for ((xid = $1; xid < $1 + $2; xid++)); do echo "C $xid 0"; done
+}
+
+# transactions: those whose commits the log lists, in a line
+transactions() { dump | sed -n 's/.* tx: *\([0-9]*\),.*COMMIT.*/\1/p' | xargs; }
+
+said_in_the_log() { grep -aqE 'records|hard|pgwal' pg_wal/* && echo said || echo silent; }
+
+a_run_tells_its_commits() {
+  fresh
+  equal 'a run tells its commits' "$(commits 700 3 | run --list)" \
+'0 1 hard 0/00100028 0/00100050 3
+0 2 hard 0/00100050 0/00100078 5
+0 3 hard 0/00100078 0/001000A0 7
+records 3 commits 3 bytes 120 end 0/001000A0 segments 1'
+  equal 'dump lists them' "$(transactions)" '700 701 702'
+  equal 'one file is left' "$(ls pg_wal)" 000000010000000000000001
+  cp $segment kept
+  commits 800 3 | run >out 2>err
+  equal 'a second run finds a log' $? 9
+  equal 'and prints nothing' "$(cat out)" ''
+  cmp -s kept $segment
+  equal 'and leaves it as it is' $? 0
+}
+
+closed_streams_fail() {
+  fresh
+  echo 'I 1 10 00 8123*5a' | run --list >&-
+  equal 'closed output: a fault of the sink' $? 8
+  equal 'closed output: nothing of it in the log' "$(said_in_the_log)" silent
+  fresh
+  run <&- 2>err
+  equal 'closed input: a fault of the source' $? 7
+  equal 'closed input: no folder is made' "$(ls -d pg_wal 2>/dev/null)" ''
+  fresh
+  commits 700 3 | run >out 2>&-
+  equal 'closed error output: the run goes on' $? 0
+  commits 700 3 | run >out 2>&-
+  equal 'closed error output: the status tells' $? 9
+  equal 'closed error output: nothing of it in the log' "$(said_in_the_log)" silent
+  equal 'closed error output: the log is whole' "$(transactions)" '700 701 702'
+  fresh
+  run <&- >&- 2>&-
+  equal 'all closed: a fault of the source' $? 7
+}
+
+full_output_fails() {
+  fresh
+  commits 700 3 | run --list >/dev/full 2>err
+  equal 'full output: a fault of the sink' $? 8
+  equal 'full output: the log is whole' "$(transactions)" '700 701 702'
+}
+
+two_runs_in_one_folder() {
+  local trial first second both=0 none=0 torn=0
+  for ((trial = 0; trial < 100; trial++)); do
+    fresh_trial=$base/trial
+    mkdir "$fresh_trial" && cd "$fresh_trial" || exit 1
+    commits 700 20 >first
+    commits 900 20 >second
+    run <first >out1 2>err1 &
+    first=$!
+    run <second >out2 2>err2 &
+    second=$!
+    wait $first
+    first=$?
+    wait $second
+    second=$?
+    case $first-$second in
+      0-0) both=$((both + 1)) ;;
+      0-4 | 0-9) [ "$(transactions)" = "$(seq -s ' ' 700 719)" ] || torn=$((torn + 1)) ;;
+      4-0 | 9-0) [ "$(transactions)" = "$(seq -s ' ' 900 919)" ] || torn=$((torn + 1)) ;;
+      *) none=$((none + 1)) ;;
+    esac
+    [ "$(ls pg_wal)" = 000000010000000000000001 ] || torn=$((torn + 1))
+    cd "$base" && rm -rf "$fresh_trial"
+  done
+  equal 'two runs: never both with status 0' $both 0
+  equal 'two runs: one of them with status 0, the other with 4 or 9' $none 0
+  equal 'two runs: the log is that of the one' $torn 0
+}
+
+names_in_the_way() {
+  local name
+  for name in xlogtemp xlogtemp.1.0; do
+    fresh
+    mkdir pg_wal
+    echo mine >target
+    ln -s ../target pg_wal/$name
+    commits 700 3 | timeout 60 "$program" run --seg $size >out
+    equal "a link $name: the run goes on" $? 0
+    equal "a link $name is not followed" "$(cat target)" mine
+  done
+  fresh
+  mkdir pg_wal
+  mkfifo pg_wal/xlogtemp
+  commits 700 3 | timeout 60 "$program" run --seg $size >out
+  equal 'a pipe: the run goes on' $? 0
+  fresh
+  echo file >pg_wal
+  commits 700 3 | run >out 2>err
+  equal 'a file in the place of the folder: a fault of the disk' $? 4
+}
+
+files_are_the_users_own() {
+  local mask
+  for mask in 000 022 077; do
+    fresh
+    (umask $mask; commits 700 3 | run >out)
+    equal "umask $mask: the modes" "$(stat -c %a pg_wal $segment | xargs)" '700 600'
+  done
+}
+
+failed_segment_leaves_nothing() {
+  fresh
+  # Files of at most half a segment: a write beyond fails.
+  (trap '' XFSZ; ulimit -f $((size / 2048)); commits 700 3 | run >out 2>err)
+  equal 'a segment without room: a fault of the disk' $? 4
+  equal 'a segment without room: nothing is left' "$(ls pg_wal)" ''
+}
+
+many_segments_are_whole() {
+  fresh
+  for ((i = 0; i < 400; i++)); do echo 'I 7 10 00 8000*5a'; done | run >out
+  equal 'four segments' "$(cat out)" 'records 400 commits 0 bytes 3212800 end 0/00412B30 segments 4'
+  equal 'four segments: all are listed' "$(dump | grep -c 'len (rec/tot)')" 400
+}
+
+a_run_tells_its_commits
+closed_streams_fail
+full_output_fails
+two_runs_in_one_folder
+names_in_the_way
+files_are_the_users_own
+failed_segment_leaves_nothing
+many_segments_are_whole
+echo "$passed passed, $failed failed"
+[ $failed = 0 ]
