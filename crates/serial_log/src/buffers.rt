@@ -9,9 +9,9 @@ ghost use Rattle.serial_log.specs.OnDisk.{KeepsBelow};
 ghost use Rattle.serial_log.specs.Words.{HasWritten};
 ghost use Rattle.serial_log.specs.Buffers.{GoesDown, IsSameOrFurther, RingHas, RingTakes, Spans, StaysUp, WritesOn};
 
-use crate::copy::{PAGE_SIZE, end_in_page};
+use crate::copy::end_in_page;
 use crate::ring::Ring;
-use byte_position::Geometry;
+use byte_position::{Geometry, PAGE_SIZE};
 use flush_core::{DiskFault, Writer};
 use segment_disk::Disk;
 use wal_page::Placed;

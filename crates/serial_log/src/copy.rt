@@ -3,10 +3,9 @@ ghost use Rattle.byte_position.specs.Position.{end_address_of};
 ghost use Rattle.record_spelling.specs.Spelling.{assembled_room};
 ghost use Rattle.wal_page.specs.Placed.{placed_word};
 
+use byte_position::PAGE_SIZE;
 use wal_page::Placed;
 use wal_types::Lsn;
-
-pub(crate) const PAGE_SIZE: u64 = 8192;
 
 /// The end of the page of an address, or a position before it.
 pub(crate) fn end_in_page(at: Lsn, upto: Lsn) -> Lsn

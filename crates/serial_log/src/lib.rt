@@ -8,8 +8,6 @@ mod log;
 mod memory;
 mod ring;
 mod shape;
-#[cfg(test)]
-mod tests;
 
 pub use log::{Log, OpenFailure};
 pub use memory::LogMemory;

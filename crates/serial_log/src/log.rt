@@ -1,7 +1,6 @@
 ghost use Rattle.std.specs.Prelude.{◌≡◌, ℕ, ◌+◌, ◌<◌, ◌≤◌, ◌⊎◌, None, Option, Err, IfOk, IfErr, IfSome, MatchResult, OnErr, OnOk};
 ghost use Rattle.segment_disk.specs.Tape.{Tape, page_of_segment, state_now};
-ghost use Rattle.record_spelling.specs.Spelling.{assembled, assembled_room, IsWritable};
-ghost use Rattle.wal_types.specs.declared.record.Record.{Record};
+ghost use Rattle.record_spelling.specs.Spelling.{RecordOf, assembled_room};
 ghost use Rattle.flush_core.specs.Pages.{HoldsNothing};
 ghost use Rattle.flush_core.specs.Writer.{writer_fault};
 ghost use Rattle.serial_log.specs.LogImage.{HoldsLog};
@@ -164,13 +163,13 @@ impl<D: Disk> Log<D> {
     /// Puts a record behind the others. It is not durable before a flush.
     #[tactic(auto, using(crate::proofs::CallLaws::makes_no_writes))]
     pub fn insert(&mut self, body: &Body) -> Result<Receipt, Refused>
-        ensures inserts { (value : Record) → body.now ≡ assembled value → IsWritable value
+        ensures inserts { (known : RecordOf body.now)
             → StepsLog D.tape D.faults self.old self.new (λ faults_at_open before after.
-            Inserts self.old.size self.old.capacity faults_at_open before value result after) }
+            Inserts self.old.size self.old.capacity faults_at_open before known.value result after) }
+        ensures known { RecordOf body.now }
         ensures down_again { IfSome (writer_fault self.old.writer) (λ faults.
             (result ≡ Err (down_again faults)) × (self.new ≡ self.old)) }
-        ensures keeps { (value : Record) → body.now ≡ assembled value → IsWritable value
-            → KeepsFlushed D.tape D.faults self.old self.new }
+        ensures keeps { KeepsFlushed D.tape D.faults self.old self.new }
         ensures calls { MatchResult result
             (λ _. MakesWrites D.tape D.moment self.old.writer self.new.writer)
             (λ _. MakesWrites D.tape D.moment self.old.writer self.new.writer
@@ -183,9 +182,10 @@ impl<D: Disk> Log<D> {
         ensures end { IfOk result (λ receipt. receipt.end.0 ≡ log_end self.new) }
         ensures moment_never_falls { D.moment (log_disk self.old) ≤ D.moment (log_disk self.new) }
     {
+        let room = u64::from(body.room());
         self.check()?;
         let free = self.capacity - self.bytes;
-        if u64::from(body.room()) > free {
+        if room > free {
             return Err(Refused {
                 cause: Cause::Full { free },
                 reserved: None,
@@ -236,13 +236,13 @@ impl<D: Disk> Log<D> {
 
     /// Puts a record behind the others, and makes all of them durable: an insert, then a flush.
     pub fn commit(&mut self, body: &Body) -> Result<Sealed, Refused>
-        ensures commits { (value : Record) → body.now ≡ assembled value → IsWritable value
+        ensures commits { (known : RecordOf body.now)
             → StepsLog D.tape D.faults self.old self.new (λ faults_at_open before after.
-            Commits self.old.size self.old.capacity faults_at_open before value result after) }
+            Commits self.old.size self.old.capacity faults_at_open before known.value result after) }
+        ensures known { RecordOf body.now }
         ensures down_again { IfSome (writer_fault self.old.writer) (λ faults.
             (result ≡ Err (down_again faults)) × (self.new ≡ self.old)) }
-        ensures keeps { (value : Record) → body.now ≡ assembled value → IsWritable value
-            → KeepsFlushed D.tape D.faults self.old self.new }
+        ensures keeps { KeepsFlushed D.tape D.faults self.old self.new }
         ensures calls { MatchResult result
             (λ _. MakesFlush D.tape D.moment self.old.writer self.new.writer)
             (λ _. MakesFlush D.tape D.moment self.old.writer self.new.writer
@@ -291,11 +291,10 @@ impl<D: Disk> Log<D> {
     fn append(&mut self, body: &Body) -> Result<Receipt, Refused>
         requires up { writer_fault self.old.writer ≡ None }
         requires fits { self.old.bytes + assembled_room body.now ≤ self.old.capacity }
-        ensures inserts { (value : Record) → body.now ≡ assembled value → IsWritable value
+        ensures inserts { (known : RecordOf body.now)
             → StepsLog D.tape D.faults self.old self.new (λ faults_at_open before after.
-            Inserts self.old.size self.old.capacity faults_at_open before value result after) }
-        ensures keeps { (value : Record) → body.now ≡ assembled value → IsWritable value
-            → KeepsFlushed D.tape D.faults self.old self.new }
+            Inserts self.old.size self.old.capacity faults_at_open before known.value result after) }
+        ensures keeps { KeepsFlushed D.tape D.faults self.old self.new }
         ensures calls { MatchResult result
             (λ _. MakesWrites D.tape D.moment self.old.writer self.new.writer)
             (λ _. MakesWrites D.tape D.moment self.old.writer self.new.writer

@@ -7,7 +7,8 @@ ghost use Rattle.serial_log.specs.Ring.{HoldsWords, IsMapped, ring_word};
 ghost use Rattle.serial_log.specs.Words.{AreGiven};
 ghost use Rattle.serial_log.specs.Buffers.{RingHas};
 
-use crate::copy::{PAGE_SIZE, copy_words};
+use crate::copy::copy_words;
+use byte_position::PAGE_SIZE;
 use std::alloc::{AllocError, Global};
 use std::marker::Model;
 use wal_page::Placed;

@@ -26,7 +26,7 @@ returns-clause-inserts g c =
     let body = c.args.body.now in
     let up : writer_fault log.writer ≡ None = ap (λ (v : LogState D). writer_fault v.writer) c.self.view_is ∙ c.requires.up in
     let reaches = c.self.invariant.1.reaches up in
-    rw (← c.self.view_is) (λ value same writable tape_at_open faults_at_open s is.
+    rw (← c.self.view_is) (λ known tape_at_open faults_at_open s is.
     let place : IsPlace D tape moment faults tape_at_open faults_at_open log up copied.ring copied.writer l.first c.from.result start end body from = record {
       begins = c.self.invariant.0;
       room_is = c.from.ensures ∙ c.room.ensures.room;
@@ -38,11 +38,11 @@ returns-clause-inserts g c =
     elim c.match-copy.branch [
       | in-Ok w ↦
           (let done = w.in-Ok.ensures in
-          inserts_at log.size log.capacity faults_at_open s value c.match-copy.result _ _ w.result-is
-          (appended_ok D tape moment faults tape_at_open faults_at_open log up copied.ring copied.writer l.first c.from.result start end body from place s value is same writable reaches done.writes done.further done.spans done.words))
+          inserts_at log.size log.capacity faults_at_open s known.value c.match-copy.result _ _ w.result-is
+          (appended_ok D tape moment faults tape_at_open faults_at_open log up copied.ring copied.writer l.first c.from.result start end body from place s known.value is known.same known.writable reaches done.writes done.further done.spans done.words))
       | in-Err w ↦
-          inserts_at log.size log.capacity faults_at_open s value c.match-copy.result _ _ w.result-is
-          (appended_err D tape moment faults tape_at_open faults_at_open log up copied.ring copied.writer l.first c.from.result start end body from place s value is same writable w.in-Err.field-0.faults w.in-Err.ensures.fails)
+          inserts_at log.size log.capacity faults_at_open s known.value c.match-copy.result _ _ w.result-is
+          (appended_err D tape moment faults tape_at_open faults_at_open log up copied.ring copied.writer l.first c.from.result start end body from place s known.value is known.same known.writable w.in-Err.field-0.faults w.in-Err.ensures.fails)
     ])
 
 pub returns-clause-keeps : goal.returns-clause-keeps
@@ -59,7 +59,8 @@ returns-clause-keeps g c =
     let from = c.new-placed.result in
     let body = c.args.body.now in
     let up : writer_fault log.writer ≡ None = ap (λ (v : LogState D). writer_fault v.writer) c.self.view_is ∙ c.requires.up in
-    rw (← c.self.view_is) (λ value same writable tape_at_open faults_at_open s at position is within kept.
+    rw (← c.self.view_is) (λ tape_at_open faults_at_open s at position is within kept.
+    let known = c.room.ensures.known in
     let place : IsPlace D tape moment faults tape_at_open faults_at_open log up copied.ring copied.writer l.first c.from.result start end body from = record {
       begins = c.self.invariant.0;
       room_is = c.from.ensures ∙ c.room.ensures.room;
@@ -70,9 +71,9 @@ returns-clause-keeps g c =
     } in
     elim c.match-copy.branch [
       | in-Ok w ↦
-          keeps_appended D tape moment faults tape_at_open faults_at_open log up copied.ring copied.writer l.first c.from.result start end body from place s value is same writable w.in-Ok.ensures.writes.preserves at position within kept
+          keeps_appended D tape moment faults tape_at_open faults_at_open log up copied.ring copied.writer l.first c.from.result start end body from place s known.value is known.same known.writable w.in-Ok.ensures.writes.preserves at position within kept
       | in-Err w ↦
-          keeps_appended D tape moment faults tape_at_open faults_at_open log up copied.ring copied.writer l.first c.from.result start end body from place s value is same writable w.in-Err.ensures.fails.preserves at position within kept
+          keeps_appended D tape moment faults tape_at_open faults_at_open log up copied.ring copied.writer l.first c.from.result start end body from place s known.value is known.same known.writable w.in-Err.ensures.fails.preserves at position within kept
     ])
 
 pub copy-requires-clause-whole : goal.copy-requires-clause-whole
