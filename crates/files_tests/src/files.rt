@@ -1,5 +1,5 @@
-use crate::calls::{create, crosses_threads, read_page, sync, write_page};
 use crate::folders::{above, mode, names};
+use disk_tests::calls::{create, crosses_threads, read_page, sync, write_page};
 use segment_disk::{Disk, Failed};
 use segment_files::FileDisk;
 use std::fs;

@@ -6,7 +6,7 @@ ghost use Rattle.flush_core.specs.Writer.{writer_fault};
 ghost use Rattle.serial_log.specs.LogImage.{HoldsLog};
 ghost use Rattle.serial_log.specs.LogState.{IsLog, IsSameLog, HasUnwritten, KeepsFlushed, StepsLog, log_disk, log_end};
 ghost use Rattle.serial_log.specs.DeviceCalls.{BreaksFlush, BreaksWrites, MakesFlush, MakesWrites};
-ghost use Rattle.serial_log.specs.Opening.{IsUncalled};
+ghost use Rattle.segment_disk.specs.Tape.{IsUncalled};
 ghost use Rattle.serial_log.specs.Opening.{RefusesToOpen};
 ghost use Rattle.serial_log.specs.Refusing.{HasFailed, IsLeftBy, down_again};
 ghost use Rattle.serial_log.specs.History.{LogHistory, at_opening, capacity_of, end_of};
