@@ -2,9 +2,9 @@
 use Rattle.std.proofs.Common.{◌≡◌, ℕ, ◌+◌, ◌*◌, ◌/◌, ◌<◌, ◌≤◌, ◌⊎◌, inl, inr, Bool, false, List, [], ◌∷◌, ◌++◌, length, Option, refl, sym, ap, subst, ◌∙◌, arith}
 use Rattle.std.proofs.lemmas.List.{append-nil, append_assoc, length-append}
 use Rattle.segment_disk.specs.declared.disk.Call.{Call}
-use Rattle.segment_disk.specs.Tape.{Tape, with_call}
+use Rattle.segment_disk.specs.Tape.{Fails, Tape, with_call}
 use Rattle.flush_core.specs.declared.writer.Writer.{Writer}
-use Rattle.flush_core.specs.Calls.{AreMade, BreaksOff, Fails, harden_calls, put_calls, with_calls}
+use Rattle.flush_core.specs.Calls.{AreMade, BreaksOff, harden_calls, put_calls, with_calls}
 use Rattle.flush_core.specs.Writer.{disk_of, writer_segment_size, written_of}
 use Rattle.serial_log.specs.DeviceCalls.{BreaksFlush, BreaksWrites, MakesFlush, MakesWrites, WritesOut, nothing_to_write, page_behind}
 

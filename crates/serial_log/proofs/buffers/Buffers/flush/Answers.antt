@@ -17,7 +17,7 @@ returns-clause-writes g c =
     let made = c.harden.ensures in
     on_ok_two c.harden.result
     (λ done holds. WritesOn-synced D tape moment faults has c.args.self.now.writer c.write_upto.new.self.writer c.harden.new.self _
-    c.in_ok-write_upto.ensures.writes done made.size made.written made.not_earlier holds (Preserves-synced D tape moment faults has c.write_upto.new.self.writer c.harden.new.self made.keeps made.only))
+    c.in_ok-write_upto.ensures.writes done made.size made.written made.moment_never_falls holds (Preserves-synced D tape moment faults has c.write_upto.new.self.writer c.harden.new.self made.keeps made.only))
     made.done made.holds
 
 pub returns-clause-fails : goal.returns-clause-fails
@@ -32,7 +32,7 @@ returns-clause-fails g c =
     let written = c.write_upto.new.self.writer in
     if_err_then c.harden.result
     (λ e tells. GoesDown-behind D tape moment faults has c.args.self.now.writer written c.harden.new.self e.faults writes
-    (GoesDown-told D tape written c.harden.new.self moment faults _ made.size has e.faults writes.up.up made.not_earlier (Preserves-synced D tape moment faults has written c.harden.new.self made.keeps made.only) tells))
+    (GoesDown-told D tape written c.harden.new.self moment faults _ made.size has e.faults writes.up.up made.moment_never_falls (Preserves-synced D tape moment faults has written c.harden.new.self made.keeps made.only) tells))
     made.failed
 
 pub returns-clause-hardened : goal.returns-clause-hardened

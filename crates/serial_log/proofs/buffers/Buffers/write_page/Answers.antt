@@ -29,7 +29,7 @@ returns-clause-writes g c =
     WritesOn-page D tape old.writer new g.D.Disk.moment g.D.Disk.faults _ put.size old.ring c.args.upto.0 c.end_in_page.result.0 (omega (arith, end, c.requires.rises, c.written-written.ensures)) done written_is later
     (λ word holds has. HasWritten-put D tape old.writer new word old.ring c.args.upto.0 c.end_in_page.result.0 page bytes at c.requires.spans c.requires.rises end written_is words puts holds has)
     preserves)
-    put.put put.written put.done put.later
+    put.put put.written put.done put.moment_rises
 
 pub returns-clause-fails : goal.returns-clause-fails
 returns-clause-fails g c =
@@ -43,7 +43,7 @@ returns-clause-fails g c =
     let at : page ≡ written_of old.writer / 8192 = ap (λ (n : ℕ). n / 8192) c.written-written.ensures in
     let words : (n : ℕ) → n < 1024 → word_of bytes n ≡ to_le_bytes w64 (ring_word old.ring page n) = λ n lt. ap (λ (bytes : List ℕ). word_of bytes n) c.deref.ensures ∙ c.put_bytes.ensures n lt in
     let preserves : Preserves tape (RingHas old.ring c.args.upto.0) old.writer new = Preserves-put D tape old.writer new old.ring c.args.upto.0 page bytes at c.requires.spans c.requires.rises words put.keeps put.only in
-    if_err_then c.put_page.result (λ e tells. GoesDown-told D tape old.writer new g.D.Disk.moment g.D.Disk.faults _ put.size (RingHas old.ring c.args.upto.0) e.faults c.requires.up put.not_earlier preserves tells) put.failed
+    if_err_then c.put_page.result (λ e tells. GoesDown-told D tape old.writer new g.D.Disk.moment g.D.Disk.faults _ put.size (RingHas old.ring c.args.upto.0) e.faults c.requires.up put.moment_never_falls preserves tells) put.failed
 
 pub returns-clause-calls : goal.returns-clause-calls
 returns-clause-calls g c =
