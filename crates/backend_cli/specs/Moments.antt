@@ -41,4 +41,5 @@ MomentsRise opening told last =
 -- each backend's do
 abbrev pub EachRises : ℕ → List (List Told) → ℕ → Type 0
 EachRises opening [] last = Unit {0}
-EachRises opening (told ∷ others) last = MomentsRise opening told last × EachRises opening others last
+EachRises opening (told ∷ others) last =
+    MomentsRise opening told last × EachRises opening others last

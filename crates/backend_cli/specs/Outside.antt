@@ -10,22 +10,23 @@ Took old new before after text =
     (new ≡ with_behind old text)
     ⊎ (Rose before after × ((n : ℕ) × (new ≡ with_behind old (take n text))))
 
--- a source as clauses see it: the bytes that it has left, where it tells them, all that it has handed
--- out so far, and its count of faults
+-- a source as clauses see it: the bytes that it has left, where it tells them, all that it has
+-- handed out so far, and its count of faults
 pub record SourceView : Type 0 where
   pub left : Option (List ℕ)
   pub handed : List ℕ
   pub faults : ℕ
 
-abbrev pub source_view : {S : Type 0} → (S → Option (List ℕ)) → (S → List ℕ) → (S → ℕ) → S → SourceView
+abbrev pub source_view : {S : Type 0} → (S → Option (List ℕ)) → (S → List ℕ) → (S → ℕ) → S
+    → SourceView
 source_view left handed faults source = record {
   left = left source;
   handed = handed source;
   faults = faults source;
 }
 
--- the outside of a command as clauses see it: the source before and after it, the disk's tape, moment
--- and count of faults, and the sink's bytes and count
+-- the outside of a command as clauses see it: the source before and after it, the disk's tape,
+-- moment and count of faults, and the sink's bytes and count
 pub record Outside : Type 0 where
   pub source_before : SourceView
   pub source_after : SourceView
@@ -45,7 +46,8 @@ pub record Outside : Type 0 where
 abbrev pub outside_of : {D O : Type 0} → SourceView → SourceView
     → (D → Option Tape) → (D → ℕ) → (D → ℕ) → D → D
     → (O → Option (List ℕ)) → (O → ℕ) → O → O → Outside
-outside_of source_before source_after tape moment faults disk disk_now taken sink_faults sink sink_now =
+outside_of source_before source_after tape moment faults disk disk_now
+    taken sink_faults sink sink_now =
     record {
       source_before = source_before;
       source_after = source_after;

@@ -38,5 +38,6 @@ ReadsLines before after (Err outcome) = IsUnprepared before after outcome
 -- making all ready
 abbrev pub Prepares : SourceView → SourceView → Shape → Result Prepared Outcome → Type 0
 Prepares before after shape (Ok prepared) =
-    (lines : List Line) × ScriptMeans before after (Ok (lines ∷ [])) × IsPrepared shape lines prepared
+    (lines : List Line) × ScriptMeans before after (Ok (lines ∷ []))
+    × IsPrepared shape lines prepared
 Prepares before after shape (Err outcome) = IsUnprepared before after outcome

@@ -15,8 +15,8 @@ abbrev pub IsFront : ℕ → Option (List ℕ) → List ℕ → Type 0
 IsFront most None bytes = Unit {0}
 IsFront most (Some left) bytes = bytes ≡ take most left
 
--- a source handed out these bytes in between: all that it had left, or as many as were asked for, and it
--- did not fail
+-- a source handed out these bytes in between: all that it had left, or as many as were asked for,
+-- and it did not fail
 pub record ReadsBytes (most : ℕ) (before after : SourceView) (bytes : List ℕ) : Type 0 where
   pub handed_out : after.handed ≡ before.handed ++ bytes
   pub is_front : IsFront most before.left bytes
@@ -24,8 +24,8 @@ pub record ReadsBytes (most : ℕ) (before after : SourceView) (bytes : List ℕ
   pub within : length bytes ≤ most
   pub faults_same : after.faults ≡ before.faults
 
--- what was read is all there is, up to a number of bytes; a source's fault is told by its count, and
--- nothing else changes the count
+-- what was read is all there is, up to a number of bytes; a source's fault is told by its count,
+-- and nothing else changes the count
 abbrev pub ReadsUpto : ℕ → SourceView → SourceView → Result (Vec ℕ Global) ReadFailure → Type 0
 ReadsUpto most before after (Ok v) = ReadsBytes most before after v.items
 ReadsUpto most before after (Err Memory) = after.faults ≡ before.faults

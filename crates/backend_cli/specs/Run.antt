@@ -43,8 +43,8 @@ EndsUnopened outside NotEmpty =
 EndsUnopened outside DiskFault = MeansSome outside × Rose outside.disk_before outside.disk_after
 EndsUnopened outside others = ⊥
 
--- how a run ends that opened the log: a disk's fault, else a full log, else a sink's fault, else all is
--- done
+-- how a run ends that opened the log: a disk's fault, else a full log, else a sink's fault, else
+-- all is done
 abbrev pub EndsOpened : Outside → List (List Told) → Outcome → Type 0
 EndsOpened outside told Done =
     (outside.disk_after ≡ outside.disk_before) × (SomeTold IsRefused told → ⊥)
@@ -63,8 +63,8 @@ DecodesTo size image es =
     Decodes size (pages_in size image) size None (found_of size es)
     (ended size (first_position size + rooms_of es))
 
--- where the disk told nothing but an empty log at the start and did not fail, every image that a crash
--- may leave at the last moment, and the disk as it is read, decode to the whole order
+-- where the disk told nothing but an empty log at the start and did not fail, every image that a
+-- crash may leave at the last moment, and the disk as it is read, decode to the whole order
 abbrev pub IsWhole : ℕ → Option Tape → List Entry → Type 0
 IsWhole size None es = Unit {0}
 IsWhole size (Some t) es =
@@ -85,8 +85,8 @@ abbrev pub all_rooms_asked : List (List Line) → ℕ
 all_rooms_asked [] = 0
 all_rooms_asked (lines ∷ script) = rooms_asked lines + all_rooms_asked script
 
--- a run that opened the log, of the script with these lines that the source handed out: what it told and
--- made of them
+-- a run that opened the log, of the script with these lines that the source handed out: what it
+-- told and made of them
 pub record HoldsOpened (outside : Outside) (size capacity : ℕ) (list : Bool) (outcome : Outcome)
     (script : List (List Line)) (lists : List (List Told)) : Type 0 where
   pub means : ScriptMeans outside.source_before outside.source_after (Ok script)

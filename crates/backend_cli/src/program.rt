@@ -22,7 +22,8 @@ pub trait Gate {
     fn pass(&self, backend: u32, line: u32);
 }
 
-/// How the program ended: its exit status, the disk, and what each line of each backend was told (no list where no log was opened).
+/// How the program ended: its exit status, the disk, and what each line of each backend was told
+/// (no list where no log was opened).
 #[derive(Drop)]
 pub struct Ended<D> {
     pub status: u8,
@@ -43,8 +44,10 @@ fn obey<S: Source, O: Sink, D: Disk, G: Gate>(
     ensures obeys { Obeys command (outside_of
         (source_view S.left S.handed S.faults script.old)
         (source_view S.left S.handed S.faults script.new)
-        D.tape D.moment D.faults disk result.disk O.taken O.faults out.old out.new) result.outcome result.told }
-    ensures as_handed_in { AsksRun command → result.outcome ≡ Outcome.OutOfMemory → result.disk ≡ disk }
+        D.tape D.moment D.faults disk result.disk O.taken O.faults out.old out.new)
+        result.outcome result.told }
+    ensures as_handed_in { AsksRun command → result.outcome ≡ Outcome.OutOfMemory
+        → result.disk ≡ disk }
 {
     match &command {
         None => Finished {
@@ -66,8 +69,8 @@ fn obey<S: Source, O: Sink, D: Disk, G: Gate>(
 
 /// Does what the words of a command line ask for.
 ///
-/// `words` begin with the program's name. Standard output goes to `out`; `err` takes the line of a status that is not 0.
-/// The threads of `rt` are not used yet: there is one backend.
+/// `words` begin with the program's name. Standard output goes to `out`; `err` takes the line of a
+/// status that is not 0. The threads of `rt` are not used yet: there is one backend.
 pub fn pgwal<R: Threads + Wait + Sync, S: Source, O: Sink, E: Sink, D: Disk + Send, G: Gate + Sync>(
     _rt: &R,
     alloc: Global,
@@ -78,15 +81,19 @@ pub fn pgwal<R: Threads + Wait + Sync, S: Source, O: Sink, E: Sink, D: Disk + Se
     err: &mut E,
     gate: &G,
 ) -> Ended<D>
-    // The status and its line on `err` are those of one outcome; for it the command's promises hold: of `run` told, gapless, whole, printed, and how it ends; of `dump` listed.
+    // The status and its line on `err` are those of one outcome; for it the command's promises
+    // hold: of `run` told, gapless, whole, printed, and how it ends; of `dump` listed.
     ensures obeys { (outcome : Outcome) × (result.status ≡ status_of outcome)
-        × Took (E.taken err.old) (E.taken err.new) (E.faults err.old) (E.faults err.new) (joined (outcome_text outcome))
+        × Took (E.taken err.old) (E.taken err.new) (E.faults err.old) (E.faults err.new)
+        (joined (outcome_text outcome))
         × Obeys (asks (map (λ w. string_bytes w) words.now)) (outside_of
         (source_view S.left S.handed S.faults script.old)
         (source_view S.left S.handed S.faults script.new)
-        D.tape D.moment D.faults disk result.disk O.taken O.faults out.old out.new) outcome result.told }
+        D.tape D.moment D.faults disk result.disk O.taken O.faults out.old out.new)
+        outcome result.told }
     // A run that ends for want of memory hands the disk back as it came.
-    ensures as_handed_in { AsksRun (asks (map (λ w. string_bytes w) words.now)) → result.status ≡ 1 → result.disk ≡ disk }
+    ensures as_handed_in { AsksRun (asks (map (λ w. string_bytes w) words.now)) → result.status ≡ 1
+        → result.disk ≡ disk }
 {
     let Finished {
         outcome,
