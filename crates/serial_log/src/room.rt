@@ -1,7 +1,7 @@
 ghost use Rattle.std.specs.Prelude.{◌≡◌, ◌↔◌, IfOk, IfSome, IsSome, IsTrue};
 ghost use Rattle.segment_disk.specs.Cause.{HasCause};
 ghost use Rattle.segment_disk.specs.Tape.{page_of_segment, state_now};
-ghost use Rattle.serial_log.specs.Opening.{IsUncalled};
+ghost use Rattle.segment_disk.specs.Tape.{IsUncalled};
 
 use crate::ring::Ring;
 use crate::shape::Shape;
