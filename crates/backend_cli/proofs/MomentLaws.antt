@@ -74,7 +74,7 @@ module _ (D : Type 0) (moment : D → ℕ) (last : LastTold) (old new : LogState
       → (HasUnwritten old → moment (log_disk old) < moment (log_disk new)) → FlushMoment is_latest last.moment told × (new.moment ≤ moment (log_disk new))
   flush_told true told latest is idle latter later =
       let same = idle latest in
-      (is ∙ ap (λ (log : LogState D). log.moment) same ∙ tracked.kept, subst (λ (log : LogState D). log.moment ≤ moment (log_disk log)) (sym same) tracked.within)
+      (omega (arith, is, ap (λ (log : LogState D). log.moment) same, tracked.kept), subst (λ (log : LogState D). log.moment ≤ moment (log_disk log)) (sym same) tracked.within)
   flush_told false told latest is idle latter later =
       let at = latter (λ all. omega (arith, all, latest.flushed)) in
       (omega (arith, is, at, later latest, tracked.within, tracked.kept), omega (arith, at))

@@ -1,35 +1,43 @@
 -- Bytes read off a source, piece by piece.
 use Rattle.std.proofs.Common.{◌≡◌, ℕ, ◌+◌, ◌≤◌, List, [], ◌++◌, length, take, drop, Option, Some, None, IfSome, refl, ap, sym, ◌∙◌, append_assoc, length-append, arith}
+use Rattle.std.specs.Prelude.{option_map}
 use Rattle.std.proofs.lemmas.List.{append-nil, take_all, drop_all, drop_at, length-take-le}
 use Rattle.std.proofs.Math.Seq.{take-append_seam}
-use Rattle.segment_disk.specs.Stream.{Takes}
-use Rattle.backend_cli.specs.Reading.{ReadOff, HasRead, IsFront, IsReadUpto}
+use Rattle.segment_disk.specs.Stream.{LosesFront, Takes}
+use Rattle.backend_cli.specs.Outside.{SourceView}
+use Rattle.backend_cli.specs.Reading.{HasRead, IsFront, ReadsBytes}
 
-ReadOff-none : (left : Option (List ℕ)) → ReadOff left left []
-ReadOff-none None = tt
-ReadOff-none (Some bytes) = refl
+loses_nothing : (left : Option (List ℕ)) → LosesFront left left []
+loses_nothing None = tt
+loses_nothing (Some bytes) = refl
 
-pub HasRead-none : (most : ℕ) (left : Option (List ℕ)) (faults : ℕ) → HasRead most left left faults faults []
-HasRead-none most left faults = record { off = ReadOff-none left; faults = refl; within = omega arith }
+pub HasRead-none : (most : ℕ) (source : SourceView) → HasRead most source source []
+HasRead-none most source = record {
+  taken_off = loses_nothing source.left;
+  handed_out = sym (append-nil source.handed);
+  faults_same = refl;
+  within = omega arith;
+}
 
-ReadOff-more : (left mid now : Option (List ℕ)) (bytes : List ℕ) (count : ℕ) (into : List ℕ) → ReadOff left mid bytes → Takes mid now count into → ReadOff left now (bytes ++ take count into)
-ReadOff-more None None None bytes count into off takes = tt
-ReadOff-more None None (Some now) bytes count into off takes = absurd takes
-ReadOff-more None (Some mid) now bytes count into off takes = absurd off
-ReadOff-more (Some left) None now bytes count into off takes = absurd off
-ReadOff-more (Some left) (Some mid) None bytes count into off takes = absurd takes
-ReadOff-more (Some left) (Some mid) (Some now) bytes count into off takes = off ∙ ap (λ (rest : List ℕ). bytes ++ rest) takes ∙ sym (append_assoc bytes (take count into) now)
+loses_more : (left mid now : Option (List ℕ)) (bytes : List ℕ) (count : ℕ) (into : List ℕ) → LosesFront left mid bytes → Takes mid now count into → LosesFront left now (bytes ++ take count into)
+loses_more None None None bytes count into off takes = tt
+loses_more None None (Some now) bytes count into off takes = absurd takes
+loses_more None (Some mid) now bytes count into off takes = absurd off
+loses_more (Some left) None now bytes count into off takes = absurd off
+loses_more (Some left) (Some mid) None bytes count into off takes = absurd takes
+loses_more (Some left) (Some mid) (Some now) bytes count into off takes = off ∙ ap (λ (rest : List ℕ). bytes ++ rest) takes ∙ sym (append_assoc bytes (take count into) now)
 
 -- a further piece is read
-pub HasRead-more : (most : ℕ) (left mid now : Option (List ℕ)) (before between after : ℕ) (bytes : List ℕ) (count : ℕ) (into : List ℕ) → HasRead most left mid before between bytes
-    → Takes mid now count into → after ≡ between → count ≤ length into → length bytes + count ≤ most → HasRead most left now before after (bytes ++ take count into)
-HasRead-more most left mid now before between after bytes count into h takes same whole fits = record {
-  off = ReadOff-more left mid now bytes count into h.off takes;
-  faults = same ∙ h.faults;
+pub HasRead-more : (most : ℕ) (before mid now : SourceView) (bytes : List ℕ) (count : ℕ) (into : List ℕ) → HasRead most before mid bytes
+    → now.handed ≡ mid.handed ++ take count into → Takes mid.left now.left count into → now.faults ≡ mid.faults → count ≤ length into → length bytes + count ≤ most → HasRead most before now (bytes ++ take count into)
+HasRead-more most before mid now bytes count into h handed takes same whole fits = record {
+  taken_off = loses_more before.left mid.left now.left bytes count into h.taken_off takes;
+  handed_out = handed ∙ ap (λ (l : List ℕ). l ++ take count into) h.handed_out ∙ append_assoc before.handed bytes (take count into);
+  faults_same = same ∙ h.faults_same;
   within = omega (arith, length-append bytes (take count into), length-take-le count into whole);
 }
 
-IsFront-end : (most : ℕ) (left now : Option (List ℕ)) (bytes : List ℕ) → ReadOff left now bytes → length bytes ≤ most → IfSome now (λ rest. rest ≡ []) → IsFront most left bytes
+IsFront-end : (most : ℕ) (left now : Option (List ℕ)) (bytes : List ℕ) → LosesFront left now bytes → length bytes ≤ most → IfSome now (λ rest. rest ≡ []) → IsFront most left bytes
 IsFront-end most None None bytes off within ends = tt
 IsFront-end most None (Some now) bytes off within ends = absurd off
 IsFront-end most (Some left) None bytes off within ends = absurd off
@@ -37,35 +45,47 @@ IsFront-end most (Some left) (Some now) bytes off within ends =
     let same : left ≡ bytes = off ∙ ap (λ (rest : List ℕ). bytes ++ rest) ends ∙ append-nil bytes in
     sym (take_all most bytes within) ∙ ap (take most) (sym same)
 
-IsFront-full : (most : ℕ) (left now : Option (List ℕ)) (bytes : List ℕ) → ReadOff left now bytes → length bytes ≡ most → IsFront most left bytes
+IsFront-full : (most : ℕ) (left now : Option (List ℕ)) (bytes : List ℕ) → LosesFront left now bytes → length bytes ≡ most → IsFront most left bytes
 IsFront-full most None None bytes off full = tt
 IsFront-full most None (Some now) bytes off full = absurd off
 IsFront-full most (Some left) None bytes off full = absurd off
 IsFront-full most (Some left) (Some now) bytes off full = sym (take-append_seam bytes now) ∙ ap (λ (n : ℕ). take n (bytes ++ now)) full ∙ ap (take most) (sym off)
 
-IsReadUpto-end : (most : ℕ) (left now last : Option (List ℕ)) (bytes into : List ℕ) → ReadOff left now bytes → length bytes ≤ most → IfSome now (λ rest. rest ≡ []) → Takes now last 0 into → IsReadUpto most left last
-IsReadUpto-end most None None None bytes into off within ends takes = refl
-IsReadUpto-end most None None (Some last) bytes into off within ends takes = absurd takes
-IsReadUpto-end most None (Some now) last bytes into off within ends takes = absurd off
-IsReadUpto-end most (Some left) None last bytes into off within ends takes = absurd off
-IsReadUpto-end most (Some left) (Some now) None bytes into off within ends takes = absurd takes
-IsReadUpto-end most (Some left) (Some now) (Some last) bytes into off within ends takes =
+behind-end : (most : ℕ) (left now last : Option (List ℕ)) (bytes into : List ℕ) → LosesFront left now bytes → length bytes ≤ most → IfSome now (λ rest. rest ≡ []) → Takes now last 0 into → last ≡ option_map (drop most) left
+behind-end most None None None bytes into off within ends takes = refl
+behind-end most None None (Some last) bytes into off within ends takes = absurd takes
+behind-end most None (Some now) last bytes into off within ends takes = absurd off
+behind-end most (Some left) None last bytes into off within ends takes = absurd off
+behind-end most (Some left) (Some now) None bytes into off within ends takes = absurd takes
+behind-end most (Some left) (Some now) (Some last) bytes into off within ends takes =
     let same : left ≡ bytes = off ∙ ap (λ (rest : List ℕ). bytes ++ rest) ends ∙ append-nil bytes in
     ap (λ (rest : List ℕ). Some rest) (sym takes ∙ ends ∙ sym (drop_all most bytes within) ∙ ap (drop most) (sym same))
 
-IsReadUpto-full : (most : ℕ) (left now : Option (List ℕ)) (bytes : List ℕ) → ReadOff left now bytes → length bytes ≡ most → IsReadUpto most left now
-IsReadUpto-full most None None bytes off full = refl
-IsReadUpto-full most None (Some now) bytes off full = absurd off
-IsReadUpto-full most (Some left) None bytes off full = absurd off
-IsReadUpto-full most (Some left) (Some now) bytes off full = ap (λ (rest : List ℕ). Some rest) (sym (drop_at bytes now most full) ∙ ap (drop most) (sym off))
+behind-full : (most : ℕ) (left now : Option (List ℕ)) (bytes : List ℕ) → LosesFront left now bytes → length bytes ≡ most → now ≡ option_map (drop most) left
+behind-full most None None bytes off full = refl
+behind-full most None (Some now) bytes off full = absurd off
+behind-full most (Some left) None bytes off full = absurd off
+behind-full most (Some left) (Some now) bytes off full = ap (λ (rest : List ℕ). Some rest) (sym (drop_at bytes now most full) ∙ ap (drop most) (sym off))
 
 -- nothing is left of the source
-pub HasRead-end : (most : ℕ) (left now last : Option (List ℕ)) (before between after : ℕ) (bytes into : List ℕ) → HasRead most left now before between bytes → IfSome now (λ rest. rest ≡ []) → Takes now last 0 into → after ≡ between
-    → (after ≡ before) × (length bytes ≤ most) × IsFront most left bytes × IsReadUpto most left last
-HasRead-end most left now last before between after bytes into h ends takes same = (same ∙ h.faults, h.within, IsFront-end most left now bytes h.off h.within ends, IsReadUpto-end most left now last bytes into h.off h.within ends takes)
+pub HasRead-end : (most : ℕ) (before now last : SourceView) (bytes into : List ℕ) → HasRead most before now bytes → IfSome now.left (λ rest. rest ≡ [])
+    → last.handed ≡ now.handed ++ take 0 into → Takes now.left last.left 0 into → last.faults ≡ now.faults → ReadsBytes most before last bytes
+HasRead-end most before now last bytes into h ends handed takes same = record {
+  handed_out = handed ∙ append-nil now.handed ∙ h.handed_out;
+  is_front = IsFront-end most before.left now.left bytes h.taken_off h.within ends;
+  left_behind = behind-end most before.left now.left last.left bytes into h.taken_off h.within ends takes;
+  within = h.within;
+  faults_same = same ∙ h.faults_same;
+}
 
 -- as many bytes are read as were asked for
-pub HasRead-full : (most : ℕ) (left now : Option (List ℕ)) (before after : ℕ) (bytes : List ℕ) → HasRead most left now before after bytes → most ≤ length bytes → (after ≡ before) × (length bytes ≤ most) × IsFront most left bytes × IsReadUpto most left now
-HasRead-full most left now before after bytes h full =
+pub HasRead-full : (most : ℕ) (before now : SourceView) (bytes : List ℕ) → HasRead most before now bytes → most ≤ length bytes → ReadsBytes most before now bytes
+HasRead-full most before now bytes h full =
     let whole : length bytes ≡ most = let within : length bytes ≤ most = h.within in omega arith in
-    (h.faults, h.within, IsFront-full most left now bytes h.off whole, IsReadUpto-full most left now bytes h.off whole)
+    record {
+      handed_out = h.handed_out;
+      is_front = IsFront-full most before.left now.left bytes h.taken_off whole;
+      left_behind = behind-full most before.left now.left bytes h.taken_off whole;
+      within = h.within;
+      faults_same = h.faults_same;
+    }

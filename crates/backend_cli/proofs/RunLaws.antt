@@ -15,12 +15,14 @@ use Rattle.wal_script.specs.declared.line.Line.{Line}
 use Rattle.waldump_text.specs.declared.putting.SinkFault.{SinkFault}
 use Rattle.waldump_text.specs.Put.{Puts, joined}
 use Rattle.backend_cli.specs.declared.outcome.Outcome.{Outcome}
-use Rattle.backend_cli.specs.declared.outcome.Outcome.TheVariants.{OutOfMemory}
+use Rattle.backend_cli.specs.declared.outcome.Outcome.TheVariants.{OutOfMemory, NotEmpty, DiskFault}
 use Rattle.backend_cli.specs.declared.told.Told.{Told}
 use Rattle.backend_cli.specs.declared.tasks.Task.{Task}
 use Rattle.flush_core.specs.Pages.{HoldsNothing}
 use Rattle.flush_core.specs.Writer.{writer_fault}
 use Rattle.serial_log.specs.LogImage.{HoldsLog}
+use Rattle.serial_log.specs.Opening.{RefusesToOpen}
+use Rattle.serial_log.specs.declared.log.OpenFailure.TheVariants as failures
 use Rattle.serial_log.specs.LogState.{LogState, IsLog, IsUpOrDown, log_disk}
 use Rattle.serial_log.specs.History.{LogHistory, at_opening, end_of}
 use Rattle.backend_cli.specs.declared.printing.Summary.{Summary}
@@ -31,11 +33,10 @@ use Rattle.backend_cli.specs.Concluding.{Concludes}
 use Rattle.backend_cli.specs.Moments.{MomentsRise}
 use Rattle.segment_disk.specs.Cause.{Rose, RoseByOne}
 use Rattle.backend_cli.specs.Steps.{Plays}
-use Rattle.backend_cli.specs.Outside.{Outside, Took}
-use Rattle.backend_cli.specs.Reading.{IsReadAll}
+use Rattle.backend_cli.specs.Outside.{Outside, SourceView, Took}
+use Rattle.backend_cli.specs.Reading.{ScriptMeans}
 use Rattle.backend_cli.specs.Run.{EndsOpened, IsWhole, RunHolds}
 use Rattle.backend_cli.specs.Told.{order_of}
-use Rattle.backend_cli.specs.Prepared.{MeansLines}
 use Rattle.backend_cli.specs.Tasks.{AreTasks}
 use Rattle.backend_cli.proofs.PlayedEntries.{counted, played_order, played_chained, played_rises}
 use Rattle.backend_cli.proofs.PlayedTells.{played_tells_order}
@@ -135,13 +136,13 @@ text_is size list lines tasks told es s are is count =
 
 module _ (D : Type 0) (tape : D → Option Tape) (moment faults : D → ℕ) (disk : D) (log : LogState D) (after last : LogHistory) (is_log : IsLog tape faults (tape disk) (faults disk) log last) (behind : IsBehindFlush log.size after last) where
   -- a run that opened the log holds what it promises
-  pub opened_holds : (size capacity : ℕ) (list : Bool) (outcome : Outcome) (lines : List Line) (tasks : List Task) (told : List Told) (summary : Summary) (taken_before taken_after : Option (List ℕ)) (sink_before sink_after : ℕ) (printed : Result (Unit {0}) SinkFault) (source left : Option (List ℕ)) (count : ℕ) (down : Option ℕ) (result : D) (lists : List (List Told))
-      → log.size ≡ size → log.capacity ≡ capacity → capacity ≤ 2 ^ 42 → log.sysid ≡ 1 → result ≡ log_disk log → lists ≡ told ∷ [] → Plays size capacity (faults disk) (at_opening size) lines told after → MeansLines source lines → AreTasks lines tasks
-      → Summarizes size log.bytes told summary → Puts taken_before taken_after sink_before sink_after (printed_text list tasks told summary) printed → down ≡ writer_fault log.writer → Concludes down told (not (is_ok printed)) outcome → MomentsRise (moment disk) told (moment (log_disk log)) → IfSome (tape disk) (λ t. page_of_segment (state_now t 1) 0 ≡ None) → IsReadAll source left
+  pub opened_holds : (size capacity : ℕ) (list : Bool) (outcome : Outcome) (lines : List Line) (tasks : List Task) (told : List Told) (summary : Summary) (taken_before taken_after : Option (List ℕ)) (sink_before sink_after : ℕ) (printed : Result (Unit {0}) SinkFault) (source_before source_after : SourceView) (down : Option ℕ) (result : D) (lists : List (List Told))
+      → log.size ≡ size → log.capacity ≡ capacity → capacity ≤ 2 ^ 42 → log.sysid ≡ 1 → result ≡ log_disk log → lists ≡ told ∷ [] → Plays size capacity (faults disk) (at_opening size) lines told after → ScriptMeans source_before source_after (Ok (lines ∷ [])) → AreTasks lines tasks
+      → Summarizes size log.bytes told summary → Puts taken_before taken_after sink_before sink_after (printed_text list tasks told summary) printed → down ≡ writer_fault log.writer → Concludes down told (not (is_ok printed)) outcome → MomentsRise (moment disk) told (moment (log_disk log)) → IfSome (tape disk) (λ t. page_of_segment (state_now t 1) 0 ≡ None)
       → (HoldsNothing (tape disk) → last.down ≡ None → last.flushed ≡ end_of log.size last.entries → IfSome (tape result) (λ t. HoldsLog log.size log.sysid last.entries t))
-      → RunHolds (record { source = source; source_left = left; source_before = count; source_after = count; tape_before = tape disk; tape_after = tape result; moment_before = moment disk; moment_after = moment result; disk_before = faults disk; disk_after = faults result; taken_before = taken_before; taken_after = taken_after; sink_before = sink_before; sink_after = sink_after }) size capacity list outcome lists
-  opened_holds size capacity list outcome lines tasks told summary taken_before taken_after sink_before sink_after printed source left count down result lists same_size same_capacity small sysid same_disk same_lists plays means are summarizes puts told_down concludes rises empty read settled =
-      let outside_of : D → Outside = λ d. record { source = source; source_left = left; source_before = count; source_after = count; tape_before = tape disk; tape_after = tape d; moment_before = moment disk; moment_after = moment d; disk_before = faults disk; disk_after = faults d; taken_before = taken_before; taken_after = taken_after; sink_before = sink_before; sink_after = sink_after } in
+      → RunHolds (record { source_before = source_before; source_after = source_after; tape_before = tape disk; tape_after = tape result; moment_before = moment disk; moment_after = moment result; disk_before = faults disk; disk_after = faults result; taken_before = taken_before; taken_after = taken_after; sink_before = sink_before; sink_after = sink_after }) size capacity list outcome lists
+  opened_holds size capacity list outcome lines tasks told summary taken_before taken_after sink_before sink_after printed source_before source_after down result lists same_size same_capacity small sysid same_disk same_lists plays means are summarizes puts told_down concludes rises empty settled =
+      let outside_of : D → Outside = λ d. record { source_before = source_before; source_after = source_after; tape_before = tape disk; tape_after = tape d; moment_before = moment disk; moment_after = moment d; disk_before = faults disk; disk_after = faults d; taken_before = taken_before; taken_after = taken_after; sink_before = sink_before; sink_after = sink_after } in
       let outside : Outside = outside_of (log_disk log) in
       let valid : IsSegmentSize size = subst IsSegmentSize same_size is_log.valid in
       let order : order_of size (lines ∷ []) (told ∷ []) ≡ after.entries = played_order size capacity (faults disk) lines told after valid plays in
@@ -173,10 +174,27 @@ module _ (D : Type 0) (tape : D → Option Tape) (moment faults : D → ℕ) (di
               (λ none refused. played_refusals size capacity (faults disk) lines told after plays (behind.up none) refused)
               (quiet_where_printed taken_before taken_after sink_before sink_after (printed_text list tasks told summary) printed puts) (risen_where_not_printed taken_before taken_after sink_before sink_after (printed_text list tasks told summary) printed puts);
           full = λ found. let more = played_full size capacity (faults disk) lines told after plays (SomeTold-one IsFullAnswer told found) in omega (arith, more);
-          source_read = (read, refl);
         },
       ) in
       subst (λ (t : List (List Told)). RunHolds (outside_of result) size capacity list outcome t) (sym same_lists) (subst (λ (d : D). RunHolds (outside_of d) size capacity list outcome (told ∷ [])) (sym same_disk) holds)
+
+-- a run that did not open the log, where the read of its first page failed
+pub failed_to_open : (D : Type 0) (tape : D → Option Tape) (moment faults : D → ℕ) (disk now : D) (taken : Option (List ℕ)) (sink : ℕ) (size capacity : ℕ) (list : Bool) (before after : SourceView) (lines : List Line) (lists : List (List Told))
+    → RefusesToOpen tape moment faults disk (failures.Disk now) → ScriptMeans before after (Ok (lines ∷ [])) → lists ≡ []
+    → RunHolds (record { source_before = before; source_after = after; tape_before = tape disk; tape_after = tape now; moment_before = moment disk; moment_after = moment now; disk_before = faults disk; disk_after = faults now; taken_before = taken; taken_after = taken; sink_before = sink; sink_after = sink }) size capacity list DiskFault lists
+failed_to_open D tape moment faults disk now taken sink size capacity list before after lines lists refuses means none =
+    let outside : Outside = record { source_before = before; source_after = after; tape_before = tape disk; tape_after = tape now; moment_before = moment disk; moment_after = moment now; disk_before = faults disk; disk_after = faults now; taken_before = taken; taken_after = taken; sink_before = sink; sink_after = sink } in
+    let holds : RunHolds outside size capacity list DiskFault [] = (((lines ∷ [], means), refuses.1), record { tape_same = refuses.0.same_tape; moment_same = refuses.0.same_moment; nothing_printed = refl; sink_faults_same = refl }) in
+    subst (RunHolds outside size capacity list DiskFault) (sym none) holds
+
+-- where segment 1 was there
+pub found_a_log : (D : Type 0) (tape : D → Option Tape) (moment faults : D → ℕ) (disk now : D) (taken : Option (List ℕ)) (sink : ℕ) (size capacity : ℕ) (list : Bool) (before after : SourceView) (lines : List Line) (lists : List (List Told))
+    → RefusesToOpen tape moment faults disk (failures.NotEmpty now) → ScriptMeans before after (Ok (lines ∷ [])) → lists ≡ []
+    → RunHolds (record { source_before = before; source_after = after; tape_before = tape disk; tape_after = tape now; moment_before = moment disk; moment_after = moment now; disk_before = faults disk; disk_after = faults now; taken_before = taken; taken_after = taken; sink_before = sink; sink_after = sink }) size capacity list NotEmpty lists
+found_a_log D tape moment faults disk now taken sink size capacity list before after lines lists refuses means none =
+    let outside : Outside = record { source_before = before; source_after = after; tape_before = tape disk; tape_after = tape now; moment_before = moment disk; moment_after = moment now; disk_before = faults disk; disk_after = faults now; taken_before = taken; taken_after = taken; sink_before = sink; sink_after = sink } in
+    let holds : RunHolds outside size capacity list NotEmpty [] = (((lines ∷ [], means), refuses.2, refuses.1), record { tape_same = refuses.0.same_tape; moment_same = refuses.0.same_moment; nothing_printed = refl; sink_faults_same = refl }) in
+    subst (RunHolds outside size capacity list NotEmpty) (sym none) holds
 
 -- a run that opened the log does not end for want of memory
 pub no_memory : (down : Option ℕ) (told : List Told) (failed : Bool) (outcome : Outcome) → Concludes down told failed outcome → outcome ≡ OutOfMemory → ⊥

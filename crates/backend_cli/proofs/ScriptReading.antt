@@ -3,17 +3,21 @@ use Rattle.std.proofs.Common.{◌≡◌, ℕ, ◌+◌, List, [], ◌∷◌, Opti
 use Rattle.wal_script.specs.declared.line.Line.{Line}
 use Rattle.wal_script.specs.declared.line.Refusal.{Refusal}
 use Rattle.wal_script.specs.Meaning.{backend_meaning, one_backend, meaning_of, script_limit}
-use Rattle.backend_cli.specs.Prepared.{MeansLines}
-use Rattle.backend_cli.specs.Reading.{IsFront}
+use Rattle.backend_cli.specs.Outside.{SourceView}
+use Rattle.backend_cli.specs.Reading.{IsFront, ScriptMeans}
 use Rattle.backend_cli.proofs.ScriptLaws.{meaning_of_front}
 
--- what was read means what the source's bytes mean
-meaning_of_read : (source : Option (List ℕ)) (script : List ℕ) (meaning : Result (List (List Line)) Refusal) → IsFront (script_limit + 1) source script → meaning_of script ≡ meaning → IfSome source (λ bytes. meaning_of bytes ≡ meaning)
-meaning_of_read None script meaning is means = tt
-meaning_of_read (Some bytes) script meaning is means = sym (meaning_of_front bytes) ∙ ap meaning_of (sym is) ∙ means
+-- a front of what a source had left, up to one byte past the limit, means what all of it means
+front_means : (left : Option (List ℕ)) (script : List ℕ) (meaning : Result (List (List Line)) Refusal) → IsFront (script_limit + 1) left script → meaning_of script ≡ meaning → IfSome left (λ bytes. meaning_of bytes ≡ meaning)
+front_means None script meaning is means = tt
+front_means (Some bytes) script meaning is means = sym (meaning_of_front bytes) ∙ ap meaning_of (sym is) ∙ means
 
-pub MeansLines_read : (source : Option (List ℕ)) (script parsed : List ℕ) (lines : List Line) → IsFront (script_limit + 1) source script → parsed ≡ script → backend_meaning parsed ≡ Ok lines → MeansLines source lines
-MeansLines_read source script parsed lines is same means = meaning_of_read source script (Ok (lines ∷ [])) is (ap one_backend (ap backend_meaning (sym same) ∙ means))
+pub read_script_means : (before after : SourceView) (meaning : Result (List (List Line)) Refusal) → ScriptMeans before after meaning → IfSome before.left (λ bytes. meaning_of bytes ≡ meaning)
+read_script_means before after meaning means = front_means before.left means.0 meaning means.1.is_front means.2
 
-pub refused_read : (source : Option (List ℕ)) (script parsed : List ℕ) (refusal : Refusal) → IsFront (script_limit + 1) source script → parsed ≡ script → backend_meaning parsed ≡ Err refusal → IfSome source (λ bytes. meaning_of bytes ≡ Err refusal)
-refused_read source script parsed refusal is same means = meaning_of_read source script (Err refusal) is (ap one_backend (ap backend_meaning (sym same) ∙ means))
+-- what was parsed is the script
+pub means_lines : (script parsed : List ℕ) (lines : List Line) → parsed ≡ script → backend_meaning parsed ≡ Ok lines → meaning_of script ≡ Ok (lines ∷ [])
+means_lines script parsed lines same means = ap one_backend (ap backend_meaning (sym same) ∙ means)
+
+pub means_refusal : (script parsed : List ℕ) (refusal : Refusal) → parsed ≡ script → backend_meaning parsed ≡ Err refusal → meaning_of script ≡ Err refusal
+means_refusal script parsed refusal same means = ap one_backend (ap backend_meaning (sym same) ∙ means)

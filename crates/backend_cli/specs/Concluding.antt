@@ -8,4 +8,6 @@ use Rattle.backend_cli.specs.Told.{IsFullAnswer, SomeAnswer}
 -- a disk's fault, else a full log, else a failed print, else all is done
 abbrev pub Concludes : Option ℕ → List Told → Bool → Outcome → Type 0
 Concludes (Some down) told failed outcome = outcome ≡ DiskFault
-Concludes None told failed outcome = (SomeAnswer IsFullAnswer told × (outcome ≡ LogFull)) ⊎ ((SomeAnswer IsFullAnswer told → ⊥) × (outcome ≡ (if failed then SinkFault else Done)))
+Concludes None told failed outcome =
+    (SomeAnswer IsFullAnswer told × (outcome ≡ LogFull))
+    ⊎ ((SomeAnswer IsFullAnswer told → ⊥) × (outcome ≡ (if failed then SinkFault else Done)))

@@ -42,6 +42,5 @@ pub record DumpHolds (outside : Outside) (size : ℕ) (outcome : Outcome) (lists
   pub ends : ListingEnds outside outcome
   pub tape : outside.tape_after ≡ outside.tape_before
   pub moment : outside.moment_after ≡ outside.moment_before
-  pub source : outside.source_after ≡ outside.source_before
-  pub unread : outside.source_left ≡ outside.source
+  pub unread : outside.source_after ≡ outside.source_before
   pub nothing_told : lists ≡ []

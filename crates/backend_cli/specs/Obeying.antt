@@ -15,14 +15,15 @@ pub record IsUsage (outside : Outside) (outcome : Outcome) (lists : List (List T
   pub usage : outcome ≡ Usage
   pub untouched : IsUntouched outside
   pub disk : outside.disk_after ≡ outside.disk_before
-  pub source : outside.source_after ≡ outside.source_before
-  pub unread : outside.source_left ≡ outside.source
+  pub unread : outside.source_after ≡ outside.source_before
   pub nothing_told : lists ≡ []
 
 -- what is asked for is done
 abbrev pub Obeys : Option Command → Outside → Outcome → List (List Told) → Type 0
 Obeys None outside outcome lists = IsUsage outside outcome lists
-Obeys (Some (Run options)) outside outcome lists = RunHolds outside options.geometry (capacity_of options.geometry options.cap_segments) options.list outcome lists
+Obeys (Some (Run options)) outside outcome lists =
+    RunHolds outside options.geometry (capacity_of options.geometry options.cap_segments)
+    options.list outcome lists
 Obeys (Some (Dump size)) outside outcome lists = DumpHolds outside size outcome lists
 
 -- a run is asked for

@@ -13,11 +13,15 @@ use Rattle.backend_cli.specs.Texts.{told_line, reserved_count, commits_of}
 abbrev pub task_lines : ℕ → List Task → List Told → List ℕ
 task_lines backend [] told = []
 task_lines backend (task ∷ tasks) [] = []
-task_lines backend (task ∷ tasks) (told ∷ others) = told_line backend task.number told ++ task_lines backend tasks others
+task_lines backend (task ∷ tasks) (told ∷ others) =
+    told_line backend task.number told ++ task_lines backend tasks others
 
 -- a summary's line
 abbrev pub summary_line : Summary → List ℕ
-summary_line s = joined (codes "records " ∷ decimal s.records ∷ codes " commits " ∷ decimal s.commits ∷ codes " bytes " ∷ decimal s.bytes ∷ codes " end " ∷ lsn_text s.end.0 ∷ codes " segments " ∷ decimal s.segments ∷ codes "\n" ∷ [])
+summary_line s =
+    joined (codes "records " ∷ decimal s.records ∷ codes " commits " ∷ decimal s.commits ∷
+    codes " bytes " ∷ decimal s.bytes ∷ codes " end " ∷ lsn_text s.end.0 ∷ codes " segments " ∷
+    decimal s.segments ∷ codes "\n" ∷ [])
 
 -- all that is printed of a backend's tasks
 abbrev pub printed_text : Bool → List Task → List Told → Summary → List ℕ

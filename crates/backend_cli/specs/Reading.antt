@@ -1,43 +1,51 @@
--- Reading a source.
-use Rattle.std.specs.Prelude.{◌≡◌, ℕ, ◌+◌, ◌-◌, ◌^◌, ◌≤◌, ◌⊎◌, List, ◌++◌, length, take, drop, Option, Some, None, option_map, Result, Ok, Err, Vec}
+-- Reading a script off a source.
+use Rattle.std.specs.Prelude.{◌≡◌, ℕ, ◌+◌, ◌≤◌, List, ◌++◌, length, take, drop, Option, Some, None, option_map, Result, Ok, Err, Vec}
 use Rattle.std.specs.declared.alloc.Global.{Global}
+use Rattle.segment_disk.specs.Cause.{RoseByOne}
+use Rattle.segment_disk.specs.Stream.{LosesFront}
+use Rattle.wal_script.specs.declared.line.Line.{Line}
+use Rattle.wal_script.specs.declared.line.Refusal.{Refusal}
+use Rattle.wal_script.specs.Meaning.{meaning_of, script_limit}
 use Rattle.backend_cli.specs.declared.reading.ReadFailure.{ReadFailure}
 use Rattle.backend_cli.specs.declared.reading.ReadFailure.TheVariants.{Memory, Source}
-use Rattle.segment_disk.specs.Cause.{RoseByOne}
-use Rattle.wal_script.specs.Meaning.{script_limit}
+use Rattle.backend_cli.specs.Outside.{SourceView}
 
 -- all that a source had left, or its first bytes up to a number of them
 abbrev pub IsFront : ℕ → Option (List ℕ) → List ℕ → Type 0
 IsFront most None bytes = Unit {0}
 IsFront most (Some left) bytes = bytes ≡ take most left
 
--- so many bytes were read off a source, or all that it had left
-abbrev pub IsReadUpto : ℕ → Option (List ℕ) → Option (List ℕ) → Type 0
-IsReadUpto most left now = now ≡ option_map (drop most) left
+-- a source handed out these bytes in between: all that it had left, or as many as were asked for,
+-- and it did not fail
+pub record ReadsBytes (most : ℕ) (before after : SourceView) (bytes : List ℕ) : Type 0 where
+  pub handed_out : after.handed ≡ before.handed ++ bytes
+  pub is_front : IsFront most before.left bytes
+  pub left_behind : after.left ≡ option_map (drop most) before.left
+  pub within : length bytes ≤ most
+  pub faults_same : after.faults ≡ before.faults
 
--- a source was read to its end, or to one byte past a script's limit
-abbrev pub IsReadAll : Option (List ℕ) → Option (List ℕ) → Type 0
-IsReadAll left now = IsReadUpto (script_limit + 1) left now
+-- what was read is all there is, up to a number of bytes; a source's fault is told by its count,
+-- and nothing else changes the count
+abbrev pub ReadsUpto : ℕ → SourceView → SourceView → Result (Vec ℕ Global) ReadFailure → Type 0
+ReadsUpto most before after (Ok v) = ReadsBytes most before after v.items
+ReadsUpto most before after (Err Memory) = after.faults ≡ before.faults
+ReadsUpto most before after (Err Source) = RoseByOne before.faults after.faults
 
--- what was read is all there is, up to a number of bytes; a source's fault is told by its count, and nothing else changes the count
-abbrev pub ReadsUpto : ℕ → Option (List ℕ) → Option (List ℕ) → ℕ → ℕ → Result (Vec ℕ Global) ReadFailure → Type 0
-ReadsUpto most left now before after (Ok v) = (after ≡ before) × (length v.items ≤ most) × IsFront most left v.items × IsReadUpto most left now
-ReadsUpto most left now before after (Err Memory) = after ≡ before
-ReadsUpto most left now before after (Err Source) = RoseByOne before after
+-- a script is read to its end, or to one byte past its limit
+abbrev pub ReadsScript : SourceView → SourceView → List ℕ → Type 0
+ReadsScript before after bytes = ReadsBytes (script_limit + 1) before after bytes
 
--- a script is read up to one byte past its limit
-abbrev pub ReadsAll : Option (List ℕ) → Option (List ℕ) → ℕ → ℕ → Result (Vec ℕ Global) ReadFailure → Type 0
-ReadsAll left now before after result = ReadsUpto (script_limit + 1) left now before after result
+abbrev pub ReadsAll : SourceView → SourceView → Result (Vec ℕ Global) ReadFailure → Type 0
+ReadsAll before after result = ReadsUpto (script_limit + 1) before after result
 
--- bytes were read off the front of what was left, where a source tells it
-abbrev pub ReadOff : Option (List ℕ) → Option (List ℕ) → List ℕ → Type 0
-ReadOff None None bytes = Unit {0}
-ReadOff None (Some now) bytes = ⊥
-ReadOff (Some left) None bytes = ⊥
-ReadOff (Some left) (Some now) bytes = left ≡ bytes ++ now
+-- the script that a source handed out has this meaning
+abbrev pub ScriptMeans : SourceView → SourceView → Result (List (List Line)) Refusal → Type 0
+ScriptMeans before after meaning =
+    (bytes : List ℕ) × ReadsScript before after bytes × (meaning_of bytes ≡ meaning)
 
--- no more bytes were read than were asked for, and the source did not fail
-pub record HasRead (most : ℕ) (left now : Option (List ℕ)) (before after : ℕ) (bytes : List ℕ) : Type 0 where
-  pub off : ReadOff left now bytes
-  pub faults : after ≡ before
+-- bytes were read off a source, no more than were asked for, and the source did not fail
+pub record HasRead (most : ℕ) (before now : SourceView) (bytes : List ℕ) : Type 0 where
+  pub taken_off : LosesFront before.left now.left bytes
+  pub handed_out : now.handed ≡ before.handed ++ bytes
+  pub faults_same : now.faults ≡ before.faults
   pub within : length bytes ≤ most

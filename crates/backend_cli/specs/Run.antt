@@ -9,58 +9,67 @@ use Rattle.wal_page.specs.Order.{Entry, IsChained, rooms_of}
 use Rattle.wal_script.specs.declared.line.Line.{Line}
 use Rattle.wal_script.specs.declared.line.Action.{Action}
 use Rattle.wal_script.specs.declared.line.Action.TheVariants.{Insert, Commit, Flush}
-use Rattle.wal_script.specs.Meaning.{meaning_of}
 use Rattle.wal_reader.specs.Pages.{pages_in}
 use Rattle.wal_reader.specs.Decodes.{Decodes, ended}
 use Rattle.written_log.specs.Written.{found_of}
 use Rattle.backend_cli.specs.declared.outcome.Outcome.{Outcome}
-use Rattle.backend_cli.specs.declared.outcome.Outcome.TheVariants.{Done, OutOfMemory, Usage, SourceFault, ScriptRefused, NotEmpty, DiskFault, Stopped, LogFull, SinkFault}
+use Rattle.backend_cli.specs.declared.outcome.Outcome.TheVariants.{Done, OutOfMemory, SourceFault, ScriptRefused, NotEmpty, DiskFault, LogFull, SinkFault}
 use Rattle.backend_cli.specs.declared.told.Told.{Told}
 use Rattle.backend_cli.specs.Told.{TellsAll, EachStaysDown, order_of, RiseInLineOrder, IsFullAnswer, IsRefused, SomeTold}
 use Rattle.backend_cli.specs.Moments.{EachRises}
 use Rattle.backend_cli.specs.Texts.{run_text}
-use Rattle.backend_cli.specs.Reading.{IsReadAll}
+use Rattle.backend_cli.specs.Reading.{ScriptMeans}
 use Rattle.segment_disk.specs.Cause.{Rose}
 use Rattle.backend_cli.specs.Outside.{Outside, Took, IsUntouched}
 
--- the script that a source has means some lines
-abbrev pub MeansSome : Option (List ℕ) → Type 0
-MeansSome source = IfSome source (λ bytes. (script : List (List Line)) × (meaning_of bytes ≡ Ok script))
+-- the script that the source handed out means some lines
+abbrev pub MeansSome : Outside → Type 0
+MeansSome outside =
+    (script : List (List Line)) × ScriptMeans outside.source_before outside.source_after (Ok script)
 
--- how a run ends that did not open the log, and why
+-- how a run ends that did not open the log, and why; it ends in no other way
 abbrev pub EndsUnopened : Outside → Outcome → Type 0
-EndsUnopened outside Done = ⊥
 EndsUnopened outside OutOfMemory = outside.disk_after ≡ outside.disk_before
-EndsUnopened outside Usage = ⊥
-EndsUnopened outside SourceFault = Rose outside.source_before outside.source_after × (outside.disk_after ≡ outside.disk_before)
-EndsUnopened outside (ScriptRefused refusal) = IfSome outside.source (λ bytes. meaning_of bytes ≡ Err refusal) × IsReadAll outside.source outside.source_left × (outside.source_after ≡ outside.source_before) × (outside.disk_after ≡ outside.disk_before)
-EndsUnopened outside NotEmpty = MeansSome outside.source × IsReadAll outside.source outside.source_left × IfSome outside.tape_before (λ t. IsSome (page_of_segment (state_now t 1) 0)) × (outside.source_after ≡ outside.source_before) × (outside.disk_after ≡ outside.disk_before)
-EndsUnopened outside DiskFault = MeansSome outside.source × IsReadAll outside.source outside.source_left × Rose outside.disk_before outside.disk_after × (outside.source_after ≡ outside.source_before)
-EndsUnopened outside (Stopped answer) = ⊥
-EndsUnopened outside LogFull = ⊥
-EndsUnopened outside SinkFault = ⊥
+EndsUnopened outside SourceFault =
+    Rose outside.source_before.faults outside.source_after.faults
+    × (outside.disk_after ≡ outside.disk_before)
+EndsUnopened outside (ScriptRefused refusal) =
+    ScriptMeans outside.source_before outside.source_after (Err refusal)
+    × (outside.disk_after ≡ outside.disk_before)
+EndsUnopened outside NotEmpty =
+    MeansSome outside
+    × IfSome outside.tape_before (λ t. IsSome (page_of_segment (state_now t 1) 0))
+    × (outside.disk_after ≡ outside.disk_before)
+EndsUnopened outside DiskFault = MeansSome outside × Rose outside.disk_before outside.disk_after
+EndsUnopened outside others = ⊥
 
--- how a run ends that opened the log: a disk's fault, else a full log, else a sink's fault, else all is done
+-- how a run ends that opened the log: a disk's fault, else a full log, else a sink's fault, else
+-- all is done
 abbrev pub EndsOpened : Outside → List (List Told) → Outcome → Type 0
-EndsOpened outside told Done = (outside.disk_after ≡ outside.disk_before) × (SomeTold IsRefused told → ⊥) × (outside.sink_after ≡ outside.sink_before)
-EndsOpened outside told OutOfMemory = ⊥
-EndsOpened outside told Usage = ⊥
-EndsOpened outside told SourceFault = ⊥
-EndsOpened outside told (ScriptRefused refusal) = ⊥
-EndsOpened outside told NotEmpty = ⊥
+EndsOpened outside told Done =
+    (outside.disk_after ≡ outside.disk_before) × (SomeTold IsRefused told → ⊥)
+    × (outside.sink_after ≡ outside.sink_before)
 EndsOpened outside told DiskFault = Rose outside.disk_before outside.disk_after
-EndsOpened outside told (Stopped answer) = ⊥
-EndsOpened outside told LogFull = (outside.disk_after ≡ outside.disk_before) × SomeTold IsFullAnswer told
-EndsOpened outside told SinkFault = (outside.disk_after ≡ outside.disk_before) × (SomeTold IsFullAnswer told → ⊥) × Rose outside.sink_before outside.sink_after
+EndsOpened outside told LogFull =
+    (outside.disk_after ≡ outside.disk_before) × SomeTold IsFullAnswer told
+EndsOpened outside told SinkFault =
+    (outside.disk_after ≡ outside.disk_before) × (SomeTold IsFullAnswer told → ⊥)
+    × Rose outside.sink_before outside.sink_after
+EndsOpened outside told others = ⊥
 
 -- pages decode to all of an order, and then to a clean end at its end
 abbrev pub DecodesTo : ℕ → DiskImage → List Entry → Type 0
-DecodesTo size image es = Decodes size (pages_in size image) size None (found_of size es) (ended size (first_position size + rooms_of es))
+DecodesTo size image es =
+    Decodes size (pages_in size image) size None (found_of size es)
+    (ended size (first_position size + rooms_of es))
 
--- where the disk told nothing but an empty log at the start and did not fail, every image that a crash may leave at the last moment, and the disk as it is read, decode to the whole order
+-- where the disk told nothing but an empty log at the start and did not fail, every image that a
+-- crash may leave at the last moment, and the disk as it is read, decode to the whole order
 abbrev pub IsWhole : ℕ → Option Tape → List Entry → Type 0
 IsWhole size None es = Unit {0}
-IsWhole size (Some t) es = ((image : DiskImage) → MayLeave (state_now t) image → DecodesTo size image es) × DecodesTo size (image_as_read (state_now t)) es
+IsWhole size (Some t) es =
+    ((image : DiskImage) → MayLeave (state_now t) image → DecodesTo size image es)
+    × DecodesTo size (image_as_read (state_now t)) es
 
 -- the bytes that the records of a script take up together
 abbrev pub room_asked : Action → ℕ
@@ -76,22 +85,34 @@ abbrev pub all_rooms_asked : List (List Line) → ℕ
 all_rooms_asked [] = 0
 all_rooms_asked (lines ∷ script) = rooms_asked lines + all_rooms_asked script
 
--- a run that opened the log, of a script with these lines: what it told and made of them
-pub record HoldsOpened (outside : Outside) (size capacity : ℕ) (list : Bool) (outcome : Outcome) (script : List (List Line)) (lists : List (List Told)) : Type 0 where
-  pub means : IfSome outside.source (λ bytes. meaning_of bytes ≡ Ok script)
+-- a run that opened the log, of the script with these lines that the source handed out: what it
+-- told and made of them
+pub record HoldsOpened (outside : Outside) (size capacity : ℕ) (list : Bool) (outcome : Outcome)
+    (script : List (List Line)) (lists : List (List Told)) : Type 0 where
+  pub means : ScriptMeans outside.source_before outside.source_after (Ok script)
   pub empty : IfSome outside.tape_before (λ t. page_of_segment (state_now t 1) 0 ≡ None)
-  pub told : TellsAll (record { size = size; capacity = capacity; order = order_of size script lists; opened = outside.disk_before; last = outside.disk_after }) 0 script lists
+  pub told : TellsAll (record {
+    size = size;
+    capacity = capacity;
+    order = order_of size script lists;
+    opened = outside.disk_before;
+    last = outside.disk_after;
+  }) 0 script lists
   pub stays_down : EachStaysDown lists
   pub gapless : IsChained size (order_of size script lists)
   pub in_line_order : RiseInLineOrder size 0 script lists
   pub moments : EachRises outside.moment_before lists outside.moment_after
-  pub whole : outside.disk_after ≡ outside.disk_before → outside.disk_before < 2 ^ 64 - 1 → HoldsNothing outside.tape_before → IsWhole size outside.tape_after (order_of size script lists)
-  pub printed : Took outside.taken_before outside.taken_after outside.sink_before outside.sink_after (run_text size list script lists (order_of size script lists))
+  pub whole : outside.disk_after ≡ outside.disk_before → outside.disk_before < 2 ^ 64 - 1
+      → HoldsNothing outside.tape_before
+      → IsWhole size outside.tape_after (order_of size script lists)
+  pub printed : Took outside.taken_before outside.taken_after outside.sink_before outside.sink_after
+      (run_text size list script lists (order_of size script lists))
   pub ends : EndsOpened outside lists outcome
   pub full : SomeTold IsFullAnswer lists → capacity < all_rooms_asked script
-  pub source_read : IsReadAll outside.source outside.source_left × (outside.source_after ≡ outside.source_before)
 
 -- a run: without told lists the log was not opened, and nothing was touched
 abbrev pub RunHolds : Outside → ℕ → ℕ → Bool → Outcome → List (List Told) → Type 0
 RunHolds outside size capacity list outcome [] = EndsUnopened outside outcome × IsUntouched outside
-RunHolds outside size capacity list outcome (told ∷ others) = (script : List (List Line)) × HoldsOpened outside size capacity list outcome script (told ∷ others)
+RunHolds outside size capacity list outcome (told ∷ others) =
+    (script : List (List Line))
+    × HoldsOpened outside size capacity list outcome script (told ∷ others)

@@ -25,4 +25,5 @@ abbrev pub AreTasks : List Line → List Task → Type 0
 AreTasks [] [] = Unit {0}
 AreTasks [] (task ∷ tasks) = ⊥
 AreTasks (line ∷ lines) [] = ⊥
-AreTasks (line ∷ lines) (task ∷ tasks) = (task.number ≡ line.number) × IsWork line.action task.work × AreTasks lines tasks
+AreTasks (line ∷ lines) (task ∷ tasks) =
+    (task.number ≡ line.number) × IsWork line.action task.work × AreTasks lines tasks

@@ -24,9 +24,13 @@ cause_text (Down faults) reserved = codes " down " ∷ decimal faults ∷ reserv
 
 -- what was told, behind the numbers of its backend and line
 abbrev pub answer_text : Told → List (List ℕ)
-answer_text (Wrote start end) = codes " wrote " ∷ lsn_text start.0 ∷ codes " " ∷ lsn_text end.0 ∷ codes "\n" ∷ []
-answer_text (Hard start end moment) = codes " hard " ∷ lsn_text start.0 ∷ codes " " ∷ lsn_text end.0 ∷ codes " " ∷ decimal moment ∷ codes "\n" ∷ []
-answer_text (Flushed upto moment) = codes " flushed " ∷ lsn_text upto.0 ∷ codes " " ∷ decimal moment ∷ codes "\n" ∷ []
+answer_text (Wrote start end) =
+    codes " wrote " ∷ lsn_text start.0 ∷ codes " " ∷ lsn_text end.0 ∷ codes "\n" ∷ []
+answer_text (Hard start end moment) =
+    codes " hard " ∷ lsn_text start.0 ∷ codes " " ∷ lsn_text end.0 ∷ codes " " ∷ decimal moment ∷
+    codes "\n" ∷ []
+answer_text (Flushed upto moment) =
+    codes " flushed " ∷ lsn_text upto.0 ∷ codes " " ∷ decimal moment ∷ codes "\n" ∷ []
 answer_text (Refused cause reserved) = cause_text cause reserved
 
 -- a told line: backend, line, and what was told
@@ -37,12 +41,14 @@ told_line backend line told = joined (decimal backend ∷ codes " " ∷ decimal 
 abbrev pub told_lines_of : ℕ → List Line → List Told → List ℕ
 told_lines_of backend [] told = []
 told_lines_of backend (line ∷ lines) [] = []
-told_lines_of backend (line ∷ lines) (told ∷ others) = told_line backend line.number told ++ told_lines_of backend lines others
+told_lines_of backend (line ∷ lines) (told ∷ others) =
+    told_line backend line.number told ++ told_lines_of backend lines others
 
 abbrev pub told_lines_from : ℕ → List (List Line) → List (List Told) → List ℕ
 told_lines_from backend [] told = []
 told_lines_from backend (lines ∷ script) [] = []
-told_lines_from backend (lines ∷ script) (told ∷ others) = told_lines_of backend lines told ++ told_lines_from (backend + 1) script others
+told_lines_from backend (lines ∷ script) (told ∷ others) =
+    told_lines_of backend lines told ++ told_lines_from (backend + 1) script others
 
 -- how many answers say that a commit is durable
 abbrev pub is_hard : Told → ℕ
@@ -71,17 +77,23 @@ abbrev pub reserved_count : List Told → ℕ
 reserved_count [] = 0
 reserved_count (told ∷ others) = is_reserved told + reserved_count others
 
--- how many segments hold a reserved byte, where the order ends at an address: those from segment 1 up to that of the last byte
+-- how many segments hold a reserved byte, where the order ends at an address: those from segment 1
+-- up to that of the last byte
 abbrev pub segments_upto : ℕ → List Entry → ℕ → ℕ
 segments_upto size [] end = 0
 segments_upto size (e ∷ es) end = (end - 1) / size
 
--- the summary: reserved records, durable commits, bytes that records take up, the log's end, and segments
+-- the summary: reserved records, durable commits, bytes that records take up, the log's end, and
+-- segments
 abbrev pub summary_text : ℕ → List Entry → ℕ → List ℕ
 summary_text size order commits =
     let end = end_address_of size (first_position size + rooms_of order) in
-    joined (codes "records " ∷ decimal (length order) ∷ codes " commits " ∷ decimal commits ∷ codes " bytes " ∷ decimal (rooms_of order) ∷ codes " end " ∷ lsn_text end ∷ codes " segments " ∷ decimal (segments_upto size order end) ∷ codes "\n" ∷ [])
+    joined (codes "records " ∷ decimal (length order) ∷ codes " commits " ∷ decimal commits ∷
+    codes " bytes " ∷ decimal (rooms_of order) ∷ codes " end " ∷ lsn_text end ∷ codes " segments " ∷
+    decimal (segments_upto size order end) ∷ codes "\n" ∷ [])
 
 -- all that a run prints: the told lines where they are asked for, then the summary
 abbrev pub run_text : ℕ → Bool → List (List Line) → List (List Told) → List Entry → List ℕ
-run_text size list script told order = (if list then told_lines_from 0 script told else []) ++ summary_text size order (all_commits_of told)
+run_text size list script told order =
+    (if list then told_lines_from 0 script told else [])
+    ++ summary_text size order (all_commits_of told)

@@ -24,7 +24,8 @@ reserved_by (Refused cause reserved) = reserved
 -- the entry that a line made, where it reserved one; `size` is that of a segment
 abbrev pub entry_at : ℕ → ℕ → Record → Option Lsn → Option Entry
 entry_at size backend value None = None
-entry_at size backend value (Some start) = Some (record { pass = backend; value = value; start = position_of size start.0 })
+entry_at size backend value (Some start) =
+    Some (record { pass = backend; value = value; start = position_of size start.0 })
 
 abbrev pub entry_of : ℕ → ℕ → Action → Told → Option Entry
 entry_of size backend (Insert value) told = entry_at size backend value (reserved_by told)
@@ -35,13 +36,15 @@ entry_of size backend Flush told = None
 abbrev pub entries_of : ℕ → ℕ → List Line → List Told → List Entry
 entries_of size backend [] told = []
 entries_of size backend (line ∷ lines) [] = []
-entries_of size backend (line ∷ lines) (told ∷ others) = option_to_list (entry_of size backend line.action told) ++ entries_of size backend lines others
+entries_of size backend (line ∷ lines) (told ∷ others) =
+    option_to_list (entry_of size backend line.action told) ++ entries_of size backend lines others
 
 -- the entries of all backends from a number on
 abbrev pub entries_from : ℕ → ℕ → List (List Line) → List (List Told) → List Entry
 entries_from size backend [] told = []
 entries_from size backend (lines ∷ script) [] = []
-entries_from size backend (lines ∷ script) (told ∷ others) = entries_of size backend lines told ++ entries_from size (backend + 1) script others
+entries_from size backend (lines ∷ script) (told ∷ others) =
+    entries_of size backend lines told ++ entries_from size (backend + 1) script others
 
 -- an entry before the first that starts behind it
 abbrev pub insert_by_start : Entry → List Entry → List Entry
@@ -62,7 +65,8 @@ IsRising [] = Unit {0}
 IsRising (e ∷ []) = Unit {0}
 IsRising (e ∷ f ∷ es) = (e.start < f.start) × IsRising (f ∷ es)
 
--- the log that lines are told of: its segment size, how many bytes it has for records, the order of its entries, and the disk's counts of faults at the opening and at the end
+-- the log that lines are told of: its segment size, how many bytes it has for records, the order of
+-- its entries, and the disk's counts of faults at the opening and at the end
 pub record Logged : Type 0 where
   pub size : ℕ
   pub capacity : ℕ
@@ -70,7 +74,8 @@ pub record Logged : Type 0 where
   pub opened : ℕ
   pub last : ℕ
 
--- a place in the log: a record's start is the address of its byte position, its end the end form of the position behind it
+-- a place in the log: a record's start is the address of its byte position, its end the end form of
+-- the position behind it
 pub record IsPlaced (size : ℕ) (value : Record) (start end : ℕ) : Type 0 where
   pub starts : start ≡ address_of size (position_of size start)
   pub ends : end ≡ end_address_of size (position_of size start + room_of value)
@@ -80,7 +85,8 @@ pub record IsFault (logged : Logged) (faults : ℕ) : Type 0 where
   pub rose : Rose logged.opened faults
   pub upto : faults ≤ logged.last
 
--- too few bytes were left for the record behind some front of the order, which has the backend's earlier entries (they end at byte position `behind`)
+-- too few bytes were left for the record behind some front of the order, which has the backend's
+-- earlier entries (they end at byte position `behind`)
 pub record MayBeFull (logged : Logged) (behind : ℕ) (value : Record) (free : ℕ) : Type 0 where
   pub front : ℕ
   pub within : front ≤ length logged.order
@@ -88,14 +94,17 @@ pub record MayBeFull (logged : Logged) (behind : ℕ) (value : Record) (free : �
   pub left : free + rooms_of (take front logged.order) ≡ logged.capacity
   pub short : free < room_of value
 
--- why an insert or a commit may be refused: a fault in its own device calls comes once its record is reserved
+-- why an insert or a commit may be refused: a fault in its own device calls comes once its record
+-- is reserved
 abbrev pub MayRefuseRecord : Logged → ℕ → Record → Cause → Option Lsn → Type 0
 MayRefuseRecord logged behind value (Full free) None = MayBeFull logged behind value free
 MayRefuseRecord logged behind value (Full free) (Some start) = ⊥
 MayRefuseRecord logged behind value (Disk faults) None = ⊥
-MayRefuseRecord logged behind value (Disk faults) (Some start) = IsFault logged faults × (start.0 ≡ address_of logged.size (position_of logged.size start.0))
+MayRefuseRecord logged behind value (Disk faults) (Some start) =
+    IsFault logged faults × (start.0 ≡ address_of logged.size (position_of logged.size start.0))
 MayRefuseRecord logged behind value (Down faults) None = IsFault logged faults
-MayRefuseRecord logged behind value (Down faults) (Some start) = IsFault logged faults × (start.0 ≡ address_of logged.size (position_of logged.size start.0))
+MayRefuseRecord logged behind value (Down faults) (Some start) =
+    IsFault logged faults × (start.0 ≡ address_of logged.size (position_of logged.size start.0))
 
 -- why a flush may be refused: it reserves nothing, and needs no room
 abbrev pub MayRefuseFlush : Logged → Cause → Option Lsn → Type 0
@@ -103,19 +112,26 @@ MayRefuseFlush logged (Full free) reserved = ⊥
 MayRefuseFlush logged (Disk faults) reserved = IsFault logged faults × (reserved ≡ None)
 MayRefuseFlush logged (Down faults) reserved = IsFault logged faults × (reserved ≡ None)
 
--- what a line may be told, where its backend's earlier entries end at byte position `behind`: an insert that its record is written, a commit that it is durable, a flush that all is up to there at least and no further than the log goes
+-- what a line may be told, where its backend's earlier entries end at byte position `behind`: an
+-- insert that its record is written, a commit that it is durable, a flush that all is up to there
+-- at least and no further than the log goes
 abbrev pub FitsLine : Logged → ℕ → Action → Told → Type 0
 FitsLine logged behind (Insert value) (Wrote start end) = IsPlaced logged.size value start.0 end.0
 FitsLine logged behind (Insert value) (Hard start end moment) = ⊥
 FitsLine logged behind (Insert value) (Flushed upto moment) = ⊥
-FitsLine logged behind (Insert value) (Refused cause reserved) = MayRefuseRecord logged behind value cause reserved
+FitsLine logged behind (Insert value) (Refused cause reserved) =
+    MayRefuseRecord logged behind value cause reserved
 FitsLine logged behind (Commit value) (Wrote start end) = ⊥
-FitsLine logged behind (Commit value) (Hard start end moment) = IsPlaced logged.size value start.0 end.0
+FitsLine logged behind (Commit value) (Hard start end moment) =
+    IsPlaced logged.size value start.0 end.0
 FitsLine logged behind (Commit value) (Flushed upto moment) = ⊥
-FitsLine logged behind (Commit value) (Refused cause reserved) = MayRefuseRecord logged behind value cause reserved
+FitsLine logged behind (Commit value) (Refused cause reserved) =
+    MayRefuseRecord logged behind value cause reserved
 FitsLine logged behind Flush (Wrote start end) = ⊥
 FitsLine logged behind Flush (Hard start end moment) = ⊥
-FitsLine logged behind Flush (Flushed upto moment) = (end_address_of logged.size behind ≤ upto.0) × (upto.0 ≤ end_address_of logged.size (first_position logged.size + rooms_of logged.order))
+FitsLine logged behind Flush (Flushed upto moment) =
+    (end_address_of logged.size behind ≤ upto.0)
+    × (upto.0 ≤ end_address_of logged.size (first_position logged.size + rooms_of logged.order))
 FitsLine logged behind Flush (Refused cause reserved) = MayRefuseFlush logged cause reserved
 
 -- the byte position at which a backend's entries end after one more line
@@ -129,20 +145,25 @@ TellsFrom logged backend behind [] [] = Unit {0}
 TellsFrom logged backend behind [] (told ∷ others) = ⊥
 TellsFrom logged backend behind (line ∷ lines) [] = ⊥
 TellsFrom logged backend behind (line ∷ lines) (told ∷ others) =
-    FitsLine logged behind line.action told × TellsFrom logged backend (behind_or behind (entry_of logged.size backend line.action told)) lines others
+    FitsLine logged behind line.action told
+    × TellsFrom logged backend
+    (behind_or behind (entry_of logged.size backend line.action told)) lines others
 
 -- a list for each backend from a number on, and one answer for each of its lines
 abbrev pub TellsAll : Logged → ℕ → List (List Line) → List (List Told) → Type 0
 TellsAll logged backend [] [] = Unit {0}
 TellsAll logged backend [] (told ∷ others) = ⊥
 TellsAll logged backend (lines ∷ script) [] = ⊥
-TellsAll logged backend (lines ∷ script) (told ∷ others) = TellsFrom logged backend (first_position logged.size) lines told × TellsAll logged (backend + 1) script others
+TellsAll logged backend (lines ∷ script) (told ∷ others) =
+    TellsFrom logged backend (first_position logged.size) lines told
+    × TellsAll logged (backend + 1) script others
 
 -- each backend's entries rise in the order of its lines
 abbrev pub RiseInLineOrder : ℕ → ℕ → List (List Line) → List (List Told) → Type 0
 RiseInLineOrder size backend [] told = Unit {0}
 RiseInLineOrder size backend (lines ∷ script) [] = Unit {0}
-RiseInLineOrder size backend (lines ∷ script) (told ∷ others) = IsRising (entries_of size backend lines told) × RiseInLineOrder size (backend + 1) script others
+RiseInLineOrder size backend (lines ∷ script) (told ∷ others) =
+    IsRising (entries_of size backend lines told) × RiseInLineOrder size (backend + 1) script others
 
 -- whether an answer says that the log is full, that a record is durable, that the line was refused
 abbrev pub IsFullAnswer : Told → Type 0

@@ -10,7 +10,8 @@ IsLatest true log = log.flushed ≡ end_behind log.size log.bytes
 IsLatest false log = HasUnwritten log
 
 -- the log keeps that moment, at or below the disk's
-pub record IsTracked {D : Type 0} (moment : D → ℕ) (last : LastTold) (log : LogState D) : Type 0 where
+pub record IsTracked {D : Type 0} (moment : D → ℕ) (last : LastTold) (log : LogState D)
+    : Type 0 where
   pub kept : log.moment ≡ last.moment
   pub within : log.moment ≤ moment (log_disk log)
   pub latest : writer_fault log.writer ≡ None → IsLatest last.is_latest log

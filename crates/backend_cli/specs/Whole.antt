@@ -6,7 +6,10 @@ use Rattle.wal_page.specs.Order.{Entry, IsChained, rooms_of}
 use Rattle.serial_log.specs.LogImage.{HoldsLog}
 use Rattle.backend_cli.specs.Run.{IsWhole}
 
--- an order whose log a disk holds for good is what every image that a crash may leave, and the disk as it is read, decode to
+-- an order whose log a disk holds for good is what every image that a crash may leave, and the disk
+-- as it is read, decode to
 abbrev pub HeldLogIsWhole : Type 0
 HeldLogIsWhole =
-    (size sysid : ℕ) (es : List Entry) (tape : Option Tape) → IsSegmentSize size → 0 < sysid → sysid < 2 ^ 64 → IsChained size es → rooms_of es ≤ 2 ^ 42 → IfSome tape (HoldsLog size sysid es) → IsWhole size tape es
+    (size sysid : ℕ) (es : List Entry) (tape : Option Tape) → IsSegmentSize size → 0 < sysid
+    → sysid < 2 ^ 64 → IsChained size es → rooms_of es ≤ 2 ^ 42
+    → IfSome tape (HoldsLog size sysid es) → IsWhole size tape es

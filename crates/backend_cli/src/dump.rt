@@ -1,5 +1,5 @@
-ghost use Rattle.std.specs.Prelude.{ℕ, List, Option};
 ghost use Rattle.backend_cli.specs.Dumping.{DumpHolds};
+ghost use Rattle.backend_cli.specs.Outside.{SourceView, outside_of};
 
 use crate::outcome::Outcome;
 use crate::run::Finished;
@@ -16,22 +16,8 @@ pub(crate) fn list<O: Sink, D: Disk>(
     mut disk: D,
     out: &mut O,
 ) -> Finished<D>
-    ensures { (source : Option (List ℕ)) (count : ℕ) → DumpHolds (record {
-      source = source;
-      source_left = source;
-      source_before = count;
-      source_after = count;
-      tape_before = D.tape disk;
-      tape_after = D.tape result.disk;
-      moment_before = D.moment disk;
-      moment_after = D.moment result.disk;
-      disk_before = D.faults disk;
-      disk_after = D.faults result.disk;
-      taken_before = O.taken out.old;
-      taken_after = O.taken out.new;
-      sink_before = O.faults out.old;
-      sink_after = O.faults out.new;
-    }) geometry result.outcome result.told }
+    ensures { (source : SourceView) → DumpHolds (outside_of source source
+        D.tape D.moment D.faults disk result.disk O.taken O.faults out.old out.new) geometry result.outcome result.told }
 {
     let outcome = match dump(alloc, &mut disk, geometry, out) {
         Ok(()) => Outcome::Done,

@@ -1,9 +1,13 @@
 //! Laws of the definitions, each proved by a function that does nothing.
 
-ghost use Rattle.std.specs.Prelude.{◌≡◌, ℕ, ◌<◌, List, [], ◌∷◌, None, IfSome};
+ghost use Rattle.std.specs.Prelude.{◌≡◌, ℕ, ◌<◌, List, [], ◌∷◌, None, Result, IfSome};
 ghost use Rattle.byte_position.specs.Geometry.{IsSegmentSize};
 ghost use Rattle.wal_page.specs.Order.{IsChained};
 ghost use Rattle.wal_script.specs.declared.line.Line.{Line};
+ghost use Rattle.wal_script.specs.declared.line.Refusal.{Refusal};
+ghost use Rattle.wal_script.specs.Meaning.{meaning_of};
+ghost use Rattle.backend_cli.specs.Outside.{SourceView};
+ghost use Rattle.backend_cli.specs.Reading.{ScriptMeans};
 ghost use Rattle.backend_cli.specs.declared.told.Told.{Told};
 ghost use Rattle.backend_cli.specs.Told.{IsFullAnswer, IsRefused, RiseInLineOrder, SomeAnswer, StaysDown, TellsAll, entries_of, order_of};
 ghost use Rattle.serial_log.specs.History.{LogHistory, at_opening};
@@ -13,31 +17,71 @@ ghost use Rattle.backend_cli.specs.Whole.{HeldLogIsWhole};
 
 /// What lines are told says which entries they made: chained, and in the order of the lines.
 pub fn law_of_played_entries()
-    ensures entries { (size capacity opened : ℕ) (lines : List Line) (told : List Told) (after : LogHistory) → IsSegmentSize size → Plays size capacity opened (at_opening size) lines told after → entries_of size 0 lines told ≡ after.entries }
-    ensures order { (size capacity opened : ℕ) (lines : List Line) (told : List Told) (after : LogHistory) → IsSegmentSize size → Plays size capacity opened (at_opening size) lines told after → order_of size (lines ∷ []) (told ∷ []) ≡ after.entries }
-    ensures chained { (size capacity opened : ℕ) (lines : List Line) (told : List Told) (after : LogHistory) → Plays size capacity opened (at_opening size) lines told after → IsChained size after.entries }
-    ensures rises { (size capacity opened : ℕ) (lines : List Line) (told : List Told) (after : LogHistory) → IsSegmentSize size → Plays size capacity opened (at_opening size) lines told after → RiseInLineOrder size 0 (lines ∷ []) (told ∷ []) }
+    ensures entries { (size capacity opened : ℕ) (lines : List Line)
+        (told : List Told) (after : LogHistory)
+        → IsSegmentSize size → Plays size capacity opened (at_opening size) lines told after
+        → entries_of size 0 lines told ≡ after.entries }
+    ensures order { (size capacity opened : ℕ) (lines : List Line)
+        (told : List Told) (after : LogHistory)
+        → IsSegmentSize size → Plays size capacity opened (at_opening size) lines told after
+        → order_of size (lines ∷ []) (told ∷ []) ≡ after.entries }
+    ensures chained { (size capacity opened : ℕ) (lines : List Line)
+        (told : List Told) (after : LogHistory)
+        → Plays size capacity opened (at_opening size) lines told after
+        → IsChained size after.entries }
+    ensures rises { (size capacity opened : ℕ) (lines : List Line)
+        (told : List Told) (after : LogHistory)
+        → IsSegmentSize size → Plays size capacity opened (at_opening size) lines told after
+        → RiseInLineOrder size 0 (lines ∷ []) (told ∷ []) }
 {}
 
-/// Without a fault of the disk a line is refused only by a full log, and then the script's records do not fit together.
+/// Without a fault of the disk a line is refused only by a full log, and then the script's records
+/// do not fit together.
 pub fn law_of_played_full()
-    ensures refusals { (size capacity opened : ℕ) (lines : List Line) (told : List Told) (after : LogHistory) → Plays size capacity opened (at_opening size) lines told after → after.down ≡ None → SomeAnswer IsRefused told → SomeAnswer IsFullAnswer told }
-    ensures full { (size capacity opened : ℕ) (lines : List Line) (told : List Told) (after : LogHistory) → Plays size capacity opened (at_opening size) lines told after → SomeAnswer IsFullAnswer told → capacity < rooms_asked lines }
+    ensures refusals { (size capacity opened : ℕ) (lines : List Line)
+        (told : List Told) (after : LogHistory)
+        → Plays size capacity opened (at_opening size) lines told after
+        → after.down ≡ None → SomeAnswer IsRefused told → SomeAnswer IsFullAnswer told }
+    ensures full { (size capacity opened : ℕ) (lines : List Line)
+        (told : List Told) (after : LogHistory)
+        → Plays size capacity opened (at_opening size) lines told after
+        → SomeAnswer IsFullAnswer told → capacity < rooms_asked lines }
 {}
 
 /// Once a line is told a fault of the disk, each later one is told that fault.
 pub fn law_of_played_down()
-    ensures { (size capacity opened : ℕ) (lines : List Line) (told : List Told) (after : LogHistory) → Plays size capacity opened (at_opening size) lines told after → StaysDown told }
+    ensures { (size capacity opened : ℕ) (lines : List Line)
+        (told : List Told) (after : LogHistory)
+        → Plays size capacity opened (at_opening size) lines told after
+        → StaysDown told }
 {}
 
-/// Each line is told what it may be told, where the disk's last count of faults is the one at which it failed.
+/// Each line is told what it may be told, where the disk's last count of faults is the one at which
+/// it failed.
 pub fn law_of_played_tells()
-    ensures { (size capacity opened last : ℕ) (lines : List Line) (told : List Told) (after : LogHistory) → IsSegmentSize size → Plays size capacity opened (at_opening size) lines told after → IfSome after.down (λ faults. faults ≡ last)
-        → TellsAll (record { size = size; capacity = capacity; order = after.entries; opened = opened; last = last }) 0 (lines ∷ []) (told ∷ []) }
+    ensures { (size capacity opened last : ℕ) (lines : List Line)
+        (told : List Told) (after : LogHistory)
+        → IsSegmentSize size → Plays size capacity opened (at_opening size) lines told after
+        → IfSome after.down (λ faults. faults ≡ last)
+        → TellsAll (record {
+          size = size;
+          capacity = capacity;
+          order = after.entries;
+          opened = opened;
+          last = last;
+        }) 0 (lines ∷ []) (told ∷ []) }
 {}
 
-/// A log that a disk holds for good survives a crash whole: every image that the crash may leave reads
-/// back as exactly the order, and then a clean end.
+/// Where a source tells what it had left, the script that was read off it means what all of that
+/// means.
+pub fn read_scripts_mean_all_that_was_left()
+    ensures { (before after : SourceView) (meaning : Result (List (List Line)) Refusal)
+        → ScriptMeans before after meaning
+        → IfSome before.left (λ bytes. meaning_of bytes ≡ meaning) }
+{}
+
+/// A log that a disk holds for good survives a crash whole: every image that the crash may leave
+/// reads back as exactly the order, and then a clean end.
 pub fn law_of_whole()
     ensures { HeldLogIsWhole }
 {}

@@ -15,7 +15,7 @@ mod told;
 
 pub use laws::{
     law_of_played_down, law_of_played_entries, law_of_played_full, law_of_played_tells,
-    law_of_whole,
+    law_of_whole, read_scripts_mean_all_that_was_left,
 };
 pub use log_answers::Cause;
 pub use outcome::Outcome;

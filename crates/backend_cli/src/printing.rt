@@ -19,7 +19,8 @@ pub(crate) fn put_told<O: Sink>(
     line: u32,
     told: &Told,
 ) -> Result<(), SinkFault>
-    ensures { Puts (O.taken out.old) (O.taken out.new) (O.faults out.old) (O.faults out.new) (told_line backend line told.now) result }
+    ensures { Puts (O.taken out.old) (O.taken out.new) (O.faults out.old) (O.faults out.new)
+        (told_line backend line told.now) result }
 {
     let mut backend_digits = itoa::Buffer::new();
     let mut line_digits = itoa::Buffer::new();
@@ -69,7 +70,8 @@ fn put_hard<'a, O: Sink>(
     moment: u64,
 ) -> Result<(), SinkFault>
     ensures { Puts (O.taken out.old) (O.taken out.new) (O.faults out.old) (O.faults out.new)
-        (joined (backend.now ∷ codes " " ∷ line.now ∷ answer_text (Told.Hard start end moment))) result }
+        (joined (backend.now ∷ codes " " ∷ line.now ∷
+        answer_text (Told.Hard start end moment))) result }
 {
     let mut digits = itoa::Buffer::new();
     put_all(
@@ -98,7 +100,8 @@ fn put_flushed<'a, O: Sink>(
     moment: u64,
 ) -> Result<(), SinkFault>
     ensures { Puts (O.taken out.old) (O.taken out.new) (O.faults out.old) (O.faults out.new)
-        (joined (backend.now ∷ codes " " ∷ line.now ∷ answer_text (Told.Flushed upto moment))) result }
+        (joined (backend.now ∷ codes " " ∷ line.now ∷
+        answer_text (Told.Flushed upto moment))) result }
 {
     let mut digits = itoa::Buffer::new();
     put_all(
@@ -145,7 +148,8 @@ fn put_refused<'a, O: Sink>(
     }
 }
 
-// The same of a line that a fault of the disk refused, with the start that was reserved all the same.
+// The same of a line that a fault of the disk refused, with the start that was reserved all the
+// same.
 fn put_fault<'a, O: Sink>(
     out: &mut O,
     backend: &'a [u8],
@@ -155,7 +159,8 @@ fn put_fault<'a, O: Sink>(
     reserved: &Option<Lsn>,
 ) -> Result<(), SinkFault>
     ensures { Puts (O.taken out.old) (O.taken out.new) (O.faults out.old) (O.faults out.new)
-        (joined (backend.now ∷ codes " " ∷ line.now ∷ word.now ∷ decimal faults ∷ reserved_text reserved.now)) result }
+        (joined (backend.now ∷ codes " " ∷ line.now ∷ word.now ∷ decimal faults ∷
+        reserved_text reserved.now)) result }
 {
     let mut digits = itoa::Buffer::new();
     let faults = digits.format(faults).as_bytes();
@@ -185,7 +190,8 @@ pub(crate) fn put_told_lines<O: Sink>(
     told: &[Told],
 ) -> Result<(), SinkFault>
     requires { length tasks.now ≡ length told.now }
-    ensures { Puts (O.taken out.old) (O.taken out.new) (O.faults out.old) (O.faults out.new) (task_lines backend tasks.now told.now) result }
+    ensures { Puts (O.taken out.old) (O.taken out.new) (O.faults out.old) (O.faults out.new)
+        (task_lines backend tasks.now told.now) result }
 {
     for (task, answer) in tasks.iter().zip(told) {
         put_told(out, backend, task.number, answer)?;
@@ -205,7 +211,8 @@ pub(crate) struct Summary {
 
 impl Summary {
     pub(crate) fn put<O: Sink>(&self, out: &mut O) -> Result<(), SinkFault>
-        ensures { Puts (O.taken out.old) (O.taken out.new) (O.faults out.old) (O.faults out.new) (summary_line self.now) result }
+        ensures { Puts (O.taken out.old) (O.taken out.new) (O.faults out.old) (O.faults out.new)
+            (summary_line self.now) result }
     {
         let mut records = itoa::Buffer::new();
         let mut commits = itoa::Buffer::new();

@@ -2,7 +2,7 @@ ghost use Rattle.std.specs.Prelude.{◌≡◌, map, string_bytes};
 ghost use Rattle.waldump_text.specs.Put.{joined};
 ghost use Rattle.command_words.specs.Words.{AsksInRange, asks};
 ghost use Rattle.backend_cli.specs.Outcome.{status_of, outcome_text};
-ghost use Rattle.backend_cli.specs.Outside.{Took};
+ghost use Rattle.backend_cli.specs.Outside.{Took, outside_of, source_view};
 ghost use Rattle.backend_cli.specs.Obeying.{Obeys, AsksRun};
 ghost use Rattle.backend_cli.specs.declared.outcome.Outcome.{Outcome};
 
@@ -22,7 +22,8 @@ pub trait Gate {
     fn pass(&self, backend: u32, line: u32);
 }
 
-/// How the program ended: its exit status, the disk, and what each line of each backend was told (no list where no log was opened).
+/// How the program ended: its exit status, the disk, and what each line of each backend was told
+/// (no list where no log was opened).
 #[derive(Drop)]
 pub struct Ended<D> {
     pub status: u8,
@@ -40,23 +41,13 @@ fn obey<S: Source, O: Sink, D: Disk, G: Gate>(
     gate: &G,
 ) -> Finished<D>
     requires in_range { AsksInRange command }
-    ensures obeys { Obeys command (record {
-      source = S.left script.old;
-      source_left = S.left script.new;
-      source_before = S.faults script.old;
-      source_after = S.faults script.new;
-      tape_before = D.tape disk;
-      tape_after = D.tape result.disk;
-      moment_before = D.moment disk;
-      moment_after = D.moment result.disk;
-      disk_before = D.faults disk;
-      disk_after = D.faults result.disk;
-      taken_before = O.taken out.old;
-      taken_after = O.taken out.new;
-      sink_before = O.faults out.old;
-      sink_after = O.faults out.new;
-    }) result.outcome result.told }
-    ensures as_handed_in { AsksRun command → result.outcome ≡ Outcome.OutOfMemory → result.disk ≡ disk }
+    ensures obeys { Obeys command (outside_of
+        (source_view S.left S.handed S.faults script.old)
+        (source_view S.left S.handed S.faults script.new)
+        D.tape D.moment D.faults disk result.disk O.taken O.faults out.old out.new)
+        result.outcome result.told }
+    ensures as_handed_in { AsksRun command → result.outcome ≡ Outcome.OutOfMemory
+        → result.disk ≡ disk }
 {
     match &command {
         None => Finished {
@@ -78,8 +69,8 @@ fn obey<S: Source, O: Sink, D: Disk, G: Gate>(
 
 /// Does what the words of a command line ask for.
 ///
-/// `words` begin with the program's name. Standard output goes to `out`; `err` takes the line of a status that is not 0.
-/// The threads of `rt` are not used yet: there is one backend.
+/// `words` begin with the program's name. Standard output goes to `out`; `err` takes the line of a
+/// status that is not 0. The threads of `rt` are not used yet: there is one backend.
 pub fn pgwal<R: Threads + Wait + Sync, S: Source, O: Sink, E: Sink, D: Disk + Send, G: Gate + Sync>(
     _rt: &R,
     alloc: Global,
@@ -90,27 +81,19 @@ pub fn pgwal<R: Threads + Wait + Sync, S: Source, O: Sink, E: Sink, D: Disk + Se
     err: &mut E,
     gate: &G,
 ) -> Ended<D>
-    // The status and its line on `err` are those of one outcome; for it the command's promises hold: of `run` told, gapless, whole, printed, and how it ends; of `dump` listed.
+    // The status and its line on `err` are those of one outcome; for it the command's promises
+    // hold: of `run` told, gapless, whole, printed, and how it ends; of `dump` listed.
     ensures obeys { (outcome : Outcome) × (result.status ≡ status_of outcome)
-        × Took (E.taken err.old) (E.taken err.new) (E.faults err.old) (E.faults err.new) (joined (outcome_text outcome))
-        × Obeys (asks (map (λ w. string_bytes w) words.now)) (record {
-          source = S.left script.old;
-          source_left = S.left script.new;
-          source_before = S.faults script.old;
-          source_after = S.faults script.new;
-          tape_before = D.tape disk;
-          tape_after = D.tape result.disk;
-          moment_before = D.moment disk;
-          moment_after = D.moment result.disk;
-          disk_before = D.faults disk;
-          disk_after = D.faults result.disk;
-          taken_before = O.taken out.old;
-          taken_after = O.taken out.new;
-          sink_before = O.faults out.old;
-          sink_after = O.faults out.new;
-        }) outcome result.told }
+        × Took (E.taken err.old) (E.taken err.new) (E.faults err.old) (E.faults err.new)
+        (joined (outcome_text outcome))
+        × Obeys (asks (map (λ w. string_bytes w) words.now)) (outside_of
+        (source_view S.left S.handed S.faults script.old)
+        (source_view S.left S.handed S.faults script.new)
+        D.tape D.moment D.faults disk result.disk O.taken O.faults out.old out.new)
+        outcome result.told }
     // A run that ends for want of memory hands the disk back as it came.
-    ensures as_handed_in { AsksRun (asks (map (λ w. string_bytes w) words.now)) → result.status ≡ 1 → result.disk ≡ disk }
+    ensures as_handed_in { AsksRun (asks (map (λ w. string_bytes w) words.now)) → result.status ≡ 1
+        → result.disk ≡ disk }
 {
     let Finished {
         outcome,

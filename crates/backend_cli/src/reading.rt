@@ -1,4 +1,5 @@
 ghost use Rattle.std.specs.Prelude.{◌<◌, length};
+ghost use Rattle.backend_cli.specs.Outside.{source_view};
 ghost use Rattle.backend_cli.specs.Reading.{ReadsAll, ReadsUpto};
 
 use segment_disk::Source;
@@ -28,7 +29,9 @@ const PIECE: usize = 65_536;
 
 /// Reads a script to its end, or to one byte past its limit.
 pub(crate) fn read_script<S: Source>(alloc: Global, source: &mut S) -> Result<Vec<u8>, ReadFailure>
-    ensures { ReadsAll (S.left source.old) (S.left source.new) (S.faults source.old) (S.faults source.new) result }
+    ensures { ReadsAll
+        (source_view S.left S.handed S.faults source.old)
+        (source_view S.left S.handed S.faults source.new) result }
 {
     let mut piece = vec![in alloc; 0u8; PIECE]?;
     read_upto(alloc, source, &mut piece, SCRIPT_LIMIT + 1)
@@ -42,7 +45,9 @@ fn read_upto<S: Source>(
     most: usize,
 ) -> Result<Vec<u8>, ReadFailure>
     requires { 0 < length piece.old }
-    ensures { ReadsUpto most (S.left source.old) (S.left source.new) (S.faults source.old) (S.faults source.new) result }
+    ensures { ReadsUpto most
+        (source_view S.left S.handed S.faults source.old)
+        (source_view S.left S.handed S.faults source.new) result }
 {
     let mut bytes = Vec::new(alloc);
     while bytes.len() < most {

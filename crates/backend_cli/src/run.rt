@@ -1,4 +1,4 @@
-ghost use Rattle.std.specs.Prelude.{◌≡◌, ◌≤◌, ◌<◌, ℕ, All, List, [], ◌∷◌, Option, length, IfOk, IsTrue, false, not};
+ghost use Rattle.std.specs.Prelude.{◌≡◌, ◌≤◌, ◌<◌, All, List, [], ◌∷◌, length, Ok, IfOk, IsTrue, false, not};
 ghost use Rattle.wal_script.specs.declared.line.Line.{Line};
 ghost use Rattle.wal_script.specs.Writable.{AsksWritable};
 ghost use Rattle.waldump_text.specs.Put.{Puts};
@@ -8,8 +8,9 @@ ghost use Rattle.backend_cli.specs.Texts.{reserved_count, commits_of};
 ghost use Rattle.backend_cli.specs.Printing.{printed_text, Summarizes};
 ghost use Rattle.backend_cli.specs.Concluding.{Concludes};
 ghost use Rattle.backend_cli.specs.Run.{RunHolds};
-ghost use Rattle.backend_cli.specs.Prepared.{Prepares, ReadsLines, IsPrepared, MeansLines};
-ghost use Rattle.backend_cli.specs.Reading.{IsReadAll};
+ghost use Rattle.backend_cli.specs.Outside.{SourceView, outside_of, source_view};
+ghost use Rattle.backend_cli.specs.Prepared.{Prepares, ReadsLines, IsPrepared};
+ghost use Rattle.backend_cli.specs.Reading.{ScriptMeans};
 
 use crate::outcome::Outcome;
 use crate::play::play;
@@ -48,7 +49,9 @@ struct Prepared {
 const SYSTEM_ID: u64 = 1;
 
 fn lines_of<S: Source>(alloc: Global, source: &mut S) -> Result<Vec<Line>, Outcome>
-    ensures { ReadsLines (S.left source.old) (S.left source.new) (S.faults source.old) (S.faults source.new) result }
+    ensures { ReadsLines
+        (source_view S.left S.handed S.faults source.old)
+        (source_view S.left S.handed S.faults source.new) result }
 {
     let script = match read_script(alloc, source) {
         Ok(script) => script,
@@ -78,7 +81,9 @@ fn room_for(alloc: Global, shape: Shape, lines: &[Line]) -> Result<Prepared, All
 
 // Reads the script and takes all room.
 fn prepare<S: Source>(alloc: Global, shape: &Shape, source: &mut S) -> Result<Prepared, Outcome>
-    ensures { Prepares (S.left source.old) (S.left source.new) shape.now (S.faults source.old) (S.faults source.new) result }
+    ensures { Prepares
+        (source_view S.left S.handed S.faults source.old)
+        (source_view S.left S.handed S.faults source.new) shape.now result }
 {
     let lines = lines_of(alloc, source)?;
     match room_for(alloc, *shape, &lines) {
@@ -188,23 +193,12 @@ fn run_prepared<O: Sink, D: Disk, G: Gate>(
     gate: &G,
 ) -> Finished<D>
     requires { (lines : List Line) × IsPrepared shape lines prepared }
-    ensures holds { (source left : Option (List ℕ)) (count : ℕ) (lines : List Line) → IsReadAll source left → MeansLines source lines → IsPrepared shape lines prepared
-        → RunHolds (record {
-          source = source;
-          source_left = left;
-          source_before = count;
-          source_after = count;
-          tape_before = D.tape disk;
-          tape_after = D.tape result.disk;
-          moment_before = D.moment disk;
-          moment_after = D.moment result.disk;
-          disk_before = D.faults disk;
-          disk_after = D.faults result.disk;
-          taken_before = O.taken out.old;
-          taken_after = O.taken out.new;
-          sink_before = O.faults out.old;
-          sink_after = O.faults out.new;
-        }) shape.geometry (capacity_of shape.geometry shape.cap_segments) list result.outcome result.told }
+    ensures holds { (before after : SourceView) (lines : List Line)
+        → ScriptMeans before after (Ok (lines ∷ [])) → IsPrepared shape lines prepared
+        → RunHolds (outside_of before after
+        D.tape D.moment D.faults disk result.disk O.taken O.faults out.old out.new)
+        shape.geometry (capacity_of shape.geometry shape.cap_segments)
+        list result.outcome result.told }
     ensures no_memory { result.outcome ≡ Outcome.OutOfMemory → ⊥ }
 {
     let Prepared {
@@ -250,22 +244,12 @@ pub(crate) fn run<S: Source, O: Sink, D: Disk, G: Gate>(
     out: &mut O,
     gate: &G,
 ) -> Finished<D>
-    ensures holds { RunHolds (record {
-      source = S.left source.old;
-      source_left = S.left source.new;
-      source_before = S.faults source.old;
-      source_after = S.faults source.new;
-      tape_before = D.tape disk;
-      tape_after = D.tape result.disk;
-      moment_before = D.moment disk;
-      moment_after = D.moment result.disk;
-      disk_before = D.faults disk;
-      disk_after = D.faults result.disk;
-      taken_before = O.taken out.old;
-      taken_after = O.taken out.new;
-      sink_before = O.faults out.old;
-      sink_after = O.faults out.new;
-    }) shape.geometry (capacity_of shape.geometry shape.cap_segments) list result.outcome result.told }
+    ensures holds { RunHolds (outside_of
+        (source_view S.left S.handed S.faults source.old)
+        (source_view S.left S.handed S.faults source.new)
+        D.tape D.moment D.faults disk result.disk O.taken O.faults out.old out.new)
+        shape.geometry (capacity_of shape.geometry shape.cap_segments)
+        list result.outcome result.told }
     ensures as_handed_in { result.outcome ≡ Outcome.OutOfMemory → result.disk ≡ disk }
 {
     match prepare(alloc, &shape, source) {

@@ -5,7 +5,8 @@ use Rattle.wal_types.specs.Hexadecimal.{eight_digits}
 
 -- whether this is a size of segments: a power of two from 1 MiB to 1 GiB
 abbrev pub is_segment_size : ℕ → Bool
-is_segment_size size = list_any (λ k. size == 2 ^ k) (20 ∷ 21 ∷ 22 ∷ 23 ∷ 24 ∷ 25 ∷ 26 ∷ 27 ∷ 28 ∷ 29 ∷ 30 ∷ [])
+is_segment_size size =
+    list_any (λ k. size == 2 ^ k) (20 ∷ 21 ∷ 22 ∷ 23 ∷ 24 ∷ 25 ∷ 26 ∷ 27 ∷ 28 ∷ 29 ∷ 30 ∷ [])
 
 abbrev pub IsSegmentSize : ℕ → Type 0
 IsSegmentSize size = IsTrue (is_segment_size size)
@@ -16,4 +17,5 @@ pages_of size = size / 8192
 
 -- a segment's file name: timeline 1, then the segment's number in two parts, eight digits each
 abbrev pub file_name : ℕ → ℕ → List ℕ
-file_name size segment = eight_digits 1 ++ eight_digits (segment / (2 ^ 32 / size)) ++ eight_digits (segment % (2 ^ 32 / size))
+file_name size segment = eight_digits 1 ++ eight_digits (segment / (2 ^ 32 / size))
+    ++ eight_digits (segment % (2 ^ 32 / size))

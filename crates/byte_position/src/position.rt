@@ -54,6 +54,16 @@ impl Geometry {
         }
     }
 
+    /// How many bytes below an address are in no header: the byte position of a byte in none, and
+    /// in a header that of the page's first byte behind it.
+    pub fn position_of(self, at: Lsn) -> u64
+        ensures { result ≡ position_of self at.0 }
+    {
+        let page = at.0 / PAGE_SIZE;
+        let behind_header = (at.0 % PAGE_SIZE).saturating_sub(self.header_size(page));
+        self.position_of_page(page) + behind_header
+    }
+
     /// Whether the byte at an address is in a page header. Only near a page's start does it look at
     /// the segment.
     pub fn is_in_header(self, at: Lsn) -> bool

@@ -31,11 +31,14 @@ no_options = record {
 -- the value of the option that awaits it
 abbrev pub with_value : Valued → GivenOptions → List ℕ → Option GivenOptions
 with_value SegmentSize given word =
-    option_and_then (λ n. Some (record given { segment_size = Some n; awaited = None })) (segment_size_of word)
+    option_and_then (λ n. Some (record given { segment_size = Some n; awaited = None }))
+    (segment_size_of word)
 with_value RingPages given word =
-    option_and_then (λ n. Some (record given { ring_pages = Some n; awaited = None })) (count_of word)
+    option_and_then (λ n. Some (record given { ring_pages = Some n; awaited = None }))
+    (count_of word)
 with_value CapSegments given word =
-    option_and_then (λ n. Some (record given { cap_segments = Some n; awaited = None })) (count_of word)
+    option_and_then (λ n. Some (record given { cap_segments = Some n; awaited = None }))
+    (count_of word)
 
 -- an option, each at most once: `dump` takes `--seg`, `run` each
 abbrev pub with_option : Bool → GivenOptions → List ℕ → Option GivenOptions

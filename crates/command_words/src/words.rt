@@ -163,8 +163,8 @@ fn given_options(is_run: bool, words: &[String]) -> Option<GivenOptions>
     }
 }
 
-/// What the words ask for: the program's name, a command's name, and options of that command. None where
-/// they are no command.
+/// What the words ask for: the program's name, a command's name, and options of that command. None
+/// where they are no command.
 pub fn asked(words: &[String]) -> Option<Command>
     ensures asks { result ≡ asks (map (λ w. string_bytes w) words.now) }
     ensures in_range { AsksInRange result }

@@ -17,9 +17,11 @@ decimal_value field = number_from_digits 10 (map (λ c. c - 48) field)
 -- a number of at most `most`
 abbrev pub number_of : ℕ → List ℕ → Option ℕ
 number_of most field =
-    if is_decimal field && nat_le (decimal_value field) most then Some (decimal_value field) else None
+    if is_decimal field && nat_le (decimal_value field) most
+    then Some (decimal_value field) else None
 
--- the 64 bits of the signed number below 0 that these digits spell behind `-`, `most` of them at most
+-- the 64 bits of the signed number below 0 that these digits spell behind `-`; the digits alone
+-- spell at most `most`
 abbrev pub negated : ℕ → List ℕ → Option ℕ
 negated most digits =
     if is_decimal digits && nat_le 1 (decimal_value digits) && nat_le (decimal_value digits) most

@@ -21,8 +21,8 @@ pub fn number(field: &[u8], most: u64) -> Option<u64>
     (value <= most).then_some(value)
 }
 
-/// A field as a time in microseconds, in the 64 bits of a signed number: as `number`, with `-` in front
-/// where it is below 0.
+/// A field as a time in microseconds, in the 64 bits of a signed number: as `number`, with `-` in
+/// front where it is below 0.
 pub fn time(field: &[u8]) -> Option<u64>
     ensures { result ≡ time_of field.now }
 {

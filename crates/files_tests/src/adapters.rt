@@ -1,4 +1,4 @@
-use crate::calls::{read_piece, write_piece};
+use disk_tests::calls::{read_piece, write_piece};
 use segment_disk::{Failed, Sink, Source};
 use segment_files::{StandardSink, StandardSource};
 use std::io;

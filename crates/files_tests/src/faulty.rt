@@ -1,6 +1,6 @@
 //! Files of the system of which one call fails each time.
-use crate::calls::{create, read_page, sync, write_page};
 use crate::folders::{above, names};
+use disk_tests::calls::{create, read_page, sync, write_page};
 use segment_disk::Failed;
 use segment_files::FileDisk;
 use std::alloc::Allocator;

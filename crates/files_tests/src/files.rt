@@ -1,5 +1,5 @@
-use crate::calls::{create, crosses_threads, read_page, sync, write_page};
 use crate::folders::{above, mode, names};
+use disk_tests::calls::{create, crosses_threads, read_page, sync, write_page};
 use segment_disk::{Disk, Failed};
 use segment_files::FileDisk;
 use std::fs;
@@ -73,6 +73,10 @@ fn pages_are_read_by_another_object(rt: HostRuntime) -> Result<(), Fail> {
     ] {
         assert_eq!(rt; read_page(&mut other, 1, page), Ok(Some(byte)));
     }
+    // What was read ahead is read anew where it is asked for again.
+    assert_eq!(rt; write_page(&mut disk, 1, 76, 9), Ok(()));
+    assert_eq!(rt; sync(&mut disk, 1), Ok(()));
+    assert_eq!(rt; read_page(&mut other, 1, 76), Ok(Some(9)));
     assert_eq!(rt; other.moment(), 0);
     fs::remove_dir_all(&rt, folder.as_str())?;
     Ok(())

@@ -4,8 +4,6 @@
 #[cfg(test)]
 mod adapters;
 #[cfg(test)]
-mod calls;
-#[cfg(test)]
 mod faulty;
 #[cfg(test)]
 mod files;

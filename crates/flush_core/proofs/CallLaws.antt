@@ -1,9 +1,9 @@
 -- What a list of calls leaves, and where it breaks off.
-use Rattle.std.proofs.Common.{◌≡◌, ℕ, ◌+◌, ◌⊎◌, inl, inr, Bool, true, false, List, [], ◌∷◌, ◌++◌, length, Option, Some, None, IfSome, refl, sym, ap, subst, if◌then◌else◌, arith}
+use Rattle.std.proofs.Common.{◌≡◌, ℕ, ◌+◌, Bool, true, false, List, [], ◌∷◌, ◌++◌, length, Option, Some, None, IfSome, refl, sym, ap, subst, if◌then◌else◌, arith}
 use Rattle.segment_disk.specs.declared.disk.Call.{Call}
-use Rattle.segment_disk.specs.Tape.{DiskState, Tape, after_calls, state_now, with_call, IsMade, IsNotMade}
+use Rattle.segment_disk.specs.Tape.{DiskState, Tape, Fails, after_calls, create_call, state_now, sync_call, with_call, write_call}
 use Rattle.segment_disk.proofs.Reading.{after_calls-push}
-use Rattle.flush_core.specs.Calls.{create_call, write_call, sync_call, store_calls, with_calls, failed_call, Fails, BreaksOff}
+use Rattle.flush_core.specs.Calls.{store_calls, with_calls, BreaksOff}
 
 -- what holds of the state after the calls holds of the disk with them
 pub holds-with_calls : (P : DiskState → Type 0) (tape : Option Tape) (calls : List Call) → IfSome tape (λ t. P (after_calls (state_now t) calls)) → IfSome (with_calls tape calls) (λ t. P (state_now t))
@@ -22,11 +22,6 @@ breaks_off old mid new old_moment mid_moment new_moment front next others calls 
   are = are;
   fails = subst (λ (m : ℕ). Fails (with_calls old front) new m new_moment next) moment (subst (λ (t : Option Tape). Fails t new mid_moment new_moment next) made fails);
 }
-
--- a call that cannot be left half done
-pub fails_whole : (old new : Option Tape) (old_moment new_moment : ℕ) (call : Call) → IsMade old new old_moment new_moment (failed_call true call) ⊎ IsNotMade old new old_moment new_moment → Fails old new old_moment new_moment call
-fails_whole old new old_moment new_moment call (inl made) = inl (true, made)
-fails_whole old new old_moment new_moment call (inr not_made) = inr not_made
 
 module _ (size segment page : ℕ) (is_full : Bool) (bytes : List ℕ) (old new : Option Tape) (old_moment new_moment : ℕ) where
   -- a page is not stored where its segment is not made

@@ -7,10 +7,10 @@ use Rattle.byte_position.specs.Geometry.{pages_of}
 use Rattle.segment_disk.specs.declared.disk.Call.{Call}
 use Rattle.segment_disk.specs.declared.disk.CallKind.{CallKind}
 use Rattle.segment_disk.specs.declared.disk.CallKind.TheVariants.{Create, Write, Sync}
-use Rattle.segment_disk.specs.Tape.{Segment, DiskState, Tape, zero_page, after_writes, segment_after, after_call, after_calls, state_now, with_call, IsMade, IsNotMade}
+use Rattle.segment_disk.specs.Tape.{Segment, DiskState, Tape, zero_page, after_writes, segment_after, after_call, after_calls, state_now, with_call, Fails, failed_call}
 use Rattle.segment_disk.specs.DiskImage.{DiskImage, ImageSegment, word_of, IsWritten, MayLeaveSegment, MayLeave, when_done}
 use Rattle.segment_disk.proofs.Reading.{after_calls-push}
-use Rattle.flush_core.specs.Calls.{store_calls, with_calls, failed_call, BreaksOff}
+use Rattle.flush_core.specs.Calls.{store_calls, with_calls, BreaksOff}
 use Rattle.flush_core.specs.Left.{SegmentFits, DiskImageFits, SegmentAssures, StateAssures, TapeAssures}
 use Rattle.flush_core.proofs.StateLaws.{after_each}
 
@@ -167,16 +167,18 @@ module _ (size : ℕ) (IsThere : ℕ → Type 0) (Fits : ℕ → ℕ → List �
   TapeAssures-with_calls moment tape [] fit assures = assures
   TapeAssures-with_calls moment tape (call ∷ calls) fit assures = TapeAssures-with_calls moment (with_call tape call) calls fit.1 (TapeAssures-with_call moment tape call fit.0 assures)
 
-  -- a call that failed
-  pub TapeAssures-failed : (moment : ℕ) (old new : Option Tape) (old_moment new_moment : ℕ) (call : Call) → CallFits call → IsMade old new old_moment new_moment call ⊎ IsNotMade old new old_moment new_moment
-      → IfSome old (TapeAssures size IsThere Fits moment) → IfSome new (TapeAssures size IsThere Fits moment)
-  TapeAssures-failed moment old new old_moment new_moment call fits (inl made) assures = subst (λ (t : Option Tape). IfSome t (TapeAssures size IsThere Fits moment)) (sym made.tape) (TapeAssures-with_call moment old call fits assures)
-  TapeAssures-failed moment old new old_moment new_moment call fits (inr not_made) assures = subst (λ (t : Option Tape). IfSome t (TapeAssures size IsThere Fits moment)) (sym not_made.tape) assures
-
   failed_fits : (geometry segment : ℕ) (kind : CallKind) (done made : Bool) → KindFits geometry segment kind → (let call : Call = record { geometry = geometry; segment = segment; kind = kind; done = done } in CallFits (failed_call made call))
   failed_fits geometry segment (Create any) done made fits = fits
   failed_fits geometry segment (Write page bytes) done made fits = fits
   failed_fits geometry segment Sync done made fits = fits
+
+  -- a call that failed
+  pub TapeAssures-failed : (moment : ℕ) (old new : Option Tape) (old_moment new_moment : ℕ) (call : Call) → CallFits call → Fails old new old_moment new_moment call
+      → IfSome old (TapeAssures size IsThere Fits moment) → IfSome new (TapeAssures size IsThere Fits moment)
+  TapeAssures-failed moment old new old_moment new_moment call fits (inl failed) assures =
+      subst (λ (t : Option Tape). IfSome t (TapeAssures size IsThere Fits moment)) (sym failed.1.tape)
+      (TapeAssures-with_call moment old (failed_call failed.0 call) (failed_fits call.geometry call.segment call.kind call.done failed.0 fits) assures)
+  TapeAssures-failed moment old new old_moment new_moment call fits (inr not_made) assures = subst (λ (t : Option Tape). IfSome t (TapeAssures size IsThere Fits moment)) (sym not_made.same_tape) assures
 
   front_fits : (front : List Call) (next : Call) (others : List Call) → AllFit (front ++ next ∷ others) → AllFit front × CallFits next
   front_fits [] next others fit = (tt, fit.0)
@@ -189,11 +191,7 @@ module _ (size : ℕ) (IsThere : ℕ → Type 0) (Fits : ℕ → ℕ → List �
       let next = broken.next in
       let parts = front_fits broken.front next broken.others (subst AllFit broken.are fit) in
       let front = TapeAssures-with_calls moment old broken.front parts.0 assures in
-      let fits = λ (made : Bool). failed_fits next.geometry next.segment next.kind next.done made parts.1 in
-      elim broken.fails [
-        | inl failed ↦ TapeAssures-failed moment (with_calls old broken.front) new _ new_moment (failed_call failed.0 next) (fits failed.0) (inl failed.1) front
-        | inr not_made ↦ TapeAssures-failed moment (with_calls old broken.front) new _ new_moment (failed_call true next) (fits true) (inr not_made) front
-      ]
+      TapeAssures-failed moment (with_calls old broken.front) new _ new_moment next parts.1 broken.fails front
 
   -- the calls that store a page fit where the page does, and zeros do where its segment is made
   pub store_fits : (segment page : ℕ) (bytes : List ℕ) (is_new is_full : Bool) → (is_new ≡ true → (k word : ℕ) → k < pages_of size → word < 1024 → Fits (segment * pages_of size + k) word (word_of zero_page word))

@@ -5,9 +5,9 @@ use Rattle.std.proofs.lemmas.Nat.{div-mul-add}
 use Rattle.std.proofs.Math.Nat.{div-add-mod, div-div-eq-div-mul}
 use Rattle.byte_position.specs.Geometry.{IsSegmentSize, pages_of}
 use Rattle.byte_position.proofs.SegmentSizes.{segment_size_in_pages}
-use Rattle.segment_disk.specs.Tape.{Segment, DiskState, zero_page, after_call, after_calls, after_writes}
+use Rattle.segment_disk.specs.Tape.{Segment, DiskState, zero_page, after_call, after_calls, after_writes, sync_call}
 use Rattle.segment_disk.specs.DiskImage.{DiskImage, ImageSegment, MayLeave, MayLeaveSegment, image_as_read}
-use Rattle.flush_core.specs.Calls.{sync_call, store_calls, put_calls}
+use Rattle.flush_core.specs.Calls.{store_calls, put_calls}
 use Rattle.flush_core.specs.Pages.{PutPages, with_page, made_upto, HoldsSegment, HoldsPages, HoldsPut, ArePutUpto, unsynced_writes}
 use Rattle.flush_core.proofs.StateLaws.{Stands, stands_created, stands_written, stands_synced}
 use Rattle.flush_core.proofs.Words.{left_page}

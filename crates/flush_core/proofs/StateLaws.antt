@@ -5,9 +5,8 @@ use Rattle.std.proofs.lemmas.Nat.{div-mul-add}
 use Rattle.byte_position.specs.Geometry.{pages_of}
 use Rattle.segment_disk.specs.declared.disk.Call.{Call}
 use Rattle.segment_disk.specs.declared.disk.CallKind.TheVariants.{Write, Sync}
-use Rattle.segment_disk.specs.Tape.{Segment, DiskState, zero_page, after_writes, segment_after, after_call}
+use Rattle.segment_disk.specs.Tape.{Segment, DiskState, zero_page, after_writes, segment_after, after_call, create_call, write_call, sync_call}
 use Rattle.segment_disk.specs.DiskImage.{image_as_read}
-use Rattle.flush_core.specs.Calls.{create_call, write_call, sync_call}
 use Rattle.flush_core.specs.Pages.{PutPages, with_page, HoldsSegment, HoldsPages, unsynced_writes}
 
 -- what a disk holds while only one segment may have writes that wait for a sync

@@ -4,12 +4,12 @@ use Rattle.std.proofs.lemmas.Option.{IfSome_then}
 use Rattle.byte_position.specs.Geometry.{IsSegmentSize, pages_of}
 use Rattle.wal_types.specs.declared.lsn.Lsn.{Lsn}
 use Rattle.segment_disk.specs.declared.disk.Call.{Call}
-use Rattle.segment_disk.specs.Tape.{DiskState, Tape, state_now, with_call, IsMade, IsNotMade}
+use Rattle.segment_disk.specs.Tape.{DiskState, Tape, Fails, state_now, sync_call, with_call}
 use Rattle.flush_core.specs.declared.writer.Writer.{Writer}
-use Rattle.flush_core.specs.Calls.{sync_call, store_calls, put_calls, harden_calls, with_calls}
+use Rattle.flush_core.specs.Calls.{store_calls, put_calls, harden_calls, with_calls}
 use Rattle.flush_core.specs.Pages.{PutPages, with_page, HoldsPut}
 use Rattle.flush_core.specs.Writer.{IsWriter, TellsFault}
-use Rattle.flush_core.proofs.CallLaws.{holds-with_calls, breaks_off, fails_whole}
+use Rattle.flush_core.proofs.CallLaws.{holds-with_calls, breaks_off}
 use Rattle.flush_core.proofs.PutLaws.{HoldsPut-put, HoldsPut-synced, ArePutUpto-put}
 
 -- the calls of a page's place are those that put it
@@ -50,7 +50,7 @@ module _ (D : Type 0) (tape : D → Option Tape) (old : Writer D) (disk : D) whe
 
   -- the sync failed
   pub harden_failed : (moment faults : D → ℕ) (new : Writer D) (told : ℕ) → old.unsynced ≡ true → old.fault ≡ None
-      → (let call : Call = record { geometry = old.geometry; segment = old.written.0 / old.geometry; kind = (sync_call 0 0).kind; done = false } in IsMade (tape old.disk) (tape disk) (moment old.disk) (moment disk) call ⊎ IsNotMade (tape old.disk) (tape disk) (moment old.disk) (moment disk))
+      → Fails (tape old.disk) (tape disk) (moment old.disk) (moment disk) (sync_call old.geometry (old.written.0 / old.geometry))
       → (faults disk ≡ faults old.disk + 1) ⊎ ((faults disk ≡ faults old.disk) × (faults disk ≡ 2 ^ 64 - 1)) → told ≡ faults disk → new ≡ record old { disk = disk; fault = Some told }
       → TellsFault tape moment faults old new told (harden_calls old.geometry old.written.0 old.unsynced)
   harden_failed moment faults new told waits was_up fails cause is_told kept =
@@ -62,5 +62,5 @@ module _ (D : Type 0) (tape : D → Option Tape) (old : Writer D) (disk : D) whe
         is_told = is_told;
         rose = elim cause [ inl more ↦ inl (omega arith) | inr last ↦ inr (is_told ∙ last.1) ];
         made = breaks_off (tape old.disk) (tape old.disk) (tape disk) (moment old.disk) (moment old.disk) (moment disk) [] call [] (harden_calls old.geometry old.written.0 old.unsynced) (ap (harden_calls old.geometry old.written.0) waits) refl (omega arith)
-            (fails_whole (tape old.disk) (tape disk) (moment old.disk) (moment disk) call fails);
+            fails;
       }))

@@ -1,33 +1,29 @@
 -- The calls that a writer makes of its disk.
-use Rattle.std.specs.Prelude.{◌≡◌, ℕ, ◌+◌, ◌/◌, ◌%◌, ◌⊎◌, Bool, true, false, List, [], ◌∷◌, ◌++◌, length, Option, ◌==◌, if◌then◌else◌}
+use Rattle.std.specs.Prelude.{◌≡◌, ℕ, ◌+◌, ◌/◌, ◌%◌, Bool, List, [], ◌∷◌, ◌++◌, length, Option, ◌==◌, if◌then◌else◌}
 use Rattle.byte_position.specs.Geometry.{pages_of}
 use Rattle.segment_disk.specs.declared.disk.Call.{Call}
-use Rattle.segment_disk.specs.declared.disk.CallKind.{CallKind}
-use Rattle.segment_disk.specs.declared.disk.CallKind.TheVariants.{Create, Write, Sync}
-use Rattle.segment_disk.specs.Tape.{Tape, with_call, IsMade, IsNotMade}
+use Rattle.segment_disk.specs.Tape.{Tape, Fails, create_call, sync_call, with_call, write_call}
 
--- the calls, each done
-abbrev pub create_call : ℕ → ℕ → Call
-create_call size segment = record { geometry = size; segment = segment; kind = Create true; done = true }
-
-abbrev pub write_call : ℕ → ℕ → ℕ → List ℕ → Call
-write_call size segment page bytes = record { geometry = size; segment = segment; kind = Write page (record { bytes = bytes }); done = true }
-
-abbrev pub sync_call : ℕ → ℕ → Call
-sync_call size segment = record { geometry = size; segment = segment; kind = Sync; done = true }
-
--- the calls that store a page: its segment is made before where it is new, and synced behind where it is full
+-- the calls that store a page: its segment is made before where it is new, and synced behind where
+-- it is full
 abbrev pub store_calls : ℕ → ℕ → ℕ → Bool → Bool → List ℕ → List Call
 store_calls size segment page is_new is_full bytes =
-    (if is_new then create_call size segment ∷ [] else []) ++ write_call size segment page bytes ∷ [] ++ (if is_full then sync_call size segment ∷ [] else [])
+    (if is_new then create_call size segment ∷ [] else [])
+    ++ write_call size segment page bytes ∷ []
+    ++ (if is_full then sync_call size segment ∷ [] else [])
 
--- the calls that put a page: its segment is new where none of it is written yet, and full where then all of it is
+-- the calls that put a page: its segment is new where none of it is written yet, and full where
+-- then all of it is
 abbrev pub put_calls : ℕ → ℕ → ℕ → ℕ → List ℕ → List Call
-put_calls size written page upto bytes = store_calls size (page / pages_of size) (page % pages_of size) (written % size == 0) (upto % size == 0) bytes
+put_calls size written page upto bytes =
+    store_calls size (page / pages_of size) (page % pages_of size)
+    (written % size == 0) (upto % size == 0) bytes
 
--- the calls that harden what is written: one sync of the segment under way, where something waits for it
+-- the calls that harden what is written: one sync of the segment under way, where something waits
+-- for it
 abbrev pub harden_calls : ℕ → ℕ → Bool → List Call
-harden_calls size written unsynced = if unsynced then sync_call size (written / size) ∷ [] else []
+harden_calls size written unsynced =
+    if unsynced then sync_call size (written / size) ∷ [] else []
 
 -- the disk with these calls more
 abbrev pub with_calls : Option Tape → List Call → Option Tape
@@ -35,25 +31,14 @@ with_calls tape [] = tape
 with_calls tape (call ∷ calls) = with_calls (with_call tape call) calls
 
 -- all of these calls were made, and nothing else
-pub record AreMade (old new : Option Tape) (old_moment new_moment : ℕ) (calls : List Call) : Type 0 where
+pub record AreMade (old new : Option Tape) (old_moment new_moment : ℕ) (calls : List Call)
+    : Type 0 where
   pub tape : new ≡ with_calls old calls
   pub moment : new_moment ≡ old_moment + length calls
 
--- a call that failed; a create may have left the segment
-abbrev pub failed_call : Bool → Call → Call
-failed_call made call = record call { kind = kind_of call.kind; done = false }
-  where
-    kind_of : CallKind → CallKind
-    kind_of (Create any) = Create made
-    kind_of (Write page bytes) = Write page bytes
-    kind_of Sync = Sync
-
--- a call failed, counted or not
-abbrev pub Fails : Option Tape → Option Tape → ℕ → ℕ → Call → Type 0
-Fails old new old_moment new_moment call = ((made : Bool) × IsMade old new old_moment new_moment (failed_call made call)) ⊎ IsNotMade old new old_moment new_moment
-
 -- a front of these calls was made, the next one failed, and no other was made
-pub record BreaksOff (old new : Option Tape) (old_moment new_moment : ℕ) (calls : List Call) : Type 0 where
+pub record BreaksOff (old new : Option Tape) (old_moment new_moment : ℕ) (calls : List Call)
+    : Type 0 where
   pub front : List Call
   pub next : Call
   pub others : List Call

@@ -1,32 +1,48 @@
--- What a crash leaves of a log: the pages below a position whole and as they were put, and nothing anywhere but what was put.
+-- What a crash leaves of a log: the pages below a position whole and as they were put, and nothing
+-- anywhere but what was put.
 use Rattle.std.specs.Prelude.{◌≡◌, ℕ, ◌+◌, ◌*◌, ◌<◌, ◌≤◌, ◌⊎◌, List, [], ◌∷◌, Option, Some, None, ◌==◌, if◌then◌else◌}
 use Rattle.byte_position.specs.Geometry.{pages_of}
 use Rattle.segment_disk.specs.Tape.{Segment, DiskState, Tape, state_now, zero_page}
 use Rattle.segment_disk.specs.DiskImage.{DiskImage, ImageSegment, word_of, IsWritten, LeftAt}
 use Rattle.flush_core.specs.Pages.{PutPages, made_upto}
 
--- ---- what may be asked of an image: which segments are there, and what a word may be, by its page's number in the log and its own in the page
+-- ---- what may be asked of an image
 
-abbrev pub SegmentFits : ℕ → (ℕ → Type 0) → (ℕ → ℕ → List ℕ → Type 0) → ℕ → Option ImageSegment → Type 0
+-- of each segment whether it is there, and of each word what it may be, by its page's number in the
+-- log and its own in the page
+abbrev pub SegmentFits : ℕ → (ℕ → Type 0) → (ℕ → ℕ → List ℕ → Type 0) → ℕ → Option ImageSegment
+    → Type 0
 SegmentFits size IsThere Fits segment None = IsThere segment → ⊥
-SegmentFits size IsThere Fits segment (Some i) = (i.pages ≡ pages_of size) × ((page word : ℕ) → page < pages_of size → word < 1024 → Fits (segment * pages_of size + page) word (word_of (i.page page) word))
+SegmentFits size IsThere Fits segment (Some i) =
+    (i.pages ≡ pages_of size)
+    × ((page word : ℕ) → page < pages_of size → word < 1024
+    → Fits (segment * pages_of size + page) word (word_of (i.page page) word))
 
 abbrev pub DiskImageFits : ℕ → (ℕ → Type 0) → (ℕ → ℕ → List ℕ → Type 0) → DiskImage → Type 0
-DiskImageFits size IsThere Fits image = (segment : ℕ) → SegmentFits size IsThere Fits segment (image segment)
+DiskImageFits size IsThere Fits image =
+    (segment : ℕ) → SegmentFits size IsThere Fits segment (image segment)
 
 -- a disk's state assures it: so is each word that is durable or of a write since the last sync
-abbrev pub SegmentAssures : ℕ → (ℕ → Type 0) → (ℕ → ℕ → List ℕ → Type 0) → ℕ → Option Segment → Type 0
+abbrev pub SegmentAssures : ℕ → (ℕ → Type 0) → (ℕ → ℕ → List ℕ → Type 0) → ℕ → Option Segment
+    → Type 0
 SegmentAssures size IsThere Fits segment None = IsThere segment → ⊥
-SegmentAssures size IsThere Fits segment (Some s) = (s.pages ≡ pages_of size)
-    × ((page word : ℕ) → page < pages_of size → word < 1024 → (bytes : List ℕ) → (bytes ≡ word_of (s.durable page) word) ⊎ IsWritten s.writes page word bytes → Fits (segment * pages_of size + page) word bytes)
+SegmentAssures size IsThere Fits segment (Some s) =
+    (s.pages ≡ pages_of size)
+    × ((page word : ℕ) → page < pages_of size → word < 1024 → (bytes : List ℕ)
+    → (bytes ≡ word_of (s.durable page) word) ⊎ IsWritten s.writes page word bytes
+    → Fits (segment * pages_of size + page) word bytes)
 
 abbrev pub StateAssures : ℕ → (ℕ → Type 0) → (ℕ → ℕ → List ℕ → Type 0) → DiskState → Type 0
-StateAssures size IsThere Fits state = (segment : ℕ) → SegmentAssures size IsThere Fits segment (state segment)
+StateAssures size IsThere Fits state =
+    (segment : ℕ) → SegmentAssures size IsThere Fits segment (state segment)
 
--- every crash from a moment on has left an image of which it holds, and a disk's state assures it now
-pub record TapeAssures (size : ℕ) (IsThere : ℕ → Type 0) (Fits : ℕ → ℕ → List ℕ → Type 0) (moment : ℕ) (tape : Tape) : Type 0 where
+-- every crash from a moment on has left an image of which it holds, and a disk's state assures it
+-- now
+pub record TapeAssures (size : ℕ) (IsThere : ℕ → Type 0) (Fits : ℕ → ℕ → List ℕ → Type 0)
+    (moment : ℕ) (tape : Tape) : Type 0 where
   pub now : StateAssures size IsThere Fits (state_now tape)
-  pub left : (m : ℕ) → moment ≤ m → (image : DiskImage) → LeftAt tape m image → DiskImageFits size IsThere Fits image
+  pub left : (m : ℕ) → moment ≤ m → (image : DiskImage) → LeftAt tape m image
+      → DiskImageFits size IsThere Fits image
 
 -- ---- the pages below a position are kept
 
@@ -36,11 +52,14 @@ IsMadeUpto size position segment = (1 ≤ segment) × (segment ≤ made_upto siz
 
 -- a word that ends at the position or below is as it was put
 abbrev pub IsKeptWord : ℕ → PutPages → ℕ → ℕ → List ℕ → Type 0
-IsKeptWord position pages page word bytes = page * 8192 + 8 * word + 8 ≤ position → bytes ≡ word_of (pages page) word
+IsKeptWord position pages page word bytes =
+    page * 8192 + 8 * word + 8 ≤ position → bytes ≡ word_of (pages page) word
 
 -- two pages of this number have the same words below the position
 abbrev pub SameBelow : ℕ → ℕ → List ℕ → List ℕ → Type 0
-SameBelow position page one other = (word : ℕ) → word < 1024 → page * 8192 + 8 * word + 8 ≤ position → word_of one word ≡ word_of other word
+SameBelow position page one other =
+    (word : ℕ) → word < 1024 → page * 8192 + 8 * word + 8 ≤ position
+    → word_of one word ≡ word_of other word
 
 -- ---- nothing is left but what was put
 

@@ -1,5 +1,5 @@
--- The pages of a log as they were put, by their numbers counted from the log's address 0, and how images and disks hold them.
--- Everywhere `size` is the size of a segment in bytes.
+-- The pages of a log as they were put, by their numbers counted from the log's address 0, and how
+-- images and disks hold them. Everywhere `size` is the size of a segment in bytes.
 use Rattle.std.specs.Prelude.{◌≡◌, ◌≢◌, ℕ, ◌+◌, ◌-◌, ◌*◌, ◌/◌, ◌<◌, ◌≤◌, ◌⊎◌, Bool, false, List, [], length, Option, Some, None, IfSome, ◌==◌, if◌then◌else◌}
 use Rattle.byte_position.specs.Geometry.{pages_of}
 use Rattle.segment_disk.specs.Tape.{Segment, DiskState, Tape, state_now, zero_page}
@@ -16,18 +16,22 @@ no_pages page = zero_page
 abbrev pub with_page : PutPages → ℕ → List ℕ → PutPages
 with_page pages number bytes page = if page == number then bytes else pages page
 
--- how many segments, from segment 1 on, are made where all below a position is written: up to that of the last byte below it
+-- how many segments, from segment 1 on, are made where all below a position is written: up to that
+-- of the last byte below it
 abbrev pub made_upto : ℕ → ℕ → ℕ
 made_upto size written = (written - 1) / size
 
 -- a segment of an image is there with all its pages, and these are as they were put
 abbrev pub HoldsSegment : ℕ → PutPages → ℕ → Option ImageSegment → Type 0
 HoldsSegment size pages segment None = ⊥
-HoldsSegment size pages segment (Some i) = (i.pages ≡ pages_of size) × ((page : ℕ) → page < pages_of size → i.page page ≡ pages (segment * pages_of size + page))
+HoldsSegment size pages segment (Some i) =
+    (i.pages ≡ pages_of size)
+    × ((page : ℕ) → page < pages_of size → i.page page ≡ pages (segment * pages_of size + page))
 
 -- an image holds just the pages that were put: the segments from 1 to a last one, and no other
 pub record HoldsPages (size last : ℕ) (image : DiskImage) (pages : PutPages) : Type 0 where
-  pub there : (segment : ℕ) → 1 ≤ segment → segment ≤ last → HoldsSegment size pages segment (image segment)
+  pub there : (segment : ℕ) → 1 ≤ segment → segment ≤ last
+      → HoldsSegment size pages segment (image segment)
   pub others : (segment : ℕ) → (segment ≡ 0) ⊎ (last < segment) → image segment ≡ None
 
 -- the page writes of a segment since its last sync
@@ -35,10 +39,13 @@ abbrev pub unsynced_writes : Option Segment → List (ℕ × List ℕ)
 unsynced_writes None = []
 unsynced_writes (Some s) = s.writes
 
--- what a disk holds where all below a position is written: as it is read just the pages that were put; only the segment of that position may have writes that wait for a sync, if any has
-pub record HoldsPut (size written : ℕ) (unsynced : Bool) (state : DiskState) (pages : PutPages) : Type 0 where
+-- what a disk holds where all below a position is written: as it is read just the pages that were
+-- put; only the segment of that position may have writes that wait for a sync, if any has
+pub record HoldsPut (size written : ℕ) (unsynced : Bool) (state : DiskState) (pages : PutPages)
+    : Type 0 where
   pub read : HoldsPages size (made_upto size written) (image_as_read state) pages
-  pub synced : (segment : ℕ) → (segment ≢ written / size) ⊎ (unsynced ≡ false) → unsynced_writes (state segment) ≡ []
+  pub synced : (segment : ℕ) → (segment ≢ written / size) ⊎ (unsynced ≡ false)
+      → unsynced_writes (state segment) ≡ []
 
 -- pages that were put up to a position: each is whole, and behind the position all are zeros
 pub record ArePutUpto (written : ℕ) (pages : PutPages) : Type 0 where

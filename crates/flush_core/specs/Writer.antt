@@ -4,7 +4,7 @@ use Rattle.segment_disk.specs.declared.disk.Call.{Call}
 use Rattle.segment_disk.specs.Cause.{Rose}
 use Rattle.segment_disk.specs.Tape.{Tape, state_now}
 use Rattle.flush_core.specs.declared.writer.Writer.{Writer}
-use Rattle.flush_core.specs.Calls.{AreMade, BreaksOff}
+use Rattle.flush_core.specs.Calls.{AreMade, BreaksOff, harden_calls, put_calls}
 use Rattle.flush_core.specs.Left.{PutHistory, IsMadeUpto, IsKeptWord, IsNowhere, IsWordPut, TapeAssures}
 use Rattle.flush_core.specs.Pages.{PutPages, HoldsPut, ArePutUpto}
 
@@ -28,30 +28,50 @@ is_unsynced writer = writer.unsynced
 abbrev pub writer_fault : {D : Type 0} → Writer D → Option ℕ
 writer_fault writer = writer.fault
 
+-- the calls that it makes to put a page
+abbrev pub calls_to_put : {D : Type 0} → Writer D → ℕ → ℕ → List ℕ → List Call
+calls_to_put writer page upto bytes =
+    put_calls writer.geometry writer.written.0 page upto bytes
+
+-- the calls that it makes to harden what is written
+abbrev pub calls_to_harden : {D : Type 0} → Writer D → List Call
+calls_to_harden writer = harden_calls writer.geometry writer.written.0 writer.unsynced
+
 -- a writer on a disk that has not failed and, where it tells what it holds, holds just these pages
-pub record IsWriter {D : Type 0} (tape : D → Option Tape) (writer : Writer D) (pages : PutPages) : Type 0 where
+pub record IsWriter {D : Type 0} (tape : D → Option Tape) (writer : Writer D) (pages : PutPages)
+    : Type 0 where
   pub up : writer.fault ≡ None
   pub begun : writer.geometry ≤ writer.written.0
   pub put : ArePutUpto writer.written.0 pages
-  pub holds : IfSome (tape writer.disk) (λ t. HoldsPut writer.geometry writer.written.0 writer.unsynced (state_now t) pages)
+  pub holds : IfSome (tape writer.disk)
+      (λ t. HoldsPut writer.geometry writer.written.0 writer.unsynced (state_now t) pages)
 
--- each crash from a moment on leaves the pages below a position: their segments, and in them each word below it as it was put
+-- each crash from a moment on leaves the pages below a position: their segments, and in them each
+-- word below it as it was put
 abbrev pub IsKept : {D : Type 0} → (D → Option Tape) → Writer D → ℕ → ℕ → PutPages → Type 0
-IsKept tape writer moment position pages = IfSome (tape writer.disk) (TapeAssures writer.geometry (IsMadeUpto writer.geometry position) (IsKeptWord position pages) moment)
+IsKept tape writer moment position pages =
+    let size = writer.geometry in
+    IfSome (tape writer.disk)
+    (TapeAssures size (IsMadeUpto size position) (IsKeptWord position pages) moment)
 
--- each crash from a moment on leaves nothing but what was put: in whatever segment is there, each word is zeros or was put there
+-- each crash from a moment on leaves nothing but what was put: in whatever segment is there, each
+-- word is zeros or was put there
 abbrev pub HoldsOnly : {D : Type 0} → (D → Option Tape) → Writer D → ℕ → PutHistory → Type 0
-HoldsOnly tape writer moment puts = IfSome (tape writer.disk) (TapeAssures writer.geometry IsNowhere (IsWordPut puts) moment)
+HoldsOnly tape writer moment puts =
+    IfSome (tape writer.disk) (TapeAssures writer.geometry IsNowhere (IsWordPut puts) moment)
 
 -- a call during which the disk did not fail: the disk has made these calls and nothing else
-pub record HasDone {D : Type 0} (tape : D → Option Tape) (moment faults : D → ℕ) (old new : Writer D) (calls : List Call) : Type 0 where
+pub record HasDone {D : Type 0} (tape : D → Option Tape) (moment faults : D → ℕ)
+    (old new : Writer D) (calls : List Call) : Type 0 where
   pub was_up : old.fault ≡ None
   pub is_up : new.fault ≡ None
   pub made : AreMade (tape old.disk) (tape new.disk) (moment old.disk) (moment new.disk) calls
   pub quiet : faults new.disk ≡ faults old.disk
 
--- a call during which the disk failed: a front of these calls was made, and its count of faults is told from now on
-pub record FailsNow {D : Type 0} (tape : D → Option Tape) (moment faults : D → ℕ) (old new : Writer D) (told : ℕ) (calls : List Call) : Type 0 where
+-- a call during which the disk failed: a front of these calls was made, and its count of faults is
+-- told from now on
+pub record FailsNow {D : Type 0} (tape : D → Option Tape) (moment faults : D → ℕ)
+    (old new : Writer D) (told : ℕ) (calls : List Call) : Type 0 where
   pub was_up : old.fault ≡ None
   pub is_down : new.fault ≡ Some told
   pub is_told : told ≡ faults new.disk
@@ -64,5 +84,7 @@ pub record FailsAgain {D : Type 0} (old new : Writer D) (told : ℕ) : Type 0 wh
   pub same : new ≡ old
 
 -- why a call told a fault: the disk failed, or had failed before
-abbrev pub TellsFault : {D : Type 0} → (D → Option Tape) → (D → ℕ) → (D → ℕ) → Writer D → Writer D → ℕ → List Call → Type 0
-TellsFault tape moment faults old new told calls = FailsNow tape moment faults old new told calls ⊎ FailsAgain old new told
+abbrev pub TellsFault : {D : Type 0} → (D → Option Tape) → (D → ℕ) → (D → ℕ)
+    → Writer D → Writer D → ℕ → List Call → Type 0
+TellsFault tape moment faults old new told calls =
+    FailsNow tape moment faults old new told calls ⊎ FailsAgain old new told

@@ -1,11 +1,9 @@
-//! The pages of a log on any disk: segments are made before their first page is written, pages are written in place,
-//! and what is written is made durable segment by segment and on demand.
+//! The pages of a log on any disk: segments are made before their first page is written, pages are
+//! written in place, and what is written is made durable segment by segment and on demand.
 #![tactic(auto)]
 
 mod laws;
 mod store;
-#[cfg(test)]
-mod tests;
 mod writer;
 
 pub use laws::synced_images_hold_what_was_put;

@@ -26,7 +26,8 @@ pub(crate) fn place_of(geometry: Geometry, page: u64) -> Place
     }
 }
 
-/// Writes a page in place; makes its segment before where that is new, and syncs it behind where that is full.
+/// Writes a page in place; makes its segment before where that is new, and syncs it behind where
+/// that is full.
 pub(crate) fn store_page<D: Disk>(
     disk: &mut D,
     geometry: Geometry,
@@ -37,8 +38,12 @@ pub(crate) fn store_page<D: Disk>(
 ) -> Result<(), Failed>
     requires segment { place.segment < 2 ^ 64 / geometry }
     requires page { place.page < pages_of geometry }
-    ensures ok { OnOk result (AreMade (D.tape disk.old) (D.tape disk.new) (D.moment disk.old) (D.moment disk.new) (store_calls geometry place.segment place.page is_new is_full bytes.now)) }
-    ensures err { OnErr result (BreaksOff (D.tape disk.old) (D.tape disk.new) (D.moment disk.old) (D.moment disk.new) (store_calls geometry place.segment place.page is_new is_full bytes.now)) }
+    ensures ok { OnOk result (AreMade (D.tape disk.old) (D.tape disk.new)
+        (D.moment disk.old) (D.moment disk.new)
+        (store_calls geometry place.segment place.page is_new is_full bytes.now)) }
+    ensures err { OnErr result (BreaksOff (D.tape disk.old) (D.tape disk.new)
+        (D.moment disk.old) (D.moment disk.new)
+        (store_calls geometry place.segment place.page is_new is_full bytes.now)) }
     ensures cause { HasCause (D.faults disk.old) (D.faults disk.new) result }
 {
     if is_new {

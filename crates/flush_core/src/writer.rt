@@ -1,8 +1,7 @@
 ghost use Rattle.std.specs.Prelude.{◌≡◌, ℕ, ◌+◌, ◌*◌, ◌/◌, ◌%◌, ◌<◌, ◌≤◌, false, not, ◌==◌, OnOk, IfOk, IfErr, MatchResult};
-ghost use Rattle.flush_core.specs.Calls.{harden_calls, put_calls};
 ghost use Rattle.flush_core.specs.Left.{PutHistory, SameBelow, no_puts, with_put};
 ghost use Rattle.flush_core.specs.Pages.{HoldsNothing, PutPages, no_pages, with_page};
-ghost use Rattle.flush_core.specs.Writer.{HasDone, HoldsOnly, IsKept, IsWriter, TellsFault, disk_of, writer_fault, is_unsynced, writer_segment_size, written_of};
+ghost use Rattle.flush_core.specs.Writer.{HasDone, HoldsOnly, IsKept, IsWriter, TellsFault, calls_to_harden, calls_to_put, disk_of, writer_fault, is_unsynced, writer_segment_size, written_of};
 
 use crate::store::{place_of, store_page};
 use byte_position::Geometry;
@@ -15,16 +14,23 @@ pub struct DiskFault {
     pub faults: u64,
 }
 
-/// A log's pages on a disk (PostgreSQL's `XLogWrite` of xlog.c). It makes a segment before its first page is written, writes
-/// pages in place, and syncs a segment as soon as all of it is written, or on demand. Once the disk has failed it makes no
-/// further device call and tells the same fault again.
+/// A log's pages on a disk (PostgreSQL's `XLogWrite` of xlog.c), in the protocol of `Disk`: a
+/// segment is made before its first page is written, its pages are written in place and in order,
+/// the last one again as it fills, and it is synced as soon as all of it is written, or on demand
+/// (`harden`). A page that was hardened is written again only with the same words below the
+/// hardened position: so a crash after any call leaves these, and of all else only words that were
+/// put, or zeros.
+///
+/// Once the disk has failed no further device call is made, and the same fault is told again: a
+/// sync behind one that failed would say nothing of the writes before it.
 #[derive(Drop)]
 pub struct Writer<D> {
     disk: D,
     geometry: Geometry,
     /// Up to where the log is written.
     written: Lsn,
-    /// Whether a write waits for a sync: only in the segment of the written position, since full ones are synced.
+    /// Whether a write waits for a sync: only in the segment of the written position, since full
+    /// ones are synced.
     unsynced: bool,
     /// The disk's count of faults when it failed.
     fault: Option<u64>,
@@ -39,7 +45,8 @@ impl<D: Disk> Writer<D> {
         ensures synced { is_unsynced result ≡ false }
         ensures up { writer_fault result ≡ None }
         ensures holds { HoldsNothing (D.tape disk) → IsWriter D.tape result no_pages }
-        ensures only { HoldsNothing (D.tape disk) → HoldsOnly D.tape result (D.moment disk) no_puts }
+        ensures only { HoldsNothing (D.tape disk)
+            → HoldsOnly D.tape result (D.moment disk) no_puts }
     {
         Writer {
             disk,
@@ -83,23 +90,34 @@ impl<D: Disk> Writer<D> {
         self.fault
     }
 
-    /// Writes a page, which is whole up to a position, in place: the page of the written position, by its number from the
-    /// log's address 0. It is durable only after `harden`, or where its segment ends with it.
+    /// Writes a page, which is whole up to a position, in place: the page of the written position,
+    /// by its number from the log's address 0. It is durable only after `harden`, or where its
+    /// segment ends with it.
     pub fn put_page(&mut self, page: u64, upto: Lsn, bytes: &[u8; 8192]) -> Result<(), DiskFault>
         requires page { page ≡ written_of self.old / 8192 }
         requires rises { written_of self.old ≤ upto.0 }
         requires begun { page * 8192 < upto.0 }
         requires within { upto.0 ≤ (page + 1) * 8192 }
-        ensures put { OnOk result ((pages : PutPages) → IsWriter D.tape self.old pages → IsWriter D.tape self.new (with_page pages page bytes.now)) }
-        ensures keeps { (moment position : ℕ) (pages : PutPages) → position ≤ written_of self.old → SameBelow position page bytes.now (pages page) → IsKept D.tape self.old moment position pages → IsKept D.tape self.new moment position pages }
-        ensures only { (moment : ℕ) (puts : PutHistory) → HoldsOnly D.tape self.old moment puts → HoldsOnly D.tape self.new moment (with_put puts page bytes.now) }
-        ensures done { OnOk result (HasDone D.tape D.moment D.faults self.old self.new (put_calls (writer_segment_size self.old) (written_of self.old) page upto.0 bytes.now)) }
-        ensures written { MatchResult result (λ _. written_of self.new ≡ upto.0) (λ _. written_of self.new ≡ written_of self.old) }
-        ensures synced { OnOk result (is_unsynced self.new ≡ not (upto.0 % writer_segment_size self.old == 0)) }
-        ensures failed { IfErr result (λ e. TellsFault D.tape D.moment D.faults self.old self.new e.faults (put_calls (writer_segment_size self.old) (written_of self.old) page upto.0 bytes.now)) }
+        ensures put { OnOk result ((pages : PutPages) → IsWriter D.tape self.old pages
+            → IsWriter D.tape self.new (with_page pages page bytes.now)) }
+        ensures keeps { (moment position : ℕ) (pages : PutPages) → position ≤ written_of self.old
+            → SameBelow position page bytes.now (pages page)
+            → IsKept D.tape self.old moment position pages
+            → IsKept D.tape self.new moment position pages }
+        ensures only { (moment : ℕ) (puts : PutHistory) → HoldsOnly D.tape self.old moment puts
+            → HoldsOnly D.tape self.new moment (with_put puts page bytes.now) }
+        ensures done { OnOk result (HasDone D.tape D.moment D.faults self.old self.new
+            (calls_to_put self.old page upto.0 bytes.now)) }
+        ensures written { MatchResult result (λ _. written_of self.new ≡ upto.0)
+            (λ _. written_of self.new ≡ written_of self.old) }
+        ensures synced { OnOk result (is_unsynced self.new
+            ≡ not (upto.0 % writer_segment_size self.old == 0)) }
+        ensures failed { IfErr result (λ e. TellsFault D.tape D.moment D.faults self.old self.new
+            e.faults (calls_to_put self.old page upto.0 bytes.now)) }
         ensures size { writer_segment_size self.new ≡ writer_segment_size self.old }
-        ensures later { OnOk result (D.moment (disk_of self.old) < D.moment (disk_of self.new)) }
-        ensures not_earlier { D.moment (disk_of self.old) ≤ D.moment (disk_of self.new) }
+        ensures moment_rises { OnOk result
+            (D.moment (disk_of self.old) < D.moment (disk_of self.new)) }
+        ensures moment_never_falls { D.moment (disk_of self.old) ≤ D.moment (disk_of self.new) }
     {
         self.check()?;
         let geometry = self.geometry;
@@ -116,21 +134,30 @@ impl<D: Disk> Writer<D> {
         }
     }
 
-    /// Makes durable what is written, and answers the disk's moment, from which on it is. It asks for a position that is written.
+    /// Makes durable what is written, and answers the disk's moment, from which on it is. It asks
+    /// for a position that is written.
     pub fn harden(&mut self, upto: Lsn) -> Result<u64, DiskFault>
         requires { upto.0 ≤ written_of self.old }
-        ensures holds { OnOk result ((pages : PutPages) → IsWriter D.tape self.old pages → IsWriter D.tape self.new pages) }
-        ensures hardened { IfOk result (λ moment. (pages : PutPages) → IsWriter D.tape self.old pages → IsKept D.tape self.new moment upto.0 pages) }
-        ensures keeps { (moment position : ℕ) (pages : PutPages) → IsKept D.tape self.old moment position pages → IsKept D.tape self.new moment position pages }
-        ensures only { (moment : ℕ) (puts : PutHistory) → HoldsOnly D.tape self.old moment puts → HoldsOnly D.tape self.new moment puts }
+        ensures holds { OnOk result ((pages : PutPages) → IsWriter D.tape self.old pages
+            → IsWriter D.tape self.new pages) }
+        ensures hardened { IfOk result (λ moment. (pages : PutPages)
+            → IsWriter D.tape self.old pages
+            → IsKept D.tape self.new moment upto.0 pages) }
+        ensures keeps { (moment position : ℕ) (pages : PutPages)
+            → IsKept D.tape self.old moment position pages
+            → IsKept D.tape self.new moment position pages }
+        ensures only { (moment : ℕ) (puts : PutHistory) → HoldsOnly D.tape self.old moment puts
+            → HoldsOnly D.tape self.new moment puts }
         ensures moment { IfOk result (λ moment. moment ≡ D.moment (disk_of self.new)) }
-        ensures done { OnOk result (HasDone D.tape D.moment D.faults self.old self.new (harden_calls (writer_segment_size self.old) (written_of self.old) (is_unsynced self.old))) }
+        ensures done { OnOk result (HasDone D.tape D.moment D.faults self.old self.new
+            (calls_to_harden self.old)) }
         ensures synced { OnOk result (is_unsynced self.new ≡ false) }
         ensures written { written_of self.new ≡ written_of self.old }
-        ensures failed { IfErr result (λ e. TellsFault D.tape D.moment D.faults self.old self.new e.faults (harden_calls (writer_segment_size self.old) (written_of self.old) (is_unsynced self.old))) }
+        ensures failed { IfErr result (λ e. TellsFault D.tape D.moment D.faults self.old self.new
+            e.faults (calls_to_harden self.old)) }
         ensures same { is_unsynced self.old ≡ false → self.new ≡ self.old }
         ensures size { writer_segment_size self.new ≡ writer_segment_size self.old }
-        ensures not_earlier { D.moment (disk_of self.old) ≤ D.moment (disk_of self.new) }
+        ensures moment_never_falls { D.moment (disk_of self.old) ≤ D.moment (disk_of self.new) }
     {
         prove!(upto.0 <= self.written.0);
         self.check()?;
@@ -146,7 +173,8 @@ impl<D: Disk> Writer<D> {
 
     // The fault again, where the disk has failed.
     fn check(&self) -> Result<(), DiskFault>
-        ensures { MatchResult result (λ _. self.now.fault ≡ None) (λ e. self.now.fault ≡ Some e.faults) }
+        ensures { MatchResult result (λ _. self.now.fault ≡ None)
+            (λ e. self.now.fault ≡ Some e.faults) }
     {
         match self.fault {
             None => Ok(()),

@@ -12,7 +12,8 @@ fn positions_pass_over_headers(rt: HostRuntime) -> Result<(), Fail> {
         (0, 40),
         (8151, 8191),
         (8152, 8192 + 24),
-        // A segment has 128 pages of 8168 such bytes, less the 16 by which its first header is longer.
+        // A segment has 128 pages of 8168 such bytes, less the 16 by which its first header is
+        // longer.
         (128 * 8168 - 17, 1_048_575),
         (128 * 8168 - 16, 1_048_576 + 40),
     ] {

@@ -86,6 +86,7 @@ fn run<R: Threads + Wait + Sync>(threads: &R, rt: HostRuntime) -> Result<u8, Mem
 fn main(rt: HostRuntime) -> ExitCode {
     // They stay taken until the end.
     let Ok(_taken) = take_free_numbers(rt) else {
+        let _ = rt.eprintln("pgwal: source fault");
         return ExitCode::from(7);
     };
     match run(&rt, rt) {

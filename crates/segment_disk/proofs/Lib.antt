@@ -2,3 +2,4 @@ pub mod Pieces
 pub mod Handing
 pub mod Reading
 pub mod Presence
+pub mod Answering

@@ -5,21 +5,20 @@ use Rattle.std.proofs.lemmas.Bool.{eq-eqb, ne_eqb}
 use Rattle.std.proofs.lemmas.Bool.Decides.{eqb_tells}
 use Rattle.segment_disk.specs.declared.disk.Call.{Call}
 use Rattle.segment_disk.specs.declared.disk.CallKind.TheVariants.{Create, Write, Sync}
-use Rattle.segment_disk.specs.declared.disk.PageBytes.{PageBytes}
+use Rattle.segment_disk.specs.declared.disk.CallKind.{CallKind}
 use Rattle.segment_disk.specs.Tape.{Segment, DiskState, segment_after, empty_state, after_call, after_calls}
 use Rattle.segment_disk.specs.Failing.{is_listed}
-use Rattle.segment_disk.specs.Present.{ListsPresent, with_number}
+use Rattle.segment_disk.specs.Present.{ListsPresent, MakesNone, with_number}
 use Rattle.segment_disk.proofs.Reading.{after_calls-push}
 
--- a write and a sync neither make a segment nor take one away
-pub is_some-write : (page : ℕ) (bytes : PageBytes) (size : ℕ) (done : Bool) (s : Option Segment) → is_some (segment_after (Write page bytes) size done s) ≡ is_some s
-is_some-write page bytes size done None = refl
-is_some-write page bytes size done (Some s) = refl
-
-pub is_some-sync : (size : ℕ) (done : Bool) (s : Option Segment) → is_some (segment_after Sync size done s) ≡ is_some s
-is_some-sync size done None = refl
-is_some-sync size true (Some s) = refl
-is_some-sync size false (Some s) = refl
+-- a call that makes no segment takes none away either
+pub is_some-kept : (kind : CallKind) → MakesNone kind → (size : ℕ) (done : Bool) (s : Option Segment) → is_some (segment_after kind size done s) ≡ is_some s
+is_some-kept (Create made) makes size done s = absurd makes
+is_some-kept (Write page bytes) makes size done None = refl
+is_some-kept (Write page bytes) makes size done (Some s) = refl
+is_some-kept Sync makes size done None = refl
+is_some-kept Sync makes size true (Some s) = refl
+is_some-kept Sync makes size false (Some s) = refl
 
 -- a number that is put to a list is listed, and no other is that was not
 listed-with_number : (numbers : List ℕ) (number other : ℕ) → is_listed (with_number numbers number) other ≡ (other == number || is_listed numbers other)

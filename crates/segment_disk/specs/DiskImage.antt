@@ -27,11 +27,13 @@ IsWritten (w ∷ ws) page k word = ((w.0 ≡ page) × (word ≡ word_of w.1 k)) 
 -- each word of a page is the durable one, or that of a write since the last sync
 pub record MayLeavePage (s : Segment) (page : ℕ) (bytes : List ℕ) : Type 0 where
   pub length : length bytes ≡ 8192
-  pub words : (k : ℕ) → k < 1024 → (word_of bytes k ≡ word_of (s.durable page) k) ⊎ IsWritten s.writes page k (word_of bytes k)
+  pub words : (k : ℕ) → k < 1024
+      → (word_of bytes k ≡ word_of (s.durable page) k) ⊎ IsWritten s.writes page k (word_of bytes k)
 
 abbrev pub MayLeaveSegment : Option Segment → Option ImageSegment → Type 0
 MayLeaveSegment None None = Unit {0}
-MayLeaveSegment (Some s) (Some i) = (i.pages ≡ s.pages) × ((page : ℕ) → page < s.pages → MayLeavePage s page (i.page page))
+MayLeaveSegment (Some s) (Some i) =
+    (i.pages ≡ s.pages) × ((page : ℕ) → page < s.pages → MayLeavePage s page (i.page page))
 MayLeaveSegment None (Some i) = ⊥
 MayLeaveSegment (Some s) None = ⊥
 
@@ -48,10 +50,13 @@ when_done call = cut_short call.kind
     cut_short (Write page bytes) = Some (record call { done = true })
     cut_short Sync = None
 
--- what a crash at a moment leaves: what the state then may leave, or what it may leave with the next call done, which the crash cut short
+-- what a crash at a moment leaves: what the state then may leave, or what it may leave with the
+-- next call done, which the crash cut short
 abbrev pub LeftAt : Tape → ℕ → DiskImage → Type 0
 LeftAt tape moment image =
-    MayLeave (state_at tape moment) image ⊎ IsSomeAnd (slice_get tape.calls moment) (λ call. IsSomeAnd (when_done call) (λ done. MayLeave (after_call (state_at tape moment) done) image))
+    MayLeave (state_at tape moment) image
+    ⊎ IsSomeAnd (slice_get tape.calls moment) (λ call. IsSomeAnd (when_done call)
+    (λ done. MayLeave (after_call (state_at tape moment) done) image))
 
 -- the image of a disk as it is read
 abbrev pub image_as_read : DiskState → DiskImage

@@ -1,10 +1,11 @@
 -- A disk in memory: what it holds, and what it fails at.
-use Rattle.std.specs.Prelude.{ℕ, ◌+◌, Bool, List, length, Option, Some, is_some, nat_lt, not, ◌&&◌, ◌||◌}
+use Rattle.std.specs.Prelude.{◌≡◌, ℕ, ◌+◌, Bool, false, IsTrue, List, length, Option, Some, is_some, nat_lt, not, ◌&&◌, ◌||◌, if◌then◌else◌}
 use Rattle.segment_disk.specs.Failing.{Failing, is_listed}
-use Rattle.segment_disk.specs.Tape.{DiskState, Tape, empty_state, after_calls}
+use Rattle.segment_disk.specs.Tape.{DiskState, Tape, IsUncalled, empty_state, after_calls}
 use Rattle.segment_disk.specs.declared.memory.disk.MemDisk.{MemDisk}
 
--- how many segments and counted calls a disk has room for, and the counted calls that fail, by their numbers from 1
+-- how many segments and counted calls a disk has room for, and the counted calls that fail, by
+-- their numbers from 1
 pub record Limits : Type 0 where
   pub segments : ℕ
   pub calls : ℕ
@@ -12,7 +13,11 @@ pub record Limits : Type 0 where
 
 -- the limits that a disk was made with
 abbrev pub limits_of : MemDisk → Limits
-limits_of disk = record { segments = disk.segments.limit; calls = disk.calls.limit; failing = disk.calls.fail.items }
+limits_of disk = record {
+  segments = disk.segments.limit;
+  calls = disk.calls.limit;
+  failing = disk.calls.fail.items;
+}
 
 -- a disk's tape: nothing was there at first
 abbrev pub tape_of : MemDisk → Option Tape
@@ -52,4 +57,18 @@ has_segment disk segment = is_some (disk_state_of disk segment)
 
 -- whether a segment is there, or there is room for it
 abbrev pub can_create : MemDisk → ℕ → Bool
-can_create disk segment = has_segment disk segment || nat_lt (segment_count disk) disk.segments.limit
+can_create disk segment =
+    has_segment disk segment || nat_lt (segment_count disk) disk.segments.limit
+
+-- how many segments are there behind a create
+abbrev pub count_behind_create : MemDisk → ℕ → Bool → ℕ
+count_behind_create disk segment done =
+    if done && not (has_segment disk segment) then segment_count disk + 1 else segment_count disk
+
+-- a call within the disk's room is counted, one beyond it is not made; neither changes what the
+-- disk was told to fail at
+pub record IsCounted (old new : MemDisk) : Type 0 where
+  pub within : IsTrue (counts_next old) → moment_of new ≡ moment_of old + 1
+  pub beyond : counts_next old ≡ false → IsUncalled tape_of moment_of old new
+  pub limits : limits_of new ≡ limits_of old
+  pub reads : failing_reads new ≡ failing_reads old

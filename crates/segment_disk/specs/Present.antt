@@ -1,12 +1,21 @@
 -- Which segments are there after a list of calls.
 use Rattle.std.specs.Prelude.{◌≡◌, ℕ, List, [], ◌∷◌, ◌++◌, is_some, if◌then◌else◌}
 use Rattle.segment_disk.specs.declared.disk.Call.{Call}
+use Rattle.segment_disk.specs.declared.disk.CallKind.{CallKind}
+use Rattle.segment_disk.specs.declared.disk.CallKind.TheVariants.{Create, Write, Sync}
 use Rattle.segment_disk.specs.Failing.{is_listed}
 use Rattle.segment_disk.specs.Tape.{empty_state, after_calls}
 
 -- the list has the numbers of those that are there
 abbrev pub ListsPresent : List ℕ → List Call → Type 0
-ListsPresent numbers calls = (segment : ℕ) → is_listed numbers segment ≡ is_some (after_calls empty_state calls segment)
+ListsPresent numbers calls =
+    (segment : ℕ) → is_listed numbers segment ≡ is_some (after_calls empty_state calls segment)
+
+-- the call neither makes a segment nor takes one away
+abbrev pub MakesNone : CallKind → Type 0
+MakesNone (Create made) = ⊥
+MakesNone (Write page bytes) = Unit {0}
+MakesNone Sync = Unit {0}
 
 -- a list of numbers with this one
 abbrev pub with_number : List ℕ → ℕ → List ℕ

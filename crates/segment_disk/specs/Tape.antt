@@ -1,10 +1,12 @@
--- What a disk holds: a function of its tape, which is what was there at first and the list of the counted calls since.
-use Rattle.std.specs.Prelude.{◌≡◌, ℕ, ◌+◌, ◌/◌, Bool, true, false, List, [], ◌∷◌, ◌++◌, take, replicate, Option, Some, None, ◌==◌, nat_lt, if◌then◌else◌}
+-- What a disk holds: a function of its tape, which is what was there at first and the list of the
+-- counted calls since; and how a disk answers a call.
+use Rattle.std.specs.Prelude.{◌≡◌, ℕ, ◌+◌, ◌/◌, ◌⊎◌, Bool, true, false, List, [], ◌∷◌, ◌++◌, take, replicate, Option, Some, None, ◌==◌, nat_lt, if◌then◌else◌, Result, MatchResult}
 use Rattle.segment_disk.specs.declared.disk.Call.{Call}
 use Rattle.segment_disk.specs.declared.disk.CallKind.{CallKind}
 use Rattle.segment_disk.specs.declared.disk.CallKind.TheVariants.{Create, Write, Sync}
 
--- a segment: how many pages it has, what is durable of each, and the page writes since its last sync, in order
+-- a segment: how many pages it has, what is durable of each, and the page writes since its last
+-- sync, in order
 pub record Segment : Type 0 where
   pub pages : ℕ
   pub durable : ℕ → List ℕ
@@ -40,18 +42,23 @@ after_writes (w ∷ ws) page bytes = after_writes ws page (if w.0 == page then w
 abbrev pub page_as_read : Segment → ℕ → List ℕ
 page_as_read s page = after_writes s.writes page (s.durable page)
 
--- what a call leaves of its segment: a write, a failed one too, stands behind the others and is not durable; a sync that is done makes the last writes durable
+-- what a call leaves of its segment: a write, a failed one too, stands behind the others and is not
+-- durable; a sync that is done makes the last writes durable
 abbrev pub segment_after : CallKind → ℕ → Bool → Option Segment → Option Segment
 segment_after (Create made) size done s = if made then Some (new_segment size) else s
 segment_after (Write page bytes) size done None = None
-segment_after (Write page bytes) size done (Some s) = Some (record s { writes = s.writes ++ (page, bytes.bytes) ∷ [] })
+segment_after (Write page bytes) size done (Some s) =
+    Some (record s { writes = s.writes ++ (page, bytes.bytes) ∷ [] })
 segment_after Sync size done None = None
 segment_after Sync size true (Some s) = Some (record s { durable = page_as_read s; writes = [] })
 segment_after Sync size false (Some s) = Some s
 
 -- the state after a call
 abbrev pub after_call : DiskState → Call → DiskState
-after_call state call segment = if segment == call.segment then segment_after call.kind call.geometry call.done (state segment) else state segment
+after_call state call segment =
+    if segment == call.segment
+    then segment_after call.kind call.geometry call.done (state segment)
+    else state segment
 
 -- the state after a list of calls
 abbrev pub after_calls : DiskState → List Call → DiskState
@@ -86,7 +93,51 @@ pub record IsMade (old new : Option Tape) (old_moment new_moment : ℕ) (call : 
   pub tape : new ≡ with_call old call
   pub moment : new_moment ≡ old_moment + 1
 
--- a call that failed without being made: the disk is as it was
+-- no counted call was made: tape and moment are as they were
 pub record IsNotMade (old new : Option Tape) (old_moment new_moment : ℕ) : Type 0 where
-  pub tape : new ≡ old
-  pub moment : new_moment ≡ old_moment
+  pub same_tape : new ≡ old
+  pub same_moment : new_moment ≡ old_moment
+
+-- the same of a disk
+abbrev pub IsUncalled : {D : Type 0} → (D → Option Tape) → (D → ℕ) → D → D → Type 0
+IsUncalled tape moment old new = IsNotMade (tape old) (tape new) (moment old) (moment new)
+
+-- ---- how a disk answers
+
+-- the calls, each done
+abbrev pub create_call : ℕ → ℕ → Call
+create_call size segment =
+    record { geometry = size; segment = segment; kind = Create true; done = true }
+
+abbrev pub write_call : ℕ → ℕ → ℕ → List ℕ → Call
+write_call size segment page bytes = record {
+  geometry = size;
+  segment = segment;
+  kind = Write page (record { bytes = bytes });
+  done = true;
+}
+
+abbrev pub sync_call : ℕ → ℕ → Call
+sync_call size segment = record { geometry = size; segment = segment; kind = Sync; done = true }
+
+-- a call as it is counted where it failed; a create may have left its segment made or not
+abbrev pub failed_call : Bool → Call → Call
+failed_call made call = record call { kind = kind_of call.kind; done = false }
+  where
+    kind_of : CallKind → CallKind
+    kind_of (Create any) = Create made
+    kind_of (Write page bytes) = Write page bytes
+    kind_of Sync = Sync
+
+-- a call failed: it was made and counted as failed, or it was not made
+abbrev pub Fails : Option Tape → Option Tape → ℕ → ℕ → Call → Type 0
+Fails old new old_moment new_moment call =
+    ((made : Bool) × IsMade old new old_moment new_moment (failed_call made call))
+    ⊎ IsNotMade old new old_moment new_moment
+
+-- how a disk answers a call: at Ok it was made, and at Err it failed
+abbrev pub Answers : {D E : Type 0} → (D → Option Tape) → (D → ℕ) → D → D → Call → Result Unit E
+    → Type 0
+Answers tape moment old new call result =
+    MatchResult result (λ _. IsMade (tape old) (tape new) (moment old) (moment new) call)
+    (λ _. Fails (tape old) (tape new) (moment old) (moment new) call)

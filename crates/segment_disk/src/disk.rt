@@ -1,4 +1,4 @@
-ghost use Rattle.std.specs.Prelude.{◌≡◌, ℕ, ◌/◌, ◌<◌, ◌^◌, ◌⊎◌, Bool, true, false, Option, length, IfOk, OnOk, OnErr, IfSome};
+ghost use Rattle.std.specs.Prelude.{◌≡◌, ℕ, ◌/◌, ◌<◌, ◌^◌, Option, length, IfOk, IfSome};
 ghost use Rattle.byte_position.specs.Geometry.{pages_of};
 ghost use Rattle.segment_disk.specs.Cause.{HasCause};
 
@@ -14,7 +14,8 @@ pub struct PageBytes {
 /// Which call of a disk it was.
 #[derive(Debug, Drop)]
 pub enum CallKind {
-    /// A segment of zeros. `made` says whether it was left so: it was where the call answered Ok, and may be where it failed.
+    /// A segment of zeros. `made` says whether it was left so: it was where the call answered Ok,
+    /// and may be where it failed.
     Create { made: bool },
     /// A page, by its number in its segment.
     Write { page: u32, bytes: PageBytes },
@@ -30,11 +31,22 @@ pub struct Call {
     pub done: bool,
 }
 
-/// A disk of segment files. It counts the calls of `create`, `write_page` and `sync`, failed ones too: their number is the
-/// moment. A call of these may also fail without being made; then it is not counted, and only the count of faults changes.
+/// A disk of segment files. It counts the calls of `create`, `write_page` and `sync`, failed ones
+/// too: their number is the moment. A call of these may also fail without being made; then it is
+/// not counted, and only the count of faults changes.
+///
+/// The protocol of whoever writes a log (PostgreSQL's `XLogFileInit` and `XLogWrite` of xlog.c): a
+/// segment is made before its first page is written, and synced behind its last one, before the
+/// next is made. A crash behind a create that was done leaves the segment, of zeros; behind a write
+/// it leaves of each word of the page what was durable or what was written since the last sync;
+/// behind a sync that was done just what was written. A call that a crash cut short, or that
+/// failed, may have had its effect or not. So after a fault nothing more is called: what the disk
+/// holds is no longer known, and a sync that answers Ok behind one that failed does not say that
+/// the writes before are durable.
+///
 /// The caller keeps a segment below 2^64 / its size and a page below the segment's pages.
 pub trait Disk {
-    ghost use Rattle.segment_disk.specs.Tape.{Tape, IsMade, IsNotMade, IsPageRead, page_of_segment, state_now};
+    ghost use Rattle.segment_disk.specs.Tape.{Answers, IsPageRead, IsUncalled, Tape, create_call, page_of_segment, state_now, sync_call, write_call};
 
     /// What was there at first and each counted call since, where the disk tells them.
     ghost tape: { Self → Option Tape };
@@ -48,9 +60,8 @@ pub trait Disk {
     /// Makes a segment of zeros, which is durable at Ok.
     fn create(&mut self, geometry: Geometry, segment: u64) -> Result<(), Failed>
         requires { segment < 2 ^ 64 / geometry }
-        ensures ok { OnOk result (IsMade (tape self.old) (tape self.new) (moment self.old) (moment self.new) (record { geometry = geometry; segment = segment; kind = CallKind.Create true; done = true })) }
-        ensures err { OnErr result (((made : Bool) × IsMade (tape self.old) (tape self.new) (moment self.old) (moment self.new) (record { geometry = geometry; segment = segment; kind = CallKind.Create made; done = false }))
-            ⊎ IsNotMade (tape self.old) (tape self.new) (moment self.old) (moment self.new)) }
+        ensures answers { Answers tape moment self.old self.new
+            (create_call geometry segment) result }
         ensures cause { HasCause (faults self.old) (faults self.new) result };
 
     /// Writes a page in place. It is durable only after a sync of the segment.
@@ -63,21 +74,19 @@ pub trait Disk {
     ) -> Result<(), Failed>
         requires segment { segment < 2 ^ 64 / geometry }
         requires page { page < pages_of geometry }
-        ensures ok { OnOk result (IsMade (tape self.old) (tape self.new) (moment self.old) (moment self.new) (record { geometry = geometry; segment = segment; kind = CallKind.Write page (record { bytes = bytes.now }); done = true })) }
-        ensures err { OnErr result (IsMade (tape self.old) (tape self.new) (moment self.old) (moment self.new) (record { geometry = geometry; segment = segment; kind = CallKind.Write page (record { bytes = bytes.now }); done = false })
-            ⊎ IsNotMade (tape self.old) (tape self.new) (moment self.old) (moment self.new)) }
+        ensures answers { Answers tape moment self.old self.new
+            (write_call geometry segment page bytes.now) result }
         ensures cause { HasCause (faults self.old) (faults self.new) result };
 
     /// Makes the last writes of a segment durable.
     fn sync(&mut self, geometry: Geometry, segment: u64) -> Result<(), Failed>
         requires { segment < 2 ^ 64 / geometry }
-        ensures ok { OnOk result (IsMade (tape self.old) (tape self.new) (moment self.old) (moment self.new) (record { geometry = geometry; segment = segment; kind = CallKind.Sync; done = true })) }
-        ensures err { OnErr result (IsMade (tape self.old) (tape self.new) (moment self.old) (moment self.new) (record { geometry = geometry; segment = segment; kind = CallKind.Sync; done = false })
-            ⊎ IsNotMade (tape self.old) (tape self.new) (moment self.old) (moment self.new)) }
+        ensures answers { Answers tape moment self.old self.new
+            (sync_call geometry segment) result }
         ensures cause { HasCause (faults self.old) (faults self.new) result };
 
-    /// Reads a page as of its last write, and answers false exactly where the segment has no whole such page.
-    /// Reads are not counted.
+    /// Reads a page as of its last write, and answers false exactly where the segment has no whole
+    /// such page. Reads are not counted.
     fn read_page(
         &mut self,
         geometry: Geometry,
@@ -87,10 +96,10 @@ pub trait Disk {
     ) -> Result<bool, Failed>
         requires segment { segment < 2 ^ 64 / geometry }
         requires page { page < pages_of geometry }
-        ensures reads { IfOk result (λ there. IfSome (tape self.old) (λ t. IsPageRead (page_of_segment (state_now t segment) page) there bytes.new)) }
+        ensures reads { IfOk result (λ there. IfSome (tape self.old)
+            (λ t. IsPageRead (page_of_segment (state_now t segment) page) there bytes.new)) }
         ensures length { length bytes.new ≡ 8192 }
-        ensures tape { tape self.new ≡ tape self.old }
-        ensures moment { moment self.new ≡ moment self.old }
+        ensures uncalled { IsUncalled tape moment self.old self.new }
         ensures cause { HasCause (faults self.old) (faults self.new) result };
 
     fn moment(&self) -> u64

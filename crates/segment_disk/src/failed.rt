@@ -6,7 +6,8 @@ pub struct Failed;
 
 /// Counts a fault. The count stops at the last value that it can have.
 pub fn count_fault(faults: &mut u64) -> Failed
-    ensures { (faults.new ≡ faults.old + 1) ⊎ ((faults.new ≡ faults.old) × (faults.new ≡ 2 ^ 64 - 1)) }
+    ensures { (faults.new ≡ faults.old + 1)
+        ⊎ ((faults.new ≡ faults.old) × (faults.new ≡ 2 ^ 64 - 1)) }
 {
     *faults = faults.saturating_add(1);
     Failed

@@ -1,8 +1,7 @@
-//! The outside of the log: sources, sinks and the disk of segments, what each means, and bodies in memory.
+//! The outside of the log: sources, sinks and the disk of segments, what each means, and bodies in
+//! memory.
 #![tactic(auto)]
 
-#[cfg(test)]
-mod calls;
 mod disk;
 mod failed;
 mod handed;

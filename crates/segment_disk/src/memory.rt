@@ -1,4 +1,5 @@
-//! Bodies in memory of the source, the sink and the disk, for tests and as models of what the real ones do.
+//! Bodies in memory of the source, the sink and the disk, for tests and as models of what the real
+//! ones do.
 
 mod disk;
 mod reading;
@@ -7,8 +8,6 @@ mod schedule;
 mod segments;
 mod sink;
 mod source;
-#[cfg(test)]
-mod tests;
 
 ghost use Rattle.std.specs.Prelude.{◌≡◌};
 

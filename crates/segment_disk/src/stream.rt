@@ -4,8 +4,9 @@ ghost use Rattle.segment_disk.specs.Stream.{Takes, with_behind};
 
 use crate::failed::Failed;
 
-/// Bytes that come from outside, piece by piece. What each source tells is what it has handed out; one that also tells what
-/// is left has handed out the front of that and of nothing else, in order (`HandsOut` of specs/Stream.antt).
+/// Bytes that come from outside, piece by piece. What each source tells is what it has handed out;
+/// one that also tells what is left has handed out the front of that, in order, and nothing else
+/// (`HandsOut` of specs/Stream.antt).
 pub trait Source {
     /// The bytes that are left, where the source tells them.
     ghost left: { Self → Option (List ℕ) };
@@ -16,8 +17,8 @@ pub trait Source {
     /// How often the source has failed.
     ghost faults: { Self → ℕ };
 
-    /// Reads into the front of a piece, and answers how many bytes. Answers 0 on a piece that is not empty
-    /// exactly where nothing is left. A failed call takes nothing.
+    /// Reads into the front of a piece, and answers how many bytes. Answers 0 on a piece that is
+    /// not empty exactly where nothing is left. A failed call takes nothing.
     fn read(&mut self, into: &mut [u8]) -> Result<usize, Failed>
         ensures within { IfOk result (λ n. n ≤ length into.old) }
         ensures handed { IfOk result (λ n. handed self.new ≡ handed self.old ++ take n into.new) }
@@ -40,12 +41,13 @@ pub trait Sink {
     /// How often the sink has failed.
     ghost faults: { Self → ℕ };
 
-    /// Takes bytes off the front of a piece, at least one of a piece that is not empty, and answers how many.
-    /// A failed call takes nothing.
+    /// Takes bytes off the front of a piece, at least one of a piece that is not empty, and answers
+    /// how many. A failed call takes nothing.
     fn write(&mut self, from: &[u8]) -> Result<usize, Failed>
         ensures within { IfOk result (λ n. n ≤ length from.now) }
         ensures some { IfOk result (λ n. 0 < length from.now → 0 < n) }
-        ensures taken { IfOk result (λ n. taken self.new ≡ with_behind (taken self.old) (take n from.now)) }
+        ensures taken { IfOk result
+            (λ n. taken self.new ≡ with_behind (taken self.old) (take n from.now)) }
         ensures failed { OnErr result (taken self.new ≡ taken self.old) }
         ensures cause { HasCause (faults self.old) (faults self.new) result };
 

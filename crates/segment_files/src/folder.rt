@@ -22,8 +22,9 @@ const FOLDER_MODE: u32 = 0o700;
 ///
 /// A segment is made under a temporary name that nothing else has, filled and synced, and only then
 /// linked to its own name, so that a file under that name is whole; the folder is synced behind it,
-/// since a name that is not on the disk is lost with its file (PostgreSQL's `XLogFileInitInternal` and
-/// `durable_rename`). A link replaces nothing: of two processes that make one segment, one fails.
+/// since a name that is not on the disk is lost with its file (PostgreSQL's
+/// `XLogFileInitInternal` and `durable_rename`). A link replaces nothing: of two processes that
+/// make one segment, one fails.
 ///
 /// The folder's own name may be lost too, so it is put on the disk once, before anything in it is
 /// promised, also where the folder was there already: who made it may not have synced it.
@@ -37,6 +38,7 @@ pub struct Folder<R: Files> {
     path: String,
     temporary: String,
     zeros: Vec<u8>,
+    // Whether all names on the way to the segments are on the disk.
     is_settled: bool,
     has_failed: bool,
 }
@@ -68,9 +70,9 @@ impl<R: Files + Drop> Folder<R> {
 }
 
 impl<R: Files> Folder<R> {
-    /// An error for good once a sync has failed, or a write of pages that were promised: the system may
-    /// have dropped what it could not write, and would answer Ok to the next sync (PostgreSQL
-    /// stops for this, by its `data_sync_elevel`).
+    /// An error for good once a sync has failed, or a write of pages that were answered Ok: the
+    /// system may have dropped what it could not write, and would answer Ok to the next sync
+    /// (PostgreSQL stops for this, by its `data_sync_elevel`).
     pub fn check(&self) -> io::Result<()> {
         if self.has_failed {
             Err(ErrorKind::Other.into())
@@ -103,23 +105,27 @@ impl<R: Files> Folder<R> {
             .open(&self.rt, self.path.as_str())
     }
 
-    /// Makes a file of zeros, which is on the disk under its name at Ok. A file that is there is left
-    /// as it is, and the call fails.
+    /// Makes a file of zeros, which is on the disk under its name at Ok. A file that is there is
+    /// left as it is, and the call fails.
     pub fn make_segment(&mut self, geometry: Geometry, segment: u64) -> io::Result<R::File>
         requires { segment < 2 ^ 64 / geometry }
     {
         self.settle()?;
         let mut file = self.open_temporary()?;
+        // Until the folder is synced behind it, the new name may be lost.
+        self.is_settled = false;
         let linked = self.fill_and_link(&mut file, geometry, segment);
         // Linked or not, the temporary name has served.
         let removed = fs::remove_file(&self.rt, self.temporary.as_str());
         linked?;
         removed?;
         self.sync_folder(".")?;
+        self.is_settled = true;
         Ok(file)
     }
 
-    /// Puts the folder's name on the disk, and makes the folder where it is missing.
+    /// Puts the folder's name and the names in it on the disk, where that was not done yet, and
+    /// makes the folder where it is missing.
     pub fn settle(&mut self) -> io::Result<()> {
         if self.is_settled {
             return Ok(());
@@ -131,7 +137,7 @@ impl<R: Files> Folder<R> {
         Ok(())
     }
 
-    // The file is synced before it has its name: one that a crash leaves under it has all its zeros.
+    // The file is synced before it has its name: one that a crash leaves there has all its zeros.
     fn fill_and_link(
         &mut self,
         file: &mut R::File,
@@ -196,11 +202,13 @@ impl<R: Files> Folder<R> {
         Ok(())
     }
 
-    // Makes the folder whose name ends there, if one does, and puts that name on the disk.
+    // Makes the folder whose name ends there, if one does. The name of one on the way is put on the
+    // disk here, the last one's by `settle`.
     fn make_folder(&mut self, end: usize) -> io::Result<()> {
         match self.name.as_str().split_at_checked(end) {
             Some((folder, rest)) if rest.is_empty() || rest.starts_with('/') => {
                 match DirBuilder::new().mode(FOLDER_MODE).create(&self.rt, folder) {
+                    Ok(()) if rest.is_empty() => return Ok(()),
                     Ok(()) => join(&mut self.path, folder, "..")?,
                     Err(e) if e.kind() == ErrorKind::AlreadyExists => return Ok(()),
                     Err(e) => return Err(e),

@@ -65,11 +65,14 @@ impl PagesHeld {
     }
 }
 
-/// Pages that were read before they were asked for.
+/// Pages that were read before they were asked for. Each is given once, in rising order: what is
+/// asked for again is read anew, since another process may have written it meanwhile.
 #[derive(Drop)]
 pub struct PagesAhead {
     first: u32,
     count: usize,
+    // The pages below this one were given.
+    next: u32,
     bytes: Vec<u8>,
 }
 
@@ -79,6 +82,7 @@ impl PagesAhead {
         Ok(PagesAhead {
             first: 0,
             count: 0,
+            next: 0,
             bytes: vec![in alloc; 0; MOST_PAGES * PAGE_SIZE]?,
         })
     }
@@ -87,11 +91,12 @@ impl PagesAhead {
         self.count = 0;
     }
 
-    /// Copies a page that is here, and answers whether it is.
-    pub fn copy(&self, page: u32, bytes: &mut [u8; 8192]) -> bool {
-        if page < self.first || (page - self.first) as usize >= self.count {
+    /// Gives a page that is here, and answers whether it is.
+    pub fn give(&mut self, page: u32, bytes: &mut [u8; 8192]) -> bool {
+        if page < self.next || page < self.first || (page - self.first) as usize >= self.count {
             return false;
         }
+        self.next = page.saturating_add(1);
         let start = (page - self.first) as usize * PAGE_SIZE;
         let end = start + PAGE_SIZE;
         if end > self.bytes.len() {
@@ -108,6 +113,7 @@ impl PagesAhead {
         let len = (count * PAGE_SIZE).min(self.bytes.len());
         file.read_exact_at(&mut self.bytes[..len], offset_of(page))?;
         self.first = page;
+        self.next = page;
         self.count = count;
         Ok(())
     }

@@ -26,13 +26,15 @@ impl<F> OpenSegment<F> {
 
 /// The segment files of a folder, as pages are put into them and read back.
 ///
-/// One segment is written at a time. A page that was put is held until a page elsewhere, a sync or a
-/// read makes it go to the file together with its neighbours; what fails then is that call's fault,
-/// and from then on nothing answers Ok, since pages that were answered Ok are not in the file. The file that was
-/// written stays open until it was synced: the system tells a failed write to those that had the
-/// file open, and not surely to who opens it later. Before another segment is written it is synced.
+/// One segment is written at a time. A page that was put is held until a page elsewhere, a sync or
+/// a read makes it go to the file together with its neighbours; what fails then is that call's
+/// fault, and from then on nothing answers Ok, since pages that were answered Ok are not in the
+/// file. The file that was written stays open until it was synced: the system tells a failed write
+/// to those that had the file open, and not surely to who opens it later. Before another segment is
+/// written it is synced.
 ///
-/// Reads have an open file of their own, and read pages ahead, which are forgotten with each page that is put.
+/// Reads have an open file of their own, and read pages ahead, which are forgotten with each page
+/// that is put.
 #[derive(Drop)]
 pub struct SegmentFiles<R: Files> {
     folder: Folder<R>,
@@ -129,13 +131,14 @@ where
             Err(e) if e.kind() == ErrorKind::NotFound => return Ok(false),
             Err(e) => return Err(e),
         }
-        if self.ahead.copy(page, bytes) {
+        if self.ahead.give(page, bytes) {
             return Ok(true);
         }
         self.read_ahead(geometry, page, bytes)
     }
 
-    // Reads pages from this one on; where these are not all there, or not all readable, this one alone.
+    // Reads pages from this one on; where these are not all there or not all readable, this one
+    // alone.
     fn read_ahead(
         &mut self,
         geometry: Geometry,
@@ -146,7 +149,7 @@ where
             return Ok(false);
         };
         let most = geometry.pages().saturating_sub(page);
-        if self.ahead.fill(&open.file, page, most).is_ok() && self.ahead.copy(page, bytes) {
+        if self.ahead.fill(&open.file, page, most).is_ok() && self.ahead.give(page, bytes) {
             return Ok(true);
         }
         match pages::read_page(&open.file, page, bytes) {
@@ -194,7 +197,8 @@ where
         Ok(())
     }
 
-    // Syncs the segment that is written before its file is closed, where it has pages that were not.
+    // Syncs the segment that is written before its file is closed, where it has pages that were
+    // not synced.
     fn leave_written(&mut self) -> io::Result<()> {
         if self.is_synced {
             return Ok(());

@@ -12,8 +12,9 @@ const BUFFER_SIZE: usize = 64 * 1024;
 // Below the buffer's size, so that each piece goes through the buffer.
 const LONGEST_PIECE: usize = 32 * 1024;
 
-/// A sink over a writer. It keeps up to 64 KiB and writes them where it needs the room: flush it at the end, since a
-/// failure is not told where it is dropped. A write that failed is made again, from where it ended, by the next call.
+/// A sink over a writer. It keeps up to 64 KiB and writes them where it needs the room: flush it at
+/// the end, since a failure is not told where it is dropped. A write that failed is made again,
+/// from where it ended, by the next call.
 #[derive(Drop)]
 pub struct StandardSink<W: Write + Drop> {
     writer: BufWriter<W>,
@@ -27,7 +28,8 @@ impl<W: Write + Drop> StandardSink<W> {
     pub fn new(alloc: Global, writer: W) -> Result<StandardSink<W>, Memory>
         ensures taken { IfOk result (λ sink. ⟦<StandardSink<W> as Sink>⟧.taken sink ≡ None) }
         ensures faults { IfOk result (λ sink. ⟦<StandardSink<W> as Sink>⟧.faults sink ≡ 0) }
-        ensures bytes { IfOk result (λ sink. Keeps (W.contents writer) (writer_taken W.contents sink)) }
+        ensures bytes { IfOk result (λ sink.
+            Keeps (W.contents writer) (writer_taken W.contents sink)) }
     {
         match BufWriter::with_capacity(alloc, BUFFER_SIZE, writer) {
             Ok(writer) => Ok(StandardSink { writer, faults: 0 }),
@@ -37,8 +39,10 @@ impl<W: Write + Drop> StandardSink<W> {
 
     /// Writes what it keeps.
     pub fn flush(&mut self) -> Result<(), Failed>
-        ensures cause { HasCause (⟦<StandardSink<W> as Sink>⟧.faults self.old) (⟦<StandardSink<W> as Sink>⟧.faults self.new) result }
-        ensures bytes { Keeps (writer_taken W.contents self.old) (writer_taken W.contents self.new) }
+        ensures cause { HasCause (⟦<StandardSink<W> as Sink>⟧.faults self.old)
+            (⟦<StandardSink<W> as Sink>⟧.faults self.new) result }
+        ensures bytes { Keeps (writer_taken W.contents self.old)
+            (writer_taken W.contents self.new) }
         ensures written { OnOk result (kept_bytes self.new ≡ []) }
     {
         match self.writer.flush() {
@@ -62,7 +66,8 @@ impl<W: Write + Drop> Sink for StandardSink<W> {
         ensures cause { HasCause self.old.faults self.new.faults result }
 
         // The writer is given each byte that was taken, once and in order.
-        ensures bytes { WriteAppends (writer_taken W.contents self.old) (writer_taken W.contents self.new) result from.now }
+        ensures bytes { WriteAppends (writer_taken W.contents self.old)
+            (writer_taken W.contents self.new) result from.now }
     {
         let count = from.len().min(LONGEST_PIECE);
         match self.writer.write(&from[..count]) {

@@ -46,12 +46,14 @@ impl<R: Read> Source for StandardSource<R> {
 
     fn read(&mut self, into: &mut [u8]) -> Result<usize, Failed>
         ensures within { IfOk result (λ n. n ≤ length into.old) }
-        ensures handed { IfOk result (λ n. self.new.handed.bytes ≡ self.old.handed.bytes ++ take n into.new) }
+        ensures handed { IfOk result (λ n.
+            self.new.handed.bytes ≡ self.old.handed.bytes ++ take n into.new) }
         ensures none_handed { OnErr result (self.new.handed.bytes ≡ self.old.handed.bytes) }
         ensures cause { HasCause self.old.faults self.new.faults result }
 
         // It gives the reader's bytes in order, and answers 0 where none is left.
-        ensures bytes { ReadConsumes (reader_left R.remaining self.old) (reader_left R.remaining self.new) result into.new }
+        ensures bytes { ReadConsumes (reader_left R.remaining self.old)
+            (reader_left R.remaining self.new) result into.new }
     {
         match read_once(&mut self.reader, into) {
             Ok(count) => {

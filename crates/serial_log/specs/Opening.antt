@@ -1,14 +1,9 @@
 -- What an opening leaves of a disk.
 use Rattle.std.specs.Prelude.{◌≡◌, ℕ, Option, IfSome, IsSome}
 use Rattle.segment_disk.specs.Cause.{Rose}
-use Rattle.segment_disk.specs.Tape.{Tape, state_now, page_of_segment}
+use Rattle.segment_disk.specs.Tape.{IsUncalled, Tape, state_now, page_of_segment}
 use Rattle.serial_log.specs.declared.log.OpenFailure.{OpenFailure}
 use Rattle.serial_log.specs.declared.log.OpenFailure.TheVariants as failures
-
--- no counted call was made of a disk
-pub record IsUncalled {D : Type 0} (tape : D → Option Tape) (moment : D → ℕ) (old new : D) : Type 0 where
-  pub same_tape : tape new ≡ tape old
-  pub same_moment : moment new ≡ moment old
 
 -- why a log was not opened: the read failed, or page 0 of segment 1 was there; the disk comes back
 abbrev pub RefusesToOpen : {D : Type 0} → (D → Option Tape) → (D → ℕ) → (D → ℕ) → D → OpenFailure D → Type 0

@@ -7,5 +7,6 @@ pub mod PageLaws
 pub mod StreamLaws
 pub mod WordPositions
 pub mod OwnerLaws
+pub mod EntryWordLaws
 pub mod LogByteLaws
 pub mod LogWordLaws

@@ -1,5 +1,5 @@
 -- Laws of the log's words, for the proofs of this crate and of those above.
-use Rattle.std.proofs.Common.{◌≡◌, ℕ, zero, suc, ◌+◌, ◌-◌, ◌*◌, ◌/◌, ◌%◌, ◌<◌, ◌≤◌, true, false, List, [], ◌∷◌, ◌++◌, length, get_or, take, drop, All, None, refl, ap, sym, ◌∙◌, inl, inr, arith}
+use Rattle.std.proofs.Common.{◌≡◌, ℕ, zero, suc, ◌+◌, ◌-◌, ◌*◌, ◌/◌, ◌%◌, ◌<◌, ◌≤◌, true, false, List, [], ◌∷◌, ◌++◌, length, get_or, take, drop, All, None, refl, ap, subst, sym, ◌∙◌, inl, inr, arith}
 use Rattle.std.specs.Int.{w64, from_le_bytes, to_le_bytes}
 use Rattle.std.proofs.lemmas.Bool.{cases_Bool, cond-true, cond-false}
 use Rattle.std.proofs.lemmas.List.{get_or-take, get_or-drop, length-take, length-drop}
@@ -13,10 +13,10 @@ use Rattle.wal_page.specs.Order.{Entry, IsChained, rooms_of, prev_of}
 use Rattle.wal_page.specs.Page.{header_size, page_header}
 use Rattle.wal_page.specs.Log.{stream_of, owner_of, owner_at, remaining_at, header_byte, log_byte, log_word}
 use Rattle.wal_page.specs.LogPage.{IsLogPage}
-use Rattle.wal_page.specs.Placed.{Owns, entry_word, header_word, still_to_come}
-use Rattle.wal_page.proofs.OrderLaws.{FollowsFrom-parts}
+use Rattle.wal_page.specs.Placed.{IsWordOfLog, Owns, entry_word, header_word, still_to_come}
+use Rattle.wal_page.proofs.OrderLaws.{FollowsFrom-parts, prev_in-entry}
 use Rattle.wal_page.proofs.WordPositions.{is_in_header-word, position_of-header_word, position_of-own_word, position_of-whole, first_position-whole, in_header-page, position_of-header_of_page}
-use Rattle.wal_page.proofs.OwnerLaws.{owner_of-entry, owner_of-none_where, owner_of-none_before, owner_of-none_behind, owns_or_not, rooms_of-whole, start-whole}
+use Rattle.wal_page.proofs.OwnerLaws.{owner_at-entry_iff, owner_of-entry, owner_of-none_where, owner_of-none_before, owner_of-none_behind, owns_or_not, rooms_of-whole, start-whole}
 use Rattle.wal_page.proofs.LogByteLaws.{log_byte-header, log_byte-stream, stream_of-entry, log_byte_push, log_byte-unowned, log_byte-behind, log_byte-fits}
 
 -- ---- a word is its bytes
@@ -128,6 +128,20 @@ module _ (size sysid : ℕ) (valid : IsSegmentSize size) where
         | inl inside ↦ log_word-reads size sysid es a (take 8 (drop (8 * (a % 8192 / 8)) header)) (λ i lt. entry_word-header front back e chain a whole owns inside i lt ∙ word_at-reads header (a % 8192 / 8) i lt) ∙ sym (cond-true (is_in_header size a) (word_at header (a % 8192 / 8)) (word_at own ((p - e.start) / 8)) inside)
         | inr outside ↦ log_word-reads size sysid es a (take 8 (drop (8 * ((p - e.start) / 8)) own)) (λ i lt. entry_word-own front back e chain a whole owns outside i lt ∙ word_at-reads own ((p - e.start) / 8) i lt) ∙ sym (cond-false (is_in_header size a) (word_at header (a % 8192 / 8)) (word_at own ((p - e.start) / 8)) outside)
       ]
+
+  -- what a record gives at its place is the log's word, in each order that holds it there
+  pub entry_word-is_word_of_log : (a : Assembled) (start prev next address word : ℕ) → address % 8 ≡ 0 → Owns size a start address → word ≡ entry_word size sysid a start prev address
+      → IsWordOfLog (record { size = size; sysid = sysid; body = a; start = start; prev = prev; next = next }) address word
+  entry_word-is_word_of_log a start prev next address word whole owns gives front back e chain at same behind =
+      let owns_at : Owns size a e.start address = subst (λ (s : ℕ). Owns size a s address) (sym at) owns in
+      let owns_e : Owns size (assembled e.value) e.start address = subst (λ (b : Assembled). Owns size b e.start address) (sym same) owns_at in (
+        (owner_at-entry_iff size front back e chain address).1 owns_e,
+        gives
+            ∙ ap (λ (s : ℕ). entry_word size sysid a s prev address) (sym at)
+            ∙ ap (λ (b : Assembled). entry_word size sysid b e.start prev address) (sym same)
+            ∙ ap (λ (q : ℕ). entry_word size sysid (assembled e.value) e.start q address) (sym behind ∙ prev_in-entry size front back e chain)
+            ∙ sym (log_word-entry front back e chain address whole owns_e),
+      )
 
   -- a header's words are the header's
   pub entry_word-header_word : (a : Assembled) (start prev page n : ℕ) → 8 * n < header_size size page → entry_word size sysid a start prev (page * 8192 + 8 * n) ≡ header_word size sysid page a start n

@@ -1,10 +1,11 @@
 -- Laws of the order of the log's records, for the proofs of this crate and of those above.
-use Rattle.std.proofs.Common.{◌≡◌, ℕ, suc, zero, ◌+◌, ◌<◌, ◌≤◌, List, [], ◌∷◌, ◌++◌, length, get_or, take, refl, ap, subst, arith}
+use Rattle.std.proofs.Common.{◌≡◌, ℕ, suc, zero, ◌+◌, ◌<◌, ◌≤◌, List, [], ◌∷◌, ◌++◌, length, get_or, take, ltb, refl, ap, subst, ◌∙◌, arith}
+use Rattle.std.proofs.lemmas.Bool.{lt-ltb, le-ltb, cond-true, cond-false}
 use Rattle.std.proofs.lemmas.List.{take-take}
 use Rattle.std.proofs.lemmas.List.Sums.{sum_by_push, sum_by-cons, sum_by-append, sum_by_more, sum_by-take-le}
 use Rattle.byte_position.specs.Position.{address_of, first_position}
 use Rattle.record_spelling.specs.Spelling.{room_of, IsWritable}
-use Rattle.wal_page.specs.Order.{Entry, FollowsFrom, IsChained, position_behind, rooms_of, prev_of}
+use Rattle.wal_page.specs.Order.{Entry, FollowsFrom, IsChained, position_behind, rooms_of, prev_of, prev_before, prev_in}
 
 -- no record takes up less than its header
 pub room_of-pos : (e : Entry) → 24 ≤ room_of e.value
@@ -68,3 +69,14 @@ FollowsFrom-rises position es chain i j d before within =
     let fewer : rooms_of (take (i + 1) (take j es)) ≤ rooms_of (take j es) = sum_by-take-le (λ e. room_of e.value) (take j es) (i + 1) in
     let same = ap rooms_of (take-take (i + 1) j es (omega arith)) in
     (omega (arith, at_i, at_j, more, fewer, same), omega (arith, at_i, at_j, more, fewer, same))
+
+-- the entry before one in an order is the last of those before it
+pub prev_before-entry : (size prev position : ℕ) (front back : List Entry) (e : Entry) → FollowsFrom position (front ++ e ∷ back) → prev_before size prev (front ++ e ∷ back) e.start ≡ prev_of size prev front
+prev_before-entry size prev position [] back e chain = cond-false (ltb e.start e.start) _ _ (le-ltb e.start e.start (omega arith))
+prev_before-entry size prev position (f ∷ front) back e chain =
+    let parts = FollowsFrom-parts (position_behind f) front (e ∷ back) chain.2 in
+    let earlier : f.start < e.start = omega (arith, parts.1.0, room_of-pos f) in
+    cond-true (ltb f.start e.start) _ _ (lt-ltb f.start e.start earlier) ∙ prev_before-entry size (address_of size f.start) (position_behind f) front back e chain.2
+
+pub prev_in-entry : (size : ℕ) (front back : List Entry) (e : Entry) → IsChained size (front ++ e ∷ back) → prev_in size (front ++ e ∷ back) e ≡ prev_of size 0 front
+prev_in-entry size front back e chain = prev_before-entry size 0 (first_position size) front back e chain

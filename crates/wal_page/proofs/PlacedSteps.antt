@@ -3,7 +3,8 @@ use Rattle.std.proofs.Common.{◌≡◌, ℕ, ◌+◌, ◌-◌, ◌*◌, ◌/◌
 use Rattle.std.proofs.lemmas.Bool.{cases_lt, lt-ltb, le-ltb, eq-eqb, ne_eqb, cond-true, cond-false}
 use Rattle.byte_position.specs.Geometry.{IsSegmentSize}
 use Rattle.byte_position.specs.Position.{is_in_header, position_of, end_address_of}
-use Rattle.byte_position.proofs.EndAddresses.{end_address_of-le, position_of-end_address_of}
+use Rattle.byte_position.proofs.EndAddresses.{end_address_of-le, le-position_of, position_of-end_address_of}
+use Rattle.byte_position.proofs.Rising.{position_of-mono}
 use Rattle.byte_position.proofs.Words.{end_address_of-mod_word}
 use Rattle.record_spelling.specs.Spelling.{Assembled, assembled_size, assembled_room, filled, word_at}
 use Rattle.wal_page.specs.Page.{page_header}
@@ -31,6 +32,22 @@ stands_first size a start valid whole within =
       position = omega (arith, at);
       passed_within = omega arith;
       next_within = end_address_of-le size valid start (end_address_of size (start + assembled_room a)) (omega (arith, position_of-end_address_of size valid (start + assembled_room a)));
+    }
+
+-- before a word further on
+pub stands_between : (size : ℕ) (a : Assembled) (start next : ℕ) → IsSegmentSize size → start % 8 ≡ 0 → start + assembled_room a < 2 ^ 60 → next % 8 ≡ 0 → end_address_of size start ≤ next → next ≤ end_address_of size (start + assembled_room a)
+    → StandsAt size a start next (position_of size next - start)
+stands_between size a start next valid whole within at_word begun owned =
+    let from = le-position_of size valid start next begun in
+    let below = position_of-mono size next (end_address_of size (start + assembled_room a)) owned in
+    record {
+      valid = valid;
+      whole_start = whole;
+      within = within;
+      whole_next = at_word;
+      position = omega (arith, from);
+      passed_within = omega (arith, below, position_of-end_address_of size valid (start + assembled_room a));
+      next_within = owned;
     }
 
 module _ (size : ℕ) (a : Assembled) (start next passed : ℕ) (stands : StandsAt size a start next passed) where

@@ -4,3 +4,4 @@ pub mod Log
 pub mod LogPage
 pub mod Lawful
 pub mod Placed
+pub mod EntryWords

@@ -1,4 +1,5 @@
--- The bytes of the log that an order of entries gives, each at its address (PostgreSQL's xlog.c, CopyXLogRecordToWAL).
+-- The bytes of the log that an order of entries gives, each at its address (PostgreSQL's xlog.c,
+-- CopyXLogRecordToWAL).
 use Rattle.std.specs.Prelude.{ℕ, ◌+◌, ◌-◌, ◌/◌, ◌%◌, ◌&&◌, List, [], ◌∷◌, ◌++◌, slice_index, Option, Some, None, nat_lt, nat_le, if◌then◌else◌}
 use Rattle.std.specs.Int.{w64, from_le_bytes}
 use Rattle.byte_position.specs.Position.{is_in_header, position_of, address_of, first_position}
@@ -6,10 +7,12 @@ use Rattle.record_spelling.specs.Spelling.{assembled, filled, size_of}
 use Rattle.wal_page.specs.Order.{Entry, position_behind}
 use Rattle.wal_page.specs.Page.{page_header}
 
--- the records of entries, each spelled and filled up to its room, one behind another; `prev` is the start of the record before the first
+-- the records of entries, each spelled and filled up to its room, one behind another; `prev` is the
+-- start of the record before the first
 abbrev pub stream_from : ℕ → ℕ → List Entry → List ℕ
 stream_from size prev [] = []
-stream_from size prev (e ∷ es) = filled (assembled e.value) prev ++ stream_from size (address_of size e.start) es
+stream_from size prev (e ∷ es) = filled (assembled e.value) prev
+    ++ stream_from size (address_of size e.start) es
 
 -- all records of an order
 abbrev pub stream_of : ℕ → List Entry → List ℕ
@@ -18,23 +21,32 @@ stream_of size es = stream_from size 0 es
 -- the entry in whose room a byte position lies
 abbrev pub owner_of : List Entry → ℕ → Option Entry
 owner_of [] position = None
-owner_of (e ∷ es) position = if nat_le e.start position && nat_lt position (position_behind e) then Some e else owner_of es position
+owner_of (e ∷ es) position =
+    if nat_le e.start position && nat_lt position (position_behind e) then Some e
+    else owner_of es position
 
--- how many bytes of an entry's record are still to come at a byte position behind its start; 0 at its start
+-- how many bytes of an entry's record are still to come at a byte position behind its start; 0 at
+-- its start
 abbrev pub remaining_at : Entry → ℕ → ℕ
-remaining_at e position = if nat_lt e.start position then e.start + size_of e.value - position else 0
+remaining_at e position =
+    if nat_lt e.start position then e.start + size_of e.value - position else 0
 
--- a byte of a page header: of the header that the entry of the page's first other byte gives it, 0 where no entry has that byte
+-- a byte of a page header: of the header that the entry of the page's first other byte gives it, 0
+-- where no entry has that byte
 abbrev pub header_byte : ℕ → ℕ → ℕ → ℕ → Option Entry → ℕ
 header_byte size sysid address position None = 0
-header_byte size sysid address position (Some e) = slice_index (page_header size sysid (address / 8192) (remaining_at e position)) (address % 8192)
+header_byte size sysid address position (Some e) =
+    slice_index (page_header size sysid (address / 8192) (remaining_at e position)) (address % 8192)
 
--- the byte of the log at an address: a header's, or the stream's at its byte position; 0 where nothing stands
+-- the byte of the log at an address: a header's, or the stream's at its byte position; 0 where
+-- nothing stands
 abbrev pub log_byte : ℕ → ℕ → List Entry → ℕ → ℕ
 log_byte size sysid es address =
     let position = position_of size address in
-    if is_in_header size address then header_byte size sysid address position (owner_of es position)
-    else (if nat_lt position (first_position size) then 0 else slice_index (stream_of size es) (position - first_position size))
+    if is_in_header size address
+    then header_byte size sysid address position (owner_of es position)
+    else (if nat_lt position (first_position size) then 0
+    else slice_index (stream_of size es) (position - first_position size))
 
 -- the word of the log at an address: eight bytes, the lowest first
 abbrev pub log_word : ℕ → ℕ → List Entry → ℕ → ℕ

@@ -1,10 +1,12 @@
--- The order of the log's records (PostgreSQL's xlog.c, ReserveXLogInsertLocation). Everywhere `size` is the size of a segment in bytes.
-use Rattle.std.specs.Prelude.{◌≡◌, ℕ, ◌+◌, List, [], ◌∷◌, sum_by}
+-- The order of the log's records (PostgreSQL's xlog.c, ReserveXLogInsertLocation). Everywhere
+-- `size` is the size of a segment in bytes.
+use Rattle.std.specs.Prelude.{◌≡◌, ℕ, ◌+◌, List, [], ◌∷◌, sum_by, nat_lt, if◌then◌else◌}
 use Rattle.byte_position.specs.Position.{address_of, end_address_of, first_position}
 use Rattle.wal_types.specs.declared.record.Record.{Record}
 use Rattle.record_spelling.specs.Spelling.{room_of, IsWritable}
 
--- an entry of the log: the pass that reserved it, its record, and the byte position at which it starts
+-- an entry of the log: the pass that reserved it, its record, and the byte position at which it
+-- starts
 pub record Entry : Type 0 where
   pub pass : ℕ
   pub value : Record
@@ -17,20 +19,34 @@ position_behind e = e.start + room_of e.value
 -- entries follow each other without a gap from a byte position on
 abbrev pub FollowsFrom : ℕ → List Entry → Type 0
 FollowsFrom position [] = Unit {0}
-FollowsFrom position (e ∷ es) = (e.start ≡ position) × IsWritable e.value × FollowsFrom (position_behind e) es
+FollowsFrom position (e ∷ es) = (e.start ≡ position) × IsWritable e.value
+    × FollowsFrom (position_behind e) es
 
 -- entries follow each other from the log's first byte position on
 abbrev pub IsChained : ℕ → List Entry → Type 0
 IsChained size es = FollowsFrom (first_position size) es
 
--- how many bytes entries take up together
+-- how many bytes entries take up together, and the byte position at which an order ends
 abbrev pub rooms_of : List Entry → ℕ
 rooms_of es = sum_by (λ e. room_of e.value) es
 
--- the address at which the last of some entries starts, and `prev` where there is none: what the next record names as the one before
+abbrev pub end_position : ℕ → List Entry → ℕ
+end_position size es = first_position size + rooms_of es
+
+-- the address at which the last of some entries starts, and `prev` where there is none: what the
+-- next record names as the one before
 abbrev pub prev_of : ℕ → ℕ → List Entry → ℕ
 prev_of size prev [] = prev
 prev_of size prev (e ∷ es) = prev_of size (address_of size e.start) es
+
+-- the address at which the entry before this one of an order starts, 0 where it is the first
+abbrev pub prev_before : ℕ → ℕ → List Entry → ℕ → ℕ
+prev_before size prev [] start = prev
+prev_before size prev (e ∷ es) start =
+    if nat_lt e.start start then prev_before size (address_of size e.start) es start else prev
+
+abbrev pub prev_in : ℕ → List Entry → Entry → ℕ
+prev_in size es e = prev_before size 0 es e.start
 
 -- the address at which an entry starts, and the one at which it ends
 abbrev pub start_of : ℕ → Entry → ℕ

@@ -1,4 +1,5 @@
--- Page headers, and the checks of a page in their order (PostgreSQL's xlog_internal.h and XLogReaderValidatePageHeader of xlogreader.c).
+-- Page headers, and the checks of a page in their order (PostgreSQL's xlog_internal.h and
+-- XLogReaderValidatePageHeader of xlogreader.c).
 use Rattle.std.specs.Prelude.{ℕ, ◌+◌, ◌*◌, ◌/◌, ◌%◌, Bool, ◌&&◌, not, List, [], ◌∷◌, ◌++◌, Option, Some, None, ◌==◌, nat_lt, if◌then◌else◌}
 use Rattle.std.specs.Int.{w16, w32, w64, to_le_bytes}
 pub use Rattle.byte_position.specs.Position.{is_first_page, header_size}
@@ -7,10 +8,20 @@ use Rattle.record_spelling.specs.Numbers.{number_at}
 use Rattle.wal_page.specs.declared.checks.PageErr.{PageErr}
 use Rattle.wal_page.specs.declared.checks.PageErr.TheVariants.{Magic, Flags, NoLong, LongInside, SegSize, PageSize, SysId, Address, Timeline}
 
--- the header of a page into which a record continues with `remaining` bytes still to come (0: none does): magic, flags (1 continuation, 2 long, 4 always), timeline 1, address, those bytes, four zeros, and in a long one the system id, the segment's size and the page's
+-- the header of a page into which a record continues with `remaining` bytes still to come (0: none
+-- does): magic, flags (1 continuation, 2 long, 4 always), timeline 1, address, those bytes, four
+-- zeros, and in a long one the system id, the segment's size and the page's
 abbrev pub page_header : ℕ → ℕ → ℕ → ℕ → List ℕ
 page_header size sysid page remaining =
-    to_le_bytes w16 0xD113 ++ to_le_bytes w16 ((if nat_lt 0 remaining then 1 else 0) + (if is_first_page size page then 2 else 0) + 4) ++ to_le_bytes w32 1 ++ to_le_bytes w64 (page * 8192) ++ to_le_bytes w32 remaining ++ (0 ∷ 0 ∷ 0 ∷ 0 ∷ []) ++ (if is_first_page size page then to_le_bytes w64 sysid ++ to_le_bytes w32 size ++ to_le_bytes w32 8192 else [])
+    to_le_bytes w16 0xD113
+    ++ to_le_bytes w16 ((if nat_lt 0 remaining then 1 else 0)
+    + (if is_first_page size page then 2 else 0) + 4)
+    ++ to_le_bytes w32 1
+    ++ to_le_bytes w64 (page * 8192)
+    ++ to_le_bytes w32 remaining
+    ++ (0 ∷ 0 ∷ 0 ∷ 0 ∷ [])
+    ++ (if is_first_page size page
+    then to_le_bytes w64 sysid ++ to_le_bytes w32 size ++ to_le_bytes w32 8192 else [])
 
 -- the fields of a page's header
 abbrev pub info_of : List ℕ → ℕ
@@ -22,7 +33,8 @@ timeline_of bytes = number_at w32 bytes 4
 abbrev pub remaining_of : List ℕ → ℕ
 remaining_of bytes = number_at w32 bytes 16
 
--- whether the page's flags say that a record continues into it, that its header is long, that the record that began before it was overwritten
+-- whether the page's flags say that a record continues into it, that its header is long, that the
+-- record that began before it was overwritten
 abbrev pub is_continued : List ℕ → Bool
 is_continued bytes = info_of bytes % 2 == 1
 

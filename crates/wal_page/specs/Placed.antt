@@ -1,31 +1,43 @@
 -- The words that a record gives the log at its place (PostgreSQL's xlog.c, CopyXLogRecordToWAL).
--- Everywhere `size` is the size of a segment in bytes, and `start` the byte position at which the record `a` starts.
-use Rattle.std.specs.Prelude.{◌≡◌, ℕ, ◌+◌, ◌-◌, ◌*◌, ◌/◌, ◌%◌, ◌^◌, ◌<◌, ◌≤◌, false, List, slice_index, nat_lt, if◌then◌else◌}
+-- Everywhere `size` is the size of a segment in bytes, and `start` the byte position at which the
+-- record `a` starts.
+use Rattle.std.specs.Prelude.{◌≡◌, ℕ, ◌+◌, ◌-◌, ◌*◌, ◌/◌, ◌%◌, ◌^◌, ◌<◌, ◌≤◌, false, List, slice_index, nat_lt, if◌then◌else◌, ◌∷◌, ◌++◌, Some}
 use Rattle.byte_position.specs.Geometry.{IsSegmentSize}
 use Rattle.byte_position.specs.Position.{is_in_header, position_of, end_address_of}
-use Rattle.record_spelling.specs.Spelling.{Assembled, assembled_size, assembled_room, filled, word_at}
+use Rattle.record_spelling.specs.Spelling.{Assembled, assembled, assembled_size, assembled_room, filled, word_at}
+use Rattle.wal_page.specs.Order.{Entry, IsChained, prev_in}
 use Rattle.wal_page.specs.Page.{page_header}
+use Rattle.wal_page.specs.Log.{log_word, owner_at}
 
--- the byte at an address is the record's: its byte position lies in the record's room; a header's bytes have the position of the page's first other byte, and so the same owner
+-- the byte at an address is the record's: its byte position lies in the record's room; a header's
+-- bytes have the position of the page's first other byte, and so the same owner
 abbrev pub Owns : ℕ → Assembled → ℕ → ℕ → Type 0
-Owns size a start address = (start ≤ position_of size address) × (position_of size address < start + assembled_room a)
+Owns size a start address = (start ≤ position_of size address)
+    × (position_of size address < start + assembled_room a)
 
--- how many of the record's bytes are still to come at a byte position behind its start; 0 at its start
+-- how many of the record's bytes are still to come at a byte position behind its start; 0 at its
+-- start
 abbrev pub still_to_come : Assembled → ℕ → ℕ → ℕ
-still_to_come a start position = if nat_lt start position then start + assembled_size a - position else 0
+still_to_come a start position =
+    if nat_lt start position then start + assembled_size a - position else 0
 
 -- the n-th word of the header that the record gives a page whose first other byte is the record's
 abbrev pub header_word : ℕ → ℕ → ℕ → Assembled → ℕ → ℕ → ℕ
-header_word size sysid page a start n = word_at (page_header size sysid page (still_to_come a start (position_of size (page * 8192)))) n
+header_word size sysid page a start n =
+    let remaining = still_to_come a start (position_of size (page * 8192)) in
+    word_at (page_header size sysid page remaining) n
 
 -- the word that the record, behind one that starts at `prev`, gives at an address that it owns
 abbrev pub entry_word : ℕ → ℕ → Assembled → ℕ → ℕ → ℕ → ℕ
 entry_word size sysid a start prev address =
     let position = position_of size address in
-    if is_in_header size address then word_at (page_header size sysid (address / 8192) (still_to_come a start position)) (address % 8192 / 8)
+    let header = page_header size sysid (address / 8192) (still_to_come a start position) in
+    if is_in_header size address then word_at header (address % 8192 / 8)
     else word_at (filled a prev) ((position - start) / 8)
 
--- a record at its place as its words are given: its log's segment size and system id, the record, the byte position of its start, the start of the record before (0 for none), and the address of its next word
+-- a record at its place as its words are given: its log's segment size and system id, the record,
+-- the byte position of its start, the start of the record before (0 for none), and the address of
+-- its next word
 pub record PlacedState : Type 0 where
   pub size : ℕ
   pub sysid : ℕ
@@ -43,9 +55,20 @@ placed_end p = end_address_of p.size (p.start + assembled_room p.body)
 
 -- these are the first `count` of the words that it gives from its next one on
 abbrev pub HasWordsFrom : PlacedState → ℕ → List ℕ → Type 0
-HasWordsFrom p count words = (k : ℕ) → k < count → slice_index words k ≡ placed_word p (p.next + 8 * k)
+HasWordsFrom p count words =
+    (k : ℕ) → k < count → slice_index words k ≡ placed_word p (p.next + 8 * k)
 
--- its next `count` words lie together on a page, behind the page's header, and the record's own header lies before them
+-- a word at an address is the log's: in every chained order that holds the record at this start,
+-- behind the one that starts at `prev`, its entry owns the address, and the log has that word there
+abbrev pub IsWordOfLog : PlacedState → ℕ → ℕ → Type 0
+IsWordOfLog p address word =
+    (front back : List Entry) (e : Entry) → IsChained p.size (front ++ e ∷ back)
+    → e.start ≡ p.start → assembled e.value ≡ p.body → prev_in p.size (front ++ e ∷ back) e ≡ p.prev
+    → (owner_at p.size (front ++ e ∷ back) address ≡ Some e)
+    × (word ≡ log_word p.size p.sysid (front ++ e ∷ back) address)
+
+-- its next `count` words lie together on a page, behind the page's header, and the record's own
+-- header lies before them
 pub record LieTogether (p : PlacedState) (count : ℕ) : Type 0 where
   pub outside : is_in_header p.size p.next ≡ false
   pub behind_header : p.start + 24 ≤ position_of p.size p.next

@@ -71,18 +71,19 @@ impl PageInfo {
 /// Checks a page that is read, in this order: its magic number, its flags, whether it has the long
 /// header just where it is its segment's first, what a long header says, its address, and that its
 /// timeline is none before that of the page read before it (0 where there is none). `page` counts
-/// from the log's byte 0.
+/// from the log's byte 0; one whose address would not fit has the fault `Address` at the latest.
 pub fn check_page(
     geometry: Geometry,
     page: u64,
     bytes: &[u8; 8192],
     last_timeline: u32,
 ) -> Result<PageInfo, PageErr>
-    requires { page * 8192 < 2 ^ 64 }
-    ensures info { IfOk result (λ i. (i.info ≡ info_of bytes.now) × (i.timeline
-        ≡ timeline_of bytes.now) × (i.rem_len ≡ remaining_of bytes.now)) }
-    ensures which { MatchResult result (λ _. page_fault geometry page bytes.now last_timeline
-        ≡ None) (λ e. page_fault geometry page bytes.now last_timeline ≡ Some e) }
+    ensures info { IfOk result (λ i. (i.info ≡ info_of bytes.now)
+        × (i.timeline ≡ timeline_of bytes.now)
+        × (i.rem_len ≡ remaining_of bytes.now)) }
+    ensures which { MatchResult result
+        (λ _. page_fault geometry page bytes.now last_timeline ≡ None)
+        (λ e. page_fault geometry page bytes.now last_timeline ≡ Some e) }
 {
     let found = PageInfo {
         info: u16_at(bytes, INFO_AT),
@@ -112,13 +113,20 @@ pub fn check_page(
     if is_long && u64_at(bytes, SYSTEM_ID_AT) == 0 {
         return Err(PageErr::SysId);
     }
-    if u64_at(bytes, ADDRESS_AT) != page * PAGE_SIZE {
+    if !is_page_address(page, u64_at(bytes, ADDRESS_AT)) {
         return Err(PageErr::Address);
     }
     if found.timeline < last_timeline {
         return Err(PageErr::Timeline);
     }
     Ok(found)
+}
+
+// Whether a page begins at this address; none does whose address would not fit.
+fn is_page_address(page: u64, address: u64) -> bool
+    ensures { result ≡ (address == page * 8192) }
+{
+    address / PAGE_SIZE == page && address % PAGE_SIZE == 0
 }
 
 fn u16_at(page: &[u8; 8192], at: usize) -> u16

@@ -3,9 +3,10 @@
 ghost use Rattle.std.specs.Prelude.{◌≡◌, ℕ, ◌+◌, ◌*◌, ◌%◌, ◌<◌, ◌≤◌, ◌↔◌, List, [], ◌∷◌, ◌++◌, length, take, drop, slice_index, slice_index_or, All, Some, None, IsSome};
 ghost use Rattle.std.specs.Int.{w64, to_le_bytes};
 ghost use Rattle.byte_position.specs.Geometry.{IsSegmentSize};
-ghost use Rattle.byte_position.specs.Position.{address_of, end_address_of, first_position};
+ghost use Rattle.byte_position.specs.Position.{address_of, end_address_of};
 ghost use Rattle.record_spelling.specs.Spelling.{Assembled, assembled, assembled_room, filled, room_of, word_at, IsWritable};
-ghost use Rattle.wal_page.specs.Order.{Entry, FollowsFrom, IsChained, position_behind, prev_of, rooms_of};
+ghost use Rattle.wal_page.specs.Order.{Entry, FollowsFrom, end_position, IsChained, position_behind, prev_in, prev_of, rooms_of};
+ghost use Rattle.wal_page.specs.EntryWords.{address_of_word, words_owned};
 ghost use Rattle.wal_page.specs.Page.{header_size};
 ghost use Rattle.wal_page.specs.Log.{log_byte, log_word, owner_at, stream_of};
 ghost use Rattle.wal_page.specs.LogPage.{IsLogPage};
@@ -18,11 +19,14 @@ pub fn orders_grow_entry_by_entry()
         → rooms_of (es ++ e ∷ []) ≡ rooms_of es + room_of e.value }
     ensures prev { (size prev : ℕ) (es : List Entry) (e : Entry)
         → prev_of size prev (es ++ e ∷ []) ≡ address_of size e.start }
+    ensures named_before { (size : ℕ) (front back : List Entry) (e : Entry)
+        → IsChained size (front ++ e ∷ back)
+        → prev_in size (front ++ e ∷ back) e ≡ prev_of size 0 front }
     ensures stream { (size : ℕ) (es : List Entry) (e : Entry)
         → stream_of size (es ++ e ∷ []) ≡ stream_of size es
         ++ filled (assembled e.value) (prev_of size 0 es) }
     ensures chained { (size : ℕ) (es : List Entry) (e : Entry) → IsChained size es
-        → e.start ≡ first_position size + rooms_of es → IsWritable e.value
+        → e.start ≡ end_position size es → IsWritable e.value
         → IsChained size (es ++ e ∷ []) }
 {}
 
@@ -56,7 +60,18 @@ pub fn entries_own_stretches()
     ensures together { (size : ℕ) (es : List Entry) (address : ℕ) → IsSegmentSize size
         → IsChained size es
         → IsSome (owner_at size es address) ↔ ((size ≤ address)
-        × (address < end_address_of size (first_position size + rooms_of es))) }
+        × (address < end_address_of size (end_position size es))) }
+{}
+
+/// The words that an entry owns by their numbers: each of so many, one behind another from its
+/// start's end form on.
+pub fn owned_words_are_numbered()
+    ensures owned { (size : ℕ) (e : Entry) (k : ℕ) → IsSegmentSize size → e.start % 8 ≡ 0
+        → k < words_owned size e
+        → Owns size (assembled e.value) e.start (address_of_word size e k) }
+    ensures each { (size : ℕ) (e : Entry) (address : ℕ) → IsSegmentSize size → e.start % 8 ≡ 0
+        → address % 8 ≡ 0 → Owns size (assembled e.value) e.start address
+        → (k : ℕ) × (k < words_owned size e) × (address ≡ address_of_word size e k) }
 {}
 
 /// The log's words: each is the one that its owner gives, and 0 where nobody owns it, as behind the
@@ -75,18 +90,18 @@ pub fn words_are_their_owners()
         → IsChained size es → address % 8 ≡ 0 → owner_at size es address ≡ None
         → log_word size sysid es address ≡ 0 }
     ensures behind { (size sysid : ℕ) (es : List Entry) (address : ℕ) → IsSegmentSize size
-        → IsChained size es → end_address_of size (first_position size + rooms_of es) ≤ address
+        → IsChained size es → end_address_of size (end_position size es) ≤ address
         → log_word size sysid es address ≡ 0 }
 {}
 
 /// An entry that follows changes no byte and no word that it does not own.
 pub fn further_entries_change_only_their_own()
     ensures bytes { (size sysid : ℕ) (es : List Entry) (e : Entry) (address : ℕ)
-        → e.start ≡ first_position size + rooms_of es
+        → e.start ≡ end_position size es
         → ¬ Owns size (assembled e.value) e.start address
         → log_byte size sysid (es ++ e ∷ []) address ≡ log_byte size sysid es address }
     ensures words { (size sysid : ℕ) (es : List Entry) (e : Entry) (address : ℕ)
-        → IsSegmentSize size → e.start ≡ first_position size + rooms_of es → address % 8 ≡ 0
+        → IsSegmentSize size → e.start ≡ end_position size es → address % 8 ≡ 0
         → ¬ Owns size (assembled e.value) e.start address
         → log_word size sysid (es ++ e ∷ []) address ≡ log_word size sysid es address }
 {}

@@ -10,7 +10,7 @@ mod placed;
 pub use checks::{PageErr, PageInfo, check_page};
 pub use laws::{
     entries_own_stretches, entries_start_behind_those_before,
-    further_entries_change_only_their_own, orders_grow_entry_by_entry, records_take_up_their_rooms,
-    words_and_pages_are_their_bytes, words_are_their_owners,
+    further_entries_change_only_their_own, orders_grow_entry_by_entry, owned_words_are_numbered,
+    records_take_up_their_rooms, words_and_pages_are_their_bytes, words_are_their_owners,
 };
 pub use placed::{Placed, header_word};

@@ -1,10 +1,16 @@
 //! The words of a record at its place in the log (PostgreSQL's CopyXLogRecordToWAL of xlog.c).
+//!
+//! Each word of the log has one owner: the record in whose room its byte position lies. The words
+//! of a page's header have the position of the page's first other byte, so that whoever reserved
+//! that byte writes the header too: that record alone knows how many of its bytes are still to
+//! come, which the header tells. So a record's words are one stretch of addresses, no two records
+//! give the same word, and a page is whole once each record that touches it has given its words.
 
 ghost use Rattle.std.specs.Prelude.{◌≡◌, ◌+◌, ◌-◌, ◌*◌, ◌%◌, ◌^◌, ◌<◌, ◌≤◌, ◌==◌, IfSome, IfNone, length, if◌then◌else◌};
 ghost use Rattle.byte_position.specs.Position.{end_address_of};
 ghost use Rattle.record_spelling.specs.Spelling.{assembled_room, assembled_size};
 ghost use Rattle.wal_page.specs.Page.{header_size};
-ghost use Rattle.wal_page.specs.Placed.{HasWordsFrom, LieTogether, Owns, header_word, placed_end, placed_word};
+ghost use Rattle.wal_page.specs.Placed.{HasWordsFrom, IsWordOfLog, LieTogether, Owns, header_word, placed_end, placed_word};
 
 use crate::header::page_header_word;
 use byte_position::{Geometry, PAGE_SIZE};
@@ -77,6 +83,43 @@ impl<'a> Placed<'a> {
         }
     }
 
+    /// The same record where its next word is one further on, for a copy that goes on where it
+    /// stopped: any word that the record owns, or where its last one ends.
+    pub fn at(
+        geometry: Geometry,
+        sysid: u64,
+        body: &'a Body,
+        start: u64,
+        prev: Lsn,
+        next: Lsn,
+    ) -> Placed<'a>
+        requires whole { start % 8 ≡ 0 }
+        requires within { start + assembled_room body.now < 2 ^ 60 }
+        requires at_word { next.0 % 8 ≡ 0 }
+        requires begun { end_address_of geometry start ≤ next.0 }
+        requires owned { next.0 ≤ end_address_of geometry (start + assembled_room body.now) }
+        ensures { result ≡ record {
+          size = geometry;
+          sysid = sysid;
+          body = body.now;
+          start = start;
+          prev = prev.0;
+          next = next.0;
+        } }
+    {
+        let passed = geometry.position_of(next) - start;
+        prove!(passed <= u64::from(body.room()));
+        Placed {
+            geometry,
+            sysid,
+            body,
+            start,
+            prev,
+            next: next.0,
+            passed: passed as u32,
+        }
+    }
+
     /// The next word and where it lies. Each call answers the word behind the last one's, so that
     /// each word that the record owns comes once, in rising order.
     pub fn next_word(&mut self) -> Option<(Lsn, u64)>
@@ -84,6 +127,7 @@ impl<'a> Placed<'a> {
             × (self.old.next % 8 ≡ 0)
             × Owns self.old.size self.old.body self.old.start self.old.next) }
         ensures word { IfSome result (λ given. given.1 ≡ placed_word self.old self.old.next) }
+        ensures gives { IfSome result (λ given. IsWordOfLog self.old given.0.0 given.1) }
         ensures passed { IfSome result (λ given. self.new
             ≡ record self.old { next = self.old.next + 8 }) }
         ensures whole { IfNone result (self.old.next ≡ placed_end self.old) }

@@ -24,7 +24,9 @@ relation_with others = Err faults.Block
 
 -- a fork by its digit, `0` to `3`
 abbrev pub fork_with : ℕ → Bool → Option Fork
-fork_with digit will_init = if nat_le 48 digit && nat_le digit 51 then Some (record { number = digit - 48; will_init = will_init }) else None
+fork_with digit will_init =
+    if nat_le 48 digit && nat_le digit 51
+    then Some (record { number = digit - 48; will_init = will_init }) else None
 
 -- a fork; `i` behind it has redo make the page anew
 abbrev pub fork_of : List ℕ → Option Fork
@@ -40,7 +42,8 @@ filler_with (Some byte) apply = Some (record { byte = byte; apply = apply })
 -- `v` behind them has redo not apply the image
 abbrev pub filler_of : List ℕ → Option Filler
 filler_of (high ∷ low ∷ []) = filler_with (byte_spelled (high ∷ low ∷ [])) true
-filler_of (high ∷ low ∷ c ∷ []) = if c == 118 then filler_with (byte_spelled (high ∷ low ∷ [])) false else None
+filler_of (high ∷ low ∷ c ∷ []) =
+    if c == 118 then filler_with (byte_spelled (high ∷ low ∷ [])) false else None
 filler_of others = None
 
 -- `OFFSET+LENGTH+hh`: the page's 8192 bytes without its hole
@@ -49,7 +52,12 @@ page_image_with (offset ∷ len ∷ others ∷ []) = do
   hole_offset ← ok_or (number_of 8192 offset) faults.Image
   hole_len ← ok_or (number_of 8192 len) faults.Image
   filler ← ok_or (filler_of others) faults.Image
-  Ok (record { apply = filler.apply; hole_offset = hole_offset; hole_len = hole_len; bytes = replicate (8192 - hole_len) filler.byte })
+  Ok (record {
+    apply = filler.apply;
+    hole_offset = hole_offset;
+    hole_len = hole_len;
+    bytes = replicate (8192 - hole_len) filler.byte;
+  })
 page_image_with others = Err faults.Image
 
 -- an image, or `-` for none
@@ -66,10 +74,19 @@ block_with id (relation ∷ fork ∷ number ∷ bytes ∷ page ∷ []) = do
   blk ← ok_or (number_of (2 ^ 32 - 2) number) faults.Number
   content ← ok_or (data_of bytes) faults.Hex
   image ← image_spelled page
-  Ok (record { id = id; rel = rel; fork = kind.number; blk = blk; will_init = kind.will_init; content = content; image = image })
+  Ok (record {
+    id = id;
+    rel = rel;
+    fork = kind.number;
+    blk = blk;
+    will_init = kind.will_init;
+    content = content;
+    image = image;
+  })
 block_with id others = Err faults.Block
 
--- references numbered from `id` on in their order; from 255 on all have 255, which is as wrong as any number above 32
+-- references numbered from `id` on in their order; from 255 on all have 255, which is as wrong as
+-- any number above 32
 abbrev pub references_from : ℕ → List (List ℕ) → Result (List Block) ScriptFault
 references_from id [] = Ok []
 references_from id (field ∷ fields) = do

@@ -5,7 +5,8 @@ use Rattle.wal_script.specs.declared.line.ScriptFault.{ScriptFault}
 use Rattle.wal_script.specs.declared.line.ScriptFault.TheVariants as faults
 
 infixl 10 ◌>>=◌
-abbrev pub ◌>>=◌ : {A B : Type 0} → Result A ScriptFault → (A → Result B ScriptFault) → Result B ScriptFault
+abbrev pub ◌>>=◌ : {A B : Type 0} → Result A ScriptFault → (A → Result B ScriptFault)
+    → Result B ScriptFault
 (Ok x) >>= f = f x
 (Err fault) >>= f = Err fault
 
@@ -14,12 +15,15 @@ pub record Read (X : Type 0) : Type 0 where
   pub value : X
   pub rest : List (List ℕ)
 
-abbrev pub with_rest : {X : Type 0} → List (List ℕ) → Result X ScriptFault → Result (Read X) ScriptFault
+abbrev pub with_rest : {X : Type 0} → List (List ℕ) → Result X ScriptFault
+    → Result (Read X) ScriptFault
 with_rest rest (Ok x) = Ok (record { value = x; rest = rest })
 with_rest rest (Err fault) = Err fault
 
--- the next field by what it spells; one that spells nothing has this fault, and one that is missing `count`
-abbrev pub next_as : {X : Type 0} → (List ℕ → Option X) → ScriptFault → List (List ℕ) → Result (Read X) ScriptFault
+-- the next field by what it spells; one that spells nothing has this fault, and one that is missing
+-- `count`
+abbrev pub next_as : {X : Type 0} → (List ℕ → Option X) → ScriptFault → List (List ℕ)
+    → Result (Read X) ScriptFault
 next_as spells fault [] = Err faults.Count
 next_as spells fault (field ∷ rest) = with_rest rest (ok_or (spells field) fault)
 

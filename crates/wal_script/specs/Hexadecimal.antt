@@ -53,5 +53,6 @@ has_star field = nat_le 3 (length field) && (slice_index field (length field - 3
 abbrev pub data_of : List ℕ → Option (List ℕ)
 data_of field =
     if is_text field (codes "-") then Some []
-    else (if has_star field then repeated_of (take (length field - 3) field) (drop (length field - 2) field)
+    else (if has_star field
+    then repeated_of (take (length field - 3) field) (drop (length field - 2) field)
     else (if length field == 0 then None else bytes_of field))

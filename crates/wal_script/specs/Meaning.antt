@@ -39,7 +39,8 @@ unless (Some fault) x = Err fault
 abbrev pub accepted : Record → Result Record ScriptFault
 accepted r = unless (option_and_then assembly_fault (refusal_of r)) r
 
--- the fields behind `I`: a transaction's number, a manager, its info, the main data, and any block references
+-- the fields behind `I`: a transaction's number, a manager, its info, the main data, and any block
+-- references
 abbrev pub insert_of : List (List ℕ) → Result Record ScriptFault
 insert_of fields = do
   xid ← next_as (number_of (2 ^ 32 - 1)) faults.Number fields
@@ -47,11 +48,29 @@ insert_of fields = do
   info ← next_as byte_spelled faults.Hex manager.rest
   main ← next_as data_of faults.Hex info.rest
   blocks ← references_from 0 main.rest
-  accepted (record { xid = record { 0 = xid.value }; rmid = manager.value; info = info.value; origin = None; top_xid = None; blocks = blocks; main = main.value })
+  accepted (record {
+    xid = record { 0 = xid.value };
+    rmid = manager.value;
+    info = info.value;
+    origin = None;
+    top_xid = None;
+    blocks = blocks;
+    main = main.value;
+  })
 
--- a transaction's commit (manager 1, info 0): its time as eight bytes is the main data (PostgreSQL's xact.c)
+-- a transaction's commit (manager 1, info 0): its time as eight bytes is the main data
+-- (PostgreSQL's xact.c)
 abbrev pub commit_record : ℕ → ℕ → Record
-commit_record xid time = record { xid = record { 0 = xid }; rmid = 1; info = 0; origin = None; top_xid = None; blocks = []; main = to_le_bytes w64 time }
+commit_record xid time =
+    record {
+      xid = record { 0 = xid };
+      rmid = 1;
+      info = 0;
+      origin = None;
+      top_xid = None;
+      blocks = [];
+      main = to_le_bytes w64 time;
+    }
 
 -- the fields behind `C`: a transaction's number and a time
 abbrev pub commit_of : List (List ℕ) → Result Record ScriptFault
@@ -97,16 +116,22 @@ then_line number (refuses fault) others = Err (record { line = number; fault = f
 -- lines from a number on, in order, up to the first that is refused
 abbrev pub lines_meaning : ℕ → List (List ℕ) → Result (List Line) Refusal
 lines_meaning number [] = Ok []
-lines_meaning number (line ∷ lines) = then_line number (line_of line) (lines_meaning (number + 1) lines)
+lines_meaning number (line ∷ lines) =
+    then_line number (line_of line) (lines_meaning (number + 1) lines)
 
 -- how many bytes a script may have
 abbrev pub script_limit : ℕ
 script_limit = 67108864
 
--- the lines of one backend; a script beyond its limit is refused at the line of its first byte too many
+-- the lines of one backend; a script beyond its limit is refused at the line of its first byte
+-- too many
 abbrev pub backend_meaning : List ℕ → Result (List Line) Refusal
 backend_meaning script =
-    if nat_lt script_limit (length script) then Err (record { line = count_by (λ c. c == 10) (take script_limit script) + 1; fault = faults.Length })
+    if nat_lt script_limit (length script)
+    then Err (record {
+      line = count_by (λ c. c == 10) (take script_limit script) + 1;
+      fault = faults.Length;
+    })
     else lines_meaning 1 (lines_of script)
 
 abbrev pub one_backend : Result (List Line) Refusal → Result (List (List Line)) Refusal

@@ -1,4 +1,5 @@
--- What a reader of scripts returns, beside what they mean: want of memory is no part of the meaning.
+-- What a reader of scripts returns, beside what they mean: want of memory is no part of the
+-- meaning.
 use Rattle.std.specs.Prelude.{◌≡◌, ℕ, List, Option, Some, None, Result, Ok, Err}
 use Rattle.std.specs.Global.{Vec}
 use Rattle.wal_script.specs.declared.line.Line.{Line}

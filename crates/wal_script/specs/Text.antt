@@ -17,14 +17,16 @@ onto_first c (piece ∷ pieces) = (c ∷ piece) ∷ pieces
 -- the pieces between the separators, one more than there are separators
 abbrev pub pieces_of : ℕ → List ℕ → List (List ℕ)
 pieces_of separator [] = [] ∷ []
-pieces_of separator (c ∷ cs) = if c == separator then [] ∷ pieces_of separator cs else onto_first c (pieces_of separator cs)
+pieces_of separator (c ∷ cs) =
+    if c == separator then [] ∷ pieces_of separator cs else onto_first c (pieces_of separator cs)
 
 -- the pieces of what stands behind a separator; none where no separator stood
 abbrev pub pieces_left : ℕ → Option (Bor (List ℕ)) → List (List ℕ)
 pieces_left separator None = []
 pieces_left separator (Some text) = pieces_of separator text.now
 
--- a script's lines, between line feeds; where the last ends with one, an empty line stands behind it
+-- a script's lines, between line feeds; where the last ends with one, an empty line stands behind
+-- it
 abbrev pub lines_of : List ℕ → List (List ℕ)
 lines_of script = pieces_of 10 script
 

@@ -17,7 +17,9 @@ use wal_types::Bytes;
 
 // The next field as a number of at most `most`.
 fn next_number(fields: &mut Pieces, most: u64) -> Result<u64, LineError>
-    ensures read { JudgesAs (λ n. record { value = n; rest = fields.new }) result (next_as (number_of most) faults.Number fields.old) }
+    ensures read { JudgesAs
+        (λ n. record { value = n; rest = fields.new }) result
+        (next_as (number_of most) faults.Number fields.old) }
     ensures within { IfOk result (λ n. n ≤ most) }
 {
     let field = fields.next().ok_or(ScriptFault::Count)?;
@@ -26,21 +28,27 @@ fn next_number(fields: &mut Pieces, most: u64) -> Result<u64, LineError>
 
 /// The next field as a number of 32 bits.
 pub(crate) fn next_u32(fields: &mut Pieces) -> Result<u32, LineError>
-    ensures { JudgesAs (λ n. record { value = n; rest = fields.new }) result (next_as (number_of (2 ^ 32 - 1)) faults.Number fields.old) }
+    ensures { JudgesAs
+        (λ n. record { value = n; rest = fields.new }) result
+        (next_as (number_of (2 ^ 32 - 1)) faults.Number fields.old) }
 {
     Ok(next_number(fields, u64::from(u32::MAX))? as u32)
 }
 
 /// The next field as a number of 8 bits.
 pub(crate) fn next_u8(fields: &mut Pieces) -> Result<u8, LineError>
-    ensures { JudgesAs (λ n. record { value = n; rest = fields.new }) result (next_as (number_of 255) faults.Number fields.old) }
+    ensures { JudgesAs
+        (λ n. record { value = n; rest = fields.new }) result
+        (next_as (number_of 255) faults.Number fields.old) }
 {
     Ok(next_number(fields, u64::from(u8::MAX))? as u8)
 }
 
 /// The next field as a time.
 pub(crate) fn next_time(fields: &mut Pieces) -> Result<u64, LineError>
-    ensures { JudgesAs (λ t. record { value = t; rest = fields.new }) result (next_as time_of faults.Number fields.old) }
+    ensures { JudgesAs
+        (λ t. record { value = t; rest = fields.new }) result
+        (next_as time_of faults.Number fields.old) }
 {
     let field = fields.next().ok_or(ScriptFault::Count)?;
     Ok(time(field).ok_or(ScriptFault::Number)?)
@@ -48,7 +56,9 @@ pub(crate) fn next_time(fields: &mut Pieces) -> Result<u64, LineError>
 
 /// The next field as a byte in two hexadecimal digits.
 pub(crate) fn next_byte(fields: &mut Pieces) -> Result<u8, LineError>
-    ensures { JudgesAs (λ b. record { value = b; rest = fields.new }) result (next_as byte_spelled faults.Hex fields.old) }
+    ensures { JudgesAs
+        (λ b. record { value = b; rest = fields.new }) result
+        (next_as byte_spelled faults.Hex fields.old) }
 {
     let field = fields.next().ok_or(ScriptFault::Count)?;
     Ok(byte(field).ok_or(ScriptFault::Hex)?)
@@ -56,7 +66,9 @@ pub(crate) fn next_byte(fields: &mut Pieces) -> Result<u8, LineError>
 
 /// The next field as data.
 pub(crate) fn next_data(alloc: Global, fields: &mut Pieces) -> Result<Bytes, LineError>
-    ensures { JudgesAs (λ bytes. record { value = bytes; rest = fields.new }) result (next_as data_of faults.Hex fields.old) }
+    ensures { JudgesAs
+        (λ bytes. record { value = bytes; rest = fields.new }) result
+        (next_as data_of faults.Hex fields.old) }
 {
     let field = fields.next().ok_or(ScriptFault::Count)?;
     data(alloc, field)

@@ -60,7 +60,8 @@ pub(crate) fn data(alloc: Global, field: &[u8]) -> Result<Bytes, LineError>
 
 // As many bytes as a count says.
 fn repeated(alloc: Global, count: &[u8], hexadecimal: &[u8]) -> Result<Vec<u8>, LineError>
-    ensures { JudgesAs (λ v. v.items) result (ok_or (repeated_of count.now hexadecimal.now) faults.Hex) }
+    ensures { JudgesAs (λ v. v.items) result
+        (ok_or (repeated_of count.now hexadecimal.now) faults.Hex) }
 {
     let count = match number(count, MOST_COPIES) {
         None | Some(0) => return Err(LineError::Fault(ScriptFault::Hex)),

@@ -42,9 +42,11 @@ impl<T: Drop> From<AllocFailed<T>> for ParseError {
     }
 }
 
-/// Reads a script: the lines of its one backend, in order, or its first refusal, by line and then by field from the left.
+/// Reads a script: the lines of its one backend, in order, or its first refusal, by line and then
+/// by field from the left.
 ///
-/// `script` is what was read, at most one byte beyond the limit: a longer script is refused at the line of that byte.
+/// `script` is what was read, at most one byte beyond the limit: a longer script is refused at the
+/// line of that byte.
 pub fn parse(alloc: Global, script: &[u8]) -> Result<Vec<Line>, ParseError>
     requires { length script.now ≤ SCRIPT_LIMIT + 1 }
     ensures { GivesLines result (backend_meaning script.now) }

@@ -1,9 +1,9 @@
-ghost use Rattle.std.specs.Prelude.{◌≡◌, ℕ, ◌<◌, ◌≤◌, ◌+◌, ◌/◌, ◌^◌, ◌⊎◌, ◌&&◌, Bool, true, false, not, [], Some, IsTrue, IfOk, IfSome, OnOk, OnErr, is_ok, is_err, if◌then◌else◌, length};
+ghost use Rattle.std.specs.Prelude.{◌≡◌, ℕ, ◌<◌, ◌≤◌, ◌/◌, ◌^◌, ◌&&◌, true, [], Some, IfOk, IfSome, OnErr, is_ok, is_err, length};
 ghost use Rattle.byte_position.specs.Geometry.{pages_of};
 ghost use Rattle.segment_disk.specs.Cause.{HasCause};
 ghost use Rattle.segment_disk.specs.Failing.{fails_next, after_next};
-ghost use Rattle.segment_disk.specs.Present.{ListsPresent};
-ghost use Rattle.segment_disk.specs.Tape.{IsMade, IsNotMade, IsPageRead, empty_state, page_of_segment, state_now};
+ghost use Rattle.segment_disk.specs.Present.{ListsPresent, MakesNone};
+ghost use Rattle.segment_disk.specs.Tape.{Answers, IsPageRead, IsUncalled, create_call, empty_state, page_of_segment, state_now, sync_call, write_call};
 
 use crate::disk::{Call, CallKind, Disk, PageBytes};
 use crate::failed::{Failed, count_fault};
@@ -25,10 +25,10 @@ pub struct MemDisk {
 }
 
 impl MemDisk {
-    ghost use Rattle.segment_disk.specs.MemDisk.{tape_of, moment_of, faults_of, limits_of, failing_reads};
+    ghost use Rattle.segment_disk.specs.MemDisk.{failing_reads, limits_of, segment_count};
 
-    /// A disk with room for this many segments and counted calls, with nothing on it. `fail` lists the counted calls
-    /// that fail, and `fail_reads` the reads, each by its number from 1.
+    /// A disk with room for this many segments and counted calls, with nothing on it. `fail` lists
+    /// the counted calls that fail, and `fail_reads` the reads, each by its number from 1.
     pub fn new(
         alloc: Global,
         segments: u32,
@@ -36,11 +36,15 @@ impl MemDisk {
         fail: Vec<u64>,
         fail_reads: Vec<u64>,
     ) -> Result<MemDisk, Memory>
-        ensures tape { IfOk result (λ disk. ⟦<MemDisk as Disk>⟧.tape disk ≡ Some (record { at_first = empty_state; calls = [] })) }
+        ensures tape { IfOk result (λ disk. ⟦<MemDisk as Disk>⟧.tape disk
+            ≡ Some (record { at_first = empty_state; calls = [] })) }
         ensures moment { IfOk result (λ disk. ⟦<MemDisk as Disk>⟧.moment disk ≡ 0) }
         ensures faults { IfOk result (λ disk. ⟦<MemDisk as Disk>⟧.faults disk ≡ 0) }
-        ensures limits { IfOk result (λ disk. limits_of disk ≡ record { segments = segments; calls = calls; failing = fail.items }) }
-        ensures failing_reads { IfOk result (λ disk. failing_reads disk ≡ record { numbers = fail_reads.items; made = 0 }) }
+        ensures segments { IfOk result (λ disk. segment_count disk ≡ 0) }
+        ensures limits { IfOk result (λ disk. limits_of disk
+            ≡ record { segments = segments; calls = calls; failing = fail.items }) }
+        ensures failing_reads { IfOk result (λ disk. failing_reads disk
+            ≡ record { numbers = fail_reads.items; made = 0 }) }
     {
         Ok(MemDisk {
             calls: CallRecord::new(alloc, calls, fail)?,
@@ -50,9 +54,40 @@ impl MemDisk {
     }
 }
 
+impl MemDisk {
+    ghost use Rattle.segment_disk.specs.MemDisk.{IsCounted, faults_of, has_segment, is_next_sound, moment_of, segment_count, tape_of};
+
+    // A call that makes no segment: a write of a page, or a sync.
+    fn call_segment(
+        &mut self,
+        geometry: Geometry,
+        segment: u64,
+        kind: CallKind,
+    ) -> Result<(), Failed>
+        requires { MakesNone kind }
+        ensures answers { Answers tape_of moment_of self.old self.new
+            (record { geometry = geometry; segment = segment; kind = kind; done = true }) result }
+        ensures cause { HasCause (faults_of self.old) (faults_of self.new) result }
+        ensures exact { is_ok result ≡ (is_next_sound self.old && has_segment self.old segment) }
+        ensures counted { IsCounted self.old self.new }
+        ensures segments { segment_count self.new ≡ segment_count self.old }
+    {
+        if self.calls.is_full() {
+            return self.calls.refuse();
+        }
+        let done = self.segments.has(segment) && !self.calls.next_fails();
+        self.calls.count(Call {
+            geometry,
+            segment,
+            kind,
+            done,
+        })
+    }
+}
+
 impl Disk for MemDisk {
     ghost use Rattle.std.specs.Prelude.{refl};
-    ghost use Rattle.segment_disk.specs.MemDisk.{tape_of, moment_of, faults_of, limits_of, failing_reads, segment_count, disk_state_of, counts_next, is_next_sound, has_segment, can_create};
+    ghost use Rattle.segment_disk.specs.MemDisk.{IsCounted, count_behind_create, tape_of, moment_of, faults_of, limits_of, failing_reads, segment_count, disk_state_of, is_next_sound, has_segment, can_create};
 
     ghost tape = { tape_of };
 
@@ -63,19 +98,17 @@ impl Disk for MemDisk {
     ghost counts = { λ d. refl };
 
     fn create(&mut self, geometry: Geometry, segment: u64) -> Result<(), Failed>
-        ensures ok { OnOk result (IsMade (tape_of self.old) (tape_of self.new) (moment_of self.old) (moment_of self.new) (record { geometry = geometry; segment = segment; kind = CallKind.Create true; done = true })) }
-        ensures err { OnErr result (((made : Bool) × IsMade (tape_of self.old) (tape_of self.new) (moment_of self.old) (moment_of self.new) (record { geometry = geometry; segment = segment; kind = CallKind.Create made; done = false }))
-            ⊎ IsNotMade (tape_of self.old) (tape_of self.new) (moment_of self.old) (moment_of self.new)) }
+        ensures answers { Answers tape_of moment_of self.old self.new
+            (create_call geometry segment) result }
         ensures cause { HasCause (faults_of self.old) (faults_of self.new) result }
 
         // When it succeeds, and when it is counted. A failed one leaves the segments as they were.
         ensures exact { is_ok result ≡ (is_next_sound self.old && can_create self.old segment) }
-        ensures counted { IsTrue (counts_next self.old) → moment_of self.new ≡ moment_of self.old + 1 }
-        ensures unmade { OnErr result ((number : ℕ) → disk_state_of self.new number ≡ disk_state_of self.old number) }
-
-        ensures segments { segment_count self.new ≡ (if is_ok result && not (has_segment self.old segment) then segment_count self.old + 1 else segment_count self.old) }
-        ensures limits { limits_of self.new ≡ limits_of self.old }
-        ensures reads { failing_reads self.new ≡ failing_reads self.old }
+        ensures counted { IsCounted self.old self.new }
+        ensures unmade { OnErr result ((number : ℕ)
+            → disk_state_of self.new number ≡ disk_state_of self.old number) }
+        ensures segments { segment_count self.new
+            ≡ count_behind_create self.old segment (is_ok result) }
     {
         if self.calls.is_full() {
             return self.calls.refuse();
@@ -104,56 +137,28 @@ impl Disk for MemDisk {
         page: u32,
         bytes: &[u8; 8192],
     ) -> Result<(), Failed>
-        ensures ok { OnOk result (IsMade (tape_of self.old) (tape_of self.new) (moment_of self.old) (moment_of self.new) (record { geometry = geometry; segment = segment; kind = CallKind.Write page (record { bytes = bytes.now }); done = true })) }
-        ensures err { OnErr result (IsMade (tape_of self.old) (tape_of self.new) (moment_of self.old) (moment_of self.new) (record { geometry = geometry; segment = segment; kind = CallKind.Write page (record { bytes = bytes.now }); done = false })
-            ⊎ IsNotMade (tape_of self.old) (tape_of self.new) (moment_of self.old) (moment_of self.new)) }
+        ensures answers { Answers tape_of moment_of self.old self.new
+            (write_call geometry segment page bytes.now) result }
         ensures cause { HasCause (faults_of self.old) (faults_of self.new) result }
 
         ensures exact { is_ok result ≡ (is_next_sound self.old && has_segment self.old segment) }
-        ensures counted { IsTrue (counts_next self.old) → moment_of self.new ≡ moment_of self.old + 1 }
-
+        ensures counted { IsCounted self.old self.new }
         ensures segments { segment_count self.new ≡ segment_count self.old }
-        ensures limits { limits_of self.new ≡ limits_of self.old }
-        ensures reads { failing_reads self.new ≡ failing_reads self.old }
     {
-        if self.calls.is_full() {
-            return self.calls.refuse();
-        }
-        let done = self.segments.has(segment) && !self.calls.next_fails();
-        self.calls.count(Call {
-            geometry,
-            segment,
-            kind: CallKind::Write {
-                page,
-                bytes: PageBytes { bytes: *bytes },
-            },
-            done,
-        })
+        let bytes = PageBytes { bytes: *bytes };
+        self.call_segment(geometry, segment, CallKind::Write { page, bytes })
     }
 
     fn sync(&mut self, geometry: Geometry, segment: u64) -> Result<(), Failed>
-        ensures ok { OnOk result (IsMade (tape_of self.old) (tape_of self.new) (moment_of self.old) (moment_of self.new) (record { geometry = geometry; segment = segment; kind = CallKind.Sync; done = true })) }
-        ensures err { OnErr result (IsMade (tape_of self.old) (tape_of self.new) (moment_of self.old) (moment_of self.new) (record { geometry = geometry; segment = segment; kind = CallKind.Sync; done = false })
-            ⊎ IsNotMade (tape_of self.old) (tape_of self.new) (moment_of self.old) (moment_of self.new)) }
+        ensures answers { Answers tape_of moment_of self.old self.new
+            (sync_call geometry segment) result }
         ensures cause { HasCause (faults_of self.old) (faults_of self.new) result }
 
         ensures exact { is_ok result ≡ (is_next_sound self.old && has_segment self.old segment) }
-        ensures counted { IsTrue (counts_next self.old) → moment_of self.new ≡ moment_of self.old + 1 }
-
+        ensures counted { IsCounted self.old self.new }
         ensures segments { segment_count self.new ≡ segment_count self.old }
-        ensures limits { limits_of self.new ≡ limits_of self.old }
-        ensures reads { failing_reads self.new ≡ failing_reads self.old }
     {
-        if self.calls.is_full() {
-            return self.calls.refuse();
-        }
-        let done = self.segments.has(segment) && !self.calls.next_fails();
-        self.calls.count(Call {
-            geometry,
-            segment,
-            kind: CallKind::Sync,
-            done,
-        })
+        self.call_segment(geometry, segment, CallKind::Sync)
     }
 
     fn read_page(
@@ -163,10 +168,10 @@ impl Disk for MemDisk {
         page: u32,
         bytes: &mut [u8; 8192],
     ) -> Result<bool, Failed>
-        ensures reads { IfOk result (λ there. IfSome (tape_of self.old) (λ t. IsPageRead (page_of_segment (state_now t segment) page) there bytes.new)) }
+        ensures reads { IfOk result (λ there. IfSome (tape_of self.old)
+            (λ t. IsPageRead (page_of_segment (state_now t segment) page) there bytes.new)) }
         ensures length { length bytes.new ≡ 8192 }
-        ensures tape { tape_of self.new ≡ tape_of self.old }
-        ensures moment { moment_of self.new ≡ moment_of self.old }
+        ensures uncalled { IsUncalled tape_of moment_of self.old self.new }
         ensures cause { HasCause (faults_of self.old) (faults_of self.new) result }
 
         // It fails at the listed reads alone.

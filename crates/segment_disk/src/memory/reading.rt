@@ -5,7 +5,8 @@ use crate::disk::{Call, CallKind, PageBytes};
 
 /// Reads a page of a segment as these calls leave it, and answers whether the segment has it.
 pub fn read_back(calls: &[Call], segment: u64, page: u32, bytes: &mut [u8; 8192]) -> bool
-    ensures reads { IsPageRead (page_of_segment (after_calls empty_state calls.now segment) page) result bytes.new }
+    ensures reads { IsPageRead
+        (page_of_segment (after_calls empty_state calls.now segment) page) result bytes.new }
 {
     let mut pages = 0;
     let mut last: Option<&PageBytes> = None;

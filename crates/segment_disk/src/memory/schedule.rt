@@ -25,7 +25,8 @@ impl Schedule {
         Schedule { failing, made: 0 }
     }
 
-    /// Counts a call, and answers whether it is to fail. The count stops at the last number that it can have.
+    /// Counts a call, and answers whether it is to fail. The count stops at the last number that it
+    /// can have.
     pub fn next_fails(&mut self) -> bool
         ensures fails { result ≡ fails_next self.old }
         ensures made { self.new ≡ after_next self.old }

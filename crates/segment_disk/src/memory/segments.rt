@@ -35,14 +35,16 @@ impl SegmentList {
 
     /// Whether a segment is there, or there is room for it.
     pub fn can_hold(&self, segment: u64) -> bool
-        ensures { result ≡ (listed self.now.numbers.items segment || nat_lt (length self.now.numbers.items) self.now.limit) }
+        ensures { result ≡ (listed self.now.numbers.items segment
+            || nat_lt (length self.now.numbers.items) self.now.limit) }
     {
         self.has(segment) || self.numbers.len() < self.limit
     }
 
     /// Adds a segment where it is not there.
     pub fn insert(&mut self, segment: u64)
-        requires { IsTrue (listed self.old.numbers.items segment || nat_lt (length self.old.numbers.items) self.old.limit) }
+        requires { IsTrue (listed self.old.numbers.items segment
+            || nat_lt (length self.old.numbers.items) self.old.limit) }
         ensures numbers { self.new.numbers.items ≡ with_number self.old.numbers.items segment }
         ensures limit { self.new.limit ≡ self.old.limit }
     {

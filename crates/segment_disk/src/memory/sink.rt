@@ -23,12 +23,13 @@ pub struct MemSink {
 impl MemSink {
     ghost use Rattle.segment_disk.specs.MemStream.{sink_failing, sink_size};
 
-    /// A sink with room for this many bytes. It fails at the calls that are listed by their numbers, from 1, and where
-    /// its room is full.
+    /// A sink with room for this many bytes. It fails at the calls that are listed by their
+    /// numbers, from 1, and where its room is full.
     pub fn new(alloc: Global, size: usize, fail: Vec<u64>) -> Result<MemSink, Memory>
         ensures taken { IfOk result (λ sink. ⟦<MemSink as Sink>⟧.taken sink ≡ Some []) }
         ensures faults { IfOk result (λ sink. ⟦<MemSink as Sink>⟧.faults sink ≡ 0) }
-        ensures failing { IfOk result (λ sink. sink_failing sink ≡ record { numbers = fail.items; made = 0 }) }
+        ensures failing { IfOk result
+            (λ sink. sink_failing sink ≡ record { numbers = fail.items; made = 0 }) }
         ensures size { IfOk result (λ sink. sink_size sink ≡ size) }
     {
         Ok(MemSink {
@@ -57,11 +58,13 @@ impl Sink for MemSink {
     fn write(&mut self, from: &[u8]) -> Result<usize, Failed>
         ensures within { IfOk result (λ n. n ≤ length from.now) }
         ensures some { IfOk result (λ n. 0 < length from.now → 0 < n) }
-        ensures taken { IfOk result (λ n. sink_taken self.new ≡ with_behind (sink_taken self.old) (take n from.now)) }
+        ensures taken { IfOk result
+            (λ n. sink_taken self.new ≡ with_behind (sink_taken self.old) (take n from.now)) }
         ensures failed { OnErr result (sink_taken self.new ≡ sink_taken self.old) }
         ensures cause { HasCause (sink_faults self.old) (sink_faults self.new) result }
 
-        // It fails at the listed calls and where it is full, and takes as much as there is room for.
+        // It fails at the listed calls and where it is full, and takes as much as there is room
+        // for.
         ensures fails { is_err result ≡ refuses self.old (length from.now) }
         ensures failing { sink_failing self.new ≡ after_next (sink_failing self.old) }
         ensures count { IfOk result (λ n. n ≡ min (length from.now) (sink_room self.old)) }

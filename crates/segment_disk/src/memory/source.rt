@@ -20,7 +20,8 @@ pub struct MemSource {
 impl MemSource {
     ghost use Rattle.segment_disk.specs.MemStream.{source_failing};
 
-    /// A source of these bytes. It fails at the calls that are listed by their numbers, from 1, and at these alone.
+    /// A source of these bytes. It fails at the calls that are listed by their numbers, from 1, and
+    /// at these alone.
     pub fn new(bytes: Vec<u8>, fail: Vec<u64>) -> MemSource
         ensures left { ⟦<MemSource as Source>⟧.left result ≡ Some bytes.items }
         ensures handed { ⟦<MemSource as Source>⟧.handed result ≡ [] }
@@ -47,9 +48,11 @@ impl Source for MemSource {
 
     fn read(&mut self, into: &mut [u8]) -> Result<usize, Failed>
         ensures within { IfOk result (λ n. n ≤ length into.old) }
-        ensures handed { IfOk result (λ n. source_handed self.new ≡ source_handed self.old ++ take n into.new) }
+        ensures handed { IfOk result
+            (λ n. source_handed self.new ≡ source_handed self.old ++ take n into.new) }
         ensures none_handed { OnErr result (source_handed self.new ≡ source_handed self.old) }
-        ensures taken { IfOk result (λ n. Takes (source_left self.old) (source_left self.new) n into.new) }
+        ensures taken { IfOk result
+            (λ n. Takes (source_left self.old) (source_left self.new) n into.new) }
         ensures end { IfOk result (λ n. n ≡ 0 → 0 < length into.old
             → IfSome (source_left self.old) (λ bytes. bytes ≡ [])) }
         ensures failed { OnErr result (source_left self.new ≡ source_left self.old) }

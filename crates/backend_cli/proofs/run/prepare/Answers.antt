@@ -7,4 +7,4 @@ use Rattle.backend_cli.proofs.run.prepare.Goals as goal
 pub returns-in-Ok : goal.returns-in-Ok
 returns-in-Ok g c =
     let read = c.in_ok-lines.ensures in
-    ((c.in_ok-lines.lines.items, read.0, subst (λ (lines : List Line). IsPrepared c.args.shape.now lines c.in-Ok.prepared) c.deref.ensures.value c.in-Ok.ensures), read.2, read.3)
+    (c.in_ok-lines.lines.items, read.0, subst (λ (lines : List Line). IsPrepared c.args.shape.now lines c.in-Ok.prepared) c.deref.ensures.value c.in-Ok.ensures)

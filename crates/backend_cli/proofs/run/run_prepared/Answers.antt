@@ -5,22 +5,26 @@ use Rattle.byte_position.specs.Geometry.{IsSegmentSize}
 use Rattle.serial_log.specs.declared.shape.Shape.{Shape}
 use Rattle.serial_log.specs.LogState.{log_disk}
 use Rattle.serial_log.specs.History.{at_opening, capacity_of}
+use Rattle.serial_log.specs.Opening.{RefusesToOpen}
 use Rattle.serial_log.specs.Steps.{Flushes}
 use Rattle.backend_cli.proofs.Capacities.{capacity_of-le}
 use Rattle.backend_cli.specs.Tasks.{AreTasks}
 use Rattle.backend_cli.specs.Printing.{Summarizes, printed_text}
 use Rattle.backend_cli.specs.Concluding.{Concludes}
+use Rattle.backend_cli.specs.Outside.{outside_of}
+use Rattle.backend_cli.specs.Run.{RunHolds}
+use Rattle.backend_cli.specs.declared.outcome.Outcome.TheVariants.{DiskFault, NotEmpty}
 use Rattle.backend_cli.specs.Steps.{Plays}
 use Rattle.backend_cli.specs.Moments.{MomentsRise}
 use Rattle.waldump_text.specs.Put.{Puts}
 use Rattle.backend_cli.proofs.LastFlush.{behind_flush}
 use Rattle.backend_cli.proofs.MomentLaws.{tracked_at_opening}
 use Rattle.backend_cli.proofs.PlayLaws.{IsSameLog-trans}
-use Rattle.backend_cli.proofs.RunLaws.{opened_holds, no_memory}
+use Rattle.backend_cli.proofs.RunLaws.{opened_holds, failed_to_open, found_a_log, no_memory}
 use Rattle.backend_cli.proofs.run.run_prepared.Goals as goal
 
 pub returns-clause-holds : goal.returns-clause-holds
-returns-clause-holds g c = λ source left count lines read means ready.
+returns-clause-holds g c = λ before after lines means ready.
     let tape = g.D.Disk.tape in
     let moment = g.D.Disk.moment in
     let faults = g.D.Disk.faults in
@@ -50,9 +54,36 @@ returns-clause-holds g c = λ source left count lines read means ready.
     (subst (λ t. Concludes c.down.result t (not c.is_ok-is_printed.result) c.conclusion.result) c.deref-in-Ok-4.ensures.value c.conclusion.ensures) in
     let reached = c.play.ensures.moments _ (tracked_at_opening _ tape moment faults disk opened c.in-Ok.ensures.ok c.in-Ok.ensures.moment c.in-Ok.ensures.uncalled.same_moment) in
     let rises : MomentsRise (moment disk) told (moment (log_disk log)) = (reached.0, reached.1, omega (arith, reached.2.kept, reached.2.within, c.flush.ensures.not_earlier)) in
-    opened_holds _ tape moment faults disk log played.0 flushed.0 flushed.2 behind size capacity c.args.list c.conclusion.result lines c.args.prepared.tasks.items told c.summary_of-summary.result _ _ _ _ c.print.result source left count c.down.result c.into_disk.result c.one.result
-    (same.size ∙ size_is) (same.capacity ∙ capacity_is) small (same.sysid ∙ made.2) c.into_disk.ensures.disk c.one.ensures plays means ready.tasks summarizes puts c.down.ensures concludes rises c.in-Ok.ensures.empty read
+    opened_holds _ tape moment faults disk log played.0 flushed.0 flushed.2 behind size capacity c.args.list c.conclusion.result lines c.args.prepared.tasks.items told c.summary_of-summary.result _ _ _ _ c.print.result before after c.down.result c.into_disk.result c.one.result
+    (same.size ∙ size_is) (same.capacity ∙ capacity_is) small (same.sysid ∙ made.2) c.into_disk.ensures.disk c.one.ensures plays means ready.tasks summarizes puts c.down.ensures concludes rises c.in-Ok.ensures.empty
     (c.into_disk.ensures.settled (tape disk) (faults disk) flushed.0 flushed.2)
 
 pub returns-clause-no_memory : goal.returns-clause-no_memory
 returns-clause-no_memory g c = λ is. no_memory _ _ _ _ c.conclusion.ensures is
+
+-- the log was not opened
+pub returns-in-Err-Disk-clause-holds : goal.returns-in-Err-Disk-clause-holds
+returns-in-Err-Disk-clause-holds g c = λ before after lines means ready.
+    let tape = g.D.Disk.tape in
+    let moment = g.D.Disk.moment in
+    let faults = g.D.Disk.faults in
+    let taken = g.O.Sink.taken in
+    let sink = g.O.Sink.faults in
+    let size = c.args.shape.geometry in
+    let capacity = capacity_of size c.args.shape.cap_segments in
+    let refused = subst (RefusesToOpen tape moment faults c.args.disk) c.in-Err-Disk.field-0-is c.in-Err-Disk.ensures.refused in
+    let holds = failed_to_open _ tape moment faults c.args.disk c.in-Err-Disk.disk (taken c.args.out.now) (sink c.args.out.now) size capacity c.args.list before after lines c.none.result refused means c.none.ensures in
+    subst (λ d. RunHolds (outside_of before after tape moment faults c.args.disk d taken sink c.args.out.now c.args.out.now) size capacity c.args.list DiskFault c.none.result) (sym c.in-Err-Disk.disk-is) holds
+
+pub returns-in-Err-NotEmpty-clause-holds : goal.returns-in-Err-NotEmpty-clause-holds
+returns-in-Err-NotEmpty-clause-holds g c = λ before after lines means ready.
+    let tape = g.D.Disk.tape in
+    let moment = g.D.Disk.moment in
+    let faults = g.D.Disk.faults in
+    let taken = g.O.Sink.taken in
+    let sink = g.O.Sink.faults in
+    let size = c.args.shape.geometry in
+    let capacity = capacity_of size c.args.shape.cap_segments in
+    let refused = subst (RefusesToOpen tape moment faults c.args.disk) c.in-Err-NotEmpty.field-0-is c.in-Err-NotEmpty.ensures.refused in
+    let holds = found_a_log _ tape moment faults c.args.disk c.in-Err-NotEmpty.disk (taken c.args.out.now) (sink c.args.out.now) size capacity c.args.list before after lines c.none-in-Err-NotEmpty.result refused means c.none-in-Err-NotEmpty.ensures in
+    subst (λ d. RunHolds (outside_of before after tape moment faults c.args.disk d taken sink c.args.out.now c.args.out.now) size capacity c.args.list NotEmpty c.none-in-Err-NotEmpty.result) (sym c.in-Err-NotEmpty.disk-is) holds

@@ -1,6 +1,6 @@
 -- What waits for a sync is synced, or the sync failed.
-use Rattle.std.proofs.Common.{◌≡◌, ℕ, List, false, Option, IfSome, ap, subst, sym, ◌∙◌, arith}
-use Rattle.segment_disk.specs.Tape.{Tape}
+use Rattle.std.proofs.Common.{◌≡◌, ℕ, List, false, Option, IfSome, ap, subst, sym, ◌∙◌, ◌/◌, arith}
+use Rattle.segment_disk.specs.Tape.{Tape, sync_call}
 use Rattle.flush_core.specs.declared.writer.Writer.{Writer}
 use Rattle.flush_core.specs.Pages.{PutPages}
 use Rattle.flush_core.specs.Left.{IsMadeUpto, IsKeptWord, TapeAssures}
@@ -16,7 +16,7 @@ use Rattle.flush_core.proofs.writer.Writer.harden.Goals as goal
 pub returns-in-Err-clause-failed : goal.returns-in-Err-clause-failed
 returns-in-Err-clause-failed g c =
     let old = c.args.self.now in
-    let fails = rw c.segment_size.ensures.value at c.in-Err.ensures.err in
+    let fails = rw c.segment_size.ensures.value at c.in-Err.ensures.answers in
     harden_failed g.row.D.Denot g.D.Disk.tape old c.sync.new.self g.D.Disk.moment g.D.Disk.faults c.fail.new.self c.fail.result.faults c.if-self.true c.in_ok-check.ensures fails c.in-Err.ensures.cause c.fail.ensures.told c.fail.ensures.kept
 
 -- what is held is held behind the sync
@@ -26,7 +26,7 @@ holds_behind g c pages is =
     let old = c.args.self.now in
     elim c.if-self.branch [
       | then-self+in-Ok w ↦
-          (let made = rw w.segment_size.ensures.value at w.in-Ok.ensures.ok.tape in
+          (let made = rw w.segment_size.ensures.value at w.in-Ok.ensures.answers.tape in
           subst (λ (new : Writer g.row.D.Denot). IsWriter tape new pages) (sym w.self-is) (IsWriter-synced g.row.D.Denot tape old w.sync.new.self w.if-self.true made pages is))
       | else-self w ↦ subst (λ (new : Writer g.row.D.Denot). IsWriter tape new pages) (sym w.self-is) is
     ]
@@ -50,7 +50,7 @@ fits_behind g c IsThere Fits moment assures =
     elim c.if-self.branch [
       | then-self+in-Ok w ↦
           subst (λ (new : Writer g.row.D.Denot). IfSome (tape new.disk) (TapeAssures new.geometry (IsThere new.geometry) Fits moment)) (sym w.self-is)
-          (subst (λ (t : Option Tape). IfSome t (TapeAssures old.geometry (IsThere old.geometry) Fits moment)) (sym w.in-Ok.ensures.ok.tape) (TapeAssures-with_call old.geometry (IsThere old.geometry) Fits moment (tape old.disk) _ tt assures))
+          (subst (λ (t : Option Tape). IfSome t (TapeAssures old.geometry (IsThere old.geometry) Fits moment)) (sym w.in-Ok.ensures.answers.tape) (TapeAssures-with_call old.geometry (IsThere old.geometry) Fits moment (tape old.disk) _ tt assures))
       | else-self w ↦ subst (λ (new : Writer g.row.D.Denot). IfSome (tape new.disk) (TapeAssures new.geometry (IsThere new.geometry) Fits moment)) (sym w.self-is) assures
     ]
 
@@ -66,7 +66,7 @@ fits_failed : (g : Over) (c : goal.After-fail g) (IsThere : ℕ → ℕ → Type
 fits_failed g c IsThere Fits moment assures =
     let tape = g.D.Disk.tape in
     let old = c.args.self.now in
-    subst (λ (new : Writer g.row.D.Denot). IfSome (tape new.disk) (TapeAssures new.geometry (IsThere new.geometry) Fits moment)) (sym c.fail.ensures.kept) (TapeAssures-failed old.geometry (IsThere old.geometry) Fits moment (tape old.disk) (tape c.sync.new.self) _ _ _ tt c.in-Err.ensures.err assures)
+    subst (λ (new : Writer g.row.D.Denot). IfSome (tape new.disk) (TapeAssures new.geometry (IsThere new.geometry) Fits moment)) (sym c.fail.ensures.kept) (TapeAssures-failed old.geometry (IsThere old.geometry) Fits moment (tape old.disk) (tape c.sync.new.self) _ _ (sync_call old.geometry (old.written.0 / c.segment_size.result)) tt c.in-Err.ensures.answers assures)
 
 pub returns-in-Err-clause-keeps : goal.returns-in-Err-clause-keeps
 returns-in-Err-clause-keeps g c = λ moment position pages. fits_failed g c (λ size. IsMadeUpto size position) (IsKeptWord position pages) moment

@@ -1,8 +1,8 @@
 ghost use Rattle.std.specs.Prelude.{◌≡◌, IfOk};
 ghost use Rattle.flush_core.specs.Writer.{written_of};
 
-use crate::{DiskFault, Writer};
 use byte_position::Geometry;
+use flush_core::{DiskFault, Writer};
 use segment_disk::{Disk, MemDisk};
 use std::alloc::Global;
 use std::test::Fail;

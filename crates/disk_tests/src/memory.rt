@@ -1,8 +1,5 @@
-use super::{MemDisk, MemSink, MemSource};
 use crate::calls::{create, crosses_threads, read_page, read_piece, sync, write_page, write_piece};
-use crate::disk::Disk;
-use crate::failed::Failed;
-use crate::stream::{Sink, Source};
+use segment_disk::{Disk, Failed, MemDisk, MemSink, MemSource, Sink, Source};
 use std::test::Fail;
 
 #[test]
