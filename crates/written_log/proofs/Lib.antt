@@ -9,3 +9,4 @@ pub mod RecordBytes
 pub mod RecordRows
 pub mod Tables
 pub mod WrittenLogLaws
+pub mod AgreeingLaws

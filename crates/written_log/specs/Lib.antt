@@ -2,3 +2,4 @@ pub mod Written
 pub mod WrittenLog
 pub mod LogSegments
 pub mod Torn
+pub mod Agreeing

@@ -1,3 +1,4 @@
+ghost use Rattle.written_log.specs.Agreeing.{AgreeingLogsDecodeAlike};
 ghost use Rattle.written_log.specs.LogSegments.{SegmentsHoldLog};
 ghost use Rattle.written_log.specs.WrittenLog.{OwnPagesHoldLog, WrittenLogDecodes};
 
@@ -8,4 +9,10 @@ pub fn written_log_decodes()
     ensures decodes { WrittenLogDecodes }
     ensures own_pages { OwnPagesHoldLog }
     ensures segments { SegmentsHoldLog }
+{}
+
+/// A law: two logs that agree below an address, and are 0 from there on, decode to the same
+/// records.
+pub fn agreeing_logs_decode_alike()
+    ensures { AgreeingLogsDecodeAlike }
 {}
