@@ -6,7 +6,7 @@ use Rattle.log_answers.specs.declared.Receipt.{Receipt}
 use Rattle.log_answers.specs.declared.Hard.{Hard}
 use Rattle.log_answers.specs.declared.Sealed.{Sealed}
 use Rattle.log_answers.specs.declared.Refused.{Refused}
-use Rattle.serial_log.specs.History.{LogHistory}
+use Rattle.serial_log.specs.History.{LogHistory, end_of}
 use Rattle.serial_log.specs.Steps.{Inserts, Commits, Flushes}
 use Rattle.wal_script.specs.declared.line.Action.{Action}
 use Rattle.wal_script.specs.declared.line.Action.TheVariants as actions
@@ -37,7 +37,7 @@ module _ (size capacity opened : ℕ) (s : LogHistory) (IsAfter : LogHistory →
   commit_steps actions.Flush work body answer is tells does commits = absurd (let no : IsWork actions.Flush (works.Commit body) = subst (IsWork actions.Flush) is does in no)
 
   pub flush_steps : (action : Action) (work : Work) (answer : Result Hard Refused) → work ≡ works.Flush → told ≡ told_of_flush answer → IsWork action work
-      → ((after : LogHistory) × Flushes size opened s answer after × IsAfter after) → (after : LogHistory) × Steps size capacity opened s action told after × IsAfter after
+      → ((after : LogHistory) × Flushes size opened s (end_of size s.entries) answer after × IsAfter after) → (after : LogHistory) × Steps size capacity opened s action told after × IsAfter after
   flush_steps (actions.Insert value) work answer is tells does step = absurd (let no : IsWork (actions.Insert value) works.Flush = subst (IsWork (actions.Insert value)) is does in no)
   flush_steps (actions.Commit value) work answer is tells does step = absurd (let no : IsWork (actions.Commit value) works.Flush = subst (IsWork (actions.Commit value)) is does in no)
   flush_steps actions.Flush work answer is tells does step = (step.0, (answer, tells, step.1), step.2)

@@ -7,7 +7,8 @@ use Rattle.log_answers.specs.declared.Cause.{Cause}
 use Rattle.log_answers.specs.declared.Cause.TheVariants.{Full, Disk, Down}
 use Rattle.wal_types.specs.declared.lsn.Lsn.{Lsn}
 use Rattle.serial_log.specs.History.{LogHistory, end_of}
-use Rattle.serial_log.specs.Steps.{Flushes, RefusesFlush}
+use Rattle.serial_log.specs.Steps.{Flushes, HasFlushed, RefusesFlush}
+use Rattle.backend_cli.proofs.StepCases.{to_end}
 
 -- the entries are those before it, a disk that had failed still has, and one that has not is flushed to the log's end
 pub record IsBehindFlush (size : ℕ) (before after : LogHistory) : Type 0 where
@@ -20,8 +21,8 @@ not_both : (down : Option ℕ) (faults : ℕ) → down ≡ None → down ≡ Som
 not_both None faults none some = cc
 not_both (Some other) faults none some = cc
 
-module _ (size opened : ℕ) (before : LogHistory) where
-  behind_refused : (cause : Cause) (reserved : Option Lsn) (after : LogHistory) → RefusesFlush opened before cause reserved after → IsBehindFlush size before after
+module _ (size opened : ℕ) (before : LogHistory) (asked : ℕ) (all : asked ≡ end_of size before.entries) where
+  behind_refused : (cause : Cause) (reserved : Option Lsn) (after : LogHistory) → RefusesFlush opened before asked cause reserved after → IsBehindFlush size before after
   behind_refused (Full free) reserved after refuses = absurd refuses
   behind_refused (Disk faults) None after refuses = subst (IsBehindFlush size before) (sym refuses.after_is) (record {
     same = refl;
@@ -38,12 +39,12 @@ module _ (size opened : ℕ) (before : LogHistory) where
   })
   behind_refused (Down faults) (Some start) after refuses = absurd refuses
 
-  pub behind_flush : (answer : Result Hard Refused) (after : LogHistory) → Flushes size opened before answer after → IsBehindFlush size before after
+  pub behind_flush : (answer : Result Hard Refused) (after : LogHistory) → Flushes size opened before asked answer after → IsBehindFlush size before after
   behind_flush (Ok done) after flushes = subst (IsBehindFlush size before) (sym flushes.after_is) (record {
     same = refl;
     down = λ faults some. some;
     up = λ none. none;
-    flushed = λ none. flushes.upto_is;
+    flushed = λ none. to_end size before done.upto.0 after (subst (λ (n : ℕ). HasFlushed size before n done.upto.0 after) all flushes);
   })
   behind_flush (Err refusal) after flushes = behind_refused refusal.cause refusal.reserved after flushes
 

@@ -1,5 +1,5 @@
 -- Moments that are told one after another.
-use Rattle.std.proofs.Common.{◌≡◌, ◌<◌, ◌≤◌, ℕ, Bool, true, false, List, [], ◌∷◌, ◌++◌, Option, Some, None, Result, Ok, Err, sym, ap, ◌∙◌, subst, refl, arith}
+use Rattle.std.proofs.Common.{◌≡◌, ◌<◌, ◌≤◌, ◌⊎◌, inr, ℕ, Bool, true, false, List, [], ◌∷◌, ◌++◌, Option, Some, None, Result, Ok, Err, sym, ap, ◌∙◌, subst, refl, arith}
 use Rattle.std.specs.Prelude.{IfSome, IfOk, IfErr, OnOk, OnErr}
 use Rattle.flush_core.specs.Writer.{writer_fault}
 use Rattle.log_answers.specs.declared.Receipt.{Receipt}
@@ -9,7 +9,7 @@ use Rattle.log_answers.specs.declared.Refused as refused
 use Rattle.log_answers.specs.declared.Cause.{Cause}
 use Rattle.log_answers.specs.declared.Cause.TheVariants.{Full, Disk, Down}
 use Rattle.segment_disk.specs.Tape.{Tape}
-use Rattle.serial_log.specs.LogState.{LogState, IsLog, HasUnwritten, end_behind, log_disk}
+use Rattle.serial_log.specs.LogState.{LogState, IsLog, HasUnwritten, end_behind, log_disk, log_end}
 use Rattle.serial_log.specs.History.{at_opening}
 use Rattle.serial_log.proofs.OpeningLaws.{end_behind-none}
 use Rattle.serial_log.specs.Refusing.{HasFailed, IsLeftBy, down_again}
@@ -70,30 +70,31 @@ module _ (D : Type 0) (moment : D → ℕ) (last : LastTold) (old new : LogState
   commit_moments (Err refusal) told later flushed kept left = (last, refl, tracked_refused refusal.cause kept left)
 
   -- a flush with nothing to write leaves the log as it was, any other tells the disk's moment
-  flush_told : (is_latest : Bool) (told : ℕ) → IsLatest is_latest old → told ≡ new.moment → (old.flushed ≡ end_behind old.size old.bytes → new ≡ old) → ((old.flushed ≡ end_behind old.size old.bytes → ⊥) → new.moment ≡ moment (log_disk new))
-      → (HasUnwritten old → moment (log_disk old) < moment (log_disk new)) → FlushMoment is_latest last.moment told × (new.moment ≤ moment (log_disk new))
-  flush_told true told latest is idle latter later =
-      let same = idle latest in
+  flush_told : (is_latest : Bool) (told upto : ℕ) → upto ≡ log_end old → IsLatest is_latest old → told ≡ new.moment → ((upto ≤ old.flushed) ⊎ (old.flushed ≡ log_end old) → new ≡ old) → (old.flushed < upto → old.flushed < log_end old → new.moment ≡ moment (log_disk new))
+      → (old.flushed < upto → HasUnwritten old → moment (log_disk old) < moment (log_disk new)) → FlushMoment is_latest last.moment told × (new.moment ≤ moment (log_disk new))
+  flush_told true told upto all latest is idle latter later =
+      let same = idle (inr latest) in
       (omega (arith, is, ap (λ (log : LogState D). log.moment) same, tracked.kept), subst (λ (log : LogState D). log.moment ≤ moment (log_disk log)) (sym same) tracked.within)
-  flush_told false told latest is idle latter later =
-      let at = latter (λ all. omega (arith, all, latest.flushed)) in
-      (omega (arith, is, at, later latest, tracked.within, tracked.kept), omega (arith, at))
+  flush_told false told upto all latest is idle latter later =
+      let above : old.flushed < upto = omega (arith, latest.flushed) in
+      let at = latter above latest.flushed in
+      (omega (arith, is, at, later above latest, tracked.within, tracked.kept), omega (arith, at))
 
   -- only a log that has not failed is flushed
   flushed_up : (fault : Option ℕ) (done : hard.Hard) → IfSome fault (λ faults. (Ok done ≡ Err (down_again faults)) × (new ≡ old)) → fault ≡ None
   flushed_up None done down = refl
   flushed_up (Some faults) done down = let no = down.0 in cc
 
-  pub flush_moments : (answer : Result hard.Hard refused.Refused) → IfSome (writer_fault old.writer) (λ faults. (answer ≡ Err (down_again faults)) × (new ≡ old)) → IfOk answer (λ done. done.moment ≡ new.moment) → (old.flushed ≡ end_behind old.size old.bytes → new ≡ old)
-      → OnOk answer ((old.flushed ≡ end_behind old.size old.bytes → ⊥) → new.moment ≡ moment (log_disk new)) → OnOk answer (HasUnwritten old → moment (log_disk old) < moment (log_disk new)) → OnOk answer (new.flushed ≡ end_behind new.size new.bytes)
+  pub flush_moments : (upto : ℕ) → upto ≡ log_end old → (answer : Result hard.Hard refused.Refused) → IfSome (writer_fault old.writer) (λ faults. (answer ≡ Err (down_again faults)) × (new ≡ old)) → IfOk answer (λ done. done.moment ≡ new.moment) → ((upto ≤ old.flushed) ⊎ (old.flushed ≡ log_end old) → new ≡ old)
+      → OnOk answer (old.flushed < upto → old.flushed < log_end old → new.moment ≡ moment (log_disk new)) → OnOk answer (old.flushed < upto → HasUnwritten old → moment (log_disk old) < moment (log_disk new)) → OnOk answer (log_end old ≤ upto → new.flushed ≡ log_end new)
       → OnErr answer (new.moment ≡ old.moment) → IfErr answer (λ refusal. HasFailed refusal.cause new) → StepsOn moment last (told_of_flush answer) new
-  flush_moments (Ok done) down told idle latter later flushed kept failed =
-      let step = flush_told last.is_latest done.moment (tracked.latest (flushed_up (writer_fault old.writer) done down)) told idle latter later in (
+  flush_moments upto all (Ok done) down told idle latter later flushed kept failed =
+      let step = flush_told last.is_latest done.moment upto all (tracked.latest (flushed_up (writer_fault old.writer) done down)) told idle latter later in (
         record { moment = done.moment; is_latest = true },
         (step.0, refl),
-        record { kept = sym told; within = step.1; latest = λ up. flushed },
+        record { kept = sym told; within = step.1; latest = λ up. flushed (omega arith) },
       )
-  flush_moments (Err refusal) down told idle latter later flushed kept failed = (last, refl, tracked_refused refusal.cause kept (left_failed refusal.cause failed))
+  flush_moments upto all (Err refusal) down told idle latter later flushed kept failed = (last, refl, tracked_refused refusal.cause kept (left_failed refusal.cause failed))
 
 -- a log that is opened
 pub tracked_at_opening : (D : Type 0) (tape : D → Option Tape) (moment faults : D → ℕ) (disk : D) (log : LogState D) → IsLog tape faults (tape disk) (faults disk) log (at_opening log.size) → log.moment ≡ moment disk → moment (log_disk log) ≡ moment disk

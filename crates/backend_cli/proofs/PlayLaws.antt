@@ -4,8 +4,8 @@ use Rattle.std.proofs.lemmas.List.{take_all}
 use Rattle.segment_disk.specs.Tape.{Tape}
 use Rattle.wal_script.specs.declared.line.Line.{Line}
 use Rattle.wal_script.specs.declared.line.Action.{Action}
-use Rattle.serial_log.specs.LogState.{LogState, IsLog, IsSameLog}
-use Rattle.serial_log.specs.History.{LogHistory, at_opening}
+use Rattle.serial_log.specs.LogState.{LogState, IsSameLog, StepsLog}
+use Rattle.serial_log.specs.History.{LogHistory}
 use Rattle.backend_cli.specs.declared.tasks.Task.{Task}
 use Rattle.backend_cli.specs.declared.told.Told.{Told}
 use Rattle.backend_cli.specs.Steps.{Steps, Plays}
@@ -36,37 +36,36 @@ line_of_task (line ∷ lines) (t ∷ tasks) (suc i) task are within is =
     let more : suc i + 1 ≡ suc (i + 1) = omega arith in
     (found.0, found.1, ap (λ (n : ℕ). take n (line ∷ lines)) more ∙ ap (λ (ls : List Line). line ∷ ls) found.2)
 
--- whatever lines the tasks are of, those before a place were played from a log's opening on
+-- whatever lines the tasks are of, those before a place were played, from whatever history
 abbrev pub IsPlayed : {D : Type 0} → (D → Option Tape) → (D → ℕ) → LogState D → LogState D → List Task → ℕ → List Told → Type 0
 IsPlayed tape faults old new tasks i told =
-    (before : Option Tape) (opened : ℕ) (lines : List Line) → IsLog tape faults before opened old (at_opening old.size) → AreTasks lines tasks
-    → (s : LogHistory) × Plays old.size old.capacity opened (at_opening old.size) (take i lines) told s × IsLog tape faults before opened new s
+    (lines : List Line) → AreTasks lines tasks → StepsLog tape faults old new (λ faults_at_open before after. Plays old.size old.capacity faults_at_open before (take i lines) told after)
 
 module _ (D : Type 0) (tape : D → Option Tape) (faults : D → ℕ) (old : LogState D) (tasks : List Task) where
   -- one line more, whose work a log did
   pub IsPlayed_more : (mid new : LogState D) (i : ℕ) (told all : List Told) (task : Task) (answer : Told) → IsPlayed tape faults old mid tasks i told → IsSameLog old mid → i < length tasks → task ≡ get_or tasks i task → all ≡ told ++ answer ∷ []
-      → ((before : Option Tape) (opened : ℕ) (s : LogHistory) (action : Action) → IsLog tape faults before opened mid s → IsWork action task.work → (after : LogHistory) × Steps mid.size mid.capacity opened s action answer after × IsLog tape faults before opened new after)
+      → ((action : Action) → IsWork action task.work → StepsLog tape faults mid new (λ faults_at_open before after. Steps mid.size mid.capacity faults_at_open before action answer after))
       → IsPlayed tape faults old new tasks (i + 1) all
-  IsPlayed_more mid new i told all task answer played same within is pushed steps before opened lines is_log are =
+  IsPlayed_more mid new i told all task answer played same within is pushed steps lines are tape_at_open faults_at_open before is_log =
       let size = old.size in
       let capacity = old.capacity in
-      let so_far = played before opened lines is_log are in
+      let so_far = played lines are tape_at_open faults_at_open before is_log in
       let found = line_of_task lines tasks i task are within is in
       let line = found.0 in
-      let step = steps before opened so_far.0 line.action so_far.2 found.1 in
-      let stepped : Steps size capacity opened so_far.0 line.action answer step.0 =
-      subst (λ (n : ℕ). Steps size n opened so_far.0 line.action answer step.0) same.capacity (subst (λ (n : ℕ). Steps n mid.capacity opened so_far.0 line.action answer step.0) same.size step.1) in
-      let plays = Plays_push size capacity opened (at_opening size) so_far.0 step.0 (take i lines) told line answer so_far.1 stepped in
-      let all_lines = subst (λ (ls : List Line). Plays size capacity opened (at_opening size) ls (told ++ answer ∷ []) step.0) (sym found.2) plays in
-      (step.0, subst (λ (answers : List Told). Plays size capacity opened (at_opening size) (take (i + 1) lines) answers step.0) (sym pushed) all_lines, step.2)
+      let step = steps line.action found.1 tape_at_open faults_at_open so_far.0 so_far.2 in
+      let stepped : Steps size capacity faults_at_open so_far.0 line.action answer step.0 =
+      subst (λ (n : ℕ). Steps size n faults_at_open so_far.0 line.action answer step.0) same.capacity (subst (λ (n : ℕ). Steps n mid.capacity faults_at_open so_far.0 line.action answer step.0) same.size step.1) in
+      let plays = Plays_push size capacity faults_at_open before so_far.0 step.0 (take i lines) told line answer so_far.1 stepped in
+      let all_lines = subst (λ (ls : List Line). Plays size capacity faults_at_open before ls (told ++ answer ∷ []) step.0) (sym found.2) plays in
+      (step.0, subst (λ (answers : List Told). Plays size capacity faults_at_open before (take (i + 1) lines) answers step.0) (sym pushed) all_lines, step.2)
 
   -- all lines
-  pub IsPlayed_all : (new : LogState D) (i : ℕ) (told : List Told) → IsPlayed tape faults old new tasks i told → length tasks ≤ i → (before : Option Tape) (opened : ℕ) (lines : List Line) → IsLog tape faults before opened old (at_opening old.size) → AreTasks lines tasks
-      → (s : LogHistory) × Plays old.size old.capacity opened (at_opening old.size) lines told s × IsLog tape faults before opened new s
-  IsPlayed_all new i told played end before opened lines is_log are =
-      let so_far = played before opened lines is_log are in
+  pub IsPlayed_all : (new : LogState D) (i : ℕ) (told : List Told) → IsPlayed tape faults old new tasks i told → length tasks ≤ i → (lines : List Line) → AreTasks lines tasks
+      → StepsLog tape faults old new (λ faults_at_open before after. Plays old.size old.capacity faults_at_open before lines told after)
+  IsPlayed_all new i told played end lines are tape_at_open faults_at_open before is_log =
+      let so_far = played lines are tape_at_open faults_at_open before is_log in
       let whole : take i lines ≡ lines = take_all i lines (omega (arith, length-AreTasks lines tasks are)) in
-      (so_far.0, subst (λ (ls : List Line). Plays old.size old.capacity opened (at_opening old.size) ls told so_far.0) whole so_far.1, so_far.2)
+      (so_far.0, subst (λ (ls : List Line). Plays old.size old.capacity faults_at_open before ls told so_far.0) whole so_far.1, so_far.2)
 
 -- the same log, one call on
 pub IsSameLog-trans : {D : Type 0} (old mid new : LogState D) → IsSameLog old mid → IsSameLog mid new → IsSameLog old new

@@ -73,10 +73,10 @@ quiet_is_up opened last (Some f) fell same low =
 module _ (D : Type 0) (tape : D → Option Tape) (faults : D → ℕ) (before : Option Tape) (opened : ℕ) (log : LogState D) (es : List Entry) where
   fell_for : (down : Option ℕ) → IsUpOrDown tape faults before opened log es down → IfSome down (λ f. (f ≡ faults (log_disk log)) × Rose opened f)
   fell_for None state = tt
-  fell_for (Some f) state = (state.told, state.rose)
+  fell_for (Some f) state = (state.faults_same, state.rose)
 
   quiet_for : (down : Option ℕ) → IsUpOrDown tape faults before opened log es down → down ≡ None → faults (log_disk log) ≡ opened
-  quiet_for None state none = state.quiet
+  quiet_for None state none = state.faults_same
   quiet_for (Some f) state none = cc
 
 module _ (D : Type 0) (tape : D → Option Tape) (faults : D → ℕ) (before : Option Tape) (opened : ℕ) (log : LogState D) (after : LogHistory) (is_log : IsLog tape faults before opened log after) where

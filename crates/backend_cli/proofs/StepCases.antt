@@ -1,5 +1,5 @@
 -- A step of a log is one of eleven: a record that is written or durable, a log that is full, a disk that fails and what is told once it has failed, for an insert and for a commit; a flush that is done, one whose disk fails, and one afterwards.
-use Rattle.std.proofs.Common.{◌≡◌, ℕ, ◌+◌, ◌<◌, Option, Some, None, Result, Ok, Err, sym, subst}
+use Rattle.std.proofs.Common.{◌≡◌, ℕ, ◌+◌, ◌<◌, Option, Some, None, Result, Ok, Err, inl, inr, sym, subst, arith}
 use Rattle.segment_disk.specs.Cause.{Rose}
 use Rattle.wal_types.specs.declared.record.Record.{Record}
 use Rattle.wal_types.specs.declared.lsn.Lsn.{Lsn}
@@ -12,7 +12,8 @@ use Rattle.log_answers.specs.declared.Refused as refused
 use Rattle.log_answers.specs.declared.Cause.{Cause}
 use Rattle.log_answers.specs.declared.Cause.TheVariants.{Full, Disk, Down}
 use Rattle.serial_log.specs.History.{LogHistory, end_of, next_entry, with_entry}
-use Rattle.serial_log.specs.Steps.{Inserts, Commits, Flushes, IsReserved, RefusesRecord, RefusesFlush}
+use Rattle.serial_log.specs.Steps.{Inserts, Commits, Flushes, HasFlushed, IsReserved, RefusesRecord, RefusesFlush}
+use Rattle.serial_log.proofs.StepLaws.{HasCommitted-of, RefusesRecord-of}
 use Rattle.wal_script.specs.declared.line.Action.{Action}
 use Rattle.wal_script.specs.declared.line.Action.TheVariants.{Insert, Commit, Flush}
 use Rattle.backend_cli.specs.declared.told.Told.{Told}
@@ -46,6 +47,10 @@ pub record HoldsOfSteps (size capacity opened : ℕ) (P : StepFact) : Type 0 whe
   pub flush_failed : (s : LogHistory) (faults : ℕ) → s.down ≡ None → Rose opened faults → P s Flush (Refused (Disk faults) None) (record s { down = Some faults })
   pub flush_down : (s : LogHistory) (faults : ℕ) → s.down ≡ Some faults → P s Flush (Refused (Down faults) None) s
 
+-- a flush that asks for the log's end reaches it
+pub to_end : (size : ℕ) (s : LogHistory) (upto : ℕ) (after : LogHistory) → HasFlushed size s (end_of size s.entries) upto after → upto ≡ end_of size s.entries
+to_end size s upto after flushed = elim flushed.upto_is [ inl reached ↦ omega (arith, flushed.within, reached.0, reached.1) | inr all ↦ all.1 ]
+
 module _ (size capacity opened : ℕ) (P : StepFact) (holds : HoldsOfSteps size capacity opened P) where
   insert_refused : (s : LogHistory) (value : Record) (cause : Cause) (reserved : Option Lsn) (after : LogHistory) → IsWritable value → RefusesRecord size capacity opened s value cause reserved after → P s (Insert value) (Refused cause reserved) after
   insert_refused s value (Full free) None after writable step = subst (P s (Insert value) (Refused (Full free) None)) (sym step.same) (holds.insert_full s value free step.up step.left step.small)
@@ -71,20 +76,21 @@ module _ (size capacity opened : ℕ) (P : StepFact) (holds : HoldsOfSteps size 
   commit_refused s value (Down faults) (Some start) after writable step = absurd step
 
   commits : (s : LogHistory) (value : Record) (answer : Result Sealed refused.Refused) (after : LogHistory) → IsWritable value → Commits size capacity opened s value answer after → P s (Commit value) (told_of_commit answer) after
-  commits s value (Ok sealed) after writable step =
+  commits s value (Ok sealed) after writable commit =
+      let step = HasCommitted-of size capacity opened s after value sealed commit in
       subst (P s (Commit value) (Hard sealed.start sealed.end sealed.moment)) (sym step.after_is) (holds.hard s value sealed.start sealed.end sealed.moment (record { writable = writable; reserved = step.reserved }) step.end_is)
-  commits s value (Err refusal) after writable step = commit_refused s value refusal.cause refusal.reserved after writable step
+  commits s value (Err refusal) after writable commit = commit_refused s value refusal.cause refusal.reserved after writable (RefusesRecord-of size capacity opened s after value refusal commit)
 
-  flush_refused : (s : LogHistory) (cause : Cause) (reserved : Option Lsn) (after : LogHistory) → RefusesFlush opened s cause reserved after → P s Flush (Refused cause reserved) after
-  flush_refused s (Full free) reserved after step = absurd step
-  flush_refused s (Disk faults) None after step = subst (P s Flush (Refused (Disk faults) None)) (sym step.after_is) (holds.flush_failed s faults step.up step.rose)
-  flush_refused s (Disk faults) (Some start) after step = absurd step
-  flush_refused s (Down faults) None after step = subst (P s Flush (Refused (Down faults) None)) (sym step.same) (holds.flush_down s faults step.down)
-  flush_refused s (Down faults) (Some start) after step = absurd step
+  flush_refused : (s : LogHistory) (asked : ℕ) (cause : Cause) (reserved : Option Lsn) (after : LogHistory) → RefusesFlush opened s asked cause reserved after → P s Flush (Refused cause reserved) after
+  flush_refused s asked (Full free) reserved after step = absurd step
+  flush_refused s asked (Disk faults) None after step = subst (P s Flush (Refused (Disk faults) None)) (sym step.after_is) (holds.flush_failed s faults step.up step.rose)
+  flush_refused s asked (Disk faults) (Some start) after step = absurd step
+  flush_refused s asked (Down faults) None after step = subst (P s Flush (Refused (Down faults) None)) (sym step.same) (holds.flush_down s faults step.down)
+  flush_refused s asked (Down faults) (Some start) after step = absurd step
 
-  flushes : (s : LogHistory) (answer : Result hard.Hard refused.Refused) (after : LogHistory) → Flushes size opened s answer after → P s Flush (told_of_flush answer) after
-  flushes s (Ok done) after step = subst (P s Flush (Flushed done.upto done.moment)) (sym step.after_is) (holds.flushed s done.upto done.moment step.up step.upto_is)
-  flushes s (Err refusal) after step = flush_refused s refusal.cause refusal.reserved after step
+  flushes : (s : LogHistory) (answer : Result hard.Hard refused.Refused) (after : LogHistory) → Flushes size opened s (end_of size s.entries) answer after → P s Flush (told_of_flush answer) after
+  flushes s (Ok done) after step = subst (P s Flush (Flushed done.upto done.moment)) (sym step.after_is) (holds.flushed s done.upto done.moment step.up (to_end size s done.upto.0 after step))
+  flushes s (Err refusal) after step = flush_refused s (end_of size s.entries) refusal.cause refusal.reserved after step
 
   -- what holds of each kind of step holds of each step
   pub fact-Steps : (before : LogHistory) (action : Action) (told : Told) (after : LogHistory) → Steps size capacity opened before action told after → P before action told after

@@ -15,7 +15,7 @@ use Rattle.backend_cli.specs.Tasks.{AreTasks}
 -- tasks for these lines, room for a log, and room for what the lines are told
 pub record IsPrepared (shape : Shape) (lines : List Line) (prepared : Prepared) : Type 0 where
   pub tasks : AreTasks lines prepared.tasks.items
-  pub room : prepared.room ≡ shape
+  pub log : prepared.log ≡ shape
   pub told : prepared.told.items ≡ []
   pub told_room : length prepared.tasks.items ≤ vec_capacity prepared.told
   pub lists : prepared.lists.items ≡ []

@@ -5,7 +5,7 @@ use Rattle.log_answers.specs.declared.Receipt.{Receipt}
 use Rattle.log_answers.specs.declared.Hard as hard
 use Rattle.log_answers.specs.declared.Sealed.{Sealed}
 use Rattle.log_answers.specs.declared.Refused as refused
-use Rattle.serial_log.specs.History.{LogHistory}
+use Rattle.serial_log.specs.History.{LogHistory, end_of}
 use Rattle.serial_log.specs.Steps.{Inserts, Commits, Flushes}
 use Rattle.wal_script.specs.declared.line.Line.{Line}
 use Rattle.wal_script.specs.declared.line.Action.{Action}
@@ -33,7 +33,7 @@ Steps size capacity opened before (Insert value) told after =
 Steps size capacity opened before (Commit value) told after =
     (answer : Result Sealed refused.Refused) × (told ≡ told_of_commit answer) × IsWritable value × Commits size capacity opened before value answer after
 Steps size capacity opened before Flush told after =
-    (answer : Result hard.Hard refused.Refused) × (told ≡ told_of_flush answer) × Flushes size opened before answer after
+    (answer : Result hard.Hard refused.Refused) × (told ≡ told_of_flush answer) × Flushes size opened before (end_of size before.entries) answer after
 
 -- lines in order, each told as it may be
 abbrev pub Plays : ℕ → ℕ → ℕ → LogHistory → List Line → List Told → LogHistory → Type 0

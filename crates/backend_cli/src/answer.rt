@@ -1,8 +1,5 @@
-ghost use Rattle.std.specs.Prelude.{ℕ, Option};
-ghost use Rattle.segment_disk.specs.Tape.{Tape};
 ghost use Rattle.wal_script.specs.declared.line.Action.{Action};
-ghost use Rattle.serial_log.specs.LogState.{IsLog, IsSameLog};
-ghost use Rattle.serial_log.specs.History.{LogHistory};
+ghost use Rattle.serial_log.specs.LogState.{IsSameLog, StepsLog};
 ghost use Rattle.backend_cli.specs.Moments.{LastTold, MomentStep};
 ghost use Rattle.backend_cli.specs.Steps.{Steps};
 ghost use Rattle.backend_cli.specs.Tasks.{IsWork};
@@ -15,14 +12,19 @@ use serial_log::Log;
 
 /// Does what a line asks for.
 pub(crate) fn answer<D: Disk>(log: &mut Log<D>, work: &Work) -> Told
-    ensures steps { (before : Option Tape) (opened : ℕ) (s : LogHistory) (action : Action) → IsLog D.tape D.faults before opened log.old s → IsWork action work.now
-        → (after : LogHistory) × Steps log.old.size log.old.capacity opened s action result after × IsLog D.tape D.faults before opened log.new after }
+    ensures steps { (action : Action) → IsWork action work.now
+        → StepsLog D.tape D.faults log.old log.new (λ faults_at_open before after.
+        Steps log.old.size log.old.capacity faults_at_open before action result after) }
     ensures same { IsSameLog log.old log.new }
-    ensures moments { (last : LastTold) → IsTracked D.moment last log.old → (next : LastTold) × MomentStep last result next × IsTracked D.moment next log.new }
+    ensures moments { (last : LastTold) → IsTracked D.moment last log.old
+        → (next : LastTold) × MomentStep last result next × IsTracked D.moment next log.new }
 {
     match work {
         Work::Insert(body) => Told::of_insert(log.insert(body)),
         Work::Commit(body) => Told::of_commit(log.commit(body)),
-        Work::Flush => Told::of_flush(log.flush()),
+        Work::Flush => {
+            let end = log.end();
+            Told::of_flush(log.flush(end))
+        }
     }
 }

@@ -1,8 +1,6 @@
-ghost use Rattle.std.specs.Prelude.{◌≡◌, ◌≤◌, ℕ, List, [], length, vec_capacity, Option};
-ghost use Rattle.segment_disk.specs.Tape.{Tape};
+ghost use Rattle.std.specs.Prelude.{◌≡◌, ◌≤◌, List, [], length, vec_capacity};
 ghost use Rattle.wal_script.specs.declared.line.Line.{Line};
-ghost use Rattle.serial_log.specs.LogState.{IsLog, IsSameLog};
-ghost use Rattle.serial_log.specs.History.{LogHistory, at_opening};
+ghost use Rattle.serial_log.specs.LogState.{IsSameLog, StepsLog};
 ghost use Rattle.backend_cli.specs.Moments.{LastTold, MomentsReach};
 ghost use Rattle.backend_cli.specs.Steps.{Plays};
 ghost use Rattle.backend_cli.specs.Tasks.{AreTasks};
@@ -25,8 +23,9 @@ pub(crate) fn play<D: Disk, G: Gate>(
 )
     requires empty { told.old.items ≡ [] }
     requires room { length tasks.now ≤ vec_capacity told.old }
-    ensures plays { (before : Option Tape) (opened : ℕ) (lines : List Line) → IsLog D.tape D.faults before opened log.old (at_opening log.old.size) → AreTasks lines tasks.now
-        → (after : LogHistory) × Plays log.old.size log.old.capacity opened (at_opening log.old.size) lines told.new.items after × IsLog D.tape D.faults before opened log.new after }
+    ensures plays { (lines : List Line) → AreTasks lines tasks.now
+        → StepsLog D.tape D.faults log.old log.new (λ faults_at_open before after.
+        Plays log.old.size log.old.capacity faults_at_open before lines told.new.items after) }
     ensures same { IsSameLog log.old log.new }
     ensures moments { (last : LastTold) → IsTracked D.moment last log.old → (after : LastTold) × MomentsReach last told.new.items after × IsTracked D.moment after log.new }
     ensures each { length told.new.items ≡ length tasks.now }

@@ -21,7 +21,7 @@ use crate::tasks::{Task, tasks_of};
 use crate::told::{Told, ToldLists};
 use byte_position::Geometry;
 use segment_disk::{Disk, Sink, Source};
-use serial_log::{Log, OpenFailure, Room, Shape};
+use serial_log::{Log, LogMemory, OpenFailure, Shape};
 use std::alloc::{AllocError, Global};
 use wal_script::{Line, ParseError, parse};
 use waldump_text::SinkFault;
@@ -38,8 +38,7 @@ pub(crate) struct Finished<D> {
 #[derive(Drop)]
 struct Prepared {
     tasks: Vec<Task>,
-    // Room for the log.
-    room: Room,
+    log: LogMemory,
     // Room for what the lines are told.
     told: Vec<Told>,
     lists: Vec<Vec<Told>>,
@@ -73,7 +72,7 @@ fn room_for(alloc: Global, shape: Shape, lines: &[Line]) -> Result<Prepared, All
     let told = Vec::with_capacity(alloc, tasks.len())?;
     Ok(Prepared {
         tasks,
-        room: Room::new(alloc, shape)?,
+        log: LogMemory::new(alloc, shape)?,
         told,
         lists: Vec::with_capacity(alloc, 1)?,
     })
@@ -203,12 +202,12 @@ fn run_prepared<O: Sink, D: Disk, G: Gate>(
 {
     let Prepared {
         tasks,
-        room,
+        log: memory,
         mut told,
         lists,
     } = prepared;
     let geometry = shape.geometry;
-    match Log::open(disk, SYSTEM_ID, room) {
+    match Log::open(disk, SYSTEM_ID, memory) {
         Err(OpenFailure::Disk(disk)) => Finished {
             outcome: Outcome::DiskFault,
             disk,
@@ -222,7 +221,8 @@ fn run_prepared<O: Sink, D: Disk, G: Gate>(
         Ok(mut log) => {
             play(&mut log, gate, &tasks, &mut told);
             // No line asked for this flush, so none is told its answer; where it fails the log is down.
-            let _ = log.flush();
+            let end = log.end();
+            let _ = log.flush(end);
             let summary = summary_of(geometry, &log, &told);
             let is_printed = print(out, list, &tasks, &told, &summary).is_ok();
             Finished {

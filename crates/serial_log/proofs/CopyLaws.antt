@@ -4,12 +4,7 @@ use Rattle.std.specs.Int.{w64, to_le_bytes}
 use Rattle.std.proofs.lemmas.Bool.{cases_lt}
 use Rattle.std.proofs.lemmas.Slice.{between_is, between-put_mid, take-put_mid_below}
 use borrow.Rule.Slice.PartMut.{put_mid}
-use Rattle.wal_page.specs.Placed.{PlacedState, entry_word}
 use Rattle.segment_disk.specs.DiskImage.{word_of}
-
--- the word of a record at its place
-abbrev pub word_of_placed : PlacedState → ℕ → ℕ
-word_of_placed p address = entry_word p.size p.sysid p.body p.start p.prev address
 
 -- a word of bytes whose words up to one were put
 module _ (n : ℕ) (into piece : List ℕ) (long : length piece ≡ 8) (within : 8 * n + 8 ≤ length into) where

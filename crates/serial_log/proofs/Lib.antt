@@ -3,6 +3,8 @@ pub mod Places
 pub mod RingLaws
 pub mod CopyLaws
 pub mod BufferLaws
+pub mod WritingLaws
+pub mod CallLaws
 pub mod Copying
 pub mod ShapeLaws
 pub mod LogWords

@@ -1,5 +1,6 @@
 -- How a log stands behind a record that is put into it, and behind a flush.
-use Rattle.std.proofs.Common.{◌≡◌, ℕ, ◌+◌, ◌<◌, ◌≤◌, inl, inr, false, List, Option, Some, None, Result, refl, sym, ap, subst, ◌∙◌, arith}
+use Rattle.std.proofs.Common.{◌≡◌, ℕ, ◌+◌, ◌<◌, ◌≤◌, ◌⊎◌, inl, inr, false, List, Option, Some, None, Result, refl, sym, ap, subst, ◌∙◌, arith}
+use Rattle.std.proofs.lemmas.Bool.{cases_lt}
 use Rattle.byte_position.specs.Position.{address_of, end_address_of, first_position}
 use Rattle.byte_position.proofs.EndAddresses.{end_address_of-mono_lt}
 use Rattle.wal_types.specs.declared.record.Record.{Record}
@@ -16,13 +17,14 @@ use Rattle.flush_core.specs.Writer.{disk_of, writer_segment_size, written_of, is
 use Rattle.log_answers.specs.declared.Receipt.{Receipt}
 use Rattle.log_answers.specs.declared.Refused.{Refused}
 use Rattle.serial_log.specs.Ring.{RingState, HoldsWords}
-use Rattle.serial_log.specs.Words.{HasWritten, words_upto}
-use Rattle.serial_log.specs.Buffers.{IsSameOrFurther, Spans, StaysUp, GoesDown}
+use Rattle.serial_log.specs.Words.{AreGiven, HasWritten, words_upto}
+use Rattle.serial_log.specs.OnDisk.{KeepsBelow, LeavesOnly, Preserves, moments_of}
+use Rattle.flush_core.specs.Pages.{HoldsNothing}
+use Rattle.serial_log.specs.Buffers.{GoesDown, IsSameOrFurther, RingHas, RingTakes, Spans, WritesOn}
 use Rattle.serial_log.specs.History.{LogHistory, end_of, next_entry, with_entry}
-use Rattle.serial_log.specs.Steps.{Inserts, IsReserved, HasInserted, FailsReserved, HasFlushed}
-use Rattle.serial_log.specs.LogState.{LogState, IsFirst, IsLog, IsUp, IsUpOrDown, PartsReach, end_behind}
-use Rattle.serial_log.proofs.Copying.{AreGiven}
-use Rattle.serial_log.proofs.LogWords.{HoldsWords-same, log_word-upto_end, chained_more, end_of_more, AreGiven-more, HoldsWords-before, HoldsWords-after, HaveWords-more}
+use Rattle.serial_log.specs.Steps.{FailsFlush, FailsReserved, HasFlushed, HasInserted, Inserts, IsReserved}
+use Rattle.serial_log.specs.LogState.{LogState, IsFirst, IsLog, IsSameLog, IsUp, IsUpOrDown, LeavesLog, PartsReach, end_behind}
+use Rattle.serial_log.proofs.LogWords.{HoldsWords-same, log_word-upto_end, chained_more, end_of_more, AreGiven-more, HoldsWords-before, HoldsWords-after, HaveWords-more, KeepsBelow-less, KeepsBelow-more, LeavesOnly-more}
 
 -- the parts of a placed record, told by equations
 placed_at : (size sysid : ℕ) (a b : Assembled) (start start' prev prev' next next' : ℕ) → a ≡ b → start ≡ start' → prev ≡ prev' → next ≡ next'
@@ -45,16 +47,16 @@ Reaches-on D size bytes more flushed old_ring ring old new reaches (inr further)
   synced = λ all. absurd (omega (arith, reaches.flushed_within));
 }
 
-Rose-on : (opened old told : ℕ) → old ≡ opened → Rose old told → Rose opened told
-Rose-on opened old told same = subst (λ (n : ℕ). Rose n told) same
+Rose-on : (first old told : ℕ) → old ≡ first → Rose old told → Rose first told
+Rose-on first old told same = subst (λ (n : ℕ). Rose n told) same
 
-module _ (D : Type 0) (tape : D → Option Tape) (faults : D → ℕ) (before : Option Tape) (opened : ℕ) (log : LogState D) (up : writer_fault log.writer ≡ None) where
+module _ (D : Type 0) (tape : D → Option Tape) (moment faults : D → ℕ) (tape_at_open : Option Tape) (faults_at_open : ℕ) (log : LogState D) (up : writer_fault log.writer ≡ None) where
   -- a log whose disk has not failed
-  down_none : (s : LogHistory) → IsLog tape faults before opened log s → s.down ≡ None
+  down_none : (s : LogHistory) → IsLog tape faults tape_at_open faults_at_open log s → s.down ≡ None
   down_none s is = sym is.down ∙ up
 
-  is_up : (s : LogHistory) → IsLog tape faults before opened log s → IsUp tape faults before opened log s.entries
-  is_up s is = subst (IsUpOrDown tape faults before opened log s.entries) (down_none s is) is.state
+  is_up : (s : LogHistory) → IsLog tape faults tape_at_open faults_at_open log s → IsUp tape faults tape_at_open faults_at_open log s.entries
+  is_up s is = subst (IsUpOrDown tape faults tape_at_open faults_at_open log s.entries) (down_none s is) is.state
 
   -- ---- a record is put into the log
 
@@ -72,7 +74,7 @@ module _ (D : Type 0) (tape : D → Option Tape) (faults : D → ℕ) (before : 
       pub end_is : end.0 ≡ end_address_of log.size (first + (log.bytes + room))
       pub from_is : from ≡ record { size = log.size; sysid = log.sysid; body = body; start = first + log.bytes; prev = log.prev; next = end_address_of log.size (first + log.bytes) }
 
-    module _ (place : IsPlace) (s : LogHistory) (value : Record) (is : IsLog tape faults before opened log s) (same : body ≡ assembled value) (writable : IsWritable value) where
+    module _ (place : IsPlace) (s : LogHistory) (value : Record) (is : IsLog tape faults tape_at_open faults_at_open log s) (same : body ≡ assembled value) (writable : IsWritable value) where
       abbrev size : ℕ
       size = log.size
 
@@ -83,13 +85,13 @@ module _ (D : Type 0) (tape : D → Option Tape) (faults : D → ℕ) (before : 
       more = with_entry size es value
 
       position_is : first + log.bytes ≡ first_position size + rooms_of es
-      position_is = omega (arith, place.begins.is, is.bytes)
+      position_is = omega (arith, place.begins.position_is, is.bytes)
 
       rooms_is : log.bytes + room ≡ rooms_of more
       rooms_is = omega (arith, is.bytes, place.room_is, ap assembled_room same, rooms_of_push es (next_entry size es value))
 
       end_is_more : end.0 ≡ end_of size more
-      end_is_more = let at : first + (log.bytes + room) ≡ first_position size + rooms_of more = omega (arith, place.begins.is, rooms_is) in place.end_is ∙ ap (end_address_of size) at
+      end_is_more = let at : first + (log.bytes + room) ≡ first_position size + rooms_of more = omega (arith, place.begins.position_is, rooms_is) in place.end_is ∙ ap (end_address_of size) at
 
       is_reserved : IsReserved size log.capacity s value start.0
       is_reserved = record {
@@ -99,8 +101,8 @@ module _ (D : Type 0) (tape : D → Option Tape) (faults : D → ℕ) (before : 
       }
 
       -- what stays so whether the disk fails or not
-      module _ (new : LogHistory) (entries : new.entries ≡ more) (flushed : new.flushed ≡ s.flushed) (same_size : writer_segment_size writer ≡ writer_segment_size log.writer) (down : writer_fault writer ≡ new.down) (state : IsUpOrDown tape faults before opened appended new.entries new.down) where
-        is_appended : IsLog tape faults before opened appended new
+      module _ (new : LogHistory) (entries : new.entries ≡ more) (flushed : new.flushed ≡ s.flushed) (same_size : writer_segment_size writer ≡ writer_segment_size log.writer) (down : writer_fault writer ≡ new.down) (state : IsUpOrDown tape faults tape_at_open faults_at_open appended new.entries new.down) (left : HoldsNothing tape_at_open → LeavesLog tape tape_at_open appended more) where
+        is_appended : IsLog tape faults tape_at_open faults_at_open appended new
         is_appended = record {
           valid = is.valid;
           same_size = same_size ∙ is.same_size;
@@ -111,6 +113,7 @@ module _ (D : Type 0) (tape : D → Option Tape) (faults : D → ℕ) (before : 
           flushed = is.flushed ∙ sym flushed;
           down = down;
           state = state;
+          left = λ empty. subst (LeavesLog tape tape_at_open appended) (sym entries) (left empty);
         }
 
       -- its words are the log's from its end on
@@ -125,87 +128,175 @@ module _ (D : Type 0) (tape : D → Option Tape) (faults : D → ℕ) (before : 
       holds_before : HoldsWords log.ring (words_upto (log_word size log.sysid more) from.next)
       holds_before = subst (λ (n : ℕ). HoldsWords log.ring (words_upto (log_word size log.sysid more) n)) (sym next_is) (HoldsWords-before size log.sysid is.valid es value is.chained writable log.ring (is_up s is).words)
 
-      pub appended_ok : PartsReach size log.bytes log.flushed log.ring log.writer → StaysUp faults log.writer writer → IsSameOrFurther log.writer writer → Spans ring writer end.0
-          → ((word : ℕ → ℕ) → AreGiven from end.0 word → HoldsWords log.ring (words_upto word from.next) → HoldsWords ring (words_upto word end.0))
-          → ((word : ℕ → ℕ) → AreGiven from end.0 word → HoldsWords log.ring (words_upto word from.next) → HasWritten tape log.writer word → HasWritten tape writer word)
-          → (after : LogHistory) × HasInserted size log.capacity s value start.0 end.0 after × IsLog tape faults before opened appended after
-      appended_ok reaches stays rises spans words written =
+      -- what was flushed is below the log's old end
+      low : log.flushed ≤ end_of size es
+      low =
+          let reaches = (is_up s is).reaches in
+          let here : end_behind size log.bytes ≡ end_of size es = ap (λ (n : ℕ). end_address_of size (first_position size + n)) is.bytes in
+          omega (arith, reaches.flushed_within, reaches.spans.written_within, here)
+
+      -- what every crash leaves
+      left_appended : Preserves tape (RingTakes log.ring from end.0) log.writer writer → HoldsNothing tape_at_open → LeavesLog tape tape_at_open appended more
+      left_appended preserves empty =
           let word = log_word size log.sysid more in
+          let was = is.left empty in
+          let takes : RingTakes log.ring from end.0 word = (given, holds_before) in
+          record {
+            only = preserves.only word (moments_of tape_at_open) takes (LeavesOnly-more size log.sysid is.valid es value is.chained writable D tape log.writer (moments_of tape_at_open) was.only);
+            kept = preserves.keeps word log.moment log.flushed takes (is_up s is).reaches.flushed_within (KeepsBelow-more size log.sysid is.valid es value is.chained writable D tape log.writer log.moment log.flushed low was.kept);
+          }
+
+      pub keeps_appended : Preserves tape (RingTakes log.ring from end.0) log.writer writer → (moment position : ℕ) → position ≤ log.flushed → KeepsBelow tape log.writer moment position (log_word size log.sysid es) → KeepsBelow tape writer moment position (log_word size log.sysid es)
+      keeps_appended preserves moment position within kept =
+          let takes : RingTakes log.ring from end.0 (log_word size log.sysid more) = (given, holds_before) in
+          let is_low : position ≤ end_of size es = omega (arith, low) in
+          KeepsBelow-less size log.sysid is.valid es value is.chained writable D tape writer moment position is_low
+          (preserves.keeps (log_word size log.sysid more) moment position takes (omega (arith, (is_up s is).reaches.flushed_within)) (KeepsBelow-more size log.sysid is.valid es value is.chained writable D tape log.writer moment position is_low kept))
+
+      pub appended_ok : PartsReach size log.bytes log.flushed log.ring log.writer → WritesOn tape moment faults (RingTakes log.ring from end.0) log.writer writer → IsSameOrFurther log.writer writer → Spans ring writer end.0
+          → ((word : ℕ → ℕ) → RingTakes log.ring from end.0 word → RingHas ring end.0 word)
+          → (after : LogHistory) × HasInserted size log.capacity s value start.0 end.0 after × IsLog tape faults tape_at_open faults_at_open appended after
+      appended_ok reaches writes further spans words =
+          let word = log_word size log.sysid more in
+          let takes : RingTakes log.ring from end.0 word = (given, holds_before) in
           let after : LogHistory = record s { entries = more } in
-          let here : end.0 ≡ end_behind size (log.bytes + room) = place.end_is ∙ ap (λ (n : ℕ). end_address_of size (n + (log.bytes + room))) place.begins.is in
+          let here : end.0 ≡ end_behind size (log.bytes + room) = place.end_is ∙ ap (λ (n : ℕ). end_address_of size (n + (log.bytes + room))) place.begins.position_is in
           let was = is_up s is in
-          let reached = Reaches-on D size log.bytes (log.bytes + room) log.flushed log.ring ring log.writer writer reaches rises (subst (Spans ring writer) here spans) in
-          let state : IsUp tape faults before opened appended more = record {
-            quiet = stays.quiet ∙ was.quiet;
-            words = HoldsWords-after size log.sysid is.valid es value is.chained writable ring (subst (λ (n : ℕ). HoldsWords ring (words_upto word n)) end_is_more (words word given holds_before));
+          let reached = Reaches-on D size log.bytes (log.bytes + room) log.flushed log.ring ring log.writer writer reaches further (subst (Spans ring writer) here spans) in
+          let state : IsUp tape faults tape_at_open faults_at_open appended more = record {
+            faults_same = writes.up.faults_same ∙ was.faults_same;
+            words = HoldsWords-after size log.sysid is.valid es value is.chained writable ring (subst (λ (n : ℕ). RingHas ring n word) end_is_more (words word takes));
             reaches = reached;
-            holds = λ empty.
-                let has = was.holds empty in
+            written = λ empty.
+                let has = was.written empty in
                 let within : written_of log.writer ≤ end_of size es = subst (λ (n : ℕ). written_of log.writer ≤ end_address_of size (first_position size + n)) is.bytes reaches.spans.written_within in
-                written word given holds_before (record { pages = has.pages; is = has.is; words = HaveWords-more size log.sysid is.valid es value is.chained writable has.pages (written_of log.writer) within has.words });
+                writes.words word takes (record { pages = has.pages; put = has.put; words = HaveWords-more size log.sysid is.valid es value is.chained writable has.pages (written_of log.writer) within has.words });
           } in (
             after,
             record { reserved = is_reserved; end_is = end_is_more ∙ sym (end_of_more size log.sysid is.valid es value is.chained writable); after_is = refl },
-            is_appended after refl refl stays.size (stays.up ∙ sym (down_none s is)) (subst (IsUpOrDown tape faults before opened appended more) (sym (down_none s is)) state),
+            is_appended after refl refl writes.up.size (writes.up.up ∙ sym (down_none s is)) (subst (IsUpOrDown tape faults tape_at_open faults_at_open appended more) (sym (down_none s is)) state) (left_appended writes.preserves),
           )
 
-      pub appended_err : (told : ℕ) → GoesDown faults log.writer writer told → (after : LogHistory) × FailsReserved size log.capacity opened s value told start.0 after × IsLog tape faults before opened appended after
+      pub appended_err : (told : ℕ) → GoesDown tape moment faults (RingTakes log.ring from end.0) log.writer writer told → (after : LogHistory) × FailsReserved size log.capacity faults_at_open s value told start.0 after × IsLog tape faults tape_at_open faults_at_open appended after
       appended_err told down =
           let after : LogHistory = record s { entries = more; down = Some told } in
-          let rose = Rose-on opened (faults (disk_of log.writer)) told (is_up s is).quiet down.rose in (
+          let rose = Rose-on faults_at_open (faults (disk_of log.writer)) told (is_up s is).faults_same down.rose in (
             after,
             record { reserved = is_reserved; rose = rose; after_is = refl },
-            is_appended after refl refl down.size down.down (record { told = down.is_told; rose = rose }),
+            is_appended after refl refl down.size down.down (record { faults_same = down.count_told; rose = rose }) (left_appended down.preserves),
           )
 
   -- ---- the log is flushed
 
-  module _ (writer : Writer D) (end moment : ℕ) (s : LogHistory) (is : IsLog tape faults before opened log s) (end_is : end ≡ end_behind log.size log.bytes) where
-    pub flushed_ok : PartsReach log.size log.bytes log.flushed log.ring log.writer → StaysUp faults log.writer writer → written_of writer ≡ end → is_unsynced writer ≡ false
-        → ((word : ℕ → ℕ) → HoldsWords log.ring (words_upto word end) → HasWritten tape log.writer word → HasWritten tape writer word)
-        → (after : LogHistory) × HasFlushed log.size s end after × IsLog tape faults before opened (record log { writer = writer; flushed = end; moment = moment }) after
-    flushed_ok reaches stays written synced writes =
-        let size = log.size in
-        let es = s.entries in
-        let word = log_word size log.sysid es in
-        let was = is_up s is in
-        let here : end ≡ end_of size es = end_is ∙ ap (λ (n : ℕ). end_address_of size (first_position size + n)) is.bytes in
-        let whole : HoldsWords log.ring (words_upto word end) = subst (λ (n : ℕ). HoldsWords log.ring (words_upto word n)) (sym here) (HoldsWords-same log.ring word (words_upto word (end_of size es)) (λ address aligned. sym (log_word-upto_end size log.sysid is.valid es is.chained address)) was.words) in
-        let after : LogHistory = record s { flushed = end } in
-        let new : LogState D = record log { writer = writer; flushed = end; moment = moment } in
-        let state : IsUp tape faults before opened new es = record {
-          quiet = stays.quiet ∙ was.quiet;
-          words = was.words;
-          reaches = record {
-            spans = record {
-              written_within = omega (arith, written, end_is);
-              mapped_beyond = reaches.spans.mapped_beyond;
-              left_written = omega (arith, reaches.spans.left_written, reaches.spans.written_within, written, end_is);
-            };
-            flushed_within = omega (arith, written);
-            synced = λ all. synced;
-          };
-          holds = λ empty. writes word whole (was.holds empty);
-        } in (
-          after,
-          record { up = down_none s is; upto_is = here; after_is = refl },
+  module _ (s : LogHistory) (is : IsLog tape faults tape_at_open faults_at_open log s) (asked : ℕ) where
+    end_here : end_behind log.size log.bytes ≡ end_of log.size s.entries
+    end_here = ap (λ (n : ℕ). end_address_of log.size (first_position log.size + n)) is.bytes
+
+    -- the ring has the log's words
+    whole : (end : ℕ) → end ≡ end_behind log.size log.bytes → RingHas log.ring end (log_word log.size log.sysid s.entries)
+    whole end end_is =
+        let word = log_word log.size log.sysid s.entries in
+        let here : end ≡ end_of log.size s.entries = end_is ∙ end_here in
+        subst (λ (n : ℕ). RingHas log.ring n word) (sym here) (HoldsWords-same log.ring word (words_upto word (end_of log.size s.entries)) (λ address aligned. sym (log_word-upto_end log.size log.sysid is.valid s.entries is.chained address)) (is_up s is).words)
+
+    pub keeps_flushed : (writer : Writer D) (end : ℕ) → end ≡ end_behind log.size log.bytes → Preserves tape (RingHas log.ring end) log.writer writer → (moment position : ℕ) → position ≤ log.flushed
+        → KeepsBelow tape log.writer moment position (log_word log.size log.sysid s.entries) → KeepsBelow tape writer moment position (log_word log.size log.sysid s.entries)
+    keeps_flushed writer end end_is preserves moment position within kept =
+        preserves.keeps (log_word log.size log.sysid s.entries) moment position (whole end end_is) (omega (arith, (is_up s is).reaches.flushed_within)) kept
+
+    -- the position asked for is flushed, or all of the log
+    pub flushed_already : (upto : ℕ) → upto ≡ log.flushed → (asked ≤ log.flushed) ⊎ (log.flushed ≡ end_behind log.size log.bytes)
+        → (after : LogHistory) × HasFlushed log.size s asked upto after × IsLog tape faults tape_at_open faults_at_open log after
+    flushed_already upto at reached =
+        let reaches = (is_up s is).reaches in
+        let same : upto ≡ s.flushed = at ∙ is.flushed in
+        let which : ((asked ≤ s.flushed) × (upto ≡ s.flushed)) ⊎ ((s.flushed < asked) × (upto ≡ end_of log.size s.entries)) =
+        elim (cases_lt s.flushed asked) [
+          | inr behind ↦ inl (behind, same)
+          | inl above ↦ inr (above, elim reached [ inl low ↦ absurd (omega (arith, is.flushed)) | inr all ↦ at ∙ all ∙ end_here ])
+        ] in (
+          s,
           record {
-            valid = is.valid;
-            same_size = stays.size ∙ is.same_size;
-            chained = is.chained;
-            within = is.within;
-            bytes = is.bytes;
-            prev = is.prev;
-            flushed = refl;
-            down = stays.up ∙ sym (down_none s is);
-            state = subst (IsUpOrDown tape faults before opened new es) (sym (down_none s is)) state;
+            up = down_none s is;
+            within = omega (arith, at, end_here, reaches.flushed_within, reaches.spans.written_within);
+            upto_is = which;
+            after_is = ap (λ (n : ℕ). record s { flushed = n }) (sym same);
           },
+          is,
         )
 
+    module _ (writer : Writer D) (above : log.flushed < asked) where
+      pub flushed_ok : (end told : ℕ) → end ≡ end_behind log.size log.bytes → PartsReach log.size log.bytes log.flushed log.ring log.writer → WritesOn tape moment faults (RingHas log.ring end) log.writer writer → written_of writer ≡ end → is_unsynced writer ≡ false → ((word : ℕ → ℕ) → RingHas log.ring end word → HasWritten tape log.writer word → KeepsBelow tape writer told end word)
+          → (after : LogHistory) × HasFlushed log.size s asked end after × IsLog tape faults tape_at_open faults_at_open (record log { writer = writer; flushed = end; moment = told }) after
+      flushed_ok end told end_is reaches writes written synced hardened =
+          let size = log.size in
+          let es = s.entries in
+          let word = log_word size log.sysid es in
+          let was = is_up s is in
+          let here : end ≡ end_of size es = end_is ∙ end_here in
+          let holds = whole end end_is in
+          let after : LogHistory = record s { flushed = end } in
+          let new : LogState D = record log { writer = writer; flushed = end; moment = told } in
+          let state : IsUp tape faults tape_at_open faults_at_open new es = record {
+            faults_same = writes.up.faults_same ∙ was.faults_same;
+            words = was.words;
+            reaches = record {
+              spans = record {
+                written_within = omega (arith, written, end_is);
+                mapped_beyond = reaches.spans.mapped_beyond;
+                left_written = omega (arith, reaches.spans.left_written, reaches.spans.written_within, written, end_is);
+              };
+              flushed_within = omega (arith, written);
+              synced = λ all. synced;
+            };
+            written = λ empty. writes.words word holds (was.written empty);
+          } in (
+            after,
+            record { up = down_none s is; within = omega (arith, here); upto_is = inr (omega (arith, is.flushed), here); after_is = refl },
+            record {
+              valid = is.valid;
+              same_size = writes.up.size ∙ is.same_size;
+              chained = is.chained;
+              within = is.within;
+              bytes = is.bytes;
+              prev = is.prev;
+              flushed = refl;
+              down = writes.up.up ∙ sym (down_none s is);
+              state = subst (IsUpOrDown tape faults tape_at_open faults_at_open new es) (sym (down_none s is)) state;
+              left = λ empty. record {
+                only = writes.preserves.only word (moments_of tape_at_open) holds (is.left empty).only;
+                kept = hardened word holds (was.written empty);
+              };
+            },
+          )
+
+      pub flushed_err : (end told : ℕ) → end ≡ end_behind log.size log.bytes → GoesDown tape moment faults (RingHas log.ring end) log.writer writer told → (after : LogHistory) × FailsFlush faults_at_open s asked told after × IsLog tape faults tape_at_open faults_at_open (record log { writer = writer }) after
+      flushed_err end told end_is down =
+          let after : LogHistory = record s { down = Some told } in
+          let rose = Rose-on faults_at_open (faults (disk_of log.writer)) told (is_up s is).faults_same down.rose in (
+            after,
+            record { up = down_none s is; above = omega (arith, is.flushed); rose = rose; after_is = refl },
+            record {
+              valid = is.valid;
+              same_size = down.size ∙ is.same_size;
+              chained = is.chained;
+              within = is.within;
+              bytes = is.bytes;
+              prev = is.prev;
+              flushed = is.flushed;
+              down = down.down;
+              state = record { faults_same = down.count_told; rose = rose };
+              left = λ empty. record {
+                only = down.preserves.only (log_word log.size log.sysid s.entries) (moments_of tape_at_open) (whole end end_is) (is.left empty).only;
+                kept = keeps_flushed writer end end_is down.preserves log.moment log.flushed (omega arith) (is.left empty).kept;
+              };
+            },
+          )
+
 -- an answer that is told by an equation
-pub inserts_at : (size capacity opened : ℕ) (s : LogHistory) (value : Record) (result told : Result Receipt Refused) (IsAfter : LogHistory → Type 0) → result ≡ told → (after : LogHistory) × Inserts size capacity opened s value told after × IsAfter after
-    → (after : LogHistory) × Inserts size capacity opened s value result after × IsAfter after
-inserts_at size capacity opened s value result told IsAfter is inserts = subst (λ (r : Result Receipt Refused). (after : LogHistory) × Inserts size capacity opened s value r after × IsAfter after) (sym is) inserts
+pub inserts_at : (size capacity faults_at_open : ℕ) (s : LogHistory) (value : Record) (result told : Result Receipt Refused) (IsAfter : LogHistory → Type 0) → result ≡ told → (after : LogHistory) × Inserts size capacity faults_at_open s value told after × IsAfter after
+    → (after : LogHistory) × Inserts size capacity faults_at_open s value result after × IsAfter after
+inserts_at size capacity faults_at_open s value result told IsAfter is inserts = subst (λ (r : Result Receipt Refused). (after : LogHistory) × Inserts size capacity faults_at_open s value r after × IsAfter after) (sym is) inserts
 
 -- a record has some bytes, so a log that one is put into has an end that is neither written nor flushed
 module _ (D : Type 0) (size first bytes room flushed : ℕ) (old_ring : RingState) (old new : Writer D) (begins : IsFirst size first) (some : 0 < room) (reaches : PartsReach size bytes flushed old_ring old) where
@@ -214,7 +305,23 @@ module _ (D : Type 0) (size first bytes room flushed : ℕ) (old_ring : RingStat
 
   pub unwritten : (next end : ℕ) → next ≡ end_address_of size (first + bytes) → end ≡ end_address_of size (first + (bytes + room)) → (next < end → written_of new < end) → (written_of new < end_behind size (bytes + room)) × (flushed < end_behind size (bytes + room))
   unwritten next end next_is end_is unfinished =
-      let here : end ≡ end_behind size (bytes + room) = end_is ∙ ap (λ (n : ℕ). end_address_of size (n + (bytes + room))) begins.is in
-      let there : next ≡ end_behind size bytes = next_is ∙ ap (λ (n : ℕ). end_address_of size (n + bytes)) begins.is in
+      let here : end ≡ end_behind size (bytes + room) = end_is ∙ ap (λ (n : ℕ). end_address_of size (n + (bytes + room))) begins.position_is in
+      let there : next ≡ end_behind size bytes = next_is ∙ ap (λ (n : ℕ). end_address_of size (n + bytes)) begins.position_is in
       let rises : next < end = omega (arith, end_rises) in
       (omega (arith, unfinished rises), omega (arith, reaches.flushed_within, reaches.spans.written_within))
+
+-- what an insert keeps, and then a flush, a commit keeps
+module _ (D : Type 0) (tape : D → Option Tape) (faults : D → ℕ) (tape_at_open : Option Tape) (faults_at_open : ℕ) (old mid : LogState D) (new : Writer D) (s between : LogHistory) (value : Record) (is : IsLog tape faults tape_at_open faults_at_open old s) (is_mid : IsLog tape faults tape_at_open faults_at_open mid between)
+    (same : IsSameLog old mid) (writable : IsWritable value) (entries : between.entries ≡ with_entry old.size s.entries value) (flushed : between.flushed ≡ s.flushed) (up : s.down ≡ None) where
+  pub keeps_committed : (moment position : ℕ) → position ≤ old.flushed → KeepsBelow tape mid.writer moment position (log_word old.size old.sysid s.entries)
+      → (position ≤ mid.flushed → KeepsBelow tape mid.writer moment position (log_word mid.size mid.sysid between.entries) → KeepsBelow tape new moment position (log_word mid.size mid.sysid between.entries))
+      → KeepsBelow tape new moment position (log_word old.size old.sysid s.entries)
+  keeps_committed moment position within kept keeps =
+      let is_up_old : IsUp tape faults tape_at_open faults_at_open old s.entries = subst (IsUpOrDown tape faults tape_at_open faults_at_open old s.entries) up is.state in
+      let reaches = is_up_old.reaches in
+      let here : end_behind old.size old.bytes ≡ end_of old.size s.entries = ap (λ (n : ℕ). end_address_of old.size (first_position old.size + n)) is.bytes in
+      let low : position ≤ end_of old.size s.entries = omega (arith, reaches.flushed_within, reaches.spans.written_within, here) in
+      let words : log_word mid.size mid.sysid between.entries ≡ log_word old.size old.sysid (with_entry old.size s.entries value) = rw (same.size, same.sysid, entries) refl in
+      let more = KeepsBelow-more old.size old.sysid is.valid s.entries value is.chained writable D tape mid.writer moment position low kept in
+      let behind = keeps (omega (arith, is.flushed, flushed, is_mid.flushed)) (subst (KeepsBelow tape mid.writer moment position) (sym words) more) in
+      KeepsBelow-less old.size old.sysid is.valid s.entries value is.chained writable D tape new moment position low (subst (KeepsBelow tape new moment position) words behind)

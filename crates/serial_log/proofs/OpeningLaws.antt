@@ -1,18 +1,23 @@
 -- A log that is opened: it has no words, and nothing is written.
-use Rattle.std.proofs.Common.{◌≡◌, ℕ, ◌+◌, ◌-◌, ◌*◌, ◌%◌, ◌^◌, ◌≤◌, false, [], take, drop, replicate, Option, None, refl, sym, ap, ◌∙◌, inl, inr, add-zero, arith}
+use Rattle.std.proofs.Common.{◌≡◌, ℕ, ◌+◌, ◌-◌, ◌*◌, ◌%◌, ◌^◌, ◌≤◌, false, [], take, drop, replicate, List, length, Option, Some, None, IfSome, refl, sym, ap, subst, ◌∙◌, ◌/◌, inl, inr, add-zero, arith}
 use Rattle.std.specs.Int.{w64, to_le_bytes}
 use Rattle.std.proofs.lemmas.Bool.{cases_lt}
 use Rattle.std.proofs.lemmas.List.{drop-replicate, take-replicate}
 use Rattle.byte_position.specs.Geometry.{IsSegmentSize, pages_of}
 use Rattle.byte_position.specs.Position.{end_address_of, first_position}
 use Rattle.byte_position.proofs.SegmentSizes.{segment_size_in_pages}
-use Rattle.segment_disk.specs.Tape.{Tape}
+use Rattle.segment_disk.specs.Tape.{Segment, Tape, state_now}
 use Rattle.wal_page.specs.Log.{log_word}
 use Rattle.wal_page.proofs.WordPositions.{end_address_of-first_position}
 use Rattle.wal_page.proofs.LogWordLaws.{log_word-unowned}
 use Rattle.flush_core.specs.declared.writer.Writer.{Writer}
-use Rattle.flush_core.specs.Pages.{HoldsNothing, no_pages}
-use Rattle.flush_core.specs.Writer.{IsWriter, disk_of, writer_segment_size, written_of, is_unsynced, writer_fault}
+use Rattle.flush_core.specs.Pages.{HoldsNothing, made_upto, no_pages}
+use Rattle.flush_core.specs.Left.{IsKeptWord, IsMadeUpto, IsNowhere, IsWordPut, SegmentAssures, SegmentFits, TapeAssures, no_puts}
+use Rattle.segment_disk.specs.DiskImage.{ImageSegment}
+use Rattle.std.proofs.Math.Nat.{div-eq_of_lt}
+use Rattle.std.proofs.lemmas.Option.{IfSome_then}
+use Rattle.serial_log.specs.OnDisk.{moments_of}
+use Rattle.flush_core.specs.Writer.{HoldsOnly, IsWriter, disk_of, writer_segment_size, written_of, is_unsynced, writer_fault}
 use Rattle.serial_log.specs.Ring.{RingState, HoldsWords}
 use Rattle.serial_log.specs.Words.{words_upto}
 use Rattle.serial_log.specs.History.{at_opening}
@@ -39,6 +44,27 @@ word_of-zeros m k within = ap (take 8) (drop-replicate {X = ℕ} k m 0) ∙ take
 pub end_behind-none : (size : ℕ) → IsSegmentSize size → end_behind size 0 ≡ size
 end_behind-none size valid = ap (end_address_of size) (add-zero (first_position size)) ∙ end_address_of-first_position size valid
 
+-- what a disk that held nothing leaves before anything was put: no segment need be there, and each word is zero
+module _ (size position : ℕ) (none : (segment : ℕ) → IsMadeUpto size position segment → ⊥) where
+  segment_assured : (segment : ℕ) (s : Option Segment) → SegmentAssures size IsNowhere (IsWordPut no_puts) segment s → SegmentAssures size (IsMadeUpto size position) (IsKeptWord position no_pages) segment s
+  segment_assured segment None assures = none segment
+  segment_assured segment (Some s) assures = (assures.0, λ page word within lt bytes which low. assures.1 page word within lt bytes which)
+
+  segment_fits : (segment : ℕ) (i : Option ImageSegment) → SegmentFits size IsNowhere (IsWordPut no_puts) segment i → SegmentFits size (IsMadeUpto size position) (IsKeptWord position no_pages) segment i
+  segment_fits segment None fits = none segment
+  segment_fits segment (Some i) fits = (fits.0, λ page word within lt low. fits.1 page word within lt)
+
+kept_of_none : (size position moment : ℕ) (t : Tape) → ((segment : ℕ) → IsMadeUpto size position segment → ⊥) → TapeAssures size IsNowhere (IsWordPut no_puts) moment t → TapeAssures size (IsMadeUpto size position) (IsKeptWord position no_pages) moment t
+kept_of_none size position moment t none left = record {
+  now = λ segment. segment_assured size position none segment (state_now t segment) (left.now segment);
+  left = λ m from image leaves segment. segment_fits size position none segment (image segment) (left.left m from image leaves segment);
+}
+
+-- the moment of an opening is how many calls the disk had counted
+at_moments : {D : Type 0} (tape : D → Option Tape) (writer : Writer D) (moment : ℕ) (before : Option Tape) → tape (disk_of writer) ≡ before → IfSome before (λ t. moment ≡ length t.calls) → HoldsOnly tape writer moment no_puts → HoldsOnly tape writer (moments_of before) no_puts
+at_moments tape writer moment None same counts left = subst (λ (o : Option Tape). IfSome o (TapeAssures writer.geometry IsNowhere (IsWordPut no_puts) 0)) (sym same) tt
+at_moments tape writer moment (Some t) same counts left = subst (λ (m : ℕ). HoldsOnly tape writer m no_puts) counts left
+
 module _ (D : Type 0) (size pages : ℕ) (ring : RingState) (writer : Writer D) (valid : IsSegmentSize size) (pages_are : ring.pages ≡ pages) (mapped : ring.mapped ≡ pages_of size + pages) (written : written_of writer ≡ size) (synced : is_unsynced writer ≡ false) where
   reaches : (flushed : ℕ) → flushed ≡ size → PartsReach size 0 flushed ring writer
   reaches flushed begun =
@@ -54,6 +80,14 @@ module _ (D : Type 0) (size pages : ℕ) (ring : RingState) (writer : Writer D) 
         synced = λ all. synced;
       }
 
+  -- no segment lies below the log's start
+  at_start : (flushed : ℕ) → flushed ≡ size → writer_segment_size writer ≡ size → (segment : ℕ) → IsMadeUpto writer.geometry flushed segment → ⊥
+  at_start flushed begun same segment made =
+      let whole = segment_size_in_pages size valid in
+      let last : (size - 1) / size ≡ 0 = div-eq_of_lt (omega (arith, whole.0)) in
+      let upto : made_upto writer.geometry flushed ≡ 0 = rw (same, begun) last in
+      omega (arith, made.0, made.1)
+
   pub IsInOrder-opened : (capacity flushed : ℕ) → writer_segment_size writer ≡ size → capacity ≤ 2 ^ 42 → flushed ≡ size → IsInOrder size capacity 0 flushed ring writer
   IsInOrder-opened capacity flushed same_size small begun = record {
     same_size = same_size;
@@ -64,9 +98,9 @@ module _ (D : Type 0) (size pages : ℕ) (ring : RingState) (writer : Writer D) 
   }
 
   pub IsLog-opened : (tape : D → Option Tape) (faults : D → ℕ) (disk : D) (capacity sysid flushed moment : ℕ) → writer_segment_size writer ≡ size → disk_of writer ≡ disk → writer_fault writer ≡ None → flushed ≡ size → HoldsWords ring (λ address. 0)
-      → (HoldsNothing (tape disk) → IsWriter tape writer no_pages)
+      → (HoldsNothing (tape disk) → IsWriter tape writer no_pages) → (HoldsNothing (tape disk) → HoldsOnly tape writer moment no_puts) → IfSome (tape disk) (λ t. moment ≡ length t.calls)
       → IsLog tape faults (tape disk) (faults disk) (record { size = size; capacity = capacity; sysid = sysid; ring = ring; writer = writer; bytes = 0; prev = 0; flushed = flushed; moment = moment }) (at_opening size)
-  IsLog-opened tape faults disk capacity sysid flushed moment same_size same_disk up begun zeros is = record {
+  IsLog-opened tape faults disk capacity sysid flushed moment same_size same_disk up begun zeros is only counts = record {
     valid = valid;
     same_size = same_size;
     chained = tt;
@@ -76,13 +110,25 @@ module _ (D : Type 0) (size pages : ℕ) (ring : RingState) (writer : Writer D) 
     flushed = begun;
     down = up;
     state = record {
-      quiet = ap faults same_disk;
+      faults_same = ap faults same_disk;
       words = HoldsWords-same ring (λ address. 0) (log_word size sysid []) (λ address whole. sym (no_words size sysid valid address whole)) zeros;
       reaches = reaches flushed begun;
-      holds = λ empty. record {
+      written = λ empty. record {
         pages = no_pages;
-        is = is empty;
+        put = is empty;
         words = record { each = λ page n lt. word_of-zeros 8192 (8 * n) (omega arith) ∙ ap (to_le_bytes w64) (sym (no_words_upto size sysid (written_of writer) valid (page * 8192 + 8 * n) (omega arith))) };
+      };
+    };
+    left = λ empty. record {
+      only = record {
+        puts = no_puts;
+        left = at_moments tape writer moment (tape disk) (ap tape same_disk) counts (only empty);
+        words = λ page n lt. tt;
+      };
+      kept = record {
+        pages = no_pages;
+        left = IfSome_then (tape (disk_of writer)) (only empty) (λ t left. kept_of_none writer.geometry flushed moment t (at_start flushed begun same_size) left);
+        words = λ page n lt end. word_of-zeros 8192 (8 * n) (omega arith) ∙ ap (to_le_bytes w64) (sym (no_words size sysid valid (page * 8192 + 8 * n) (omega arith)));
       };
     };
   }

@@ -34,19 +34,19 @@ module _ (size sysid : ℕ) (valid : IsSegmentSize size) (es : List Entry) (chai
     others = holds.others;
   }
 
-pub HoldsLog-settled : (D : Type 0) (tape : D → Option Tape) (faults : D → ℕ) (before : Option Tape) (opened : ℕ) (log : LogState D) (s : LogHistory) → IsLog tape faults before opened log s → HoldsNothing before → s.down ≡ None → s.flushed ≡ end_of log.size s.entries
+pub HoldsLog-settled : (D : Type 0) (tape : D → Option Tape) (faults : D → ℕ) (tape_at_open : Option Tape) (faults_at_open : ℕ) (log : LogState D) (s : LogHistory) → IsLog tape faults tape_at_open faults_at_open log s → HoldsNothing tape_at_open → s.down ≡ None → s.flushed ≡ end_of log.size s.entries
     → IfSome (tape (log_disk log)) (λ t. HoldsLog log.size log.sysid s.entries t)
-HoldsLog-settled D tape faults before opened log s is empty up flushed =
+HoldsLog-settled D tape faults tape_at_open faults_at_open log s is empty up flushed =
     let size = log.size in
     let es = s.entries in
-    let state : IsUp tape faults before opened log es = subst (IsUpOrDown tape faults before opened log es) up is.state in
-    let has = state.holds empty in
+    let state : IsUp tape faults tape_at_open faults_at_open log es = subst (IsUpOrDown tape faults tape_at_open faults_at_open log es) up is.state in
+    let has = state.written empty in
     let behind : end_behind size log.bytes ≡ end_of size es = ap (λ (n : ℕ). end_address_of size (first_position size + n)) is.bytes in
     let end : end_of size es ≡ written_of log.writer = omega (arith, state.reaches.flushed_within, state.reaches.spans.written_within, behind, is.flushed, flushed) in
     let synced : is_unsynced log.writer ≡ false = state.reaches.synced (is.flushed ∙ flushed ∙ end) in
     let have : HaveWords has.pages (words_upto (log_word size log.sysid es) (end_of size es)) = subst (λ (n : ℕ). HaveWords has.pages (words_upto (log_word size log.sysid es) n)) (sym end) has.words in
-    let put_upto : ArePutUpto (end_of size es) has.pages = subst (λ (n : ℕ). ArePutUpto n has.pages) (sym end) has.is.put in
-    IfSome_then (tape (log_disk log)) has.is.holds (λ t put.
+    let put_upto : ArePutUpto (end_of size es) has.pages = subst (λ (n : ℕ). ArePutUpto n has.pages) (sym end) has.put.put in
+    IfSome_then (tape (log_disk log)) has.put.holds (λ t put.
     let sized : HoldsPut size (written_of log.writer) (is_unsynced log.writer) (state_now t) has.pages = subst (λ (m : ℕ). HoldsPut m (written_of log.writer) (is_unsynced log.writer) (state_now t) has.pages) is.same_size put in
     let ended : HoldsPut size (end_of size es) (is_unsynced log.writer) (state_now t) has.pages = subst (λ (n : ℕ). HoldsPut size n (is_unsynced log.writer) (state_now t) has.pages) (sym end) sized in
     let held : HoldsPut size (end_of size es) false (state_now t) has.pages = subst (λ (b : Bool). HoldsPut size (end_of size es) b (state_now t) has.pages) synced ended in

@@ -12,7 +12,7 @@ use Rattle.serial_log.specs.LogState.{IsFirst}
 pub IsFirst-of : (size first : ℕ) → IsSegmentSize size → first ≡ first_position size → IsFirst size first
 IsFirst-of size first valid is = record {
   valid = valid;
-  is = is;
+  position_is = is;
   low = omega (arith, position_of-le_self size size, (segment_size_tests size valid).2);
   whole = omega (arith, is, first_position-whole size valid);
 }

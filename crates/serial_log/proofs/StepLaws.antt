@@ -1,32 +1,68 @@
--- A record that is inserted and flushed is committed.
-use Rattle.std.proofs.Common.{◌≡◌, ℕ, Option, Some, None, sym, ap, subst, ◌∙◌}
+-- A record that is inserted and flushed is committed, and what a commit says follows from the two.
+use Rattle.std.proofs.Common.{◌≡◌, ℕ, inl, inr, Option, Some, None, Ok, Err, sym, ap, subst, ◌∙◌, arith}
 use Rattle.wal_types.specs.declared.record.Record.{Record}
 use Rattle.wal_types.specs.declared.lsn.Lsn.{Lsn}
+use Rattle.log_answers.specs.declared.Receipt.{Receipt}
+use Rattle.log_answers.specs.declared.Hard.{Hard}
+use Rattle.log_answers.specs.declared.Sealed.{Sealed}
+use Rattle.log_answers.specs.declared.Refused.{Refused}
 use Rattle.log_answers.specs.declared.Cause.{Cause}
 use Rattle.log_answers.specs.declared.Cause.TheVariants.{Full, Disk, Down}
-use Rattle.serial_log.specs.History.{LogHistory, end_of, with_entry}
-use Rattle.serial_log.specs.Steps.{HasCommitted, HasFlushed, HasInserted, IsReserved, RefusesFlush, RefusesRecord}
+use Rattle.wal_page.specs.Order.{finish_of}
+use Rattle.serial_log.specs.History.{LogHistory, end_of, next_entry, with_entry}
+use Rattle.serial_log.specs.Steps.{Commits, HasFlushed, HasInserted, InsertsThenFlushes, IsReserved, RefusesFlush, RefusesRecord}
 
-module _ (size capacity opened : ℕ) (s mid after : LogHistory) (value : Record) (start end : ℕ) (inserted : HasInserted size capacity s value start end mid) where
-  pub HasCommitted-flushed : (upto : ℕ) → end ≡ end_of size (with_entry size s.entries value) → HasFlushed size mid upto after → HasCommitted size capacity s value start end after
-  HasCommitted-flushed upto end_is flushed =
-      let same : upto ≡ end = flushed.upto_is ∙ ap (λ (m : LogHistory). end_of size m.entries) inserted.after_is ∙ sym end_is in
-      record {
-        reserved = inserted.reserved;
-        end_is = inserted.end_is;
-        after_is = flushed.after_is ∙ ap (λ (m : LogHistory). record m { flushed = upto }) inserted.after_is ∙ ap (λ (n : ℕ). record s { entries = with_entry size s.entries value; flushed = n }) same;
-      }
+-- ---- how a commit is made
 
-  mid_up : mid.down ≡ None
-  mid_up = ap (λ (m : LogHistory). m.down) inserted.after_is ∙ inserted.reserved.up
+module _ (size capacity faults_at_open : ℕ) (s mid after : LogHistory) (value : Record) (receipt : Receipt) (inserted : HasInserted size capacity s value receipt.start.0 receipt.end.0 mid) where
+  pub InsertsThenFlushes-ok : (hard : Hard) → receipt.end.0 ≡ end_of size (with_entry size s.entries value) → HasFlushed size mid receipt.end.0 hard.upto.0 after
+      → InsertsThenFlushes size capacity faults_at_open s value receipt (Ok (record { upto = receipt.end; moment = hard.moment })) after
+  InsertsThenFlushes-ok hard end_is flushed =
+      let end : end_of size mid.entries ≡ receipt.end.0 = ap (λ (m : LogHistory). end_of size m.entries) inserted.after_is ∙ sym end_is in
+      let same : hard.upto.0 ≡ receipt.end.0 = elim flushed.upto_is [ inl reached ↦ omega (arith, flushed.within, end, reached.0, reached.1) | inr all ↦ all.1 ∙ end ] in
+      record { between = mid; inserts = inserted; flushes = subst (λ (n : ℕ). HasFlushed size mid receipt.end.0 n after) same flushed }
 
-  pub RefusesRecord-flush : (cause : Cause) (reserved : Option Lsn) (from : Lsn) → from.0 ≡ start → RefusesFlush opened mid cause reserved after → RefusesRecord size capacity opened s value cause (Some from) after
-  RefusesRecord-flush (Full free) reserved from same refused = absurd refused
-  RefusesRecord-flush (Disk faults) None from same refused = record {
-    reserved = subst (λ (n : ℕ). IsReserved size capacity s value n) (sym same) inserted.reserved;
-    rose = refused.rose;
-    after_is = refused.after_is ∙ ap (λ (m : LogHistory). record m { down = Some faults }) inserted.after_is;
+  -- a flush names no record
+  unnamed : (cause : Cause) (reserved : Option Lsn) → RefusesFlush faults_at_open mid receipt.end.0 cause reserved after → RefusesFlush faults_at_open mid receipt.end.0 cause None after
+  unnamed (Full free) reserved refuses = absurd refuses
+  unnamed (Disk faults) None refuses = refuses
+  unnamed (Disk faults) (Some start) refuses = absurd refuses
+  unnamed (Down faults) None refuses = refuses
+  unnamed (Down faults) (Some start) refuses = absurd refuses
+
+  pub InsertsThenFlushes-err : (refused : Refused) → RefusesFlush faults_at_open mid receipt.end.0 refused.cause refused.reserved after
+      → InsertsThenFlushes size capacity faults_at_open s value receipt (Err (record { cause = refused.cause; reserved = None })) after
+  InsertsThenFlushes-err refused refuses = record { between = mid; inserts = inserted; flushes = unnamed refused.cause refused.reserved refuses }
+
+-- ---- what follows of a commit
+
+-- the record is in the log, which is flushed to its end
+pub record HasCommitted (size capacity : ℕ) (before : LogHistory) (value : Record) (start end : ℕ) (after : LogHistory) : Type 0 where
+  pub reserved : IsReserved size capacity before value start
+  pub end_is : end ≡ finish_of size (next_entry size before.entries value)
+  pub after_is : after ≡ record before { entries = with_entry size before.entries value; flushed = end }
+
+module _ (size capacity faults_at_open : ℕ) (s after : LogHistory) (value : Record) where
+  pub HasCommitted-of : (sealed : Sealed) → Commits size capacity faults_at_open s value (Ok sealed) after → HasCommitted size capacity s value sealed.start.0 sealed.end.0 after
+  HasCommitted-of sealed commits = record {
+    reserved = commits.inserts.reserved;
+    end_is = commits.inserts.end_is;
+    after_is = commits.flushes.after_is ∙ ap (λ (m : LogHistory). record m { flushed = sealed.end.0 }) commits.inserts.after_is;
   }
-  RefusesRecord-flush (Disk faults) (Some other) from same refused = absurd refused
-  RefusesRecord-flush (Down faults) None from same refused = absurd (let differ : None ≡ Some faults = sym mid_up ∙ refused.down in cc)
-  RefusesRecord-flush (Down faults) (Some other) from same refused = absurd refused
+
+  refuses_at : (receipt : Receipt) (cause : Cause) (reserved : Option Lsn) → reserved ≡ Some receipt.start → InsertsThenFlushes size capacity faults_at_open s value receipt (Err (record { cause = cause; reserved = None })) after
+      → RefusesRecord size capacity faults_at_open s value cause (Some receipt.start) after
+  refuses_at receipt (Full free) reserved named then_flushes = absurd then_flushes.flushes
+  refuses_at receipt (Disk faults) reserved named then_flushes = record {
+    reserved = then_flushes.inserts.reserved;
+    rose = then_flushes.flushes.rose;
+    after_is = then_flushes.flushes.after_is ∙ ap (λ (m : LogHistory). record m { down = Some faults }) then_flushes.inserts.after_is;
+  }
+  refuses_at receipt (Down faults) reserved named then_flushes =
+      let up : then_flushes.between.down ≡ None = ap (λ (m : LogHistory). m.down) then_flushes.inserts.after_is ∙ then_flushes.inserts.reserved.up in
+      absurd (let differ : None ≡ Some faults = sym up ∙ then_flushes.flushes.down in cc)
+
+  pub RefusesRecord-of : (refused : Refused) → Commits size capacity faults_at_open s value (Err refused) after → RefusesRecord size capacity faults_at_open s value refused.cause refused.reserved after
+  RefusesRecord-of refused (inl refuses) = refuses
+  RefusesRecord-of refused (inr (receipt, named, then_flushes)) =
+      subst (λ (reserved : Option Lsn). RefusesRecord size capacity faults_at_open s value refused.cause reserved after) (sym named) (refuses_at receipt refused.cause refused.reserved named then_flushes)

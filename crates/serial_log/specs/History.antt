@@ -4,7 +4,8 @@ use Rattle.byte_position.specs.Position.{usable_bytes_in_segment, end_address_of
 use Rattle.wal_types.specs.declared.record.Record.{Record}
 use Rattle.wal_page.specs.Order.{Entry, rooms_of}
 
--- the entries of a log, up to where it is flushed, and the disk's count of faults where the disk has failed
+-- the entries of a log, up to where it is flushed, and the disk's count of faults where the disk
+-- has failed
 pub record LogHistory : Type 0 where
   pub entries : List Entry
   pub flushed : ℕ
@@ -20,7 +21,8 @@ end_of size es = end_address_of size (first_position size + rooms_of es)
 
 -- the entry that the next record makes
 abbrev pub next_entry : ℕ → List Entry → Record → Entry
-next_entry size es value = record { pass = 0; value = value; start = first_position size + rooms_of es }
+next_entry size es value =
+    record { pass = 0; value = value; start = first_position size + rooms_of es }
 
 -- the entries with the next one
 abbrev pub with_entry : ℕ → List Entry → Record → List Entry

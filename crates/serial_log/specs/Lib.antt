@@ -1,8 +1,10 @@
 pub mod Ring
 pub mod Words
+pub mod OnDisk
+pub mod DeviceCalls
 pub mod Buffers
 pub mod Shape
-pub mod Room
+pub mod LogMemory
 pub mod History
 pub mod Steps
 pub mod LogState

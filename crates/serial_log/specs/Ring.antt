@@ -1,7 +1,8 @@
 -- The ring of pages that a log copies its records into (PostgreSQL's WAL buffers, xlog.c).
 use Rattle.std.specs.Prelude.{◌≡◌, ℕ, ◌+◌, ◌*◌, ◌%◌, ◌^◌, ◌<◌, ◌≤◌, List, length, slice_index}
 
--- how many pages the ring has, the number of the page behind the last one that it holds, counted from the log's byte 0, and the words of all its pages
+-- how many pages the ring has, the number of the page behind the last one that it holds, counted
+-- from the log's byte 0, and the words of all its pages
 pub record RingState : Type 0 where
   pub pages : ℕ
   pub mapped : ℕ
@@ -24,4 +25,5 @@ ring_word ring page n = slice_index ring.words (page % ring.pages * 1024 + n)
 
 -- the pages that the ring holds have these words, each at its address
 pub record HoldsWords (ring : RingState) (word : ℕ → ℕ) : Type 0 where
-  pub each : (page n : ℕ) → IsMapped ring page → n < 1024 → ring_word ring page n ≡ word (page * 8192 + 8 * n)
+  pub each : (page n : ℕ) → IsMapped ring page → n < 1024
+      → ring_word ring page n ≡ word (page * 8192 + 8 * n)

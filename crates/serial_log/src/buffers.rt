@@ -1,14 +1,17 @@
-ghost use Rattle.std.specs.Prelude.{◌≡◌, ℕ, ◌+◌, ◌*◌, ◌/◌, ◌%◌, ◌<◌, ◌≤◌, ◌^◌, min, None, OnOk, IfOk, IfErr, false};
+ghost use Rattle.std.specs.Prelude.{◌≡◌, ℕ, ◌+◌, ◌*◌, ◌/◌, ◌%◌, ◌<◌, ◌≤◌, ◌^◌, min, None, MatchResult, OnOk, IfOk, IfErr, false};
 ghost use Rattle.byte_position.specs.Position.{end_address_of};
 ghost use Rattle.record_spelling.specs.Spelling.{assembled_room};
-ghost use Rattle.wal_page.specs.Placed.{entry_word};
-ghost use Rattle.flush_core.specs.Writer.{disk_of, writer_fault, is_unsynced, written_of};
-ghost use Rattle.serial_log.specs.Ring.{HoldsWords};
-ghost use Rattle.serial_log.specs.Words.{HasWritten, words_upto};
-ghost use Rattle.serial_log.specs.Buffers.{GoesDown, IsSameOrFurther, Spans, StaysUp};
+ghost use Rattle.flush_core.specs.Pages.{HoldsNothing, no_pages};
+ghost use Rattle.flush_core.specs.Left.{no_puts};
+ghost use Rattle.flush_core.specs.Writer.{HoldsOnly, IsWriter, disk_of, writer_fault, writer_segment_size, is_unsynced, written_of};
+ghost use Rattle.serial_log.specs.DeviceCalls.{BreaksFlush, BreaksWrites, MakesFlush, MakesWrites};
+ghost use Rattle.serial_log.specs.OnDisk.{KeepsBelow};
+ghost use Rattle.serial_log.specs.Words.{HasWritten};
+ghost use Rattle.serial_log.specs.Buffers.{GoesDown, IsSameOrFurther, RingHas, RingTakes, Spans, StaysUp, WritesOn};
 
-use crate::copy::{PAGE_SIZE, end_in_page};
+use crate::copy::end_in_page;
 use crate::ring::Ring;
+use byte_position::{Geometry, PAGE_SIZE};
 use flush_core::{DiskFault, Writer};
 use segment_disk::Disk;
 use wal_page::Placed;
@@ -23,19 +26,62 @@ pub(crate) struct Buffers<D> {
     pub(crate) page: Box<[u8; 8192]>,
 }
 
+// The order of things (PostgreSQL's `CopyXLogRecordToWAL`, `AdvanceXLInsertBuffer` and `XLogWrite`
+// of xlog.c). A record is reserved before its first word is copied. Its words go into the ring from
+// the first to the last, so all below the next word is in the ring or written. A page takes the
+// place of the oldest one, so before that the oldest is written: with it go all words so far, in
+// order, since a writer knows one position alone, below which all is written. The page of the
+// written position is put as far as the words reach and is put again, from the ring, when more of
+// them are there. Only a flush, or a segment's end, syncs. Once the disk has failed no device call
+// is made any more, and nothing written is touched again.
 impl<D: Disk> Buffers<D> {
+    /// The buffers of a log that is opened: its first pages in memory, and nothing written.
+    pub(crate) fn new(disk: D, geometry: Geometry, ring: Ring, page: Box<[u8; 8192]>) -> Buffers<D>
+        ensures ring { result.ring ≡ ring }
+        ensures disk { disk_of result.writer ≡ disk }
+        ensures size { writer_segment_size result.writer ≡ geometry }
+        ensures written { written_of result.writer ≡ geometry }
+        ensures synced { is_unsynced result.writer ≡ false }
+        ensures up { writer_fault result.writer ≡ None }
+        ensures pages { HoldsNothing (D.tape disk) → IsWriter D.tape result.writer no_pages }
+        ensures only { HoldsNothing (D.tape disk)
+            → HoldsOnly D.tape result.writer (D.moment disk) no_puts }
+    {
+        Buffers {
+            writer: Writer::new(disk, geometry),
+            ring,
+            page,
+        }
+    }
+
+    pub(crate) fn into_disk(self) -> D
+        ensures { result ≡ disk_of self.writer }
+    {
+        self.writer.into_disk()
+    }
+
+    /// The disk's count of faults when it failed.
+    pub(crate) fn fault(&self) -> Option<u64>
+        ensures { result ≡ writer_fault self.now.writer }
+    {
+        self.writer.fault()
+    }
+
     // Writes the page of the written position, as far as a position.
     fn write_page(&mut self, upto: Lsn) -> Result<(), DiskFault>
         requires up { writer_fault self.old.writer ≡ None }
         requires spans { Spans self.old.ring self.old.writer upto.0 }
         requires rises { written_of self.old.writer < upto.0 }
-        ensures up { OnOk result (StaysUp D.faults self.old.writer self.new.writer) }
-        ensures down { IfErr result (λ e. GoesDown D.faults self.old.writer self.new.writer e.faults) }
-        ensures written { OnOk result (written_of self.new.writer ≡ min upto.0 ((written_of self.old.writer / 8192 + 1) * 8192)) }
-        ensures words { OnOk result ((word : ℕ → ℕ) → HoldsWords self.old.ring (words_upto word upto.0) → HasWritten D.tape self.old.writer word → HasWritten D.tape self.new.writer word) }
+        ensures writes { OnOk result (WritesOn D.tape D.moment D.faults
+            (RingHas self.old.ring upto.0) self.old.writer self.new.writer) }
+        ensures fails { IfErr result (λ e. GoesDown D.tape D.moment D.faults
+            (RingHas self.old.ring upto.0) self.old.writer self.new.writer e.faults) }
+        ensures calls { MatchResult result
+            (λ _. MakesWrites D.tape D.moment self.old.writer self.new.writer)
+            (λ _. BreaksWrites D.tape D.moment self.old.writer self.new.writer) }
+        ensures written { OnOk result (written_of self.new.writer
+            ≡ min upto.0 ((written_of self.old.writer / 8192 + 1) * 8192)) }
         ensures ring { self.new.ring ≡ self.old.ring }
-        ensures later { OnOk result (D.moment (disk_of self.old.writer) < D.moment (disk_of self.new.writer)) }
-        ensures not_earlier { D.moment (disk_of self.old.writer) ≤ D.moment (disk_of self.new.writer) }
     {
         let written = self.writer.written();
         let page = written.0 / PAGE_SIZE;
@@ -48,14 +94,16 @@ impl<D: Disk> Buffers<D> {
     fn write_upto(&mut self, upto: Lsn) -> Result<(), DiskFault>
         requires up { writer_fault self.old.writer ≡ None }
         requires spans { Spans self.old.ring self.old.writer upto.0 }
-        ensures up { OnOk result (StaysUp D.faults self.old.writer self.new.writer) }
-        ensures down { IfErr result (λ e. GoesDown D.faults self.old.writer self.new.writer e.faults) }
-        ensures rises { OnOk result (IsSameOrFurther self.old.writer self.new.writer) }
+        ensures writes { OnOk result (WritesOn D.tape D.moment D.faults
+            (RingHas self.old.ring upto.0) self.old.writer self.new.writer) }
+        ensures fails { IfErr result (λ e. GoesDown D.tape D.moment D.faults
+            (RingHas self.old.ring upto.0) self.old.writer self.new.writer e.faults) }
+        ensures calls { MatchResult result
+            (λ _. MakesWrites D.tape D.moment self.old.writer self.new.writer)
+            (λ _. BreaksWrites D.tape D.moment self.old.writer self.new.writer) }
+        ensures further { OnOk result (IsSameOrFurther self.old.writer self.new.writer) }
         ensures written { OnOk result (written_of self.new.writer ≡ upto.0) }
-        ensures words { OnOk result ((word : ℕ → ℕ) → HoldsWords self.old.ring (words_upto word upto.0) → HasWritten D.tape self.old.writer word → HasWritten D.tape self.new.writer word) }
         ensures ring { self.new.ring ≡ self.old.ring }
-        ensures later { OnOk result (written_of self.old.writer < upto.0 → D.moment (disk_of self.old.writer) < D.moment (disk_of self.new.writer)) }
-        ensures not_earlier { D.moment (disk_of self.old.writer) ≤ D.moment (disk_of self.new.writer) }
     {
         while self.writer.written() < upto {
             self.write_page(upto)?;
@@ -63,20 +111,25 @@ impl<D: Disk> Buffers<D> {
         Ok(())
     }
 
-    // Holds the page of the next word, below which all words are copied. A page that is new takes the place of the oldest;
-    // where that is not written, all words so far are.
+    // Holds the page of the next word, below which all words are copied. A page that is new takes
+    // the place of the oldest; where that is not written, all words so far are.
+    #[tactic(auto, using(crate::proofs::CallLaws::makes_no_writes))]
     fn hold_page(&mut self, next: Lsn) -> Result<(), DiskFault>
         requires up { writer_fault self.old.writer ≡ None }
         requires spans { Spans self.old.ring self.old.writer next.0 }
         requires bound { next.0 < 2 ^ 62 }
-        ensures up { OnOk result (StaysUp D.faults self.old.writer self.new.writer) }
-        ensures down { IfErr result (λ e. GoesDown D.faults self.old.writer self.new.writer e.faults) }
-        ensures rises { OnOk result (IsSameOrFurther self.old.writer self.new.writer) }
+        ensures writes { OnOk result (WritesOn D.tape D.moment D.faults
+            (RingHas self.old.ring next.0) self.old.writer self.new.writer) }
+        ensures fails { IfErr result (λ e. GoesDown D.tape D.moment D.faults
+            (RingHas self.old.ring next.0) self.old.writer self.new.writer e.faults) }
+        ensures calls { MatchResult result
+            (λ _. MakesWrites D.tape D.moment self.old.writer self.new.writer)
+            (λ _. BreaksWrites D.tape D.moment self.old.writer self.new.writer) }
+        ensures further { OnOk result (IsSameOrFurther self.old.writer self.new.writer) }
         ensures spans { OnOk result (Spans self.new.ring self.new.writer next.0) }
         ensures held { OnOk result (next.0 < self.new.ring.mapped * 8192) }
-        ensures words { OnOk result ((word : ℕ → ℕ) → HoldsWords self.old.ring (words_upto word next.0) → HoldsWords self.new.ring (words_upto word next.0)) }
-        ensures written { OnOk result ((word : ℕ → ℕ) → HoldsWords self.old.ring (words_upto word next.0) → HasWritten D.tape self.old.writer word → HasWritten D.tape self.new.writer word) }
-        ensures not_earlier { D.moment (disk_of self.old.writer) ≤ D.moment (disk_of self.new.writer) }
+        ensures words { OnOk result ((word : ℕ → ℕ)
+            → RingHas self.old.ring next.0 word → RingHas self.new.ring next.0 word) }
     {
         if next < self.ring.end() {
             return Ok(());
@@ -88,25 +141,29 @@ impl<D: Disk> Buffers<D> {
         Ok(())
     }
 
-    /// Copies all words of a record, up to where it ends. A page that the ring does not hold yet is held when its first word
-    /// comes.
+    /// Copies all words of a record, up to where it ends. A page that the ring does not hold yet is
+    /// held when its first word comes.
     pub(crate) fn copy(&mut self, placed: &mut Placed, end: Lsn) -> Result<(), DiskFault>
         requires up { writer_fault self.old.writer ≡ None }
         requires spans { Spans self.old.ring self.old.writer placed.old.next }
         requires whole { (placed.old.next % 8 ≡ 0) × (end.0 % 8 ≡ 0) }
-        requires end { end.0 ≡ end_address_of placed.old.size (placed.old.start + assembled_room placed.old.body) }
+        requires end { end.0
+            ≡ end_address_of placed.old.size (placed.old.start + assembled_room placed.old.body) }
         requires begins { placed.old.next ≤ end.0 }
         requires bound { end.0 < 2 ^ 62 }
-        ensures up { OnOk result (StaysUp D.faults self.old.writer self.new.writer) }
-        ensures down { IfErr result (λ e. GoesDown D.faults self.old.writer self.new.writer e.faults) }
-        ensures rises { OnOk result (IsSameOrFurther self.old.writer self.new.writer) }
+        ensures writes { OnOk result (WritesOn D.tape D.moment D.faults
+            (RingTakes self.old.ring placed.old end.0) self.old.writer self.new.writer) }
+        ensures fails { IfErr result (λ e. GoesDown D.tape D.moment D.faults
+            (RingTakes self.old.ring placed.old end.0) self.old.writer self.new.writer e.faults) }
+        ensures calls { MatchResult result
+            (λ _. MakesWrites D.tape D.moment self.old.writer self.new.writer)
+            (λ _. BreaksWrites D.tape D.moment self.old.writer self.new.writer) }
+        ensures further { OnOk result (IsSameOrFurther self.old.writer self.new.writer) }
         ensures spans { OnOk result (Spans self.new.ring self.new.writer end.0) }
-        ensures words { OnOk result ((word : ℕ → ℕ) → ((address : ℕ) → placed.old.next ≤ address → address < end.0 → address % 8 ≡ 0 → word address ≡ entry_word placed.old.size placed.old.sysid placed.old.body placed.old.start placed.old.prev address)
-            → HoldsWords self.old.ring (words_upto word placed.old.next) → HoldsWords self.new.ring (words_upto word end.0)) }
-        ensures written { OnOk result ((word : ℕ → ℕ) → ((address : ℕ) → placed.old.next ≤ address → address < end.0 → address % 8 ≡ 0 → word address ≡ entry_word placed.old.size placed.old.sysid placed.old.body placed.old.start placed.old.prev address)
-            → HoldsWords self.old.ring (words_upto word placed.old.next) → HasWritten D.tape self.old.writer word → HasWritten D.tape self.new.writer word) }
-        ensures unfinished { OnOk result (placed.old.next < end.0 → written_of self.new.writer < end.0) }
-        ensures not_earlier { D.moment (disk_of self.old.writer) ≤ D.moment (disk_of self.new.writer) }
+        ensures words { OnOk result ((word : ℕ → ℕ)
+            → RingTakes self.old.ring placed.old end.0 word → RingHas self.new.ring end.0 word) }
+        ensures unfinished { OnOk result
+            (placed.old.next < end.0 → written_of self.new.writer < end.0) }
     {
         while placed.next_lsn() < end {
             let next = placed.next_lsn();
@@ -120,15 +177,20 @@ impl<D: Disk> Buffers<D> {
     pub(crate) fn flush(&mut self, upto: Lsn) -> Result<u64, DiskFault>
         requires up { writer_fault self.old.writer ≡ None }
         requires spans { Spans self.old.ring self.old.writer upto.0 }
-        ensures up { OnOk result (StaysUp D.faults self.old.writer self.new.writer) }
-        ensures down { IfErr result (λ e. GoesDown D.faults self.old.writer self.new.writer e.faults) }
+        ensures writes { OnOk result (WritesOn D.tape D.moment D.faults
+            (RingHas self.old.ring upto.0) self.old.writer self.new.writer) }
+        ensures fails { IfErr result (λ e. GoesDown D.tape D.moment D.faults
+            (RingHas self.old.ring upto.0) self.old.writer self.new.writer e.faults) }
+        ensures calls { MatchResult result
+            (λ _. MakesFlush D.tape D.moment self.old.writer self.new.writer)
+            (λ _. BreaksFlush D.tape D.moment self.old.writer self.new.writer) }
         ensures written { OnOk result (written_of self.new.writer ≡ upto.0) }
         ensures synced { OnOk result (is_unsynced self.new.writer ≡ false) }
-        ensures words { OnOk result ((word : ℕ → ℕ) → HoldsWords self.old.ring (words_upto word upto.0) → HasWritten D.tape self.old.writer word → HasWritten D.tape self.new.writer word) }
         ensures ring { self.new.ring ≡ self.old.ring }
         ensures moment { IfOk result (λ moment. moment ≡ D.moment (disk_of self.new.writer)) }
-        ensures later { OnOk result (written_of self.old.writer < upto.0 → D.moment (disk_of self.old.writer) < D.moment (disk_of self.new.writer)) }
-        ensures not_earlier { D.moment (disk_of self.old.writer) ≤ D.moment (disk_of self.new.writer) }
+        ensures hardened { IfOk result (λ moment. (word : ℕ → ℕ) → RingHas self.old.ring upto.0 word
+            → HasWritten D.tape self.old.writer word
+            → KeepsBelow D.tape self.new.writer moment upto.0 word) }
     {
         self.write_upto(upto)?;
         self.writer.harden(upto)

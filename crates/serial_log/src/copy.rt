@@ -1,12 +1,11 @@
 ghost use Rattle.std.specs.Prelude.{◌≡◌, ℕ, ◌+◌, ◌*◌, ◌/◌, ◌<◌, ◌≤◌, length, min, slice_index};
 ghost use Rattle.byte_position.specs.Position.{end_address_of};
 ghost use Rattle.record_spelling.specs.Spelling.{assembled_room};
-ghost use Rattle.wal_page.specs.Placed.{entry_word};
+ghost use Rattle.wal_page.specs.Placed.{placed_word};
 
+use byte_position::PAGE_SIZE;
 use wal_page::Placed;
 use wal_types::Lsn;
-
-pub(crate) const PAGE_SIZE: u64 = 8192;
 
 /// The end of the page of an address, or a position before it.
 pub(crate) fn end_in_page(at: Lsn, upto: Lsn) -> Lsn
@@ -23,9 +22,12 @@ pub(crate) fn end_in_page(at: Lsn, upto: Lsn) -> Lsn
 
 /// Copies the next words of a record, as many as there is place for.
 pub(crate) fn copy_words(placed: &mut Placed, words: &mut [u64])
-    requires { placed.old.next + 8 * length words.old ≤ end_address_of placed.old.size (placed.old.start + assembled_room placed.old.body) }
-    ensures placed { placed.new ≡ record placed.old { next = placed.old.next + 8 * length words.old } }
-    ensures words { (k : ℕ) → k < length words.old → slice_index words.new k ≡ entry_word placed.old.size placed.old.sysid placed.old.body placed.old.start placed.old.prev (placed.old.next + 8 * k) }
+    requires { placed.old.next + 8 * length words.old
+        ≤ end_address_of placed.old.size (placed.old.start + assembled_room placed.old.body) }
+    ensures placed { placed.new
+        ≡ record placed.old { next = placed.old.next + 8 * length words.old } }
+    ensures words { (k : ℕ) → k < length words.old
+        → slice_index words.new k ≡ placed_word placed.old (placed.old.next + 8 * k) }
 {
     placed.put_words(words);
 }

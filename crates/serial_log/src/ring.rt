@@ -2,12 +2,13 @@ ghost use Rattle.std.specs.Prelude.{◌≡◌, ℕ, ◌+◌, ◌*◌, ◌/◌, �
 ghost use Rattle.std.specs.Int.{w64, to_le_bytes};
 ghost use Rattle.byte_position.specs.Position.{end_address_of};
 ghost use Rattle.record_spelling.specs.Spelling.{assembled_room};
-ghost use Rattle.wal_page.specs.Placed.{entry_word};
 ghost use Rattle.segment_disk.specs.DiskImage.{word_of};
 ghost use Rattle.serial_log.specs.Ring.{HoldsWords, IsMapped, ring_word};
-ghost use Rattle.serial_log.specs.Words.{words_upto};
+ghost use Rattle.serial_log.specs.Words.{AreGiven};
+ghost use Rattle.serial_log.specs.Buffers.{RingHas};
 
-use crate::copy::{PAGE_SIZE, copy_words};
+use crate::copy::copy_words;
+use byte_position::PAGE_SIZE;
 use std::alloc::{AllocError, Global};
 use std::marker::Model;
 use wal_page::Placed;
@@ -23,7 +24,7 @@ const WORD: u64 = 8;
 pub(crate) struct Ring {
     words: Vec<u64>,
     pages: u32,
-    // The number of the page behind the last one that the ring holds, counted from the log's byte 0.
+    // The number of the page behind the last one that the ring holds, from the log's byte 0.
     mapped: u64,
 }
 
@@ -34,7 +35,8 @@ impl Model for Ring {
 
     ghost view = { λ r. record { pages = r.pages; mapped = r.mapped; words = r.words.items } };
 
-    ghost invariant = { λ r. IsRing (record { pages = r.pages; mapped = r.mapped; words = r.words.items }) };
+    ghost invariant = { λ r.
+        IsRing (record { pages = r.pages; mapped = r.mapped; words = r.words.items }) };
 }
 
 impl Ring {
@@ -80,8 +82,10 @@ impl Ring {
     /// Holds the next page, all words zero, in the place of the oldest.
     pub(crate) fn map_next(&mut self)
         requires { self.old.mapped < 2 ^ 50 }
-        ensures shape { (self.new.pages ≡ self.old.pages) × (self.new.mapped ≡ self.old.mapped + 1) }
-        ensures words { (word : ℕ → ℕ) → HoldsWords self.old (words_upto word (self.old.mapped * 8192)) → HoldsWords self.new (words_upto word (self.old.mapped * 8192)) }
+        ensures shape { (self.new.pages ≡ self.old.pages)
+            × (self.new.mapped ≡ self.old.mapped + 1) }
+        ensures words { (word : ℕ → ℕ) → RingHas self.old (self.old.mapped * 8192) word
+            → RingHas self.new (self.old.mapped * 8192) word }
     {
         let place = self.place(self.mapped);
         self.words[place..place + PAGE_WORDS].fill(0);
@@ -94,11 +98,12 @@ impl Ring {
         requires begins { placed.old.next ≤ upto.0 }
         requires within { upto.0 ≤ (placed.old.next / 8192 + 1) * 8192 }
         requires whole { (placed.old.next % 8 ≡ 0) × (upto.0 % 8 ≡ 0) }
-        requires owned { upto.0 ≤ end_address_of placed.old.size (placed.old.start + assembled_room placed.old.body) }
+        requires owned { upto.0
+            ≤ end_address_of placed.old.size (placed.old.start + assembled_room placed.old.body) }
         ensures placed { placed.new ≡ record placed.old { next = upto.0 } }
         ensures shape { (self.new.pages ≡ self.old.pages) × (self.new.mapped ≡ self.old.mapped) }
-        ensures words { (word : ℕ → ℕ) → ((address : ℕ) → placed.old.next ≤ address → address < upto.0 → address % 8 ≡ 0 → word address ≡ entry_word placed.old.size placed.old.sysid placed.old.body placed.old.start placed.old.prev address)
-            → HoldsWords self.old (words_upto word placed.old.next) → HoldsWords self.new (words_upto word upto.0) }
+        ensures words { (word : ℕ → ℕ) → AreGiven placed.old upto.0 word
+            → RingHas self.old placed.old.next word → RingHas self.new upto.0 word }
     {
         let next = placed.next_lsn().0;
         let place = self.place(next / PAGE_SIZE);
@@ -109,7 +114,8 @@ impl Ring {
 
     /// The bytes of a page.
     pub(crate) fn put_bytes(&self, page: u64, into: &mut [u8; 8192])
-        ensures { (n : ℕ) → n < 1024 → word_of into.new n ≡ to_le_bytes w64 (ring_word self.now page n) }
+        ensures { (n : ℕ) → n < 1024
+            → word_of into.new n ≡ to_le_bytes w64 (ring_word self.now page n) }
     {
         let place = self.place(page);
         let words = &self.words[place..place + PAGE_WORDS];

@@ -11,8 +11,8 @@ const MAX_RING_PAGES: u32 = 64;
 
 const MAX_CAP_SEGMENTS: u32 = 4096;
 
-/// How a log is laid out: the size of its segments, how many pages its ring has (4 to 64), and how many segments its
-/// records may fill, from segment 1 on (1 to 4096).
+/// How a log is laid out: the size of its segments, how many pages its ring has (4 to 64), and how
+/// many segments its records may fill, from segment 1 on (1 to 4096).
 #[derive(Clone, Copy, Debug, PartialEq, Eq)]
 pub struct Shape {
     pub geometry: Geometry,
@@ -30,7 +30,8 @@ impl Shape {
     /// None where a number is out of its range.
     pub fn new(geometry: Geometry, ring_pages: u32, cap_segments: u32) -> Option<Shape>
         ensures which { IsSome result ↔ AreInRange ring_pages cap_segments }
-        ensures given { IfSome result (λ shape. (shape.geometry ≡ geometry) × (shape.ring_pages ≡ ring_pages) × (shape.cap_segments ≡ cap_segments)) }
+        ensures given { IfSome result (λ shape. (shape.geometry ≡ geometry)
+            × (shape.ring_pages ≡ ring_pages) × (shape.cap_segments ≡ cap_segments)) }
     {
         match (ring_pages, cap_segments) {
             (MIN_RING_PAGES..=MAX_RING_PAGES, 1..=MAX_CAP_SEGMENTS) => Some(Shape {

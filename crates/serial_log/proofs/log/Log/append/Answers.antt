@@ -1,5 +1,5 @@
 -- The record's words come behind the log's, or the disk fails.
-use Rattle.std.proofs.Common.{◌≡◌, ◌<◌, ◌≤◌, ◌+◌, ◌%◌, ℕ, None, sym, ap, subst, ◌∙◌, arith}
+use Rattle.std.proofs.Common.{◌≡◌, ◌<◌, ◌≤◌, ◌+◌, ◌%◌, ℕ, None, inr, sym, ap, subst, ◌∙◌, arith}
 use Rattle.byte_position.specs.Position.{end_address_of}
 use Rattle.byte_position.proofs.EndAddresses.{end_address_of-le_address_of}
 use Rattle.byte_position.proofs.Rising.{address_of-bound}
@@ -7,7 +7,7 @@ use Rattle.byte_position.proofs.Words.{end_address_of-mod_word}
 use Rattle.record_spelling.specs.Spelling.{assembled_room}
 use Rattle.flush_core.specs.Writer.{writer_fault}
 use Rattle.serial_log.specs.LogState.{LogState}
-use Rattle.serial_log.proofs.LogLaws.{IsPlace, appended_ok, appended_err, inserts_at, placed_next, unwritten}
+use Rattle.serial_log.proofs.LogLaws.{IsPlace, appended_ok, appended_err, inserts_at, keeps_appended, placed_next, unwritten}
 use Rattle.serial_log.proofs.log.Log.append.Goals.{After-to_end_lsn-end, in-Ok, in-Err}
 use Rattle.serial_log.proofs.log.Log.append.Goals as goal
 
@@ -15,6 +15,7 @@ pub returns-clause-inserts : goal.returns-clause-inserts
 returns-clause-inserts g c =
     let D = g.row.D.Denot in
     let tape = g.D.Disk.tape in
+    let moment = g.D.Disk.moment in
     let faults = g.D.Disk.faults in
     let l = c.self.inside in
     let log : LogState D = record { size = l.geometry; capacity = l.capacity; sysid = l.sysid; ring = l.buffers.ring; writer = l.buffers.writer; bytes = l.bytes; prev = l.prev.0; flushed = l.flushed.0; moment = l.moment } in
@@ -25,8 +26,8 @@ returns-clause-inserts g c =
     let body = c.args.body.now in
     let up : writer_fault log.writer ≡ None = ap (λ (v : LogState D). writer_fault v.writer) c.self.view_is ∙ c.requires.up in
     let reaches = c.self.invariant.1.reaches up in
-    rw (← c.self.view_is) (λ before opened s value is same writable.
-    let place : IsPlace D tape faults before opened log up copied.ring copied.writer l.first c.from.result start end body from = record {
+    rw (← c.self.view_is) (λ known tape_at_open faults_at_open s is.
+    let place : IsPlace D tape moment faults tape_at_open faults_at_open log up copied.ring copied.writer l.first c.from.result start end body from = record {
       begins = c.self.invariant.0;
       room_is = c.from.ensures ∙ c.room.ensures.room;
       fits = subst (λ (v : LogState D). v.bytes + assembled_room body ≤ v.capacity) (sym c.self.view_is) c.requires.fits;
@@ -37,11 +38,42 @@ returns-clause-inserts g c =
     elim c.match-copy.branch [
       | in-Ok w ↦
           (let done = w.in-Ok.ensures in
-          inserts_at log.size log.capacity opened s value c.match-copy.result _ _ w.result-is
-          (appended_ok D tape faults before opened log up copied.ring copied.writer l.first c.from.result start end body from place s value is same writable reaches done.up done.rises done.spans done.words done.written))
+          inserts_at log.size log.capacity faults_at_open s known.value c.match-copy.result _ _ w.result-is
+          (appended_ok D tape moment faults tape_at_open faults_at_open log up copied.ring copied.writer l.first c.from.result start end body from place s known.value is known.same known.writable reaches done.writes done.further done.spans done.words))
       | in-Err w ↦
-          inserts_at log.size log.capacity opened s value c.match-copy.result _ _ w.result-is
-          (appended_err D tape faults before opened log up copied.ring copied.writer l.first c.from.result start end body from place s value is same writable w.in-Err.field-0.faults w.in-Err.ensures.down)
+          inserts_at log.size log.capacity faults_at_open s known.value c.match-copy.result _ _ w.result-is
+          (appended_err D tape moment faults tape_at_open faults_at_open log up copied.ring copied.writer l.first c.from.result start end body from place s known.value is known.same known.writable w.in-Err.field-0.faults w.in-Err.ensures.fails)
+    ])
+
+pub returns-clause-keeps : goal.returns-clause-keeps
+returns-clause-keeps g c =
+    let D = g.row.D.Denot in
+    let tape = g.D.Disk.tape in
+    let moment = g.D.Disk.moment in
+    let faults = g.D.Disk.faults in
+    let l = c.self.inside in
+    let log : LogState D = record { size = l.geometry; capacity = l.capacity; sysid = l.sysid; ring = l.buffers.ring; writer = l.buffers.writer; bytes = l.bytes; prev = l.prev.0; flushed = l.flushed.0; moment = l.moment } in
+    let copied = c.copy.new.self in
+    let start = c.to_lsn-start.result in
+    let end = c.to_end_lsn-end.result in
+    let from = c.new-placed.result in
+    let body = c.args.body.now in
+    let up : writer_fault log.writer ≡ None = ap (λ (v : LogState D). writer_fault v.writer) c.self.view_is ∙ c.requires.up in
+    rw (← c.self.view_is) (λ tape_at_open faults_at_open s at position is within kept.
+    let known = c.room.ensures.known in
+    let place : IsPlace D tape moment faults tape_at_open faults_at_open log up copied.ring copied.writer l.first c.from.result start end body from = record {
+      begins = c.self.invariant.0;
+      room_is = c.from.ensures ∙ c.room.ensures.room;
+      fits = subst (λ (v : LogState D). v.bytes + assembled_room body ≤ v.capacity) (sym c.self.view_is) c.requires.fits;
+      start_is = c.to_lsn-start.ensures;
+      end_is = c.to_end_lsn-end.ensures;
+      from_is = c.new-placed.ensures;
+    } in
+    elim c.match-copy.branch [
+      | in-Ok w ↦
+          keeps_appended D tape moment faults tape_at_open faults_at_open log up copied.ring copied.writer l.first c.from.result start end body from place s known.value is known.same known.writable w.in-Ok.ensures.writes.preserves at position within kept
+      | in-Err w ↦
+          keeps_appended D tape moment faults tape_at_open faults_at_open log up copied.ring copied.writer l.first c.from.result start end body from place s known.value is known.same known.writable w.in-Err.ensures.fails.preserves at position within kept
     ])
 
 pub copy-requires-clause-whole : goal.copy-requires-clause-whole
@@ -77,3 +109,19 @@ returns-clause-unflushed g c =
           rw w.result-is (record { written = at.0; flushed = at.1 }))
       | in-Err w ↦ rw w.result-is tt
     ]
+
+pub returns-clause-end : goal.returns-clause-end
+returns-clause-end g c =
+    let l = c.self.inside in
+    let more = l.bytes + c.from.result in
+    elim c.match-copy.branch [
+      | in-Ok w ↦ rw w.result-is (c.to_end_lsn-end.ensures ∙ ap (λ (n : ℕ). end_address_of l.geometry (n + more)) c.self.invariant.0.position_is)
+      | in-Err w ↦ rw w.result-is tt
+    ]
+
+pub returns-clause-calls : goal.returns-clause-calls
+returns-clause-calls g c =
+    rw (← c.self.view_is) (elim c.match-copy.branch [
+      | in-Ok w ↦ rw w.result-is w.in-Ok.ensures.calls
+      | in-Err w ↦ rw w.result-is (inr w.in-Err.ensures.calls)
+    ])

@@ -1,11 +1,11 @@
--- All is written and synced.
-use Rattle.std.proofs.Common.{◌≡◌, None, sym, ap, subst, ◌∙◌}
+-- All is written and synced, or the disk fails.
+use Rattle.std.proofs.Common.{◌≡◌, ◌<◌, None, inr, sym, ap, subst, ◌∙◌}
 use Rattle.flush_core.specs.Writer.{writer_fault}
 use Rattle.serial_log.specs.Ring.{RingState}
-use Rattle.serial_log.specs.LogState.{LogState, IsLog, end_behind}
+use Rattle.serial_log.specs.LogState.{LogState, IsLog, log_end}
 use Rattle.serial_log.specs.History.{LogHistory}
-use Rattle.serial_log.specs.Steps.{HasFlushed}
-use Rattle.serial_log.proofs.LogLaws.{flushed_ok}
+use Rattle.serial_log.specs.Steps.{FailsFlush, HasFlushed}
+use Rattle.serial_log.proofs.LogLaws.{flushed_err, flushed_ok, keeps_flushed}
 use Rattle.serial_log.proofs.log.Log.harden.Goals as goal
 
 pub returns-in-Ok-clause-flushes : goal.returns-in-Ok-clause-flushes
@@ -15,8 +15,54 @@ returns-in-Ok-clause-flushes g c =
     let log : LogState D = record { size = l.geometry; capacity = l.capacity; sysid = l.sysid; ring = l.buffers.ring; writer = l.buffers.writer; bytes = l.bytes; prev = l.prev.0; flushed = l.flushed.0; moment = l.moment } in
     let done = c.in-Ok.ensures in
     let up : writer_fault log.writer ≡ None = ap (λ (v : LogState D). writer_fault v.writer) c.self.view_is ∙ c.requires.up in
-    let end : c.args.end.0 ≡ end_behind log.size log.bytes = c.requires.end ∙ ap (λ (v : LogState D). end_behind v.size v.bytes) (sym c.self.view_is) in
-    rw (← c.self.view_is) (λ before opened s is.
-    subst (λ (ring : RingState). (after : LogHistory) × HasFlushed log.size s c.args.end.0 after × IsLog g.D.Disk.tape g.D.Disk.faults before opened (record log { ring = ring; writer = c.flush.new.self.writer; flushed = c.args.end.0; moment = c.in-Ok.moment }) after)
+    let end : c.args.end.0 ≡ log_end log = c.requires.end ∙ ap (λ (v : LogState D). log_end v) (sym c.self.view_is) in
+    let above : log.flushed < c.args.asked.0 = subst (λ (v : LogState D). v.flushed < c.args.asked.0) (sym c.self.view_is) c.requires.above in
+    rw (← c.self.view_is) (λ tape_at_open faults_at_open s is.
+    subst (λ (ring : RingState). (after : LogHistory) × HasFlushed log.size s c.args.asked.0 c.args.end.0 after
+    × IsLog g.D.Disk.tape g.D.Disk.faults tape_at_open faults_at_open (record log { ring = ring; writer = c.flush.new.self.writer; flushed = c.args.end.0; moment = c.in-Ok.moment }) after)
     (sym done.ring)
-    (flushed_ok D g.D.Disk.tape g.D.Disk.faults before opened log up c.flush.new.self.writer c.args.end.0 c.in-Ok.moment s is end (c.self.invariant.1.reaches up) done.up done.written done.synced done.words))
+    (flushed_ok D g.D.Disk.tape g.D.Disk.moment g.D.Disk.faults tape_at_open faults_at_open log up s is c.args.asked.0 c.flush.new.self.writer above c.args.end.0 c.in-Ok.moment end (c.self.invariant.1.reaches up) done.writes done.written done.synced done.hardened))
+
+pub returns-in-Err-clause-flushes : goal.returns-in-Err-clause-flushes
+returns-in-Err-clause-flushes g c =
+    let D = g.row.D.Denot in
+    let l = c.self.inside in
+    let log : LogState D = record { size = l.geometry; capacity = l.capacity; sysid = l.sysid; ring = l.buffers.ring; writer = l.buffers.writer; bytes = l.bytes; prev = l.prev.0; flushed = l.flushed.0; moment = l.moment } in
+    let done = c.in-Err.ensures in
+    let up : writer_fault log.writer ≡ None = ap (λ (v : LogState D). writer_fault v.writer) c.self.view_is ∙ c.requires.up in
+    let end : c.args.end.0 ≡ log_end log = c.requires.end ∙ ap (λ (v : LogState D). log_end v) (sym c.self.view_is) in
+    let above : log.flushed < c.args.asked.0 = subst (λ (v : LogState D). v.flushed < c.args.asked.0) (sym c.self.view_is) c.requires.above in
+    let faults = c.in-Err.field-0.faults in
+    rw (← c.self.view_is) (λ tape_at_open faults_at_open s is.
+    subst (λ (ring : RingState). (after : LogHistory) × FailsFlush faults_at_open s c.args.asked.0 faults after
+    × IsLog g.D.Disk.tape g.D.Disk.faults tape_at_open faults_at_open (record log { ring = ring; writer = c.flush.new.self.writer }) after)
+    (sym done.ring)
+    (flushed_err D g.D.Disk.tape g.D.Disk.moment g.D.Disk.faults tape_at_open faults_at_open log up s is c.args.asked.0 c.flush.new.self.writer above c.args.end.0 faults end done.fails))
+
+pub returns-in-Ok-clause-keeps : goal.returns-in-Ok-clause-keeps
+returns-in-Ok-clause-keeps g c =
+    let D = g.row.D.Denot in
+    let l = c.self.inside in
+    let log : LogState D = record { size = l.geometry; capacity = l.capacity; sysid = l.sysid; ring = l.buffers.ring; writer = l.buffers.writer; bytes = l.bytes; prev = l.prev.0; flushed = l.flushed.0; moment = l.moment } in
+    let done = c.in-Ok.ensures in
+    let up : writer_fault log.writer ≡ None = ap (λ (v : LogState D). writer_fault v.writer) c.self.view_is ∙ c.requires.up in
+    let end : c.args.end.0 ≡ log_end log = c.requires.end ∙ ap (λ (v : LogState D). log_end v) (sym c.self.view_is) in
+    rw (← c.self.view_is) (λ tape_at_open faults_at_open s moment position is within kept.
+    keeps_flushed D g.D.Disk.tape g.D.Disk.moment g.D.Disk.faults tape_at_open faults_at_open log up s is c.args.asked.0 c.flush.new.self.writer c.args.end.0 end done.writes.preserves moment position within kept)
+
+pub returns-in-Err-clause-keeps : goal.returns-in-Err-clause-keeps
+returns-in-Err-clause-keeps g c =
+    let D = g.row.D.Denot in
+    let l = c.self.inside in
+    let log : LogState D = record { size = l.geometry; capacity = l.capacity; sysid = l.sysid; ring = l.buffers.ring; writer = l.buffers.writer; bytes = l.bytes; prev = l.prev.0; flushed = l.flushed.0; moment = l.moment } in
+    let done = c.in-Err.ensures in
+    let up : writer_fault log.writer ≡ None = ap (λ (v : LogState D). writer_fault v.writer) c.self.view_is ∙ c.requires.up in
+    let end : c.args.end.0 ≡ log_end log = c.requires.end ∙ ap (λ (v : LogState D). log_end v) (sym c.self.view_is) in
+    rw (← c.self.view_is) (λ tape_at_open faults_at_open s moment position is within kept.
+    keeps_flushed D g.D.Disk.tape g.D.Disk.moment g.D.Disk.faults tape_at_open faults_at_open log up s is c.args.asked.0 c.flush.new.self.writer c.args.end.0 end done.fails.preserves moment position within kept)
+
+pub returns-in-Ok-clause-calls : goal.returns-in-Ok-clause-calls
+returns-in-Ok-clause-calls g c = rw (← c.self.view_is) c.in-Ok.ensures.calls
+
+pub returns-in-Err-clause-calls : goal.returns-in-Err-clause-calls
+returns-in-Err-clause-calls g c = rw (← c.self.view_is) (inr c.in-Err.ensures.calls)

@@ -10,5 +10,5 @@ returns-clause-settled g c =
     let D = g.row.D.Denot in
     let log = c.args.self in
     let same : c.into_disk.result ≡ log_disk log = c.into_disk.ensures ∙ ap (λ (v : LogState D). log_disk v) c.self.view_is in
-    λ before opened s is empty up flushed.
-    subst (λ (d : D). IfSome (g.D.Disk.tape d) (λ t. HoldsLog log.size log.sysid s.entries t)) (sym same) (HoldsLog-settled D g.D.Disk.tape g.D.Disk.faults before opened log s is empty up flushed)
+    λ tape_at_open faults_at_open s is empty up flushed.
+    subst (λ (d : D). IfSome (g.D.Disk.tape d) (λ t. HoldsLog log.size log.sysid s.entries t)) (sym same) (HoldsLog-settled D g.D.Disk.tape g.D.Disk.faults tape_at_open faults_at_open log s is empty up flushed)

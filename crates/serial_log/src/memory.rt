@@ -9,32 +9,32 @@ use segment_disk::{Disk, Failed};
 use std::alloc::{AllocError, Global};
 use std::marker::Model;
 
-/// All memory that a log needs: its ring of pages, and a page to read into and to write from. Contracts see the shape that it
-/// was made for.
+/// All memory that a log needs: its ring of pages, and a page to read into and to write from.
+/// Contracts see the shape that it was made for.
 #[derive(Drop)]
-pub struct Room {
+pub struct LogMemory {
     pub(crate) shape: Shape,
     pub(crate) ring: Ring,
     pub(crate) page: Box<[u8; 8192]>,
 }
 
-impl Model for Room {
+impl Model for LogMemory {
     ghost use Rattle.serial_log.specs.declared.shape.Shape.{Shape};
-    ghost use Rattle.serial_log.specs.Room.{IsFirstRing};
+    ghost use Rattle.serial_log.specs.LogMemory.{IsFirstRing};
 
     ghost Value = { Shape };
 
-    ghost view = { λ r. r.shape };
+    ghost view = { λ m. m.shape };
 
-    ghost invariant = { λ r. IsFirstRing r.shape.geometry r.shape.ring_pages r.ring };
+    ghost invariant = { λ m. IsFirstRing m.shape.geometry m.shape.ring_pages m.ring };
 }
 
-impl Room {
-    pub fn new(alloc: Global, shape: Shape) -> Result<Room, AllocError>
-        ensures { IfOk result (λ room. room ≡ shape) }
+impl LogMemory {
+    pub fn new(alloc: Global, shape: Shape) -> Result<LogMemory, AllocError>
+        ensures { IfOk result (λ memory. memory ≡ shape) }
     {
         let first = u64::from(shape.geometry.pages());
-        Ok(Room {
+        Ok(LogMemory {
             shape,
             ring: Ring::new(alloc, shape.ring_pages, first)?,
             page: Box::new(alloc, [0; 8192])?,
@@ -43,7 +43,8 @@ impl Room {
 
     /// Whether page 0 of segment 1 is there: reads it.
     pub(crate) fn read_first_page<D: Disk>(&mut self, disk: &mut D) -> Result<bool, Failed>
-        ensures there { IfOk result (λ there. IfSome (D.tape disk.old) (λ t. IsTrue there ↔ IsSome (page_of_segment (state_now t 1) 0))) }
+        ensures there { IfOk result (λ there. IfSome (D.tape disk.old) (λ t.
+            IsTrue there ↔ IsSome (page_of_segment (state_now t 1) 0))) }
         ensures uncalled { IsUncalled D.tape D.moment disk.old disk.new }
         ensures cause { HasCause (D.faults disk.old) (D.faults disk.new) result }
         ensures same { self.new ≡ self.old }

@@ -1,8 +1,8 @@
-use crate::{Log, OpenFailure, Room, Shape};
 use byte_position::Geometry;
 use log_answers::{Cause, Hard, Receipt, Refused, Sealed};
 use record_spelling::Body;
 use segment_disk::{Disk, MemDisk};
+use serial_log::{Log, LogMemory, OpenFailure, Shape};
 use std::alloc::Global;
 use std::test::Fail;
 use wal_types::{BlockList, Bytes, Lsn, Record, Xid};
@@ -35,12 +35,18 @@ fn shape(ring_pages: u32, cap_segments: u32) -> Result<Shape, Fail> {
 
 // A log on a disk that is empty and fails at these counted calls.
 fn log_on_disk(alloc: Global, shape: Shape, fail: Vec<u64>) -> Result<Log<MemDisk>, Fail> {
-    let room = Room::new(alloc, shape)?;
+    let memory = LogMemory::new(alloc, shape)?;
     let disk = MemDisk::new(alloc, 4, 1000, fail, Vec::new(alloc))?;
-    match Log::open(disk, SYSTEM_ID, room) {
+    match Log::open(disk, SYSTEM_ID, memory) {
         Ok(log) => Ok(log),
         Err(_) => Err("an empty disk")?,
     }
+}
+
+// A flush to the log's end.
+fn flushed(log: &mut Log<MemDisk>) -> Result<Hard, Refused> {
+    let end = log.end();
+    log.flush(end)
 }
 
 #[test]
@@ -77,7 +83,7 @@ fn empty_log_is_flushed_already(rt: HostRuntime) -> Result<(), Fail> {
     let alloc = rt.alloc();
     let mut log = log_on_disk(alloc, shape(64, 64)?, Vec::new(alloc))?;
     assert_eq!(rt;
-        log.flush(),
+        flushed(&mut log),
         Ok(Hard {
             upto: Lsn(0x10_0000),
             moment: 0
@@ -142,7 +148,7 @@ fn full_log_tells_what_is_left(rt: HostRuntime) -> Result<(), Fail> {
         })
     );
     assert_eq!(rt;
-        log.flush(),
+        flushed(&mut log),
         Ok(Hard {
             upto: Lsn(0x10_0050),
             moment: 3
@@ -169,7 +175,7 @@ fn fault_while_a_record_is_inserted_takes_the_log_down(rt: HostRuntime) -> Resul
         reserved: None,
     };
     assert_eq!(rt; log.commit(&commit(alloc)?), Err(down));
-    assert_eq!(rt; log.flush(), Err(down));
+    assert_eq!(rt; flushed(&mut log), Err(down));
     Ok(())
 }
 
@@ -178,12 +184,70 @@ fn log_is_opened_only_on_an_empty_disk(rt: HostRuntime) -> Result<(), Fail> {
     let alloc = rt.alloc();
     let mut log = log_on_disk(alloc, shape(64, 64)?, Vec::new(alloc))?;
     assert!(rt; log.commit(&commit(alloc)?).is_ok());
-    let room = Room::new(alloc, shape(64, 64)?)?;
-    let opened = Log::open(log.into_disk(), SYSTEM_ID, room);
+    let memory = LogMemory::new(alloc, shape(64, 64)?)?;
+    let opened = Log::open(log.into_disk(), SYSTEM_ID, memory);
     assert!(rt; matches!(opened, Err(OpenFailure::NotEmpty(_))));
-    let room = Room::new(alloc, shape(64, 64)?)?;
+    let memory = LogMemory::new(alloc, shape(64, 64)?)?;
     let disk = MemDisk::new(alloc, 4, 1000, Vec::new(alloc), vec![in alloc; 1]?)?;
-    let opened = Log::open(disk, SYSTEM_ID, room);
+    let opened = Log::open(disk, SYSTEM_ID, memory);
     assert!(rt; matches!(opened, Err(OpenFailure::Disk(_))));
+    Ok(())
+}
+
+#[test]
+fn flush_of_a_position_that_is_reached_makes_no_call(rt: HostRuntime) -> Result<(), Fail> {
+    let alloc = rt.alloc();
+    let mut log = log_on_disk(alloc, shape(64, 64)?, Vec::new(alloc))?;
+    assert!(rt; log.commit(&commit(alloc)?).is_ok());
+    assert!(rt; log.insert(&body(alloc, 10, 1)?).is_ok());
+    let reached = Hard {
+        upto: Lsn(0x10_0050),
+        moment: 3,
+    };
+    assert_eq!(rt; log.flush(Lsn(0x10_0030)), Ok(reached));
+    assert_eq!(rt; log.flush(Lsn(0x10_0050)), Ok(reached));
+    assert_eq!(rt;
+        log.flush(Lsn(0x10_0051)),
+        Ok(Hard {
+            upto: Lsn(0x10_0070),
+            moment: 5
+        })
+    );
+    assert_eq!(rt; log.into_disk().moment(), 5);
+    Ok(())
+}
+
+#[test]
+fn flush_above_the_end_reaches_the_end(rt: HostRuntime) -> Result<(), Fail> {
+    let alloc = rt.alloc();
+    let mut log = log_on_disk(alloc, shape(64, 64)?, Vec::new(alloc))?;
+    assert!(rt; log.insert(&commit(alloc)?).is_ok());
+    let to_end = Ok(Hard {
+        upto: Lsn(0x10_0050),
+        moment: 3,
+    });
+    assert_eq!(rt; log.flush(Lsn(0x20_0000)), to_end);
+    assert_eq!(rt; log.flush(Lsn(0x20_0000)), to_end);
+    Ok(())
+}
+
+#[test]
+fn flush_of_a_full_page_writes_no_word_of_the_next(rt: HostRuntime) -> Result<(), Fail> {
+    let alloc = rt.alloc();
+    let mut log = log_on_disk(alloc, shape(64, 64)?, Vec::new(alloc))?;
+    // A header of 24 bytes and one of 5 stand before the main data.
+    assert!(rt; log.insert(&body(alloc, 10, 8152 - 29)?).is_ok());
+    assert_eq!(rt;
+        log.flush(Lsn(0x10_2000)),
+        Ok(Hard {
+            upto: Lsn(0x10_2000),
+            moment: 3
+        })
+    );
+    let geometry = Geometry::new(1 << 20).ok_or("1 MiB is a segment's size")?;
+    let mut disk = log.into_disk();
+    let mut page = [1; 8192];
+    assert_eq!(rt; disk.read_page(geometry, 1, 1, &mut page), Ok(true));
+    assert!(rt; page.iter().all(|byte| *byte == 0));
     Ok(())
 }
