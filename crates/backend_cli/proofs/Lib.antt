@@ -18,3 +18,4 @@ pub mod ReadLaws
 pub mod AnswerLoops
 pub mod ScriptReading
 pub mod MomentLaws
+pub mod DumpingLaws

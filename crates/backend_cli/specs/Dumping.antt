@@ -1,43 +1,60 @@
 -- What a listing promises.
-use Rattle.std.specs.Prelude.{◌≡◌, ℕ, List, [], IfSome}
+use Rattle.std.specs.Prelude.{◌≡◌, ℕ, List, [], IfSome, Result, Ok, Err}
 use Rattle.segment_disk.specs.Tape.{Tape}
 use Rattle.wal_types.specs.declared.lsn.Lsn.{Lsn}
 use Rattle.wal_reader.specs.declared.found.Answer.TheVariants as answers
-use Rattle.waldump_text.specs.Dump.{PutsListing, PutsListingFront, IsStop}
+use Rattle.wal_reader.specs.declared.found.Stopped.{Stopped as LogStop}
+use Rattle.wal_reader.specs.declared.standing.ReadErr.TheVariants as reading
+use Rattle.waldump_text.specs.declared.dumping.DumpErr.{DumpErr}
+use Rattle.waldump_text.specs.declared.dumping.DumpErr.TheVariants.{Read, Sink}
+use Rattle.waldump_text.specs.Dump.{PutsListing, PutsListingFront}
 use Rattle.backend_cli.specs.declared.outcome.Outcome.{Outcome}
-use Rattle.backend_cli.specs.declared.outcome.Outcome.TheVariants.{Done, OutOfMemory, Usage, SourceFault, ScriptRefused, NotEmpty, DiskFault, Stopped, LogFull, SinkFault}
+use Rattle.backend_cli.specs.declared.outcome.Outcome.TheVariants.{Done, OutOfMemory, DiskFault, Stopped, SinkFault}
 use Rattle.backend_cli.specs.declared.told.Told.{Told}
-use Rattle.segment_disk.specs.Cause.{Rose}
+use Rattle.segment_disk.specs.Cause.{Rose, RoseByOne}
 use Rattle.backend_cli.specs.Outside.{Outside}
 
--- what a listing printed, by how it ended: the lines of the records that the disk's log decodes to, or a front of them
-abbrev pub Listed : ℕ → Outside → Outcome → Tape → Type 0
-Listed size outside Done t = (at : Lsn) × PutsListing size t outside.taken_before outside.taken_after (answers.End at)
-Listed size outside OutOfMemory t = PutsListingFront size t outside.taken_before outside.taken_after
-Listed size outside Usage t = ⊥
-Listed size outside SourceFault t = ⊥
-Listed size outside (ScriptRefused refusal) t = ⊥
-Listed size outside NotEmpty t = ⊥
-Listed size outside DiskFault t = PutsListingFront size t outside.taken_before outside.taken_after
-Listed size outside (Stopped answer) t = PutsListing size t outside.taken_before outside.taken_after answer
-Listed size outside LogFull t = ⊥
-Listed size outside SinkFault t = PutsListingFront size t outside.taken_before outside.taken_after
+-- what a listing printed, by how it may end: the lines of the records that the disk's log decodes
+-- to, or a front of them
+pub data Listed (size : ℕ) (outside : Outside) : Outcome → Tape → Type 0 where
+  all : {t : Tape} (at : Lsn) → PutsListing size t outside.taken_before outside.taken_after
+      (answers.End at) → Listed size outside Done t
+  all_before : {t : Tape} {stop : LogStop}
+      → PutsListing size t outside.taken_before outside.taken_after (answers.Stopped stop)
+      → Listed size outside (Stopped stop) t
+  front_for_memory : {t : Tape} → PutsListingFront size t outside.taken_before outside.taken_after
+      → Listed size outside OutOfMemory t
+  front_for_disk : {t : Tape} → PutsListingFront size t outside.taken_before outside.taken_after
+      → Listed size outside DiskFault t
+  front_for_sink : {t : Tape} → PutsListingFront size t outside.taken_before outside.taken_after
+      → Listed size outside SinkFault t
 
--- why a listing ends as it does
-abbrev pub ListingEnds : Outside → Outcome → Type 0
-ListingEnds outside Done = (outside.disk_after ≡ outside.disk_before) × (outside.sink_after ≡ outside.sink_before)
-ListingEnds outside OutOfMemory = (outside.disk_after ≡ outside.disk_before) × (outside.sink_after ≡ outside.sink_before)
-ListingEnds outside Usage = ⊥
-ListingEnds outside SourceFault = ⊥
-ListingEnds outside (ScriptRefused refusal) = ⊥
-ListingEnds outside NotEmpty = ⊥
-ListingEnds outside DiskFault = Rose outside.disk_before outside.disk_after × (outside.sink_after ≡ outside.sink_before)
-ListingEnds outside (Stopped answer) = IsStop answer × (outside.disk_after ≡ outside.disk_before) × (outside.sink_after ≡ outside.sink_before)
-ListingEnds outside LogFull = ⊥
-ListingEnds outside SinkFault = (outside.disk_after ≡ outside.disk_before) × Rose outside.sink_before outside.sink_after
+-- neither the disk nor the sink counted a fault
+pub record NoFaults (outside : Outside) : Type 0 where
+  pub disk : outside.disk_after ≡ outside.disk_before
+  pub sink : outside.sink_after ≡ outside.sink_before
+
+-- why a listing ends as it may: no fault, one of the disk, or one of the sink
+pub data ListingEnds (outside : Outside) : Outcome → Type 0 where
+  ended : NoFaults outside → ListingEnds outside Done
+  stopped : {stop : LogStop} → NoFaults outside → ListingEnds outside (Stopped stop)
+  without_memory : NoFaults outside → ListingEnds outside OutOfMemory
+  by_disk : Rose outside.disk_before outside.disk_after → outside.sink_after ≡ outside.sink_before
+      → ListingEnds outside DiskFault
+  by_sink : outside.disk_after ≡ outside.disk_before
+      → RoseByOne outside.sink_before outside.sink_after → ListingEnds outside SinkFault
+
+-- how a listing ends, by what it answers
+abbrev pub outcome_of : Result (Unit {0}) DumpErr → Outcome
+outcome_of (Ok done) = Done
+outcome_of (Err (Read reading.Memory)) = OutOfMemory
+outcome_of (Err (Read (reading.Disk faults))) = DiskFault
+outcome_of (Err (Read (reading.Stopped stop))) = Stopped stop
+outcome_of (Err (Sink fault)) = SinkFault
 
 -- a listing: what it printed, no counted call of the disk, the script not read, and nothing told
-pub record DumpHolds (outside : Outside) (size : ℕ) (outcome : Outcome) (lists : List (List Told)) : Type 0 where
+pub record DumpHolds (outside : Outside) (size : ℕ) (outcome : Outcome)
+    (lists : List (List Told)) : Type 0 where
   pub listed : IfSome outside.tape_before (Listed size outside outcome)
   pub ends : ListingEnds outside outcome
   pub tape : outside.tape_after ≡ outside.tape_before

@@ -4,8 +4,8 @@ use Rattle.std.specs.Fmt.{decimal}
 use Rattle.wal_types.specs.LsnText.{lsn_text}
 use Rattle.wal_script.specs.Names.{fault_name}
 use Rattle.wal_reader.specs.Names.{damage_name}
-use Rattle.wal_reader.specs.declared.found.Answer.{Answer}
-use Rattle.wal_reader.specs.declared.found.Answer.TheVariants as answers
+use Rattle.wal_reader.specs.declared.found.Stopped.{Stopped as LogStop}
+use Rattle.wal_reader.specs.declared.found.Stopped.TheVariants as stops
 use Rattle.backend_cli.specs.declared.outcome.Outcome.{Outcome}
 use Rattle.backend_cli.specs.declared.outcome.Outcome.TheVariants.{Done, OutOfMemory, Usage, SourceFault, ScriptRefused, NotEmpty, DiskFault, Stopped, LogFull, SinkFault}
 
@@ -17,27 +17,31 @@ status_of Usage = 2
 status_of (ScriptRefused refusal) = 3
 status_of DiskFault = 4
 status_of LogFull = 5
-status_of (Stopped answer) = 6
+status_of (Stopped stop) = 6
 status_of SourceFault = 7
 status_of SinkFault = 8
 status_of NotEmpty = 9
 
 -- where the log stops, and why
-abbrev pub stop_text : Answer → List (List ℕ)
-stop_text (answers.End at) = []
-stop_text (answers.Damaged at kind) = codes "pgwal: damaged at " ∷ lsn_text at.0 ∷ codes ": " ∷ damage_name kind ∷ codes "\n" ∷ []
-stop_text (answers.Compressed at) = codes "pgwal: damaged at " ∷ lsn_text at.0 ∷ codes ": compressed\n" ∷ []
-stop_text (answers.Overwritten at) = codes "pgwal: damaged at " ∷ lsn_text at.0 ∷ codes ": overwritten\n" ∷ []
+abbrev pub stop_text : LogStop → List (List ℕ)
+stop_text (stops.Damaged at kind) =
+    codes "pgwal: damaged at " ∷ lsn_text at.0 ∷ codes ": " ∷ damage_name kind ∷ codes "\n" ∷ []
+stop_text (stops.Compressed at) =
+    codes "pgwal: damaged at " ∷ lsn_text at.0 ∷ codes ": compressed\n" ∷ []
+stop_text (stops.Overwritten at) =
+    codes "pgwal: damaged at " ∷ lsn_text at.0 ∷ codes ": overwritten\n" ∷ []
 
 -- what is told on standard error: nothing where all is done
 abbrev pub outcome_text : Outcome → List (List ℕ)
 outcome_text Done = []
 outcome_text OutOfMemory = codes "pgwal: out of memory\n" ∷ []
 outcome_text Usage = codes "pgwal: usage\n" ∷ []
-outcome_text (ScriptRefused refusal) = codes "pgwal: script line " ∷ decimal refusal.line ∷ codes ": " ∷ fault_name refusal.fault ∷ codes "\n" ∷ []
+outcome_text (ScriptRefused refusal) =
+    codes "pgwal: script line " ∷ decimal refusal.line ∷ codes ": " ∷ fault_name refusal.fault
+    ∷ codes "\n" ∷ []
 outcome_text DiskFault = codes "pgwal: disk fault\n" ∷ []
 outcome_text LogFull = codes "pgwal: log full\n" ∷ []
-outcome_text (Stopped answer) = stop_text answer
+outcome_text (Stopped stop) = stop_text stop
 outcome_text SourceFault = codes "pgwal: source fault\n" ∷ []
 outcome_text SinkFault = codes "pgwal: sink fault\n" ∷ []
 outcome_text NotEmpty = codes "pgwal: log not empty\n" ∷ []

@@ -1,4 +1,5 @@
-ghost use Rattle.backend_cli.specs.Dumping.{DumpHolds};
+ghost use Rattle.std.specs.Prelude.{◌≡◌};
+ghost use Rattle.backend_cli.specs.Dumping.{DumpHolds, outcome_of};
 ghost use Rattle.backend_cli.specs.Outside.{SourceView, outside_of};
 
 use crate::outcome::Outcome;
@@ -7,6 +8,7 @@ use crate::told::ToldLists;
 use byte_position::Geometry;
 use segment_disk::{Disk, Sink};
 use std::alloc::Global;
+use wal_reader::ReadErr;
 use waldump_text::{DumpErr, dump};
 
 /// Lists the log.
@@ -17,18 +19,25 @@ pub(crate) fn list<O: Sink, D: Disk>(
     out: &mut O,
 ) -> Finished<D>
     ensures { (source : SourceView) → DumpHolds (outside_of source source
-        D.tape D.moment D.faults disk result.disk O.taken O.faults out.old out.new) geometry result.outcome result.told }
+        D.tape D.moment D.faults disk result.disk O.taken O.faults out.old out.new)
+        geometry result.outcome result.told }
 {
-    let outcome = match dump(alloc, &mut disk, geometry, out) {
-        Ok(()) => Outcome::Done,
-        Err(DumpErr::Memory) => Outcome::OutOfMemory,
-        Err(DumpErr::Disk { .. }) => Outcome::DiskFault,
-        Err(DumpErr::Stopped(answer)) => Outcome::Stopped(answer),
-        Err(DumpErr::Sink { .. }) => Outcome::SinkFault,
-    };
+    let listed = dump(alloc, &mut disk, geometry, out);
     Finished {
-        outcome,
+        outcome: outcome_of(listed),
         disk,
         told: ToldLists::none(alloc),
+    }
+}
+
+fn outcome_of(listed: Result<(), DumpErr>) -> Outcome
+    ensures { result ≡ outcome_of listed }
+{
+    match listed {
+        Ok(()) => Outcome::Done,
+        Err(DumpErr::Read(ReadErr::Memory)) => Outcome::OutOfMemory,
+        Err(DumpErr::Read(ReadErr::Disk { .. })) => Outcome::DiskFault,
+        Err(DumpErr::Read(ReadErr::Stopped(stopped))) => Outcome::Stopped(stopped),
+        Err(DumpErr::Sink(_)) => Outcome::SinkFault,
     }
 }

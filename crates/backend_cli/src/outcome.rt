@@ -4,7 +4,7 @@ ghost use Rattle.waldump_text.specs.Put.{Puts, joined};
 ghost use Rattle.backend_cli.specs.Outcome.{status_of, outcome_text};
 
 use segment_disk::Sink;
-use wal_reader::Answer;
+use wal_reader::Stopped;
 use wal_script::Refusal;
 use wal_types::Lsn;
 use waldump_text::{SinkFault, put_all};
@@ -23,7 +23,7 @@ pub enum Outcome {
     NotEmpty,
     DiskFault,
     /// The log that is listed does not come to a clean end.
-    Stopped(Answer),
+    Stopped(Stopped),
     /// A line found the log full.
     LogFull,
     SinkFault,
@@ -60,7 +60,7 @@ impl Outcome {
             Outcome::ScriptRefused(refusal) => tell_refusal(refusal, err),
             Outcome::NotEmpty => put_all(err, &[b"pgwal: log not empty\n"]),
             Outcome::DiskFault => put_all(err, &[b"pgwal: disk fault\n"]),
-            Outcome::Stopped(answer) => tell_stop(answer, err),
+            Outcome::Stopped(stopped) => tell_stop(stopped, err),
             Outcome::LogFull => put_all(err, &[b"pgwal: log full\n"]),
             Outcome::SinkFault => put_all(err, &[b"pgwal: sink fault\n"]),
         }
@@ -84,14 +84,13 @@ fn tell_refusal<E: Sink>(refusal: Refusal, err: &mut E) -> Result<(), SinkFault>
     )
 }
 
-fn tell_stop<E: Sink>(answer: Answer, err: &mut E) -> Result<(), SinkFault>
-    ensures { Puts (E.taken err.old) (E.taken err.new) (E.faults err.old) (E.faults err.new) (joined (outcome_text (Outcome.Stopped answer))) result }
+fn tell_stop<E: Sink>(stopped: Stopped, err: &mut E) -> Result<(), SinkFault>
+    ensures { Puts (E.taken err.old) (E.taken err.new) (E.faults err.old) (E.faults err.new) (joined (outcome_text (Outcome.Stopped stopped))) result }
 {
-    match answer {
-        Answer::End { at: _ } => put_all(err, &[]),
-        Answer::Damaged { at, kind } => tell_damage(at, kind.name(), err),
-        Answer::Compressed { at } => tell_damage(at, "compressed", err),
-        Answer::Overwritten { at } => tell_damage(at, "overwritten", err),
+    match stopped {
+        Stopped::Damaged { at, kind } => tell_damage(at, kind.name(), err),
+        Stopped::Compressed { at } => tell_damage(at, "compressed", err),
+        Stopped::Overwritten { at } => tell_damage(at, "overwritten", err),
     }
 }
 

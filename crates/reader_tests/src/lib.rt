@@ -1,4 +1,5 @@
-//! Tests of the reader of a log, of its listing, and of the checks below both where two fail at once.
+//! Tests of the reader of a log, of its listing, and of the checks below both where two fail at
+//! once.
 #![tactic(auto)]
 
 #[cfg(test)]
@@ -7,3 +8,5 @@ mod listing;
 mod pages;
 #[cfg(test)]
 mod reading;
+#[cfg(test)]
+mod two_faults;

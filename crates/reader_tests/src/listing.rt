@@ -9,12 +9,13 @@ use segment_disk::{MemDisk, MemSink};
 use std::alloc::{AllocError, Global};
 use std::process::Abort;
 use std::test::Fail;
-use wal_reader::{Answer, DamageKind};
+use wal_reader::{DamageKind, ReadErr, Stopped};
 use wal_types::{Block, BlockList, Bytes, Image, Lsn, Record, Xid};
 use waldump_text::{DumpErr, Listed, SinkFault, dump, line};
 
 const COMMIT_LINE: &[u8; 133] =
-    b"rmgr: Transaction len (rec/tot):     34/    34, tx:        700, lsn: 0/00100028, prev 0/00000000, desc: COMMIT data 0000000000000000\n";
+    b"rmgr: Transaction len (rec/tot):     34/    34, tx:        700, lsn: 0/00100028, prev \
+      0/00000000, desc: COMMIT data 0000000000000000\n";
 
 // As the first of its log.
 fn listed(alloc: Global, rmid: u8, info: u8, main: &[u8]) -> Result<Listed, AllocError>
@@ -51,8 +52,10 @@ fn other_records_are_named_by_their_info(rt: HostRuntime) -> Result<(), Fail> {
     assert_eq!(rt;
         out.taken(),
         b"\
-        rmgr: Storage     len (rec/tot):     34/    34, tx:        700, lsn: 0/00100028, prev 0/00000000, desc: UNKNOWN (0) data 0fa0\n\
-        rmgr: custom130   len (rec/tot):     34/    34, tx:        700, lsn: 0/00100028, prev 0/00000000, desc: UNKNOWN (80) data -\n"
+        rmgr: Storage     len (rec/tot):     34/    34, tx:        700, lsn: 0/00100028, prev \
+        0/00000000, desc: UNKNOWN (0) data 0fa0\n\
+        rmgr: custom130   len (rec/tot):     34/    34, tx:        700, lsn: 0/00100028, prev \
+        0/00000000, desc: UNKNOWN (80) data -\n"
             .as_slice()
     );
     Ok(())
@@ -68,7 +71,9 @@ fn a_full_sink_has_a_front_of_the_line(rt: HostRuntime) -> Result<(), Fail> {
     );
     assert_eq!(rt;
         out.taken(),
-        b"rmgr: Transaction len (rec/tot):     34/    34, tx:        700, lsn: 0/00100028, prev 0/00000000, desc: COMMIT data 0".as_slice()
+        b"rmgr: Transaction len (rec/tot):     34/    34, tx:        700, lsn: 0/00100028, prev \
+          0/00000000, desc: COMMIT data 0"
+            .as_slice()
     );
     Ok(())
 }
@@ -91,13 +96,15 @@ fn a_log_is_listed_to_its_end(rt: HostRuntime) -> Result<(), Fail> {
     assert_eq!(rt;
         out.taken(),
         b"\
-        rmgr: Transaction len (rec/tot):     34/    34, tx:        700, lsn: 0/00100028, prev 0/00000000, desc: COMMIT data 0000000000000000\n\
-        rmgr: custom128   len (rec/tot):     24/    24, tx:        700, lsn: 0/00100050, prev 0/00100028, desc: UNKNOWN (80) data -\n"
+        rmgr: Transaction len (rec/tot):     34/    34, tx:        700, lsn: 0/00100028, prev \
+        0/00000000, desc: COMMIT data 0000000000000000\n\
+        rmgr: custom128   len (rec/tot):     24/    24, tx:        700, lsn: 0/00100050, prev \
+        0/00100028, desc: UNKNOWN (80) data -\n"
             .as_slice()
     );
     assert_eq!(rt;
         dump(alloc, &mut disk, smallest(), &mut out),
-        Err(DumpErr::Disk { faults: 1 })
+        Err(DumpErr::Read(ReadErr::Disk { faults: 1 }))
     );
     Ok(())
 }
@@ -110,13 +117,13 @@ fn a_listing_stops_at_a_damaged_record(rt: HostRuntime) -> Result<(), Fail> {
     pages.first[100] ^= 1;
     let mut disk = disk_of(alloc, &pages, Vec::new(alloc))?;
     let mut out = sink(alloc)?;
-    let damaged = Answer::Damaged {
+    let damaged = Stopped::Damaged {
         at: Lsn(0x10_0050),
         kind: DamageKind::Crc,
     };
     assert_eq!(rt;
         dump(alloc, &mut disk, smallest(), &mut out),
-        Err(DumpErr::Stopped(damaged))
+        Err(DumpErr::Read(ReadErr::Stopped(damaged)))
     );
     assert_eq!(rt; out.taken(), COMMIT_LINE.as_slice());
     Ok(())
@@ -153,7 +160,10 @@ fn a_record_is_listed_with_its_blocks(rt: HostRuntime) -> Result<(), Fail> {
     dumped(&rt, alloc, &heap_insert(alloc, 5, blocks), &mut out)?;
     assert_eq!(rt;
         out.taken(),
-        b"rmgr: Heap        len (rec/tot):     58/    58, tx:          5, lsn: 0/00100028, prev 0/00000000, desc: INSERT data -, blkref #0: rel 1663/5/16384 blk 7, blkref #1: rel 1663/5/16384 blk 8\n".as_slice()
+        b"rmgr: Heap        len (rec/tot):     58/    58, tx:          5, lsn: 0/00100028, prev \
+          0/00000000, desc: INSERT data -, blkref #0: rel 1663/5/16384 blk 7, blkref #1: rel \
+          1663/5/16384 blk 8\n"
+            .as_slice()
     );
     Ok(())
 }
@@ -174,7 +184,9 @@ fn an_image_is_told_and_not_counted(rt: HostRuntime) -> Result<(), Fail> {
     dumped(&rt, alloc, &heap_insert(alloc, 9, blocks), &mut out)?;
     assert_eq!(rt;
         out.taken(),
-        b"rmgr: Heap        len (rec/tot):     49/   241, tx:          9, lsn: 0/00100028, prev 0/00000000, desc: INSERT data -, blkref #0: rel 1663/5/16384 blk 7 FPW\n".as_slice()
+        b"rmgr: Heap        len (rec/tot):     49/   241, tx:          9, lsn: 0/00100028, prev \
+          0/00000000, desc: INSERT data -, blkref #0: rel 1663/5/16384 blk 7 FPW\n"
+            .as_slice()
     );
     Ok(())
 }
@@ -197,7 +209,10 @@ fn a_fork_is_named_and_an_image_may_be_for_verification(rt: HostRuntime) -> Resu
     dumped(&rt, alloc, &heap_insert(alloc, 2, blocks), &mut out)?;
     assert_eq!(rt;
         out.taken(),
-        b"rmgr: Heap        len (rec/tot):     49/  8241, tx:          2, lsn: 0/00100028, prev 0/00000000, desc: INSERT data -, blkref #0: rel 1663/5/16384 fork fsm blk 3 FPW for WAL verification\n".as_slice()
+        b"rmgr: Heap        len (rec/tot):     49/  8241, tx:          2, lsn: 0/00100028, prev \
+          0/00000000, desc: INSERT data -, blkref #0: rel 1663/5/16384 fork fsm blk 3 FPW for \
+          WAL verification\n"
+            .as_slice()
     );
     Ok(())
 }
@@ -219,7 +234,7 @@ fn a_sink_that_fails_ends_the_listing(rt: HostRuntime) -> Result<(), Fail> {
     let mut out = MemSink::new(alloc, 400, vec![in alloc; 2]?)?;
     assert_eq!(rt;
         dump(alloc, &mut disk, smallest(), &mut out),
-        Err(DumpErr::Sink { faults: 1 })
+        Err(DumpErr::Sink(SinkFault { faults: 1 }))
     );
     assert_eq!(rt; out.taken(), COMMIT_LINE.as_slice());
     Ok(())

@@ -5,8 +5,8 @@ use segment_disk::MemDisk;
 use std::alloc::Global;
 use std::test::Fail;
 use wal_page::PageErr;
-use wal_reader::{DamageKind, FoundRecord, ReadErr, Reader, Step};
-use wal_types::{Lsn, Xid};
+use wal_reader::{DamageKind, ReadErr, Reader, Step, Stopped};
+use wal_types::{Lsn, Record, Xid};
 
 const START: Lsn = Lsn(0x10_0000);
 
@@ -17,7 +17,8 @@ fn two_commits(alloc: Global) -> Result<TwoPages, Fail> {
     Ok(pages)
 }
 
-// A record of 8,144 bytes, and behind it two commits, of which the first goes on in the second page.
+// A record of 8,144 bytes, and behind it two commits, of which the first goes on in the second
+// page.
 fn crossing_commit(alloc: Global) -> Result<TwoPages, Fail> {
     let mut pages = TwoPages::zeros();
     pages.put(alloc, &heap_record(alloc, 8115)?, 0, Lsn(0))?;
@@ -26,9 +27,33 @@ fn crossing_commit(alloc: Global) -> Result<TwoPages, Fail> {
     Ok(pages)
 }
 
-fn record_of(step: Result<Step, ReadErr>) -> Result<FoundRecord, Fail> {
+// A record as a step gives it.
+#[derive(Drop)]
+struct Given {
+    start: Lsn,
+    end: Lsn,
+    prev: Lsn,
+    total: u32,
+    value: Record,
+}
+
+fn record_of(step: Result<Step, ReadErr>) -> Result<Given, Fail> {
     match step {
-        Ok(Step::Record(found)) => Ok(found),
+        Ok(
+            Step::Record {
+                start,
+                end,
+                prev,
+                total,
+                value,
+            },
+        ) => Ok(Given {
+            start,
+            end,
+            prev,
+            total,
+            value,
+        }),
         _ => Err(Fail::from("a record was written")),
     }
 }
@@ -120,10 +145,10 @@ fn damage_is_told_again(rt: HostRuntime) -> Result<(), Fail> {
     let mut disk = disk_of(alloc, &pages, Vec::new(alloc))?;
     let mut reader = Reader::new(smallest(), START, None);
     for _ in 0..2 {
-        let damaged = ReadErr::Damaged {
+        let damaged = ReadErr::Stopped(Stopped::Damaged {
             at: Lsn(0x10_0028),
             kind: DamageKind::Crc,
-        };
+        });
         assert_eq!(rt; reader.next(alloc, &mut disk).err(), Some(damaged));
     }
     assert_eq!(rt; DamageKind::Crc.name(), "crc");
@@ -137,10 +162,10 @@ fn a_page_of_zeros_behind_a_record_that_goes_on_is_damage(rt: HostRuntime) -> Re
     pages.put(alloc, &heap_record(alloc, 8124)?, 0, Lsn(0))?;
     pages.second = [0; 8192];
     let mut disk = disk_of(alloc, &pages, Vec::new(alloc))?;
-    let damaged = ReadErr::Damaged {
+    let damaged = ReadErr::Stopped(Stopped::Damaged {
         at: Lsn(0x10_2000),
         kind: DamageKind::Page(PageErr::Magic),
-    };
+    });
     let mut reader = Reader::new(smallest(), START, None);
     assert_eq!(rt; reader.next(alloc, &mut disk).err(), Some(damaged));
     Ok(())

@@ -14,9 +14,9 @@ use Rattle.record_decode.specs.declared.head.BlockHead.{BlockHead}
 use Rattle.record_spelling.specs.Record.{is_free_manager}
 use Rattle.record_spelling.specs.Numbers.{number_at}
 use Rattle.record_spelling.specs.Checks.{first_fault}
-use Rattle.record_decode.specs.Reading.{◌>>=◌, After, Checks, GivesReading, Headers, HeaderCursor, begins_block, begins_with, has_header, items_of, main_item, payload_len, reading_of, record_of}
+use Rattle.record_decode.specs.Reading.{◌>>=◌, ItemRead, Checks, GivesReading, Headers, HeaderCursor, begins_block, begins_with, has_header, items_of, main_item, payload_len, reading_of, record_of}
 use Rattle.record_decode.specs.Spells.{Items, Spells, SpellsHeads, SpellsItems, StandsBehind, head_text, item_text}
-use Rattle.record_decode.specs.Fails.{BreaksItem, EndsHeaders, FailsAt, FailsSo, HasLength, IsMainHead, LeavesFill, NextBlock, NextOrigin, NextTopXid, ReachesItem, item_rows, last_of}
+use Rattle.record_decode.specs.Fails.{BreaksItem, EndsHeaders, FailsAt, TellsFirstFault, HasLength, IsMainHead, LeavesFill, NextBlock, NextOrigin, NextTopXid, ReachesItem, item_rows, last_of}
 use Rattle.record_decode.proofs.ItemTables.{StandsIn, item_checks, item_same}
 use Rattle.record_spelling.proofs.Bytes.{IsBytes, IsBytes-drop, IsBytes-from_All, wide16, wide32}
 use Rattle.record_decode.proofs.HeadsTaken.{BeforeFits}
@@ -222,14 +222,14 @@ origin_told : (blocks : List BlockHead) (n at owed : ℕ) (rest : List ℕ) (r :
 origin_told blocks n at owed rest r more fits few wrong resumes =
     let s = standing_at at owed (253 ∷ (to_le_bytes w16 n ++ rest)) in
     let gives = no_block blocks s r (and_right (has_header s) _ refl) resumes in
-    let on = ap (λ (x : Result (After (Option ℕ)) RecErr). x >>= λ (o : After (Option ℕ)). after_origin blocks o.value o.next) (sym (item_some_here 253 w16 (2 ^ 16) wide16 at owed n rest fits more)) ∙ gives in
+    let on = ap (λ (x : Result (ItemRead (Option ℕ)) RecErr). x >>= λ (o : ItemRead (Option ℕ)). after_origin blocks o.value o.next) (sym (item_some_here 253 w16 (2 ^ 16) wide16 at owed n rest fits more)) ∙ gives in
     ended_told blocks (Some n) None (at + 3) owed rest r few wrong on
 
 top_told : (blocks : List BlockHead) (origin : Option ℕ) (n at owed : ℕ) (rest : List ℕ) (r : Result Headers RecErr) → has_header (standing_at at owed (252 ∷ (to_le_bytes w32 n ++ rest))) ≡ true → n < 2 ^ 32 → length rest ≤ owed → (length rest ≡ owed → ⊥) → Resumes blocks origin None (standing_at at owed (252 ∷ (to_le_bytes w32 n ++ rest))) r → r ≡ Err (Malformed (at + 5) kinds.Fill)
 top_told blocks origin n at owed rest r more fits few wrong resumes =
     let s = standing_at at owed (252 ∷ (to_le_bytes w32 n ++ rest)) in
     let gives = to_origin blocks origin s r (and_right (has_header s) _ refl) (and_right (has_header s) _ refl) resumes in
-    let on = ap (λ (x : Result (After (Option ℕ)) RecErr). x >>= λ (t : After (Option ℕ)). after_top blocks origin t.value t.next) (sym (item_some_here 252 w32 (2 ^ 32) wide32 at owed n rest fits more)) ∙ gives in
+    let on = ap (λ (x : Result (ItemRead (Option ℕ)) RecErr). x >>= λ (t : ItemRead (Option ℕ)). after_top blocks origin t.value t.next) (sym (item_some_here 252 w32 (2 ^ 32) wide32 at owed n rest fits more)) ∙ gives in
     ended_told blocks origin (Some n) (at + 5) owed rest r few wrong on
 
 -- the place of an item, with its text
@@ -356,7 +356,7 @@ cause_told bytes e fits (inr (inr (h, inr f))) = let right = length_passes bytes
 
 -- ---- what a call answers, and each list of bytes
 
-pub fails_by : (answer : Result Record RecErr) (bytes : List ℕ) → IsBytes bytes → GivesReading answer (reading_of bytes) → IfErr answer (FailsSo bytes)
+pub fails_by : (answer : Result Record RecErr) (bytes : List ℕ) → IsBytes bytes → GivesReading answer (reading_of bytes) → IfErr answer (TellsFirstFault bytes)
 fails_by (Ok r) bytes fits gives = tt
 fails_by (Err Memory) bytes fits gives = tt
 fails_by (Err (Malformed at kind)) bytes fits gives = cause_of bytes (Malformed at kind) fits gives

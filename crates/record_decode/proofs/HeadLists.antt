@@ -6,7 +6,7 @@ use Rattle.std.proofs.lemmas.List.{length-append, append-nil}
 use Rattle.std.proofs.lemmas.List.Sums.{sum_by-cons}
 use Rattle.record_decode.specs.declared.fault.RecErr.{RecErr}
 use Rattle.record_decode.specs.declared.head.BlockHead.{BlockHead}
-use Rattle.record_decode.specs.Reading.{After, HeaderCursor, begins_block, block_item, block_items, has_header, payload_len}
+use Rattle.record_decode.specs.Reading.{ItemRead, HeaderCursor, begins_block, block_item, block_items, has_header, payload_len}
 use Rattle.record_decode.specs.Fails.{last_of}
 use Rattle.record_decode.specs.Spells.{head_text, SpellsHeads, StandsBehind}
 use Rattle.record_spelling.proofs.Bytes.{IsBytes}
@@ -17,7 +17,7 @@ use Rattle.record_decode.proofs.HeadsAgain.{standing_at, block_again, head_some}
 
 -- ---- what is read is spelled so
 
-pub record HeadsTaken (before : Option BlockHead) (heads : List BlockHead) (s : HeaderCursor) (x : After (List BlockHead)) : Type 0 where
+pub record HeadsTaken (before : Option BlockHead) (heads : List BlockHead) (s : HeaderCursor) (x : ItemRead (List BlockHead)) : Type 0 where
   pub more : List BlockHead
   pub text : List ℕ
   pub value_is : x.value ≡ heads ++ more
@@ -30,7 +30,7 @@ pub record HeadsTaken (before : Option BlockHead) (heads : List BlockHead) (s : 
 none_taken : (before : Option BlockHead) (heads : List BlockHead) (s : HeaderCursor) → IsBytes s.rest → HeadsTaken before heads s (record { value = heads; next = s })
 none_taken before heads s fits = record { more = []; text = []; value_is = sym (append-nil heads); spelled = refl; rest_is = refl; at_is = omega arith; owed_is = omega arith; fits = fits }
 
-one_taken : (before : Option BlockHead) (heads : List BlockHead) (s : HeaderCursor) (y : After BlockHead) (x : After (List BlockHead)) → BlockTaken before s y → HeadsTaken (Some y.value) (heads ++ y.value ∷ []) y.next x → HeadsTaken before heads s x
+one_taken : (before : Option BlockHead) (heads : List BlockHead) (s : HeaderCursor) (y : ItemRead BlockHead) (x : ItemRead (List BlockHead)) → BlockTaken before s y → HeadsTaken (Some y.value) (heads ++ y.value ∷ []) y.next x → HeadsTaken before heads s x
 one_taken before heads s y x b t = record {
   more = y.value ∷ t.more;
   text = head_text b.same y.value ++ t.text;
@@ -42,13 +42,13 @@ one_taken before heads s y x b t = record {
   fits = t.fits;
 }
 
-before_fits : (before : Option BlockHead) (s : HeaderCursor) (y : After BlockHead) → BlockTaken before s y → BeforeFits (Some y.value)
+before_fits : (before : Option BlockHead) (s : HeaderCursor) (y : ItemRead BlockHead) → BlockTaken before s y → BeforeFits (Some y.value)
 before_fits before s y b = record { tablespace = b.stands.tablespace; database = b.stands.database; relation = b.stands.relation }
 
-ends_taken : (before : Option BlockHead) (heads : List BlockHead) (s : HeaderCursor) (x : After (List BlockHead)) → IsBytes s.rest → (let y : Result (After (List BlockHead)) RecErr = Ok (record { value = heads; next = s }) in y ≡ Ok x) → HeadsTaken before heads s x
+ends_taken : (before : Option BlockHead) (heads : List BlockHead) (s : HeaderCursor) (x : ItemRead (List BlockHead)) → IsBytes s.rest → (let y : Result (ItemRead (List BlockHead)) RecErr = Ok (record { value = heads; next = s }) in y ≡ Ok x) → HeadsTaken before heads s x
 ends_taken before heads s x fits e = subst (HeadsTaken before heads s) (ok_is _ x e) (none_taken before heads s fits)
 
-pub heads_taken : (n : ℕ) (before : Option BlockHead) (heads : List BlockHead) (s : HeaderCursor) (x : After (List BlockHead)) → IsBytes s.rest → BeforeFits before → block_items n before heads s ≡ Ok x → HeadsTaken before heads s x
+pub heads_taken : (n : ℕ) (before : Option BlockHead) (heads : List BlockHead) (s : HeaderCursor) (x : ItemRead (List BlockHead)) → IsBytes s.rest → BeforeFits before → block_items n before heads s ≡ Ok x → HeadsTaken before heads s x
 unfolding block_items
 heads_taken zero before heads s x fits b e = ends_taken before heads s x fits e
 heads_taken (suc n) before heads s x fits b e =

@@ -12,7 +12,7 @@ use Rattle.record_decode.specs.declared.head.ForkFlags.{ForkFlags}
 use Rattle.record_decode.specs.declared.head.ImageHead.{ImageHead}
 use Rattle.record_spelling.specs.Spelling.{flag, relation_bytes}
 use Rattle.record_spelling.specs.Numbers.{number_at}
-use Rattle.record_decode.specs.Reading.{After, HeaderCursor, fork_flags, fork_item, image_head_of, image_item, is_wrong_hole, relation_item, number_item, block_item, least_id, payload_len}
+use Rattle.record_decode.specs.Reading.{ItemRead, HeaderCursor, fork_flags, fork_item, image_head_of, image_item, is_wrong_hole, relation_item, number_item, block_item, least_id, payload_len}
 use Rattle.record_decode.specs.Spells.{image_flag, image_head_text, head_text, IsPageImage, HasRelation, StandsBehind}
 use Rattle.record_spelling.proofs.Bytes.{IsWide, wide16, wide32}
 use Rattle.record_decode.proofs.Flags.{fork_byte, fork_byte-again, info-again}
@@ -41,7 +41,7 @@ passed4 a b c k d e f g x p q r s = rw (p, q, r, s) refl
 
 -- ---- the fork byte and the data's length
 
-abbrev fork_read : ℕ → ℕ → List ℕ → ForkFlags → ℕ → Result (After (ForkFlags × ℕ)) RecErr
+abbrev fork_read : ℕ → ℕ → List ℕ → ForkFlags → ℕ → Result (ItemRead (ForkFlags × ℕ)) RecErr
 fork_read at owed rest f len = Ok (record { value = (f, len); next = record { at = at + 3; rest = rest; owed = owed } })
 
 agrees : (has : Bool) (len : ℕ) → has ≡ ltb 0 len → cond has (eqb len 0) (ltb 0 len) ≡ false
@@ -80,7 +80,7 @@ hole_again len hole offset page right =
           rw (t, a, b) refl
     ]
 
-abbrev image_read : ℕ → ℕ → List ℕ → ImageHead → Result (After (Option ImageHead)) RecErr
+abbrev image_read : ℕ → ℕ → List ℕ → ImageHead → Result (ItemRead (Option ImageHead)) RecErr
 image_read at owed rest i = Ok (record { value = Some i; next = record { at = at + 5; rest = rest; owed = owed } })
 
 same_image : (i : ImageHead) (len offset info : ℕ) → len ≡ i.len → offset ≡ i.hole_offset → eqb (info / 2 % 2) 1 ≡ i.apply → 8192 - len ≡ i.hole_len → image_head_of len offset info ≡ i
@@ -134,7 +134,7 @@ unfolding relation_item
 relation_kept_again at owed None rel rest has = absurd has
 relation_kept_again at owed (Some b) rel rest has = ap (λ (r : Rel). Ok (record { value = r; next = standing_at at owed rest })) has
 
-abbrev relation_read : ℕ → ℕ → List ℕ → Rel → Result (After Rel) RecErr
+abbrev relation_read : ℕ → ℕ → List ℕ → Rel → Result (ItemRead Rel) RecErr
 relation_read at owed rest rel = Ok (record { value = rel; next = record { at = at + 12; rest = rest; owed = owed } })
 
 relation_spelled_again : (at owed : ℕ) (before : Option BlockHead) (rel : Rel) (rest : List ℕ) → rel.spc < 2 ^ 32 → rel.db < 2 ^ 32 → rel.rel < 2 ^ 32 → relation_item false before (standing_at at owed (relation_bytes rel ++ rest)) ≡ relation_read at owed rest rel
@@ -155,7 +155,7 @@ relation_again at owed false before rel rest a b c has = relation_spelled_again 
 
 -- ---- the block's number
 
-abbrev number_read : ℕ → ℕ → List ℕ → ℕ → Result (After ℕ) RecErr
+abbrev number_read : ℕ → ℕ → List ℕ → ℕ → Result (ItemRead ℕ) RecErr
 number_read at owed rest n = Ok (record { value = n; next = record { at = at + 4; rest = rest; owed = owed } })
 
 pub block_number_again : (at owed n : ℕ) (rest : List ℕ) → n < 2 ^ 32 → number_item (standing_at at owed (to_le_bytes w32 n ++ rest)) ≡ number_read at owed rest n
@@ -167,7 +167,7 @@ block_number_again at owed n rest lt =
 
 -- ---- a block's header
 
-abbrev block_read : ℕ → ℕ → List ℕ → BlockHead → Result (After BlockHead) RecErr
+abbrev block_read : ℕ → ℕ → List ℕ → BlockHead → Result (ItemRead BlockHead) RecErr
 block_read at owed rest h = Ok (record { value = h; next = record { at = at; rest = rest; owed = owed + payload_len h } })
 
 flags_of : Bool → BlockHead → ForkFlags

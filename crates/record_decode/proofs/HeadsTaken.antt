@@ -11,7 +11,7 @@ use Rattle.record_decode.specs.declared.head.ForkFlags.{ForkFlags}
 use Rattle.record_decode.specs.declared.head.ImageHead.{ImageHead}
 use Rattle.record_spelling.specs.Spelling.{flag, relation_bytes}
 use Rattle.record_spelling.specs.Numbers.{number_at}
-use Rattle.record_decode.specs.Reading.{After, HeaderCursor, skip, begins_block, fork_flags, fork_item, image_head_of, image_item, is_wrong_hole, relation_item, number_item, block_item, least_id, payload_len}
+use Rattle.record_decode.specs.Reading.{ItemRead, HeaderCursor, skip, begins_block, fork_flags, fork_item, image_head_of, image_item, is_wrong_hole, relation_item, number_item, block_item, least_id, payload_len}
 use Rattle.record_decode.specs.Spells.{image_flag, image_head_text, head_text, IsPageImage, HasRelation, StandsBehind}
 use Rattle.record_spelling.proofs.Bytes.{IsBytes, IsBytes-drop, IsBytes-take, IsWide, wide16, wide32}
 use Rattle.record_decode.proofs.HeaderParts.{piece}
@@ -49,7 +49,7 @@ passes_both {s} {m} {n} {xs} {ys} a b = record {
 
 -- ---- the fork byte and the data's length
 
-pub record ForkTaken (s : HeaderCursor) (x : After (ForkFlags × ℕ)) : Type 0 where
+pub record ForkTaken (s : HeaderCursor) (x : ItemRead (ForkFlags × ℕ)) : Type 0 where
   pub passes : Passes s (fork_byte x.value.0 ∷ to_le_bytes w16 x.value.1) x.next
   pub fork : x.value.0.fork ≤ 3
   pub has_data : x.value.0.has_data ≡ ltb 0 x.value.1
@@ -59,7 +59,7 @@ data_agrees : (has : Bool) (len : ℕ) → cond has (eqb len 0) (ltb 0 len) ≡ 
 data_agrees true len e = let some : 0 < len = omega (arith, eqb-false len 0 e) in sym (lt-ltb 0 len some)
 data_agrees false len e = sym e
 
-pub fork_takes : (s : HeaderCursor) (x : After (ForkFlags × ℕ)) → IsBytes s.rest → fork_item s ≡ Ok x → ForkTaken s x
+pub fork_takes : (s : HeaderCursor) (x : ItemRead (ForkFlags × ℕ)) → IsBytes s.rest → fork_item s ≡ Ok x → ForkTaken s x
 unfolding fork_item
 fork_takes s x fits e =
     let byte = get_or s.rest 0 0 in
@@ -68,7 +68,7 @@ fork_takes s x fits e =
     let b = not_refused (ltb 3 (byte % 16)) _ _ x a.1 in
     let c = not_refused (cond (eqb (byte / 32 % 2) 1) (eqb len 0) (ltb 0 len)) _ _ x b.1 in
     let long = ltb-false _ _ a.0 in
-    let made : After (ForkFlags × ℕ) = record { value = (fork_flags byte, len); next = skip 3 s } in
+    let made : ItemRead (ForkFlags × ℕ) = record { value = (fork_flags byte, len); next = skip 3 s } in
     let spelled : s.rest ≡ (byte ∷ to_le_bytes w16 len) ++ drop 3 s.rest = drop_more s.rest 0 0 (omega arith) ∙ ap (λ (l : List ℕ). byte ∷ l) (number_back w16 (2 ^ 16) wide16 s.rest 1 fits (omega arith)) in
     let again : s.rest ≡ (fork_byte (fork_flags byte) ∷ to_le_bytes w16 len) ++ drop 3 s.rest = spelled ∙ ap (λ (n : ℕ). (n ∷ to_le_bytes w16 len) ++ drop 3 s.rest) (sym (fork_byte-back byte (fits 0))) in
     subst (ForkTaken s) (ok_is made x c.1) (record {
@@ -80,7 +80,7 @@ fork_takes s x fits e =
 
 -- ---- an image's header
 
-pub record ImageTaken (has : Bool) (s : HeaderCursor) (x : After (Option ImageHead)) : Type 0 where
+pub record ImageTaken (has : Bool) (s : HeaderCursor) (x : ItemRead (Option ImageHead)) : Type 0 where
   pub passes : Passes s (image_head_text x.value) x.next
   pub right : IfSome x.value IsPageImage
   pub flag_is : flag has 16 ≡ image_flag x.value
@@ -99,7 +99,7 @@ hole_takes len offset false le e =
     let t : ltb 0 (8192 - len) ≡ false = le-ltb _ _ whole in
     (t, rw t (eqb-true offset 0 a.0))
 
-image_there : (id : ℕ) (s : HeaderCursor) (x : After (Option ImageHead)) → IsBytes s.rest → image_item true id s ≡ Ok x → ImageTaken true s x
+image_there : (id : ℕ) (s : HeaderCursor) (x : ItemRead (Option ImageHead)) → IsBytes s.rest → image_item true id s ≡ Ok x → ImageTaken true s x
 unfolding image_item
 image_there id s x fits e =
     let len = number_at w16 s.rest 0 in
@@ -116,7 +116,7 @@ image_there id s x fits e =
     let hole = hole_takes len offset (eqb (info % 2) 1) few d.0 in
     let info_is : info ≡ flag (ltb 0 (8192 - len)) 1 + flag (eqb (info / 2 % 2) 1) 2 = sym (ap (λ (t : Bool). flag t 1 + flag (eqb (info / 2 % 2) 1) 2) hole.0 ∙ info-back info low) in
     let head = image_head_of len offset info in
-    let made : After (Option ImageHead) = record { value = Some head; next = skip 5 s } in
+    let made : ItemRead (Option ImageHead) = record { value = Some head; next = skip 5 s } in
     let behind : drop 4 s.rest ≡ (flag (ltb 0 (8192 - len)) 1 + flag (eqb (info / 2 % 2) 1) 2) ∷ drop 5 s.rest = drop_more s.rest 4 0 (omega arith) ∙ ap (λ (n : ℕ). n ∷ drop 5 s.rest) info_is in
     let spelled : s.rest ≡ image_head_text (Some head) ++ drop 5 s.rest = number_back w16 (2 ^ 16) wide16 s.rest 0 fits (omega arith) ∙ ap (λ (l : List ℕ). to_le_bytes w16 len ++ l) (number_back w16 (2 ^ 16) wide16 s.rest 2 fits (omega arith) ∙ ap (λ (l : List ℕ). to_le_bytes w16 offset ++ l) behind) in
     subst (ImageTaken true s) (ok_is made x d.1) (record {
@@ -125,23 +125,23 @@ image_there id s x fits e =
       flag_is = refl;
     })
 
-image_absent : (id : ℕ) (s : HeaderCursor) (x : After (Option ImageHead)) → IsBytes s.rest → image_item false id s ≡ Ok x → ImageTaken false s x
+image_absent : (id : ℕ) (s : HeaderCursor) (x : ItemRead (Option ImageHead)) → IsBytes s.rest → image_item false id s ≡ Ok x → ImageTaken false s x
 unfolding image_item
 image_absent id s x fits e =
-    let made : After (Option ImageHead) = record { value = None; next = s } in
+    let made : ItemRead (Option ImageHead) = record { value = None; next = s } in
     subst (ImageTaken false s) (ok_is made x e) (record {
       passes = record { rest_is = refl; at_is = omega arith; owed_is = refl; fits = fits };
       right = tt;
       flag_is = refl;
     })
 
-pub image_takes : (has : Bool) (id : ℕ) (s : HeaderCursor) (x : After (Option ImageHead)) → IsBytes s.rest → image_item has id s ≡ Ok x → ImageTaken has s x
+pub image_takes : (has : Bool) (id : ℕ) (s : HeaderCursor) (x : ItemRead (Option ImageHead)) → IsBytes s.rest → image_item has id s ≡ Ok x → ImageTaken has s x
 image_takes true id s x fits e = image_there id s x fits e
 image_takes false id s x fits e = image_absent id s x fits e
 
 -- ---- the relation
 
-pub record RelationTaken (same : Bool) (before : Option BlockHead) (s : HeaderCursor) (x : After Rel) : Type 0 where
+pub record RelationTaken (same : Bool) (before : Option BlockHead) (s : HeaderCursor) (x : ItemRead Rel) : Type 0 where
   pub passes : Passes s (cond same [] (relation_bytes x.value)) x.next
   pub tablespace : x.value.spc < 2 ^ 32
   pub database : x.value.db < 2 ^ 32
@@ -157,13 +157,13 @@ pub record RelationFits (rel : Rel) : Type 0 where
 abbrev pub BeforeFits : Option BlockHead → Type 0
 BeforeFits before = IfSome before (λ h. RelationFits h.rel)
 
-relation_spelled : (before : Option BlockHead) (s : HeaderCursor) (x : After Rel) → IsBytes s.rest → relation_item false before s ≡ Ok x → RelationTaken false before s x
+relation_spelled : (before : Option BlockHead) (s : HeaderCursor) (x : ItemRead Rel) → IsBytes s.rest → relation_item false before s ≡ Ok x → RelationTaken false before s x
 unfolding relation_item
 relation_spelled before s x fits e =
     let a = not_refused (ltb (length s.rest) 12) _ _ x e in
     let long = ltb-false _ _ a.0 in
     let rel : Rel = record { spc = number_at w32 s.rest 0; db = number_at w32 s.rest 4; rel = number_at w32 s.rest 8 } in
-    let made : After Rel = record { value = rel; next = skip 12 s } in
+    let made : ItemRead Rel = record { value = rel; next = skip 12 s } in
     let spelled : s.rest ≡ relation_bytes rel ++ drop 12 s.rest = number_back w32 (2 ^ 32) wide32 s.rest 0 fits (omega arith) ∙ ap (λ (l : List ℕ). to_le_bytes w32 rel.spc ++ l) (number_back w32 (2 ^ 32) wide32 s.rest 4 fits (omega arith) ∙ ap (λ (l : List ℕ). to_le_bytes w32 rel.db ++ l) (number_back w32 (2 ^ 32) wide32 s.rest 8 fits (omega arith))) in
     subst (RelationTaken false before s) (ok_is made x a.1) (record {
       passes = passes_skip 12 s _ fits spelled refl;
@@ -173,10 +173,10 @@ relation_spelled before s x fits e =
       relation_before = tt;
     })
 
-relation_kept : (b : BlockHead) (s : HeaderCursor) (x : After Rel) → IsBytes s.rest → RelationFits b.rel → relation_item true (Some b) s ≡ Ok x → RelationTaken true (Some b) s x
+relation_kept : (b : BlockHead) (s : HeaderCursor) (x : ItemRead Rel) → IsBytes s.rest → RelationFits b.rel → relation_item true (Some b) s ≡ Ok x → RelationTaken true (Some b) s x
 unfolding relation_item
 relation_kept b s x fits before e =
-    let made : After Rel = record { value = b.rel; next = s } in
+    let made : ItemRead Rel = record { value = b.rel; next = s } in
     subst (RelationTaken true (Some b) s) (ok_is made x e) (record {
       passes = record { rest_is = refl; at_is = omega arith; owed_is = refl; fits = fits };
       tablespace = before.tablespace;
@@ -185,27 +185,27 @@ relation_kept b s x fits before e =
       relation_before = refl;
     })
 
-relation_missing : (s : HeaderCursor) (x : After Rel) → relation_item true None s ≡ Ok x → ⊥
+relation_missing : (s : HeaderCursor) (x : ItemRead Rel) → relation_item true None s ≡ Ok x → ⊥
 unfolding relation_item
 relation_missing s x e = cc
 
-pub relation_takes : (same : Bool) (before : Option BlockHead) (s : HeaderCursor) (x : After Rel) → IsBytes s.rest → BeforeFits before → relation_item same before s ≡ Ok x → RelationTaken same before s x
+pub relation_takes : (same : Bool) (before : Option BlockHead) (s : HeaderCursor) (x : ItemRead Rel) → IsBytes s.rest → BeforeFits before → relation_item same before s ≡ Ok x → RelationTaken same before s x
 relation_takes true None s x fits before e = absurd (relation_missing s x e)
 relation_takes true (Some b) s x fits before e = relation_kept b s x fits before e
 relation_takes false before s x fits b e = relation_spelled before s x fits e
 
 -- ---- the block's number
 
-pub record NumberTaken (s : HeaderCursor) (x : After ℕ) : Type 0 where
+pub record NumberTaken (s : HeaderCursor) (x : ItemRead ℕ) : Type 0 where
   pub passes : Passes s (to_le_bytes w32 x.value) x.next
   pub number : x.value < 2 ^ 32
 
-pub number_takes : (s : HeaderCursor) (x : After ℕ) → IsBytes s.rest → number_item s ≡ Ok x → NumberTaken s x
+pub number_takes : (s : HeaderCursor) (x : ItemRead ℕ) → IsBytes s.rest → number_item s ≡ Ok x → NumberTaken s x
 unfolding number_item
 number_takes s x fits e =
     let a = not_refused (ltb (length s.rest) 4) _ _ x e in
     let long = ltb-false _ _ a.0 in
-    let made : After ℕ = record { value = number_at w32 s.rest 0; next = skip 4 s } in
+    let made : ItemRead ℕ = record { value = number_at w32 s.rest 0; next = skip 4 s } in
     subst (NumberTaken s) (ok_is made x a.1) (record {
       passes = passes_skip 4 s _ fits (number_back w32 (2 ^ 32) wide32 s.rest 0 fits (omega arith)) refl;
       number = number_below w32 (2 ^ 32) wide32 s.rest 0 fits;
@@ -213,7 +213,7 @@ number_takes s x fits e =
 
 -- ---- a block's header
 
-pub record BlockTaken (before : Option BlockHead) (s : HeaderCursor) (x : After BlockHead) : Type 0 where
+pub record BlockTaken (before : Option BlockHead) (s : HeaderCursor) (x : ItemRead BlockHead) : Type 0 where
   pub same : Bool
   pub rest_is : s.rest ≡ head_text same x.value ++ x.next.rest
   pub at_is : x.next.at ≡ s.at + length (head_text same x.value)
@@ -225,7 +225,7 @@ begins_id : (bytes : List ℕ) → begins_block bytes ≡ true → (get_or bytes
 begins_id [] e = absurd cc
 begins_id (b ∷ bs) e = (leb-true b 32 e, refl)
 
-block_made : (before : Option BlockHead) (s : HeaderCursor) (fork : After (ForkFlags × ℕ)) (image : After (Option ImageHead)) (rel : After Rel) (blk : After ℕ)
+block_made : (before : Option BlockHead) (s : HeaderCursor) (fork : ItemRead (ForkFlags × ℕ)) (image : ItemRead (Option ImageHead)) (rel : ItemRead Rel) (blk : ItemRead ℕ)
     → IsBytes s.rest → begins_block s.rest ≡ true → least_id before ≤ get_or s.rest 0 0 → ForkTaken (skip 1 s) fork → ImageTaken fork.value.0.has_image fork.next image → RelationTaken fork.value.0.same before image.next rel → NumberTaken rel.next blk
     → let head : BlockHead = record { id = get_or s.rest 0 0; rel = rel.value; fork = fork.value.0.fork; blk = blk.value; will_init = fork.value.0.will_init; image = image.value; content_len = fork.value.1 } in
     BlockTaken before s (record { value = head; next = record { at = blk.next.at; rest = blk.next.rest; owed = s.owed + payload_len head } })
@@ -247,7 +247,7 @@ block_made before s fork image rel blk fits begins above f i r n =
       stands = record { above = above; id = b.0; fork = f.fork; content = f.content; image = i.right; tablespace = r.tablespace; database = r.database; relation = r.relation; number = n.number; relation_before = r.relation_before };
     }
 
-pub block_takes : (before : Option BlockHead) (s : HeaderCursor) (x : After BlockHead) → IsBytes s.rest → begins_block s.rest ≡ true → BeforeFits before → block_item before s ≡ Ok x → BlockTaken before s x
+pub block_takes : (before : Option BlockHead) (s : HeaderCursor) (x : ItemRead BlockHead) → IsBytes s.rest → begins_block s.rest ≡ true → BeforeFits before → block_item before s ≡ Ok x → BlockTaken before s x
 unfolding block_item
 block_takes before s x fits begins before_fits e =
     let id = get_or s.rest 0 0 in
@@ -261,5 +261,5 @@ block_takes before s x fits begins before_fits e =
     let k = bind_ok (number_item d.0.next) _ x d.2 in
     let n = number_takes d.0.next k.0 r.passes.fits k.1 in
     let head : BlockHead = record { id = id; rel = d.0.value; fork = b.0.value.0.fork; blk = k.0.value; will_init = b.0.value.0.will_init; image = c.0.value; content_len = b.0.value.1 } in
-    let made : After BlockHead = record { value = head; next = record { at = k.0.next.at; rest = k.0.next.rest; owed = s.owed + payload_len head } } in
+    let made : ItemRead BlockHead = record { value = head; next = record { at = k.0.next.at; rest = k.0.next.rest; owed = s.owed + payload_len head } } in
     subst (BlockTaken before s) (ok_is made x k.2) (block_made before s b.0 c.0 d.0 k.0 fits begins (ltb-false _ _ a.0) f i r n)

@@ -8,7 +8,7 @@ use Rattle.record_decode.specs.declared.fault.RecErr.TheVariants.{Malformed}
 use Rattle.record_decode.specs.declared.fault.RecKind.TheVariants as kinds
 use Rattle.record_decode.specs.declared.head.BlockHead.{BlockHead}
 use Rattle.record_spelling.specs.Numbers.{number_at}
-use Rattle.record_decode.specs.Reading.{◌>>=◌, After, Headers, HeaderCursor, begins_block, begins_with, block_item, block_items, has_header, main_item, optional_item, payload_len, promising, skip}
+use Rattle.record_decode.specs.Reading.{◌>>=◌, ItemRead, Headers, HeaderCursor, begins_block, begins_with, block_item, block_items, has_header, main_item, optional_item, payload_len, owing_more, skip}
 use Rattle.record_decode.specs.Spells.{Items, head_text}
 use Rattle.record_spelling.specs.Checks.{first_fault}
 use Rattle.record_decode.specs.Fails.{IsMainHead, NextBlock, NextOrigin, NextTopXid, last_of}
@@ -135,7 +135,7 @@ short_cut : (s : HeaderCursor) → has_header s ≡ true → begins_with 255 s.r
 unfolding main_item
 short_cut s more begins cut = rw (more, begins, cut) refl
 
-short_whole : (s : HeaderCursor) → has_header s ≡ true → begins_with 255 s.rest ≡ true → ltb (length s.rest) 2 ≡ false → main_item s ≡ Ok (promising (get_or s.rest 1 0) (skip 2 s))
+short_whole : (s : HeaderCursor) → has_header s ≡ true → begins_with 255 s.rest ≡ true → ltb (length s.rest) 2 ≡ false → main_item s ≡ Ok (owing_more (get_or s.rest 1 0) (skip 2 s))
 unfolding main_item
 short_whole s more begins long = rw (more, begins, long) refl
 
@@ -143,7 +143,7 @@ long_cut : (s : HeaderCursor) → has_header s ≡ true → begins_with 255 s.re
 unfolding main_item
 long_cut s more other begins cut = rw (more, other, begins, cut) refl
 
-long_whole : (s : HeaderCursor) → has_header s ≡ true → begins_with 255 s.rest ≡ false → begins_with 254 s.rest ≡ true → ltb (length s.rest) 5 ≡ false → main_item s ≡ Ok (promising (number_at w32 s.rest 1) (skip 5 s))
+long_whole : (s : HeaderCursor) → has_header s ≡ true → begins_with 255 s.rest ≡ false → begins_with 254 s.rest ≡ true → ltb (length s.rest) 5 ≡ false → main_item s ≡ Ok (owing_more (number_at w32 s.rest 1) (skip 5 s))
 unfolding main_item
 long_whole s more other begins long = rw (more, other, begins, long) refl
 
@@ -151,14 +151,14 @@ step_short : (blocks : List BlockHead) (origin top : Option ℕ) (s : HeaderCurs
 step_short blocks origin top s r more fits b gives =
     elim (cases_Bool (ltb (length s.rest) 2)) [
       | inl cut ↦ main_fails blocks origin top s r (Malformed (s.at + 1) kinds.Short) (rw (b.block_is, b.origin_is, b.top_is, b.short_is, cut) refl) (short_cut s more b.short_is cut) gives
-      | inr long ↦ main_ends blocks origin top s (promising (get_or s.rest 1 0) (skip 2 s)) r (rw (b.block_is, b.origin_is, b.top_is, b.short_is, long) refl) (short_whole s more b.short_is long) (255 ∷ get_or s.rest 1 0 ∷ []) (get_or s.rest 1 0) (inl (fits 1, refl)) (record { rest_is = begins_true 255 s.rest b.short_is ∙ ap (λ (l : List ℕ). 255 ∷ l) (drop_more s.rest 1 0 (omega (arith, ltb-false _ _ long))); at_is = refl; owed_is = refl; fits = IsBytes-drop 2 s.rest fits }) gives
+      | inr long ↦ main_ends blocks origin top s (owing_more (get_or s.rest 1 0) (skip 2 s)) r (rw (b.block_is, b.origin_is, b.top_is, b.short_is, long) refl) (short_whole s more b.short_is long) (255 ∷ get_or s.rest 1 0 ∷ []) (get_or s.rest 1 0) (inl (fits 1, refl)) (record { rest_is = begins_true 255 s.rest b.short_is ∙ ap (λ (l : List ℕ). 255 ∷ l) (drop_more s.rest 1 0 (omega (arith, ltb-false _ _ long))); at_is = refl; owed_is = refl; fits = IsBytes-drop 2 s.rest fits }) gives
     ]
 
 step_long : (blocks : List BlockHead) (origin top : Option ℕ) (s : HeaderCursor) (r : Result Headers RecErr) → has_header s ≡ true → IsBytes s.rest → Begins false false false false true s.rest → after_top blocks origin top s ≡ r → Step (items_so blocks origin top) s r
 step_long blocks origin top s r more fits b gives =
     elim (cases_Bool (ltb (length s.rest) 5)) [
       | inl cut ↦ main_fails blocks origin top s r (Malformed (s.at + 1) kinds.Short) (rw (b.block_is, b.origin_is, b.top_is, b.short_is, b.long_is, cut) refl) (long_cut s more b.short_is b.long_is cut) gives
-      | inr long ↦ main_ends blocks origin top s (promising (number_at w32 s.rest 1) (skip 5 s)) r (rw (b.block_is, b.origin_is, b.top_is, b.short_is, b.long_is, long) refl) (long_whole s more b.short_is b.long_is long) (254 ∷ to_le_bytes w32 (number_at w32 s.rest 1)) (number_at w32 s.rest 1) (inr (number_below w32 (2 ^ 32) wide32 s.rest 1 fits, refl)) (record { rest_is = begins_true 254 s.rest b.long_is ∙ ap (λ (l : List ℕ). 254 ∷ l) (number_back w32 (2 ^ 32) wide32 s.rest 1 fits (omega (arith, ltb-false _ _ long))); at_is = refl; owed_is = refl; fits = IsBytes-drop 5 s.rest fits }) gives
+      | inr long ↦ main_ends blocks origin top s (owing_more (number_at w32 s.rest 1) (skip 5 s)) r (rw (b.block_is, b.origin_is, b.top_is, b.short_is, b.long_is, long) refl) (long_whole s more b.short_is b.long_is long) (254 ∷ to_le_bytes w32 (number_at w32 s.rest 1)) (number_at w32 s.rest 1) (inr (number_below w32 (2 ^ 32) wide32 s.rest 1 fits, refl)) (record { rest_is = begins_true 254 s.rest b.long_is ∙ ap (λ (l : List ℕ). 254 ∷ l) (number_back w32 (2 ^ 32) wide32 s.rest 1 fits (omega (arith, ltb-false _ _ long))); at_is = refl; owed_is = refl; fits = IsBytes-drop 5 s.rest fits }) gives
     ]
 
 -- ---- an origin, a top-level transaction
@@ -182,7 +182,7 @@ item_behind tag w limit wide s fits begins long = record {
 step_origin : (blocks : List BlockHead) (origin top : Option ℕ) (s : HeaderCursor) (r : Result Headers RecErr) → has_header s ≡ true → IsBytes s.rest → Begins false true false false false s.rest → Resumes blocks origin top s r → Step (items_so blocks origin top) s r
 step_origin blocks None None s r more fits b resumes =
     let gives = no_block blocks s r (and_right (has_header s) _ b.block_is) resumes in
-    let bind : Result (After (Option ℕ)) RecErr → Result Headers RecErr = λ x. x >>= λ (o : After (Option ℕ)). after_origin blocks o.value o.next in
+    let bind : Result (ItemRead (Option ℕ)) RecErr → Result Headers RecErr = λ x. x >>= λ (o : ItemRead (Option ℕ)). after_origin blocks o.value o.next in
     elim (cases_Bool (ltb (length s.rest) 3)) [
       | inl cut ↦ inl (record { error = Malformed (s.at + 1) kinds.Short; fails = rw (b.block_is, b.origin_is, cut) refl; gives = sym gives ∙ ap bind (item_cut 253 w16 s more b.origin_is cut) })
       | inr long ↦ inr (inr (inr (inl (record {
@@ -202,7 +202,7 @@ step_origin blocks (Some o) (Some t) s r more fits b resumes = main_fails blocks
 step_top : (blocks : List BlockHead) (origin top : Option ℕ) (s : HeaderCursor) (r : Result Headers RecErr) → has_header s ≡ true → IsBytes s.rest → Begins false false true false false s.rest → Resumes blocks origin top s r → Step (items_so blocks origin top) s r
 step_top blocks origin None s r more fits b resumes =
     let gives = to_origin blocks origin s r (and_right (has_header s) _ b.block_is) (and_right (has_header s) _ b.origin_is) resumes in
-    let bind : Result (After (Option ℕ)) RecErr → Result Headers RecErr = λ x. x >>= λ (t : After (Option ℕ)). after_top blocks origin t.value t.next in
+    let bind : Result (ItemRead (Option ℕ)) RecErr → Result Headers RecErr = λ x. x >>= λ (t : ItemRead (Option ℕ)). after_top blocks origin t.value t.next in
     elim (cases_Bool (ltb (length s.rest) 5)) [
       | inl cut ↦ inl (record { error = Malformed (s.at + 1) kinds.Short; fails = rw (b.block_is, b.origin_is, b.top_is, cut) refl; gives = sym gives ∙ ap bind (item_cut 252 w32 s more b.top_is cut) })
       | inr long ↦ inr (inr (inr (inr (record {
@@ -223,15 +223,15 @@ pub last_of-push : (before : Option BlockHead) (heads : List BlockHead) (h : Blo
 last_of-push before [] h = refl
 last_of-push before (x ∷ xs) h = last_of-push (Some x) xs h
 
-pub resumes_block : (blocks : List BlockHead) (s : HeaderCursor) (x : After BlockHead) (r : Result Headers RecErr) → (has_header s && begins_block s.rest) ≡ true → block_item (last_of None blocks) s ≡ Ok x → Resumes blocks None None s r → Resumes (blocks ++ x.value ∷ []) None None x.next r
+pub resumes_block : (blocks : List BlockHead) (s : HeaderCursor) (x : ItemRead BlockHead) (r : Result Headers RecErr) → (has_header s && begins_block s.rest) ≡ true → block_item (last_of None blocks) s ≡ Ok x → Resumes blocks None None s r → Resumes (blocks ++ x.value ∷ []) None None x.next r
 resumes_block blocks s x r more read resumes =
     let on = goes_on resumes.0 (last_of None blocks) blocks s x (block_items resumes.0 (last_of None blocks) blocks s) resumes.1.0 refl more read in
-    let bind : Result (After (List BlockHead)) RecErr → Result Headers RecErr = λ y. y >>= λ (b : After (List BlockHead)). after_blocks b.value b.next in
+    let bind : Result (ItemRead (List BlockHead)) RecErr → Result Headers RecErr = λ y. y >>= λ (b : ItemRead (List BlockHead)). after_blocks b.value b.next in
     (on.0, (on.1.0, ap (λ (before : Option BlockHead). bind (block_items on.0 before (blocks ++ x.value ∷ []) x.next)) (last_of-push None blocks x.value) ∙ ap bind on.1.1 ∙ resumes.1.1))
 
 block_breaks : (blocks : List BlockHead) (s : HeaderCursor) (e : RecErr) (r : Result Headers RecErr) → (has_header s && begins_block s.rest) ≡ true → block_item (last_of None blocks) s ≡ Err e → Resumes blocks None None s r → r ≡ Err e
 block_breaks blocks s e r more read resumes =
-    let bind : Result (After (List BlockHead)) RecErr → Result Headers RecErr = λ y. y >>= λ (b : After (List BlockHead)). after_blocks b.value b.next in
+    let bind : Result (ItemRead (List BlockHead)) RecErr → Result Headers RecErr = λ y. y >>= λ (b : ItemRead (List BlockHead)). after_blocks b.value b.next in
     sym resumes.1.1 ∙ ap bind (fails_so resumes.0 (last_of None blocks) blocks s e (block_items resumes.0 (last_of None blocks) blocks s) resumes.1.0 refl more read)
 
 either : {A : Type 0} (x : Result A RecErr) → ((y : A) × (x ≡ Ok y)) ⊎ ((e : RecErr) × (x ≡ Err e))

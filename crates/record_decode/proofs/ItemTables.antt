@@ -9,7 +9,7 @@ use Rattle.record_decode.specs.declared.fault.RecErr.{RecErr}
 use Rattle.record_decode.specs.declared.fault.RecErr.TheVariants.{Malformed, Compressed}
 use Rattle.record_decode.specs.declared.fault.RecKind.TheVariants as kinds
 use Rattle.record_decode.specs.declared.head.BlockHead.{BlockHead}
-use Rattle.record_decode.specs.Reading.{Checks, HeaderCursor, begins_block, begins_with, fork_checks, fork_flags, image_checks, is_cut, least_id, skip}
+use Rattle.record_decode.specs.Reading.{Checks, HeaderCursor, begins_block, begins_with, fork_checks, fork_flags, image_checks, cut_row, least_id, skip}
 use Rattle.record_decode.specs.Spells.{Items}
 use Rattle.record_decode.specs.Fails.{block_rows, fork_rows, image_rows, is_cut_at, item_rows, last_of, relation_rows}
 
@@ -18,7 +18,7 @@ use Rattle.record_decode.specs.Fails.{block_rows, fork_rows, image_rows, is_cut_
 abbrev pub relation_checks : Bool → Option BlockHead → HeaderCursor → Checks
 relation_checks true None s = (true, Malformed s.at kinds.Same) ∷ []
 relation_checks true (Some before) s = []
-relation_checks false before s = is_cut 12 s ∷ []
+relation_checks false before s = cut_row 12 s ∷ []
 
 abbrev pub block_checks : Option BlockHead → HeaderCursor → Checks
 block_checks before s =
@@ -26,7 +26,7 @@ block_checks before s =
     let image = skip 3 (skip 1 s) in
     let relation = if flags.has_image then skip 5 image else image in
     let number = if flags.same then relation else skip 12 relation in
-    (nat_lt (slice_index s.rest 0) (least_id before), Malformed s.at kinds.Order) ∷ fork_checks (skip 1 s) ++ (if flags.has_image then image_checks (slice_index s.rest 0) image else []) ++ relation_checks flags.same before relation ++ is_cut 4 number ∷ []
+    (nat_lt (slice_index s.rest 0) (least_id before), Malformed s.at kinds.Order) ∷ fork_checks (skip 1 s) ++ (if flags.has_image then image_checks (slice_index s.rest 0) image else []) ++ relation_checks flags.same before relation ++ cut_row 4 number ∷ []
 
 abbrev pub is_cut_behind : ℕ → HeaderCursor → Bool × RecErr
 is_cut_behind n s = (nat_lt (length s.rest) n, Malformed (s.at + 1) kinds.Short)
@@ -102,7 +102,7 @@ image_same block bytes s e =
     ∙ ap (λ (flags : ℕ). image_by block len hole flags (ltb (length s.rest) 5) s.at) (byte_same bytes s 4 e)
     ∙ ap (λ (cut : Bool). image_by block len hole (get_or bytes (s.at + 4) 0) cut s.at) (cut_same bytes s 5 (omega arith) e))
 
-cut_row_same : (bytes : List ℕ) (s : HeaderCursor) (n : ℕ) → 0 < n → StandsIn bytes s → (let row : Bool × RecErr = (is_cut_at bytes s.at n, Malformed s.at kinds.Short) in row ≡ is_cut n s)
+cut_row_same : (bytes : List ℕ) (s : HeaderCursor) (n : ℕ) → 0 < n → StandsIn bytes s → (let row : Bool × RecErr = (is_cut_at bytes s.at n, Malformed s.at kinds.Short) in row ≡ cut_row n s)
 cut_row_same bytes s n some e = ap (λ (cut : Bool). (cut, Malformed s.at kinds.Short)) (sym (cut_same bytes s n some e))
 
 relation_same : (same : Bool) (before : Option BlockHead) (bytes : List ℕ) (s : HeaderCursor) → StandsIn bytes s → relation_rows same before bytes s.at ≡ relation_checks same before s
@@ -117,7 +117,7 @@ abbrev NumberAt : Bool → HeaderCursor → HeaderCursor
 NumberAt same relation = if same then relation else skip 12 relation
 
 ends_same : (same : Bool) (before : Option BlockHead) (bytes : List ℕ) (relation : HeaderCursor) → StandsIn bytes relation → (front : Checks)
-    → (let number : ℕ = (if same then relation.at else relation.at + 12) in front ++ relation_rows same before bytes relation.at ++ (is_cut_at bytes number 4, Malformed number kinds.Short) ∷ []) ≡ front ++ relation_checks same before relation ++ is_cut 4 (NumberAt same relation) ∷ []
+    → (let number : ℕ = (if same then relation.at else relation.at + 12) in front ++ relation_rows same before bytes relation.at ++ (is_cut_at bytes number 4, Malformed number kinds.Short) ∷ []) ≡ front ++ relation_checks same before relation ++ cut_row 4 (NumberAt same relation) ∷ []
 ends_same true before bytes relation e front =
     ap (λ (rows : Checks). front ++ rows ++ (is_cut_at bytes relation.at 4, Malformed relation.at kinds.Short) ∷ []) (relation_same true before bytes relation e)
     ∙ ap (λ (row : Bool × RecErr). front ++ relation_checks true before relation ++ row ∷ []) (cut_row_same bytes relation 4 (omega arith) e)
@@ -136,7 +136,7 @@ block_by : Bool → Bool → ℕ → Option BlockHead → HeaderCursor → Check
 block_by has same id before s fork =
     let image = skip 3 (skip 1 s) in
     let relation = if has then skip 5 image else image in
-    (nat_lt id (least_id before), Malformed s.at kinds.Order) ∷ fork ++ (if has then image_checks id image else []) ++ relation_checks same before relation ++ is_cut 4 (NumberAt same relation) ∷ []
+    (nat_lt id (least_id before), Malformed s.at kinds.Order) ∷ fork ++ (if has then image_checks id image else []) ++ relation_checks same before relation ++ cut_row 4 (NumberAt same relation) ∷ []
 
 at_same : (has same : Bool) (id : ℕ) (before : Option BlockHead) (bytes : List ℕ) (s : HeaderCursor) (fork : Checks) → StandsIn bytes s → block_at has same id before bytes s.at fork ≡ block_by has same id before s fork
 unfolding block_at block_by
@@ -145,7 +145,7 @@ at_same true same id before bytes s fork e =
     let there = behind bytes (skip 1 s) 3 (behind bytes s 1 e) in
     let order : Bool × RecErr = (nat_lt id (least_id before), Malformed s.at kinds.Order) in
     ends_same same before bytes (skip 5 image) (behind bytes image 5 there) (order ∷ fork ++ image_rows id bytes image.at)
-    ∙ ap (λ (rows : Checks). order ∷ fork ++ rows ++ relation_checks same before (skip 5 image) ++ is_cut 4 (NumberAt same (skip 5 image)) ∷ []) (image_same id bytes image there)
+    ∙ ap (λ (rows : Checks). order ∷ fork ++ rows ++ relation_checks same before (skip 5 image) ++ cut_row 4 (NumberAt same (skip 5 image)) ∷ []) (image_same id bytes image there)
 at_same false same id before bytes s fork e =
     let image = skip 3 (skip 1 s) in
     let there = behind bytes (skip 1 s) 3 (behind bytes s 1 e) in

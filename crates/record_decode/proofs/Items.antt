@@ -6,7 +6,7 @@ use Rattle.std.proofs.lemmas.Bool.{eqb-true, eq-eqb, ltb-false, le-ltb, lt-ltb, 
 use Rattle.std.proofs.lemmas.List.{drop_more, length-append, drop-drop, drop_at}
 use Rattle.record_decode.specs.declared.fault.RecErr.{RecErr}
 use Rattle.record_spelling.specs.Numbers.{number_at}
-use Rattle.record_decode.specs.Reading.{After, HeaderCursor, begins_with, has_header, main_item, optional_item, promising, skip}
+use Rattle.record_decode.specs.Reading.{ItemRead, HeaderCursor, begins_with, has_header, main_item, optional_item, owing_more, skip}
 use Rattle.record_decode.specs.Spells.{item_text, SpellsMainHead}
 use Rattle.record_spelling.proofs.Bytes.{IsBytes, IsBytes-drop, IsWide, wide32}
 use Rattle.record_decode.proofs.Steps.{not_refused, both_refuse, chosen, ok_is}
@@ -19,23 +19,23 @@ begins_true tag (b ∷ bs) e = ap (λ (x : ℕ). x ∷ bs) (eqb-true b tag e)
 
 -- ---- an optional item
 
-pub record ItemTaken (tag : ℕ) (w : Width) (limit : ℕ) (s : HeaderCursor) (x : After (Option ℕ)) : Type 0 where
+pub record ItemTaken (tag : ℕ) (w : Width) (limit : ℕ) (s : HeaderCursor) (x : ItemRead (Option ℕ)) : Type 0 where
   pub passes : Passes s (item_text tag w x.value) x.next
   pub number : IfSome x.value (λ n. n < limit)
 
-pub optional_takes : (tag : ℕ) (w : Width) (limit : ℕ) → IsWide w limit → (s : HeaderCursor) (x : After (Option ℕ)) → IsBytes s.rest → optional_item tag w s ≡ Ok x → ItemTaken tag w limit s x
+pub optional_takes : (tag : ℕ) (w : Width) (limit : ℕ) → IsWide w limit → (s : HeaderCursor) (x : ItemRead (Option ℕ)) → IsBytes s.rest → optional_item tag w s ≡ Ok x → ItemTaken tag w limit s x
 unfolding optional_item
 optional_takes tag w limit wide s x fits e =
     elim (chosen (has_header s && begins_with tag s.rest) _ _ _ e) [
       | inl h ↦
           let a = not_refused (ltb (length s.rest) (1 + byte_len w)) _ _ x h.1 in
           let long = ltb-false _ _ a.0 in
-          let made : After (Option ℕ) = record { value = Some (number_at w s.rest 1); next = skip (1 + byte_len w) s } in
+          let made : ItemRead (Option ℕ) = record { value = Some (number_at w s.rest 1); next = skip (1 + byte_len w) s } in
           let begins = (and_parts (has_header s) (begins_with tag s.rest) h.0).1 in
           let spelled : s.rest ≡ (tag ∷ to_le_bytes w (number_at w s.rest 1)) ++ drop (1 + byte_len w) s.rest = begins_true tag s.rest begins ∙ ap (λ (l : List ℕ). tag ∷ l) (number_back w limit wide s.rest 1 fits (omega arith)) in
           subst (ItemTaken tag w limit s) (ok_is made x a.1) (record { passes = passes_skip (1 + byte_len w) s _ fits spelled (omega (arith, wide.len (number_at w s.rest 1))); number = number_below w limit wide s.rest 1 fits })
       | inr h ↦
-          let none : After (Option ℕ) = record { value = None; next = s } in
+          let none : ItemRead (Option ℕ) = record { value = None; next = s } in
           subst (ItemTaken tag w limit s) (ok_is none x h.1) (record { passes = record { rest_is = refl; at_is = omega arith; owed_is = refl; fits = fits }; number = tt })
     ]
 
@@ -71,7 +71,7 @@ pub record MainTaken (s next : HeaderCursor) : Type 0 where
   pub owed_is : next.owed ≡ s.owed + len
   pub fits : IsBytes next.rest
 
-pub short_taken : (s : HeaderCursor) → IsBytes s.rest → begins_with 255 s.rest ≡ true → 2 ≤ length s.rest → MainTaken s (promising (get_or s.rest 1 0) (skip 2 s))
+pub short_taken : (s : HeaderCursor) → IsBytes s.rest → begins_with 255 s.rest ≡ true → 2 ≤ length s.rest → MainTaken s (owing_more (get_or s.rest 1 0) (skip 2 s))
 short_taken s fits begins long = record {
   text = 255 ∷ get_or s.rest 1 0 ∷ [];
   len = get_or s.rest 1 0;
@@ -82,7 +82,7 @@ short_taken s fits begins long = record {
   fits = IsBytes-drop 2 s.rest fits;
 }
 
-pub long_taken : (s : HeaderCursor) → IsBytes s.rest → begins_with 254 s.rest ≡ true → 5 ≤ length s.rest → MainTaken s (promising (number_at w32 s.rest 1) (skip 5 s))
+pub long_taken : (s : HeaderCursor) → IsBytes s.rest → begins_with 254 s.rest ≡ true → 5 ≤ length s.rest → MainTaken s (owing_more (number_at w32 s.rest 1) (skip 5 s))
 long_taken s fits begins long = record {
   text = 254 ∷ to_le_bytes w32 (number_at w32 s.rest 1);
   len = number_at w32 s.rest 1;

@@ -9,7 +9,7 @@ use Rattle.record_decode.specs.declared.fault.RecErr.{RecErr}
 use Rattle.record_decode.specs.declared.fault.RecErr.TheVariants.{Malformed}
 use Rattle.record_decode.specs.declared.fault.RecKind.TheVariants as kinds
 use Rattle.record_decode.specs.declared.head.BlockHead.{BlockHead}
-use Rattle.record_decode.specs.Reading.{◌>>=◌, After, Headers, HeaderCursor, begins_block, begins_with, block_items, has_header, headers_of, main_item, optional_item, payload_len}
+use Rattle.record_decode.specs.Reading.{◌>>=◌, ItemRead, Headers, HeaderCursor, begins_block, begins_with, block_items, has_header, headers_of, main_item, optional_item, payload_len}
 use Rattle.record_decode.specs.Spells.{Items, SpellsHeads, item_text}
 use Rattle.record_decode.specs.Fails.{ReachesItem, last_of}
 use Rattle.record_spelling.proofs.Bytes.{wide16, wide32}
@@ -45,13 +45,13 @@ Resumes blocks None None s r = (n : ℕ) × ((length s.rest ≤ n) × (from_bloc
 -- ---- an item that does not stand here is passed over
 
 pub no_block : (blocks : List BlockHead) (s : HeaderCursor) (r : Result Headers RecErr) → (has_header s && begins_block s.rest) ≡ false → Resumes blocks None None s r → after_blocks blocks s ≡ r
-no_block blocks s r over resumes = ap (λ (x : Result (After (List BlockHead)) RecErr). x >>= λ (b : After (List BlockHead)). after_blocks b.value b.next) (sym (block_items-ends resumes.0 (last_of None blocks) blocks s over)) ∙ resumes.1.1
+no_block blocks s r over resumes = ap (λ (x : Result (ItemRead (List BlockHead)) RecErr). x >>= λ (b : ItemRead (List BlockHead)). after_blocks b.value b.next) (sym (block_items-ends resumes.0 (last_of None blocks) blocks s over)) ∙ resumes.1.1
 
 pub no_origin : (blocks : List BlockHead) (s : HeaderCursor) (r : Result Headers RecErr) → (has_header s && begins_with 253 s.rest) ≡ false → after_blocks blocks s ≡ r → after_origin blocks None s ≡ r
-no_origin blocks s r over e = ap (λ (x : Result (After (Option ℕ)) RecErr). x >>= λ (o : After (Option ℕ)). after_origin blocks o.value o.next) (sym (item_none_again 253 w16 s over)) ∙ e
+no_origin blocks s r over e = ap (λ (x : Result (ItemRead (Option ℕ)) RecErr). x >>= λ (o : ItemRead (Option ℕ)). after_origin blocks o.value o.next) (sym (item_none_again 253 w16 s over)) ∙ e
 
 pub no_top : (blocks : List BlockHead) (origin : Option ℕ) (s : HeaderCursor) (r : Result Headers RecErr) → (has_header s && begins_with 252 s.rest) ≡ false → after_origin blocks origin s ≡ r → after_top blocks origin None s ≡ r
-no_top blocks origin s r over e = ap (λ (x : Result (After (Option ℕ)) RecErr). x >>= λ (t : After (Option ℕ)). after_top blocks origin t.value t.next) (sym (item_none_again 252 w32 s over)) ∙ e
+no_top blocks origin s r over e = ap (λ (x : Result (ItemRead (Option ℕ)) RecErr). x >>= λ (t : ItemRead (Option ℕ)). after_top blocks origin t.value t.next) (sym (item_none_again 252 w32 s over)) ∙ e
 
 -- neither of them stands here
 pub to_origin : (blocks : List BlockHead) (origin : Option ℕ) (s : HeaderCursor) (r : Result Headers RecErr) → (has_header s && begins_block s.rest) ≡ false → (has_header s && begins_with 253 s.rest) ≡ false → Resumes blocks origin None s r → after_origin blocks origin s ≡ r
@@ -82,7 +82,7 @@ headers_start s = refl
 reach_blocks : (blocks : List BlockHead) (heads rest : List ℕ) → SpellsHeads None blocks heads → sum_by payload_len blocks < length rest → Resumes blocks None None (standing_at (24 + length heads) (sum_by payload_len blocks) rest) (headers_of (standing_at 24 0 (heads ++ rest)))
 reach_blocks blocks heads rest spelled more =
     let past = heads_again (length (heads ++ rest)) None [] blocks 24 0 heads rest spelled (omega arith) (omega arith) in
-    let same = ap (λ (x : Result (After (List BlockHead)) RecErr). x >>= λ (b : After (List BlockHead)). after_blocks b.value b.next) (past.same ∙ ap (λ (k : ℕ). block_items past.fuel (last_of None blocks) blocks (standing_at (24 + length heads) k rest)) (omega arith)) in
+    let same = ap (λ (x : Result (ItemRead (List BlockHead)) RecErr). x >>= λ (b : ItemRead (List BlockHead)). after_blocks b.value b.next) (past.same ∙ ap (λ (k : ℕ). block_items past.fuel (last_of None blocks) blocks (standing_at (24 + length heads) k rest)) (omega arith)) in
     (past.fuel, (past.enough, sym same ∙ sym (headers_start (standing_at 24 0 (heads ++ rest)))))
 
 reach_origin : (blocks : List BlockHead) (o : ℕ) (heads rest : List ℕ) → SpellsHeads None blocks heads → o < 2 ^ 16 → sum_by payload_len blocks < length rest → after_origin blocks (Some o) (standing_at (24 + length heads + 3) (sum_by payload_len blocks) rest) ≡ headers_of (standing_at 24 0 (heads ++ (253 ∷ (to_le_bytes w16 o ++ rest))))

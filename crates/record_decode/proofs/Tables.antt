@@ -9,7 +9,7 @@ use Rattle.record_decode.specs.declared.head.ForkFlags.{ForkFlags}
 use Rattle.record_decode.specs.declared.head.ImageHead.{ImageHead}
 use Rattle.std.specs.Int.{w16, w32}
 use Rattle.record_spelling.specs.Numbers.{number_at}
-use Rattle.record_decode.specs.Reading.{◌>>=◌, After, Checks, HeaderCursor, block_item, checked, fork_checks, fork_flags, fork_item, image_checks, image_head_of, image_item, is_cut, least_id, number_item, payload_len, relation_item, skip}
+use Rattle.record_decode.specs.Reading.{◌>>=◌, ItemRead, Checks, HeaderCursor, block_item, checked, fork_checks, fork_flags, fork_item, image_checks, image_head_of, image_item, cut_row, least_id, number_item, payload_len, relation_item, skip}
 use Rattle.record_spelling.specs.Checks.{first_fault}
 use Rattle.record_decode.proofs.ItemTables.{block_checks, relation_checks}
 
@@ -51,7 +51,7 @@ then_checked (row ∷ rows) more x y f e = then_row row.0 row.1 (checked rows x)
 -- ---- a block's header
 
 -- a group's table and what it reads
-pub record IsTable {A : Type 0} (reading : Result (After A) RecErr) (rows : Checks) (next : HeaderCursor) : Type 0 where
+pub record IsTable {A : Type 0} (reading : Result (ItemRead A) RecErr) (rows : Checks) (next : HeaderCursor) : Type 0 where
   pub value : A
   pub same : reading ≡ checked rows (record { value = value; next = next })
 
@@ -70,24 +70,24 @@ relation_table true None s = record { value = record { spc = 0; db = 0; rel = 0 
 relation_table true (Some b) s = record { value = b.rel; same = refl }
 relation_table false before s = record { value = record { spc = number_at w32 s.rest 0; db = number_at w32 s.rest 4; rel = number_at w32 s.rest 8 }; same = refl }
 
-number_table : (s : HeaderCursor) → number_item s ≡ checked (is_cut 4 s ∷ []) (record { value = number_at w32 s.rest 0; next = skip 4 s })
+number_table : (s : HeaderCursor) → number_item s ≡ checked (cut_row 4 s ∷ []) (record { value = number_at w32 s.rest 0; next = skip 4 s })
 unfolding number_item
 number_table s = refl
 
 pub record BlockTable (before : Option BlockHead) (s : HeaderCursor) : Type 0 where
-  pub value : After BlockHead
+  pub value : ItemRead BlockHead
   pub same : block_item before s ≡ checked (block_checks before s) value
 
 -- the last two groups
-numbered : (before : Option BlockHead) (same : Bool) (s : HeaderCursor) (make : Rel → ℕ → HeaderCursor → After BlockHead)
-    → (v : After BlockHead) × ((relation_item same before s >>= λ rel. number_item rel.next >>= λ blk. Ok (make rel.value blk.value blk.next)) ≡ checked (relation_checks same before s ++ is_cut 4 (cond same s (skip 12 s)) ∷ []) v)
+numbered : (before : Option BlockHead) (same : Bool) (s : HeaderCursor) (make : Rel → ℕ → HeaderCursor → ItemRead BlockHead)
+    → (v : ItemRead BlockHead) × ((relation_item same before s >>= λ rel. number_item rel.next >>= λ blk. Ok (make rel.value blk.value blk.next)) ≡ checked (relation_checks same before s ++ cut_row 4 (cond same s (skip 12 s)) ∷ []) v)
 numbered before same s make =
     let relation = relation_table same before s in
     let place = cond same s (skip 12 s) in
     let blk = number_at w32 place.rest 0 in
     let value = make relation.value blk (skip 4 place) in
-    let last : (number_item place >>= λ (blk : After ℕ). Ok (make relation.value blk.value blk.next)) ≡ checked (is_cut 4 place ∷ []) value = ap (λ (r : Result (After ℕ) RecErr). r >>= λ (blk : After ℕ). Ok (make relation.value blk.value blk.next)) (number_table place) ∙ then_checked (is_cut 4 place ∷ []) [] _ value (λ (blk : After ℕ). Ok (make relation.value blk.value blk.next)) refl in
-    (value, ap (λ (r : Result (After Rel) RecErr). r >>= λ (rel : After Rel). number_item rel.next >>= λ (blk : After ℕ). Ok (make rel.value blk.value blk.next)) relation.same ∙ then_checked (relation_checks same before s) (is_cut 4 place ∷ []) _ value (λ (rel : After Rel). number_item rel.next >>= λ (blk : After ℕ). Ok (make rel.value blk.value blk.next)) last)
+    let last : (number_item place >>= λ (blk : ItemRead ℕ). Ok (make relation.value blk.value blk.next)) ≡ checked (cut_row 4 place ∷ []) value = ap (λ (r : Result (ItemRead ℕ) RecErr). r >>= λ (blk : ItemRead ℕ). Ok (make relation.value blk.value blk.next)) (number_table place) ∙ then_checked (cut_row 4 place ∷ []) [] _ value (λ (blk : ItemRead ℕ). Ok (make relation.value blk.value blk.next)) refl in
+    (value, ap (λ (r : Result (ItemRead Rel) RecErr). r >>= λ (rel : ItemRead Rel). number_item rel.next >>= λ (blk : ItemRead ℕ). Ok (make rel.value blk.value blk.next)) relation.same ∙ then_checked (relation_checks same before s) (cut_row 4 place ∷ []) _ value (λ (rel : ItemRead Rel). number_item rel.next >>= λ (blk : ItemRead ℕ). Ok (make rel.value blk.value blk.next)) last)
 
 pub block_table : (before : Option BlockHead) (s : HeaderCursor) → BlockTable before s
 unfolding block_item
@@ -100,16 +100,16 @@ block_table before s =
     let relation_place = cond flags.has_image (skip 5 image_place) image_place in
     let number_place = cond flags.same relation_place (skip 12 relation_place) in
     let head : ForkFlags → ℕ → Option ImageHead → Rel → ℕ → BlockHead = λ f len image rel blk. record { id = id; rel = rel; fork = f.fork; blk = blk; will_init = f.will_init; image = image; content_len = len } in
-    let make : ForkFlags → ℕ → Option ImageHead → Rel → ℕ → HeaderCursor → After BlockHead = λ f len image rel blk next. record { value = head f len image rel blk; next = record { at = next.at; rest = next.rest; owed = s.owed + payload_len (head f len image rel blk) } } in
-    let behind_image : After (ForkFlags × ℕ) → After (Option ImageHead) → Result (After BlockHead) RecErr = λ fork image. relation_item fork.value.0.same before image.next >>= λ (rel : After Rel). number_item rel.next >>= λ (blk : After ℕ). Ok (make fork.value.0 fork.value.1 image.value rel.value blk.value blk.next) in
-    let behind_fork : After (ForkFlags × ℕ) → Result (After BlockHead) RecErr = λ fork. image_item fork.value.0.has_image id fork.next >>= behind_image fork in
-    let fork : After (ForkFlags × ℕ) = record { value = (flags, content); next = image_place } in
+    let make : ForkFlags → ℕ → Option ImageHead → Rel → ℕ → HeaderCursor → ItemRead BlockHead = λ f len image rel blk next. record { value = head f len image rel blk; next = record { at = next.at; rest = next.rest; owed = s.owed + payload_len (head f len image rel blk) } } in
+    let behind_image : ItemRead (ForkFlags × ℕ) → ItemRead (Option ImageHead) → Result (ItemRead BlockHead) RecErr = λ fork image. relation_item fork.value.0.same before image.next >>= λ (rel : ItemRead Rel). number_item rel.next >>= λ (blk : ItemRead ℕ). Ok (make fork.value.0 fork.value.1 image.value rel.value blk.value blk.next) in
+    let behind_fork : ItemRead (ForkFlags × ℕ) → Result (ItemRead BlockHead) RecErr = λ fork. image_item fork.value.0.has_image id fork.next >>= behind_image fork in
+    let fork : ItemRead (ForkFlags × ℕ) = record { value = (flags, content); next = image_place } in
     let last = numbered before flags.same relation_place (make flags content image.value) in
-    let last_rows = relation_checks flags.same before relation_place ++ is_cut 4 number_place ∷ [] in
+    let last_rows = relation_checks flags.same before relation_place ++ cut_row 4 number_place ∷ [] in
     let image_rows = cond flags.has_image (image_checks id image_place) [] in
-    let from_image : behind_fork fork ≡ checked (image_rows ++ last_rows) last.0 = ap (λ (r : Result (After (Option ImageHead)) RecErr). r >>= behind_image fork) image.same ∙ then_checked image_rows last_rows _ last.0 (behind_image fork) last.1 in
-    let from_fork : (fork_item (skip 1 s) >>= behind_fork) ≡ checked (fork_checks (skip 1 s) ++ (image_rows ++ last_rows)) last.0 = ap (λ (r : Result (After (ForkFlags × ℕ)) RecErr). r >>= behind_fork) (fork_table (skip 1 s)) ∙ then_checked (fork_checks (skip 1 s)) (image_rows ++ last_rows) fork last.0 behind_fork from_image in
-    let rows_are : (fork_checks (skip 1 s) ++ (image_rows ++ last_rows)) ≡ fork_checks (skip 1 s) ++ image_rows ++ relation_checks flags.same before relation_place ++ is_cut 4 number_place ∷ [] = grouped (fork_checks (skip 1 s)) image_rows (relation_checks flags.same before relation_place) (is_cut 4 number_place ∷ []) in
+    let from_image : behind_fork fork ≡ checked (image_rows ++ last_rows) last.0 = ap (λ (r : Result (ItemRead (Option ImageHead)) RecErr). r >>= behind_image fork) image.same ∙ then_checked image_rows last_rows _ last.0 (behind_image fork) last.1 in
+    let from_fork : (fork_item (skip 1 s) >>= behind_fork) ≡ checked (fork_checks (skip 1 s) ++ (image_rows ++ last_rows)) last.0 = ap (λ (r : Result (ItemRead (ForkFlags × ℕ)) RecErr). r >>= behind_fork) (fork_table (skip 1 s)) ∙ then_checked (fork_checks (skip 1 s)) (image_rows ++ last_rows) fork last.0 behind_fork from_image in
+    let rows_are : (fork_checks (skip 1 s) ++ (image_rows ++ last_rows)) ≡ fork_checks (skip 1 s) ++ image_rows ++ relation_checks flags.same before relation_place ++ cut_row 4 number_place ∷ [] = grouped (fork_checks (skip 1 s)) image_rows (relation_checks flags.same before relation_place) (cut_row 4 number_place ∷ []) in
     record {
       value = last.0;
       same = ap (cond (ltb id (least_id before)) (Err (Malformed s.at kinds.Order))) (from_fork ∙ ap (λ (rows : Checks). checked rows last.0) rows_are);

@@ -82,8 +82,8 @@ last_of before [] = before
 last_of before (h ∷ hs) = last_of (Some h) hs
 
 -- an item that is cut short behind its first byte
-abbrev pub cut_row : List ℕ → ℕ → ℕ → Bool × RecErr
-cut_row bytes at n = (is_cut_at bytes at n, Malformed (at + 1) kinds.Short)
+abbrev pub cut_behind_row : List ℕ → ℕ → ℕ → Bool × RecErr
+cut_behind_row bytes at n = (is_cut_at bytes at n, Malformed (at + 1) kinds.Short)
 
 -- the item that stands behind others: by its first byte a block, an origin, a top-level
 -- transaction, main data in its two forms, or none of them; blocks stand before the origin, and
@@ -95,11 +95,12 @@ item_rows items bytes at =
     let before = last_of None items.blocks in
     if nat_le first last_block_id then
     (is_late, Malformed at kinds.Order) ∷ block_rows before bytes at
-    else (if first == origin_tag then (is_late, Malformed at kinds.Order) ∷ cut_row bytes at 3 ∷ []
+    else (if first == origin_tag then
+    (is_late, Malformed at kinds.Order) ∷ cut_behind_row bytes at 3 ∷ []
     else (if first == top_xid_tag then
-    (is_some items.top_xid, Malformed at kinds.Order) ∷ cut_row bytes at 5 ∷ []
-    else (if first == short_main_tag then cut_row bytes at 2 ∷ []
-    else (if first == long_main_tag then cut_row bytes at 5 ∷ []
+    (is_some items.top_xid, Malformed at kinds.Order) ∷ cut_behind_row bytes at 5 ∷ []
+    else (if first == short_main_tag then cut_behind_row bytes at 2 ∷ []
+    else (if first == long_main_tag then cut_behind_row bytes at 5 ∷ []
     else (true, Malformed at kinds.Id) ∷ []))))
 
 -- ---- the causes
@@ -194,7 +195,7 @@ FailsAt bytes e =
     ⊎ (HasHead bytes × (BreaksItem bytes e ⊎ LeavesFill bytes e)))
 
 -- an error that a call answered is the first cause; a want of memory says nothing
-abbrev pub FailsSo : List ℕ → RecErr → Type 0
-FailsSo bytes Memory = Unit {0}
-FailsSo bytes (Malformed at kind) = FailsAt bytes (Malformed at kind)
-FailsSo bytes (Compressed block) = FailsAt bytes (Compressed block)
+abbrev pub TellsFirstFault : List ℕ → RecErr → Type 0
+TellsFirstFault bytes Memory = Unit {0}
+TellsFirstFault bytes (Malformed at kind) = FailsAt bytes (Malformed at kind)
+TellsFirstFault bytes (Compressed block) = FailsAt bytes (Compressed block)

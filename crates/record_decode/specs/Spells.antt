@@ -11,6 +11,7 @@ use Rattle.wal_types.specs.declared.record.Xid.{Xid}
 use Rattle.record_decode.specs.declared.head.BlockHead.{BlockHead}
 use Rattle.record_decode.specs.declared.head.ImageHead.{ImageHead}
 use Rattle.record_spelling.specs.Record.{Fits, is_free_manager}
+use Rattle.record_spelling.specs.Layout.{data_page_size, last_block_id, last_fork, long_main_tag, origin_tag, short_main_tag, top_xid_tag}
 use Rattle.record_spelling.specs.Spelling.{flag, relation_bytes, block_payload}
 use Rattle.record_decode.specs.Reading.{least_id}
 
@@ -19,10 +20,23 @@ use Rattle.record_decode.specs.Reading.{least_id}
 -- what a block's header says of it
 abbrev pub image_head : Option Image → Option ImageHead
 image_head None = None
-image_head (Some i) = Some (record { apply = i.apply; hole_offset = i.hole_offset; hole_len = i.hole_len; len = length i.bytes })
+image_head (Some i) = Some (record {
+  apply = i.apply;
+  hole_offset = i.hole_offset;
+  hole_len = i.hole_len;
+  len = length i.bytes;
+})
 
 abbrev pub head_of : Block → BlockHead
-head_of b = record { id = b.id; rel = b.rel; fork = b.fork; blk = b.blk; will_init = b.will_init; image = image_head b.image; content_len = length b.content }
+head_of b = record {
+  id = b.id;
+  rel = b.rel;
+  fork = b.fork;
+  blk = b.blk;
+  will_init = b.will_init;
+  image = image_head b.image;
+  content_len = length b.content;
+}
 
 -- the bit of a fork byte that tells an image
 abbrev pub image_flag : Option ImageHead → ℕ
@@ -31,16 +45,35 @@ image_flag (Some i) = 16
 
 abbrev pub image_head_text : Option ImageHead → List ℕ
 image_head_text None = []
-image_head_text (Some i) = to_le_bytes w16 i.len ++ to_le_bytes w16 i.hole_offset ++ (flag (nat_lt 0 i.hole_len) 1 + flag i.apply 2) ∷ []
+image_head_text (Some i) =
+    to_le_bytes w16 i.len
+    ++ to_le_bytes w16 i.hole_offset
+    ++ (flag (nat_lt 0 i.hole_len) 1 + flag i.apply 2) ∷ []
+
+-- the fork with its flags
+abbrev pub flagged_fork : Bool → BlockHead → ℕ
+flagged_fork same h =
+    h.fork
+    + image_flag h.image
+    + flag (nat_lt 0 h.content_len) 32
+    + flag h.will_init 64
+    + flag same 128
 
 -- a block's header, with its relation left out (as that of the block before) or spelled
 abbrev pub head_text : Bool → BlockHead → List ℕ
-head_text same h = h.id ∷ (h.fork + image_flag h.image + flag (nat_lt 0 h.content_len) 32 + flag h.will_init 64 + flag same 128) ∷ to_le_bytes w16 h.content_len ++ image_head_text h.image ++ (if same then [] else relation_bytes h.rel) ++ to_le_bytes w32 h.blk
+head_text same h =
+    h.id ∷ flagged_fork same h ∷ to_le_bytes w16 h.content_len
+    ++ image_head_text h.image
+    ++ (if same then [] else relation_bytes h.rel)
+    ++ to_le_bytes w32 h.blk
 
--- an image is that of a page of 8192 bytes; a hole is not at the page's start
+-- an image is that of a page; a hole is not at the page's start
 pub record IsPageImage (i : ImageHead) : Type 0 where
-  pub page : i.len + i.hole_len ≡ 8192
-  pub hole : MatchBool (nat_lt 0 i.hole_len) ((0 < i.hole_offset) × (i.hole_offset + i.hole_len ≤ 8192)) (i.hole_offset ≡ 0)
+  pub page : i.len + i.hole_len ≡ data_page_size
+  pub hole :
+      MatchBool (nat_lt 0 i.hole_len)
+      ((0 < i.hole_offset) × (i.hole_offset + i.hole_len ≤ data_page_size))
+      (i.hole_offset ≡ 0)
 
 -- the relation may be left out just where the block before has it
 abbrev pub HasRelation : Option BlockHead → Rel → Type 0
@@ -50,8 +83,8 @@ HasRelation (Some before) rel = before.rel ≡ rel
 -- a block's header may stand behind another
 pub record StandsBehind (before : Option BlockHead) (same : Bool) (h : BlockHead) : Type 0 where
   pub above : least_id before ≤ h.id
-  pub id : h.id ≤ 32
-  pub fork : h.fork ≤ 3
+  pub id : h.id ≤ last_block_id
+  pub fork : h.fork ≤ last_fork
   pub content : h.content_len < 2 ^ 16
   pub image : IfSome h.image IsPageImage
   pub tablespace : h.rel.spc < 2 ^ 32
@@ -63,7 +96,11 @@ pub record StandsBehind (before : Option BlockHead) (same : Bool) (h : BlockHead
 -- these bytes spell headers of blocks, behind the one before
 abbrev pub SpellsHeads : Option BlockHead → List BlockHead → List ℕ → Type 0
 SpellsHeads before [] text = text ≡ []
-SpellsHeads before (h ∷ hs) text = (same : Bool) × ((rest : List ℕ) × ((text ≡ head_text same h ++ rest) × (StandsBehind before same h × SpellsHeads (Some h) hs rest)))
+SpellsHeads before (h ∷ hs) text =
+    (same : Bool)
+    × ((rest : List ℕ)
+    × ((text ≡ head_text same h ++ rest)
+    × (StandsBehind before same h × SpellsHeads (Some h) hs rest)))
 
 -- ---- the items
 
@@ -83,19 +120,32 @@ pub record SpellsItems (items : Items) (text : List ℕ) : Type 0 where
   pub heads_spelled : SpellsHeads None items.blocks heads
   pub origin : IfSome items.origin (λ n. n < 2 ^ 16)
   pub top_xid : IfSome items.top_xid (λ n. n < 2 ^ 32)
-  pub spelled : text ≡ heads ++ item_text 253 w16 items.origin ++ item_text 252 w32 items.top_xid
+  pub spelled :
+      text
+      ≡ heads
+      ++ item_text origin_tag w16 items.origin
+      ++ item_text top_xid_tag w32 items.top_xid
 
 -- what a record's items say
 abbrev pub items_in : Record → Items
-items_in r = record { blocks = map head_of r.blocks; origin = r.origin; top_xid = option_map (λ (x : Xid). x.0) r.top_xid }
+items_in r = record {
+  blocks = map head_of r.blocks;
+  origin = r.origin;
+  top_xid = option_map (λ (x : Xid). x.0) r.top_xid;
+}
 
--- the header of main data: nothing where there is none, the short form or the long form, whichever has room for its length
+-- the header of main data: nothing where there is none, the short form or the long form, whichever
+-- has room for its length
 abbrev pub SpellsMainHead : List ℕ → ℕ → Type 0
-SpellsMainHead text len = ((text ≡ []) × (len ≡ 0)) ⊎ (((len < 256) × (text ≡ 255 ∷ len ∷ [])) ⊎ ((len < 2 ^ 32) × (text ≡ 254 ∷ to_le_bytes w32 len)))
+SpellsMainHead text len =
+    ((text ≡ []) × (len ≡ 0))
+    ⊎ (((len < 256) × (text ≡ short_main_tag ∷ len ∷ []))
+    ⊎ ((len < 2 ^ 32) × (text ≡ long_main_tag ∷ to_le_bytes w32 len)))
 
 -- ---- a record
 
--- these bytes are the record: its size and fields, then its items and the payload that they owe; the start of the record before, two bytes behind the manager and the CRC are not looked at
+-- these bytes are the record: its size and fields, then its items and the payload that they owe;
+-- the start of the record before, two bytes behind the manager and the CRC are not looked at
 pub record Spells (bytes : List ℕ) (r : Record) : Type 0 where
   pub fits : Fits r
   pub size : length bytes < 2 ^ 32
@@ -110,4 +160,14 @@ pub record Spells (bytes : List ℕ) (r : Record) : Type 0 where
   pub items_spelled : SpellsItems (items_in r) items
   pub main_head : List ℕ
   pub main_spelled : SpellsMainHead main_head (length r.main)
-  pub spelled : bytes ≡ to_le_bytes w32 (length bytes) ++ to_le_bytes w32 r.xid.0 ++ prev ++ (r.info ∷ r.rmid ∷ spare) ++ crc ++ items ++ main_head ++ flat_map block_payload r.blocks ++ r.main
+  pub spelled :
+      bytes
+      ≡ to_le_bytes w32 (length bytes)
+      ++ to_le_bytes w32 r.xid.0
+      ++ prev
+      ++ (r.info ∷ r.rmid ∷ spare)
+      ++ crc
+      ++ items
+      ++ main_head
+      ++ flat_map block_payload r.blocks
+      ++ r.main

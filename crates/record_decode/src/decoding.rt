@@ -11,8 +11,9 @@ ghost use Rattle.std.specs.List.{sum_by};
 ghost use Rattle.std.specs.Int.{w32};
 ghost use Rattle.wal_types.specs.declared.record.Record.{Record};
 ghost use Rattle.record_spelling.specs.Numbers.{number_at};
-ghost use Rattle.record_decode.specs.Reading.{GivesReading, GivesAs, headers_of, items_of, payload_len, reading_of, record_of};
-ghost use Rattle.record_decode.specs.Fails.{FailsAt, FailsSo};
+ghost use Rattle.record_decode.specs.Headers.{headers_said};
+ghost use Rattle.record_decode.specs.Reading.{GivesReading, GivesAs, headers_of, items_of, payload_len, reading_of, record_of, start_of_headers};
+ghost use Rattle.record_decode.specs.Fails.{FailsAt, TellsFirstFault};
 ghost use Rattle.record_decode.specs.Spells.{Spells};
 
 use crate::fault::{RecErr, RecKind};
@@ -37,14 +38,15 @@ struct Headers<'a> {
 }
 
 #[tactic(auto, unfolding(crate::specs::Reading::headers_of))]
-fn read_headers<'a>(alloc: Global, behind_header: &'a [u8]) -> Result<Headers<'a>, RecErr>
-    requires { length behind_header.now + 24 < 2 ^ 64 }
-    ensures exact { GivesAs (λ h. record { blocks = h.blocks.items; origin = h.origin; top_xid = h.top_xid; payload = h.payload.now }) result (headers_of (record { at = 24; rest = behind_header.now; owed = 0 })) }
+// `bytes` are those behind the record's header.
+fn read_headers<'a>(alloc: Global, bytes: &'a [u8]) -> Result<Headers<'a>, RecErr>
+    requires { length bytes.now + 24 < 2 ^ 64 }
+    ensures exact { GivesAs headers_said result (headers_of (start_of_headers bytes.now)) }
     ensures promised { IfOk result (λ h. sum_by payload_len h.blocks.items ≤ length h.payload.now) }
 {
     let unread = Unread {
         at: HEADER_LEN as u64,
-        bytes: behind_header,
+        bytes,
         owed: 0,
     };
     let (blocks, unread) = block_items(alloc, unread)?;
@@ -72,7 +74,7 @@ fn u32_at(bytes: &[u8], at: usize) -> u32
 fn record_of(alloc: Global, bytes: &[u8], headers: Headers) -> Result<Record, RecErr>
     requires header { 24 ≤ length bytes.now }
     requires promised { sum_by payload_len headers.blocks.items ≤ length headers.payload.now }
-    ensures { GivesReading result (Ok (record_of bytes.now (record { blocks = headers.entry.blocks.items; origin = headers.entry.origin; top_xid = headers.entry.top_xid; payload = headers.entry.payload.now }))) }
+    ensures { GivesReading result (Ok (record_of bytes.now (headers_said headers.entry))) }
 {
     let (blocks, main) = blocks_of(alloc, &headers.blocks, headers.payload)?;
     Ok(Record {
@@ -109,18 +111,20 @@ fn reading(alloc: Global, bytes: &[u8]) -> Result<Record, RecErr>
     read_items(alloc, bytes)
 }
 
-/// Reads a record's bytes, all of them. It looks at neither the CRC nor the start of the record before.
+/// Reads a record's bytes, all of them: the headers of its items from left to right, as long as
+/// more bytes are left than the items owe, and then the payload. It looks at neither the CRC nor
+/// the start of the record before.
 pub fn decode(alloc: Global, bytes: &[u8]) -> Result<Record, RecErr>
     // What is read is spelled so.
-    ensures found { IfOk result (λ r. Spells bytes.now r) }
+    ensures spelled { IfOk result (λ r. Spells bytes.now r) }
     // What is spelled so is read, unless memory runs out.
-    ensures only { (r : Record) → Spells bytes.now r → GivesReading result (Ok r) }
+    ensures reads { (r : Record) → Spells bytes.now r → GivesReading result (Ok r) }
     // An error is the first check that fails.
-    ensures fails { IfErr result (FailsSo bytes.now) }
+    ensures fails { IfErr result (TellsFirstFault bytes.now) }
     // The first check that fails is the error, unless memory runs out.
     ensures refuses { (e : RecErr) → FailsAt bytes.now e → GivesReading result (Err e) }
     // All of it as one reading from left to right.
-    ensures exact { GivesReading result (reading_of bytes.now) }
+    ensures as_reading { GivesReading result (reading_of bytes.now) }
 {
     reading(alloc, bytes)
 }

@@ -3,6 +3,7 @@
 
 ghost use Rattle.std.specs.Prelude.{◌≡◌, ℕ, ◌^◌, ◌<◌, ◌≤◌, ◌⊎◌, length, All, Err, List, Ok, ◌↔◌, sum_by};
 ghost use Rattle.wal_types.specs.declared.record.Record.{Record};
+ghost use Rattle.record_spelling.specs.Layout.{last_fork};
 ghost use Rattle.record_spelling.specs.Spelling.{image_bytes};
 ghost use Rattle.record_decode.specs.declared.fault.RecErr.{RecErr};
 ghost use Rattle.record_decode.specs.Fails.{FailsAt};
@@ -13,15 +14,16 @@ ghost use Rattle.record_decode.specs.Spells.{Spells};
 pub fn spells_or_fails()
     ensures either { (bytes : List ℕ) → All (λ b. b < 256) bytes
         → ((r : Record) × Spells bytes r) ⊎ ((e : RecErr) × FailsAt bytes e) }
-    ensures one_record { (bytes : List ℕ) (r other : Record) → Spells bytes r → Spells bytes other → r ≡ other }
+    ensures one_record { (bytes : List ℕ) (r other : Record)
+        → Spells bytes r → Spells bytes other → r ≡ other }
     ensures one_cause { (bytes : List ℕ) (e other : RecErr) → All (λ b. b < 256) bytes
         → FailsAt bytes e → FailsAt bytes other → e ≡ other }
     ensures not_both { (bytes : List ℕ) (r : Record) (e : RecErr) → All (λ b. b < 256) bytes
         → Spells bytes r → FailsAt bytes e → ⊥ }
 {}
 
-/// The reading is the spelling: bytes are read as a record just where they spell it, and refused for
-/// an error just where that is the first check that fails.
+/// The reading is the spelling: bytes are read as a record just where they spell it, and refused
+/// for an error just where that is the first check that fails.
 pub fn reading_is_spelling()
     ensures read { (bytes : List ℕ) (r : Record) → All (λ b. b < 256) bytes
         → (reading_of bytes ≡ Ok r) ↔ Spells bytes r }
@@ -29,10 +31,11 @@ pub fn reading_is_spelling()
         → (reading_of bytes ≡ Err e) ↔ FailsAt bytes e }
 {}
 
-/// The blocks of a record that was read: there are four forks, and images are no more than all of its
-/// bytes.
+/// The blocks of a record that was read: there are four forks, and images are no more than all of
+/// its bytes.
 pub fn spelled_blocks()
-    ensures forks { (bytes : List ℕ) (r : Record) → Spells bytes r → All (λ b. b.fork ≤ 3) r.blocks }
+    ensures forks { (bytes : List ℕ) (r : Record) → Spells bytes r
+        → All (λ b. b.fork ≤ last_fork) r.blocks }
     ensures images { (bytes : List ℕ) (r : Record) → Spells bytes r
         → sum_by (λ b. length (image_bytes b.image)) r.blocks ≤ length bytes }
 {}

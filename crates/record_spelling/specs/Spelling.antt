@@ -3,9 +3,9 @@
 -- A record's bytes are, numbers with their lowest byte first:
 --   the header of 24 bytes: the record's size (4), the transaction (4), the start of the record
 --     before (8), info (1), the manager (1), two zeros, and the CRC (4)
---   the headers of its block references, by rising numbers: the number (1), the fork with flags (1),
---     the length of the data (2); where it has an image the image's length (2), its hole's offset (2)
---     and its flags (1); unless it is that of the block before the relation (12); the block's (4)
+--   the headers of its block references, by rising numbers: the number (1), the fork with flags
+--     (1), the length of the data (2); where there is an image its length (2), its hole offset (2)
+--     and its flags (1); the relation (12), unless the block before has it; the block's number (4)
 --   the origin, where there is one: 253 and two bytes
 --   the top-level transaction, where there is one: 252 and four bytes
 --   the main data's header, where there is any: 255 and a byte of length, or 254 and four
@@ -48,8 +48,8 @@ is_same_relation (Some before) rel =
 abbrev pub relation_bytes : Rel → List ℕ
 relation_bytes rel = to_le_bytes w32 rel.spc ++ to_le_bytes w32 rel.db ++ to_le_bytes w32 rel.rel
 
--- a block's fork, with flags for an image (16), for data (32), for a page that is made anew (64) and
--- for the relation of the block before (128)
+-- a block's fork, with flags for an image (16), for data (32), for a page that is made anew (64)
+-- and for the relation of the block before (128)
 abbrev pub fork_byte : Block → Bool → ℕ
 fork_byte b same =
     b.fork

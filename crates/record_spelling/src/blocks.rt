@@ -14,7 +14,8 @@ use wal_types::{Block, Image, Rel};
 // How many bytes the blocks take up in their record.
 pub(crate) fn blocks_len(blocks: &[Block]) -> usize
     requires { IsTrue (are_right_blocks 0 blocks.now) }
-    ensures length { result ≡ length (block_headers None blocks.now) + length (flat_map block_payload blocks.now) }
+    ensures length { result
+        ≡ length (block_headers None blocks.now) + length (flat_map block_payload blocks.now) }
     ensures bound { result < 2 ^ 22 }
 {
     let mut len = 0;
@@ -114,7 +115,8 @@ pub(crate) fn image_flags(image: &Image) -> u8
 }
 
 fn put_relation(out: &mut Vec<u8>, same: bool, rel: Rel) -> Result<(), AllocError>
-    ensures ok { OnOk result (out.new.items ≡ out.old.items ++ (if same then [] else relation_bytes rel)) }
+    ensures ok { OnOk result
+        (out.new.items ≡ out.old.items ++ (if same then [] else relation_bytes rel)) }
     ensures fits { (rel.spc < 2 ^ 32) × (rel.db < 2 ^ 32) × (rel.rel < 2 ^ 32) }
 {
     if !same {

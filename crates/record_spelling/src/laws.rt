@@ -25,14 +25,16 @@ pub fn spelled_lengths()
 pub fn spelled_bytes()
     ensures ready { (r : Record) → IsWritable r → AssembledFits (assembled r) }
     ensures crc { (a : Assembled) (prev : ℕ) → AssembledFits a → crc_of a prev < 2 ^ 32 }
-    ensures bytes { (a : Assembled) (prev : ℕ) → AssembledFits a → All (λ b. b < 256) (filled a prev) }
+    ensures bytes { (a : Assembled) (prev : ℕ) → AssembledFits a
+        → All (λ b. b < 256) (filled a prev) }
     ensures words { (a : Assembled) (prev n : ℕ) → AssembledFits a → 8 * n < assembled_room a
         → to_le_bytes w64 (word_at (filled a prev) n) ≡ take 8 (drop (8 * n) (filled a prev)) }
 {}
 
 /// A reader finds each field of the header where it was put.
 pub fn spelled_header()
-    ensures { (a : Assembled) (prev : ℕ) → AssembledFits a → prev < 2 ^ 64 → HasHeader (spelled a prev) a prev }
+    ensures { (a : Assembled) (prev : ℕ) → AssembledFits a → prev < 2 ^ 64
+        → HasHeader (spelled a prev) a prev }
 {}
 
 /// What can be written is what fits and is not refused.

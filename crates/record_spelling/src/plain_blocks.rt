@@ -1,5 +1,5 @@
-//! The plain slow program for the spelling of a record's references to blocks: each piece is made by
-//! itself.
+//! The plain slow program for the spelling of a record's references to blocks: each piece is made
+//! by itself.
 
 ghost use Rattle.std.specs.Prelude.{◌≡◌, ◌++◌, All, IfOk, IsTrue, None, [], if◌then◌else◌};
 ghost use Rattle.std.specs.List.{flat_map};

@@ -11,8 +11,8 @@ use crate::layout::*;
 use crate::manager::is_free_manager;
 use wal_types::{Block, Image, Record};
 
-/// Why a record cannot be assembled: the first reason, or none. It takes no memory, and never answers
-/// `Memory`.
+/// Why a record cannot be assembled: the first reason, or none. It takes no memory, and never
+/// answers `Memory`.
 #[tactic(auto, unfolding(crate::specs::Refusal::refusal_of))]
 pub fn refusal(r: &Record) -> Option<BodyErr>
     ensures { result ≡ refusal_of r.now }

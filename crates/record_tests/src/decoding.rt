@@ -149,6 +149,32 @@ fn wrong_image_is_told(rt: HostRuntime) -> Result<(), Fail> {
     Ok(())
 }
 
+// Of two checks of one group that fail, the first is told.
+#[test]
+fn first_of_two_faults_is_told(rt: HostRuntime) -> Result<(), Fail> {
+    let alloc = rt.alloc();
+    let cases: [(&[u8], Option<RecErr>); 3] = [
+        // a fork that there is not, and a flag for data with none
+        (&[0, 0x24, 0, 0], malformed(25, RecKind::Fork)),
+        // a flag that means nothing, and a compressed image
+        (
+            &[0, 0x10, 0, 0, 0x64, 0, 0, 0, 0x24],
+            malformed(28, RecKind::Image),
+        ),
+        // the relation of no block before, and no block number
+        (&[0, 0x80, 0, 0], malformed(28, RecKind::Same)),
+    ];
+    for (items, fault) in cases {
+        assert_eq!(rt; wrong_with(alloc, 1, items)?, fault);
+    }
+    // a number out of its order, and a fork that there is not
+    assert_eq!(rt;
+        wrong_behind_block(alloc, &[0, 4, 0, 0])?,
+        malformed(44, RecKind::Order)
+    );
+    Ok(())
+}
+
 #[test]
 fn wrong_second_block_is_told(rt: HostRuntime) -> Result<(), Fail> {
     let alloc = rt.alloc();
@@ -199,7 +225,8 @@ fn thirty_three_blocks_are_read(rt: HostRuntime) -> Result<(), Fail> {
     Ok(())
 }
 
-// A hole from byte 100 to the page's end, to be applied; behind the image two bytes of data, behind those main data.
+// A hole from byte 100 to the page's end, to be applied; behind the image two bytes of data, behind
+// those main data.
 #[test]
 fn hole_at_the_end_of_the_page_is_read(rt: HostRuntime) -> Result<(), Fail> {
     let alloc = rt.alloc();

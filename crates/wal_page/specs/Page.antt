@@ -3,6 +3,7 @@
 use Rattle.std.specs.Prelude.{ℕ, ◌+◌, ◌*◌, ◌/◌, ◌%◌, Bool, ◌&&◌, not, List, [], ◌∷◌, ◌++◌, Option, Some, None, ◌==◌, nat_lt, if◌then◌else◌}
 use Rattle.std.specs.Int.{w16, w32, w64, to_le_bytes}
 pub use Rattle.byte_position.specs.Position.{is_first_page, header_size}
+pub use Rattle.record_spelling.specs.Checks.{first_fault}
 use Rattle.record_spelling.specs.Numbers.{number_at}
 use Rattle.wal_page.specs.declared.checks.PageErr.{PageErr}
 use Rattle.wal_page.specs.declared.checks.PageErr.TheVariants.{Magic, Flags, NoLong, LongInside, SegSize, PageSize, SysId, Address, Timeline}
@@ -42,11 +43,6 @@ is_long bytes = info_of bytes / 2 % 2 == 1
 
 abbrev pub is_overwritten : List ℕ → Bool
 is_overwritten bytes = info_of bytes / 8 % 2 == 1
-
--- a table of checks: the first one whose test holds
-abbrev pub first_fault : {K : Type 0} → List (Bool × K) → Option K
-first_fault [] = None
-first_fault (row ∷ rows) = if row.0 then Some row.1 else first_fault rows
 
 -- the checks of a page, in their order; `last_timeline` is that of the page read before
 abbrev pub page_rows : ℕ → ℕ → List ℕ → ℕ → List (Bool × PageErr)

@@ -5,7 +5,7 @@ use Rattle.wal_reader.specs.declared.found.FoundRecord.{FoundRecord}
 use Rattle.wal_reader.specs.declared.found.Answer.{Answer}
 use Rattle.wal_reader.specs.Pages.{Pages}
 use Rattle.wal_reader.specs.Decodes.{Place, ReadsFrom, Decodes, beginning, place_behind, read_at}
-use Rattle.wal_reader.specs.RecordRows.{IsRead}
+use Rattle.wal_reader.specs.RecordRead.{IsRead}
 use Rattle.wal_reader.specs.Standpoint.{place_of}
 use Rattle.wal_reader.specs.Steps.{GivesFrom, ComesNext}
 use Rattle.wal_reader.specs.declared.standpoint.Standpoint.{Standpoint}

@@ -11,3 +11,5 @@ pub mod RecordStages
 pub mod RowLaws
 pub mod SettledLaws
 pub mod StopLaws
+pub mod RunLaws
+pub mod ReachLaws

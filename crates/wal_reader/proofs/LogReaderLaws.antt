@@ -1,12 +1,12 @@
 -- A step of a log's reader, by what comes next.
-use Rattle.std.proofs.Common.{◌≡◌, List, [], Option, Some, None, refl, subst, sym}
+use Rattle.std.proofs.Common.{◌≡◌, ℕ, List, [], Option, Some, None, refl, subst, sym}
 use Rattle.wal_reader.specs.declared.found.FoundRecord.{FoundRecord}
 use Rattle.wal_reader.specs.declared.found.Answer.{Answer}
-use Rattle.wal_reader.specs.declared.found.Answer.TheVariants.{End, Damaged, Compressed, Overwritten}
+use Rattle.wal_reader.specs.declared.found.Answer.TheVariants.{End, Stopped}
 use Rattle.wal_reader.specs.declared.standing.Standing.{Standing}
 use Rattle.wal_reader.specs.declared.standing.Standing.TheVariants.{NotBegun, At}
 use Rattle.wal_reader.specs.declared.standpoint.Standpoint.{Standpoint}
-use Rattle.wal_reader.specs.LogReader.{ReaderState, GivesRecords, GivesAt, IsNext, LeavesReader}
+use Rattle.wal_reader.specs.LogReader.{ReaderState, GivesRecords, GivesAt, IsNext, LeavesReader, OnEnd, StandsAfter}
 use Rattle.wal_reader.specs.Pages.{Pages}
 use Rattle.wal_reader.specs.Standings.{standing_after, told}
 use Rattle.wal_reader.specs.Steps.{Comes}
@@ -27,12 +27,17 @@ Gives-comes pages state from found answer same comes = subst (λ (s : Standing).
 -- an answer that is told is the next
 pub IsNext-told : (pages : Pages) (old new : ReaderState) (answer : Answer) → GivesRecords pages old [] answer → IsNext pages old new (told answer)
 IsNext-told pages old new (End at) gives = gives
-IsNext-told pages old new (Damaged at kind) gives = gives
-IsNext-told pages old new (Compressed at) gives = gives
-IsNext-told pages old new (Overwritten at) gives = gives
+IsNext-told pages old new (Stopped stop) gives = gives
+
+-- what holds where an answer is told holds where it is an end
+pub OnEnd-told : (answer : Answer) (fact : Type 0) → fact → OnEnd (told answer) fact
+OnEnd-told (End at) fact holds = holds
+OnEnd-told (Stopped stop) fact holds = tt
+
+pub StandsAfter-told : (size : ℕ) (standing : Standing) (answer : Answer) → StandsAfter size standing (told answer)
+StandsAfter-told size standing (End at) = tt
+StandsAfter-told size standing (Stopped stop) = tt
 
 pub Leaves-told : (old : ReaderState) (answer : Answer) → LeavesReader old (record old { standing = standing_after old.standing answer }) (told answer)
 Leaves-told old (End at) = refl
-Leaves-told old (Damaged at kind) = refl
-Leaves-told old (Compressed at) = refl
-Leaves-told old (Overwritten at) = refl
+Leaves-told old (Stopped stop) = refl

@@ -10,8 +10,8 @@ use Rattle.wal_reader.specs.declared.found.Answer.{Answer}
 use Rattle.wal_reader.specs.declared.cursor.Cursor.{Cursor}
 use Rattle.wal_reader.specs.Pages.{Pages, bytes_from}
 use Rattle.wal_reader.specs.Cursor.{HasGathered, StandsIn}
-use Rattle.wal_reader.specs.Decodes.{Place, ended, found_or, is_at_end, is_zero_word, record_rows, answer_or, read_in, read_at}
-use Rattle.wal_reader.specs.RecordRows.{opening_of, opening_rows, size_rows, rest_rows, said_of}
+use Rattle.wal_reader.specs.Decodes.{Place, ended, found_or, is_at_end, is_zero_word, record_rows, answer_or, read_in, read_at, opening_of, opening_rows, size_rows, rest_rows}
+use Rattle.wal_reader.specs.RecordRead.{said_of}
 use Rattle.wal_reader.proofs.GatherLaws.{bytes_in_page}
 use Rattle.wal_reader.proofs.PagesLaws.{take-bytes_from}
 use Rattle.wal_reader.proofs.RowLaws.{first_of, first_fault-append, number_at-take}
@@ -29,7 +29,7 @@ module _ (size : ℕ) (pages : Pages) (end : Option ℕ) (place : Place) where
   read_at-end e = cond-true _ _ _ e
 
   module _ (before : is_at_end end (address_of size place.position) ≡ false) where
-    read_at-before : read_at size pages end place ≡ read_in size pages end place (pages (start / 8192))
+    pub read_at-before : read_at size pages end place ≡ read_in size pages end place (pages (start / 8192))
     unfolding read_at
     read_at-before = cond-false _ _ _ before
 

@@ -24,8 +24,8 @@ use Rattle.wal_reader.specs.declared.stop.Stop.{Stop}
 use Rattle.wal_reader.specs.declared.stop.Stop.TheVariants as stops
 use Rattle.wal_reader.specs.Pages.{Pages, bytes_from}
 use Rattle.wal_reader.specs.Cursor.{Crosses, HasGathered, HoldsPassed, StandsIn}
-use Rattle.wal_reader.specs.Decodes.{Place, found_or, page_of_byte, place_behind, rows_of_pages}
-use Rattle.wal_reader.specs.RecordRows.{GoesOn, IsRead, crc_rows, header_rows, rest_rows, said_of}
+use Rattle.wal_reader.specs.Decodes.{Place, found_or, page_of_byte, place_behind, rows_of_pages, crc_rows, header_rows, rest_rows}
+use Rattle.wal_reader.specs.RecordRead.{GoesOn, IsRead, said_of}
 use Rattle.wal_reader.specs.Standpoint.{IsReachable, place_of}
 use Rattle.wal_reader.specs.Stops.{IsTold}
 use Rattle.wal_reader.proofs.GatherLaws.{bytes_in_page, crosses_none, gathers_further, page_from}

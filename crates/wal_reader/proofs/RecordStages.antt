@@ -9,8 +9,7 @@ use Rattle.wal_reader.specs.declared.found.Answer.{Answer}
 use Rattle.wal_reader.specs.declared.found.DamageKind.TheVariants as kinds
 use Rattle.wal_reader.specs.declared.cursor.Cursor.{Cursor}
 use Rattle.wal_reader.specs.Cursor.{HasGathered}
-use Rattle.wal_reader.specs.Decodes.{Place, damaged, is_zero_word, opens_page, page_answers}
-use Rattle.wal_reader.specs.RecordRows.{opening_of}
+use Rattle.wal_reader.specs.Decodes.{Place, damaged, is_zero_word, opens_page, page_answers, opening_of}
 use Rattle.wal_reader.proofs.RowLaws.{first_of, first_fault-append}
 
 -- ---- the page in which a record starts

@@ -1,24 +1,22 @@
 -- What pages decode to is settled by them, and the steps of a reader tell it.
-use Rattle.std.proofs.Common.{◌≡◌, ◌⊎◌, ℕ, zero, suc, ◌+◌, ◌-◌, ◌*◌, ◌/◌, ◌^◌, ◌<◌, ◌≤◌, Bool, true, false, cond, not, eqb, ltb, leb, ◌&&◌, List, [], ◌∷◌, ◌++◌, get_or, take, drop, filter, Option, Some, None, Result, Ok, Err, inl, inr, refl, sym, ap, subst, ◌∙◌, arith}
+use Rattle.std.proofs.Common.{◌≡◌, ◌⊎◌, ℕ, zero, suc, ◌+◌, ◌-◌, ◌*◌, ◌/◌, ◌^◌, ◌<◌, ◌≤◌, Bool, true, false, cond, ltb, leb, List, [], ◌∷◌, ◌++◌, filter, Option, Some, None, Result, Ok, Err, inl, inr, refl, sym, ap, subst, ◌∙◌, arith}
 use Rattle.std.specs.Int.{w32, w64}
 use Rattle.std.proofs.lemmas.Bool.{cases_Bool, cases_lt, cond-true, cond-false, ltb-false, lt-leb}
 use Rattle.byte_position.specs.Geometry.{IsSegmentSize}
 use Rattle.byte_position.specs.Position.{address_of}
 use Rattle.byte_position.proofs.Rising.{le-address_of}
 use Rattle.segment_disk.specs.DiskImage.{DiskImage}
-use Rattle.wal_crc32c.specs.Crc32c.{crc32c}
-use Rattle.record_spelling.specs.Record.{is_free_manager}
 use Rattle.record_spelling.specs.Numbers.{number_at}
 use Rattle.record_decode.specs.Reading.{reading_of}
 use Rattle.record_decode.specs.declared.fault.RecErr.{RecErr}
 use Rattle.record_decode.specs.declared.fault.RecErr.TheVariants.{Memory, Malformed, Compressed}
 use Rattle.wal_types.specs.declared.record.Record.{Record}
-use Rattle.wal_page.specs.Page.{is_continued, first_fault}
+use Rattle.wal_page.specs.Page.{first_fault}
 use Rattle.wal_reader.specs.declared.found.FoundRecord.{FoundRecord}
 use Rattle.wal_reader.specs.declared.found.Answer.{Answer}
 use Rattle.wal_reader.specs.declared.found.Answer.TheVariants as answers
 use Rattle.wal_reader.specs.declared.found.DamageKind.TheVariants as damages
-use Rattle.wal_reader.specs.Decodes.{Place, ReadsRecords, ReadsFrom, answer_or, beginning, damaged, ended, found_or, is_at_end, is_right_prev, is_zero_word, opens_page, page_answers, page_of_byte, place_behind, read_at, read_in, record_rows, rows_of_pages}
+use Rattle.wal_reader.specs.Decodes.{Place, ReadsRecords, ReadsFrom, answer_or, beginning, damaged, ended, found_or, is_at_end, is_zero_word, opening_rows, place_behind, read_at, read_in, record_rows, size_rows, rest_rows}
 use Rattle.wal_reader.specs.LogReader.{ReaderState, GivesRecords, GivesAt, IsNext}
 use Rattle.wal_reader.specs.declared.standing.Standing.{Standing}
 use Rattle.wal_reader.specs.declared.standing.Standing.TheVariants.{NotBegun, At, Stopped}
@@ -37,7 +35,7 @@ cases_Result (Err e) = inr (e, refl)
 abbrev read : FoundRecord → Result FoundRecord Answer
 read found = Ok found
 
-same_read : (found other : FoundRecord) → read found ≡ read other → found ≡ other
+pub same_read : (found other : FoundRecord) → read found ≡ read other → found ≡ other
 same_read found other e = cc
 
 -- ---- there is one reading
@@ -62,64 +60,36 @@ both_none : {K : Type 0} (first second : Option K) → first_of first second ≡
 both_none None second e = (refl, e)
 both_none (Some x) second e = absurd cc
 
-passes_both : {K : Type 0} (xs ys : List (Bool × K)) → first_fault (xs ++ ys) ≡ None → (first_fault xs ≡ None) × (first_fault ys ≡ None)
+pub passes_both : {K : Type 0} (xs ys : List (Bool × K)) → first_fault (xs ++ ys) ≡ None → (first_fault xs ≡ None) × (first_fault ys ≡ None)
 passes_both xs ys e = both_none (first_fault xs) (first_fault ys) (sym (first_fault-append xs ys) ∙ e)
 
-passes_row : {K : Type 0} (holds : Bool) (told : K) (others : Option K) → cond holds (Some told) others ≡ None → (holds ≡ false) × (others ≡ None)
+pub passes_row : {K : Type 0} (holds : Bool) (told : K) (others : Option K) → cond holds (Some told) others ≡ None → (holds ≡ false) × (others ≡ None)
 passes_row true told others e = absurd cc
 passes_row false told others e = (refl, e)
-
--- the third row of four
-third_row : {K : Type 0} (p q r t : Bool × K) → first_fault (p ∷ q ∷ r ∷ t ∷ []) ≡ None → r.0 ≡ false
-third_row p q r t e =
-    let first = passes_row p.0 p.1 (first_fault (q ∷ r ∷ t ∷ [])) e in
-    let second = passes_row q.0 q.1 (first_fault (r ∷ t ∷ [])) first.1 in
-    (passes_row r.0 r.1 (first_fault (t ∷ [])) second.1).0
-
--- the third row of the third group
-row_passes : {K : Type 0} (a b : List (Bool × K)) (p q r t : Bool × K) (d e f g : List (Bool × K)) → first_fault (a ++ b ++ (p ∷ q ∷ r ∷ t ∷ []) ++ d ++ e ++ f ++ g) ≡ None → r.0 ≡ false
-row_passes a b p q r t d e f g passes =
-    let c = p ∷ q ∷ r ∷ t ∷ [] in
-    let upto_f = (passes_both (a ++ b ++ c ++ d ++ e ++ f) g passes).0 in
-    let upto_e = (passes_both (a ++ b ++ c ++ d ++ e) f upto_f).0 in
-    let upto_d = (passes_both (a ++ b ++ c ++ d) e upto_e).0 in
-    let upto_c = (passes_both (a ++ b ++ c) d upto_d).0 in
-    third_row p q r t (passes_both (a ++ b) c upto_c).1
 
 module _ (size : ℕ) (pages : Pages) (end : Option ℕ) (place : Place) where
   -- the size that a record's first word gives
   abbrev first_size : ℕ
   first_size = number_at w32 (bytes_from size pages 8 place.position) 0
 
-  size-passed : (bytes : List ℕ) → first_fault (record_rows size pages end place bytes) ≡ None → 24 ≤ first_size
+  pub size-passed : (bytes : List ℕ) → first_fault (record_rows size pages end place bytes) ≡ None → 24 ≤ first_size
   size-passed bytes passes =
-      let start = address_of size place.position in
-      let page = start / 8192 in
-      let header = bytes_from size pages 24 place.position in
-      let whole = bytes_from size pages first_size place.position in
-      let header_page = page_of_byte size place.position 24 in
-      ltb-false first_size 24
-      (row_passes
-      ((opens_page size place.position && is_zero_word bytes, ended size place.position) ∷ [])
-      (page_answers size page bytes place.timeline)
-      (opens_page size place.position && is_continued bytes, damaged start damages.Claims)
-      (is_zero_word header, ended size place.position)
-      (ltb first_size 24, damaged start damages.Length)
-      (is_at_end end (address_of size (place.position + first_size - 1)), ended size place.position)
-      (rows_of_pages size pages place first_size page header_page)
-      ((is_free_manager (get_or header 17 0), damaged start damages.Rmgr) ∷ (not (is_right_prev place.prev start (number_at w64 header 8)), damaged start damages.Prev) ∷ [])
-      (rows_of_pages size pages place first_size header_page (page_of_byte size place.position first_size))
-      ((not (eqb (crc32c (drop 24 whole ++ take 20 whole)) (number_at w32 whole 20)), damaged start damages.Crc) ∷ [])
-      passes)
+      let no_record = is_zero_word (bytes_from size pages 24 place.position) in
+      let sizes = size_rows size end place.position no_record first_size in
+      let rest = rest_rows size pages place first_size in
+      let behind_opening = (passes_both (opening_rows size place bytes) (sizes ++ rest) passes).1 in
+      let own = (passes_both sizes rest behind_opening).0 in
+      let of_word = passes_row no_record (ended size place.position) _ own in
+      ltb-false first_size 24 (passes_row (ltb first_size 24) (damaged (address_of size place.position) damages.Length) _ of_word.1).0
 
   -- the first word says the same of the size as the header does
-  size_in_header : number_at w32 (bytes_from size pages 24 place.position) 0 ≡ first_size
+  pub size_in_header : number_at w32 (bytes_from size pages 24 place.position) 0 ≡ first_size
   size_in_header =
       sym (number_at-take w32 (bytes_from size pages 24 place.position) 8 0 (omega arith))
       ∙ ap (λ (bytes : List ℕ). number_at w32 bytes 0) (take-bytes_from size pages 8 24 place.position (omega arith))
 
   module _ (found : FoundRecord) where
-    total_of : (total prev : ℕ) (reading : Result Record RecErr) → found_or size place total prev reading ≡ Ok found → found.total ≡ total
+    pub total_of : (total prev : ℕ) (reading : Result Record RecErr) → found_or size place total prev reading ≡ Ok found → found.total ≡ total
     total_of total prev (Ok value) e = ap (λ (f : FoundRecord). f.total) (sym (same_read _ found e))
     total_of total prev (Err Memory) e = absurd cc
     total_of total prev (Err (Malformed at kind)) e = absurd cc
@@ -208,9 +178,7 @@ decoding_is_settled size image start end valid = settled size valid (pages_in si
 
 gives_told : (pages : Pages) (old new : ReaderState) (answer : Answer) → IsNext pages old new (told answer) → GivesRecords pages old [] answer
 gives_told pages old new (answers.End at) next = next
-gives_told pages old new (answers.Damaged at kind) next = next
-gives_told pages old new (answers.Compressed at) next = next
-gives_told pages old new (answers.Overwritten at) next = next
+gives_told pages old new (answers.Stopped reason) next = next
 
 Tells-gives : (pages : Pages) {state : ReaderState} {found : List FoundRecord} {answer : Answer} → Tells pages state found answer → GivesRecords pages state found answer
 Tells-gives pages (stop {old = old} {answer = answer} new next) = gives_told pages old new answer next
@@ -227,7 +195,7 @@ gives_at size valid pages bounded start end NotBegun = let all = settled size va
 gives_at size valid pages bounded start end (At standpoint) =
     let reading = reading_begun size valid pages bounded end (Ok (place_of standpoint)) in
     (filter (λ f. leb start f.start.0) reading.0, reading.1, record { read = reading.0; reads = reading.2; given = refl })
-gives_at size valid pages bounded start end (Stopped told) = ([], told, (refl, refl))
+gives_at size valid pages bounded start end (Stopped reason) = ([], answers.Stopped reason, (refl, refl))
 
 -- a reader of an image's pages gives something, wherever it stands
 pub gives_something : (image : DiskImage) (state : ReaderState) → IsSegmentSize state.size → (found : List FoundRecord) × (answer : Answer) × GivesRecords (pages_in state.size image) state found answer

@@ -22,7 +22,8 @@ pub record Sees (tape : Option Tape) (cache : PageCache) (pages : Pages) : Type 
 
 -- the cursor's page is held, and has its timeline
 abbrev pub IsOn : PageCache → Cursor → Type 0
-IsOn cache cursor = (cache.number ≡ Some cursor.page) × (timeline_of cache.bytes.value ≡ cursor.timeline)
+IsOn cache cursor =
+    (cache.number ≡ Some cursor.page) × (timeline_of cache.bytes.value ≡ cursor.timeline)
 
 -- the byte at a byte position stands at the cursor, or at a page's end it is the next page's first
 pub record StandsIn (size position : ℕ) (cursor : Cursor) : Type 0 where
@@ -42,8 +43,10 @@ pub record Crosses (size : ℕ) (pages : Pages) (place : Place) (total from upto
   pub rises : from ≤ upto
   pub passes : first_fault (rows_of_pages size pages place total from upto) ≡ None
 
--- the room holds the first bytes of a record, and no check failed of the pages behind one up to that of the last of them
-pub record HoldsPassed (size : ℕ) (pages : Pages) (place : Place) (total from : ℕ) (room : List ℕ) : Type 0 where
+-- the room holds the first bytes of a record, and no check failed of the pages behind one up to
+-- that of the last of them
+pub record HoldsPassed (size : ℕ) (pages : Pages) (place : Place) (total from : ℕ)
+    (room : List ℕ) : Type 0 where
   pub count : ℕ
   pub page : ℕ
   pub bytes : room ≡ bytes_from size pages count place.position

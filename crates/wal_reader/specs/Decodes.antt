@@ -1,4 +1,5 @@
--- What a log's pages decode to (PostgreSQL's xlogreader.c): records one behind another, and the first thing that is no record.
+-- What a log's pages decode to (PostgreSQL's xlogreader.c): records one behind another, and the
+-- first thing that is no record.
 use Rattle.std.specs.Prelude.{◌≡◌, ℕ, zero, suc, ◌+◌, ◌-◌, ◌*◌, ◌/◌, ◌%◌, ◌^◌, Bool, true, false, ◌&&◌, not, List, [], ◌∷◌, ◌++◌, take, drop, filter, map, slice_index, Option, Some, None, Result, Ok, Err, ◌==◌, nat_lt, nat_le, if◌then◌else◌}
 use Rattle.std.specs.List.{flat_map, range_with_len}
 use Rattle.std.specs.Int.{w32, w64}
@@ -14,18 +15,26 @@ use Rattle.wal_page.specs.Page.{header_size, timeline_of, remaining_of, is_conti
 use Rattle.wal_reader.specs.declared.found.FoundRecord.{FoundRecord}
 use Rattle.wal_reader.specs.declared.found.Answer.{Answer}
 use Rattle.wal_reader.specs.declared.found.Answer.TheVariants as answers
+use Rattle.wal_reader.specs.declared.found.Stopped.TheVariants as stopped
 use Rattle.wal_reader.specs.declared.found.DamageKind.{DamageKind}
 use Rattle.wal_reader.specs.declared.found.DamageKind.TheVariants as kinds
 use Rattle.wal_reader.specs.Pages.{Pages, bytes_from}
 
--- where a reader stands: the byte position of the next record, the start of the one before (None before the first is read), and the timeline of the page read last
+-- where a reader stands: the byte position of the next record, the start of the one before (None
+-- before the first is read), and the timeline of the page read last
 pub record Place : Type 0 where
   pub position : ℕ
   pub prev : Option ℕ
   pub timeline : ℕ
 
 abbrev pub damaged : ℕ → DamageKind → Answer
-damaged at kind = answers.Damaged (record { 0 = at }) kind
+damaged at kind = answers.Stopped (stopped.Damaged (record { 0 = at }) kind)
+
+abbrev pub compressed : ℕ → Answer
+compressed at = answers.Stopped (stopped.Compressed (record { 0 = at }))
+
+abbrev pub overwritten : ℕ → Answer
+overwritten at = answers.Stopped (stopped.Overwritten (record { 0 = at }))
 
 abbrev pub ended : ℕ → ℕ → Answer
 ended size position = answers.End (record { 0 = end_address_of size position })
@@ -36,26 +45,34 @@ is_zero_word bytes = number_at w64 bytes 0 == 0
 
 -- whether a byte position is a page's first
 abbrev pub opens_page : ℕ → ℕ → Bool
-opens_page size position = let address = address_of size position in address % 8192 == header_size size (address / 8192)
+opens_page size position =
+    let address = address_of size position in address % 8192 == header_size size (address / 8192)
 
 -- a page's checks, each told at the page's address
 abbrev pub page_answers : ℕ → ℕ → List ℕ → ℕ → List (Bool × Answer)
-page_answers size page bytes timeline = map (λ row. (row.0, damaged (page * 8192) (kinds.Page row.1))) (page_rows size page bytes timeline)
+page_answers size page bytes timeline =
+    map (λ row. (row.0, damaged (page * 8192) (kinds.Page row.1)))
+    (page_rows size page bytes timeline)
 
 -- a page's timeline, or one told before where it is not there
 abbrev pub timeline_or : Option (List ℕ) → ℕ → ℕ
 timeline_or None timeline = timeline
 timeline_or (Some bytes) timeline = timeline_of bytes
 
--- the checks of a page into which a record continues: it is there, its own checks, it is no page that was overwritten, it says that a record continues, and with how many bytes
+-- the checks of a page into which a record continues: it is there, its own checks, it is no page
+-- that was overwritten, it says that a record continues, and with how many bytes
 abbrev pub continuation_rows_of : ℕ → ℕ → ℕ → ℕ → ℕ → Option (List ℕ) → List (Bool × Answer)
 continuation_rows_of size page timeline start owed None = (true, damaged start kinds.Missing) ∷ []
 continuation_rows_of size page timeline start owed (Some bytes) =
-    page_answers size page bytes timeline ++ (is_overwritten bytes, answers.Overwritten (record { 0 = start })) ∷ (not (is_continued bytes), damaged start kinds.NoContinuation) ∷ (not (remaining_of bytes == owed), damaged start kinds.RemLen) ∷ []
+    page_answers size page bytes timeline ++ (is_overwritten bytes, overwritten start)
+    ∷ (not (is_continued bytes), damaged start kinds.NoContinuation)
+    ∷ (not (remaining_of bytes == owed), damaged start (kinds.RemLen (remaining_of bytes))) ∷ []
 
 abbrev pub continuation_rows : ℕ → Pages → Place → ℕ → ℕ → List (Bool × Answer)
 continuation_rows size pages place total page =
-    continuation_rows_of size page (timeline_or (pages (page - 1)) place.timeline) (address_of size place.position) (place.position + total - position_of size (page * 8192)) (pages page)
+    continuation_rows_of size page (timeline_or (pages (page - 1)) place.timeline)
+    (address_of size place.position) (place.position + total - position_of size (page * 8192))
+    (pages page)
 
 -- the page in which the n-th byte of a record lies
 abbrev pub page_of_byte : ℕ → ℕ → ℕ → ℕ
@@ -63,9 +80,11 @@ page_of_byte size position n = address_of size (position + n - 1) / 8192
 
 -- the rows of the pages behind one up to another
 abbrev pub rows_of_pages : ℕ → Pages → Place → ℕ → ℕ → ℕ → List (Bool × Answer)
-rows_of_pages size pages place total from upto = flat_map (continuation_rows size pages place total) (range_with_len (from + 1) (upto - from))
+rows_of_pages size pages place total from upto =
+    flat_map (continuation_rows size pages place total) (range_with_len (from + 1) (upto - from))
 
--- whether what a header names as the record before is right: the one read before it, or for the first one read anything below its own start
+-- whether what a header names as the record before is right: the one read before it, or for the
+-- first one read anything below its own start
 abbrev pub is_right_prev : Option ℕ → ℕ → ℕ → Bool
 is_right_prev (Some before) start prev = prev == before
 is_right_prev None start prev = nat_lt prev start
@@ -75,36 +94,84 @@ abbrev pub is_at_end : Option ℕ → ℕ → Bool
 is_at_end None address = false
 is_at_end (Some end) address = nat_le end address
 
--- the checks of a record and of the pages that it needs, in their order; `bytes` are those of the page in which it starts
+-- ---- the checks of a record and of the pages that it needs, in their order
+
+-- of the page in which it starts, whose bytes these are
+abbrev pub opening_rows : ℕ → Place → List ℕ → List (Bool × Answer)
+opening_rows size place bytes =
+    ((opens_page size place.position && is_zero_word bytes, ended size place.position) ∷ [])
+    ++ page_answers size (address_of size place.position / 8192) bytes place.timeline
+    ++ (
+      opens_page size place.position && is_continued bytes,
+      damaged
+          (address_of size place.position) kinds.Claims,
+    ) ∷ []
+
+abbrev pub opening_of : ℕ → Place → Option (List ℕ) → Option Answer
+opening_of size place None = Some (ended size place.position)
+opening_of size place (Some bytes) = first_fault (opening_rows size place bytes)
+
+-- of its first word, and of its size
+abbrev pub size_rows : ℕ → Option ℕ → ℕ → Bool → ℕ → List (Bool × Answer)
+size_rows size end position no_record total =
+    (no_record, ended size position)
+    ∷ (nat_lt total 24, damaged (address_of size position) kinds.Length)
+    ∷ (is_at_end end (address_of size (position + total - 1)), ended size position)
+    ∷ []
+
+-- of its header
+abbrev pub header_rows : ℕ → Option ℕ → List ℕ → List (Bool × Answer)
+header_rows start prev header =
+    (is_free_manager (slice_index header 17), damaged start kinds.Rmgr)
+    ∷ (
+      not (is_right_prev prev start (number_at w64 header 8)),
+      damaged start
+          (kinds.Prev (record { 0 = number_at w64 header 8 })),
+    ) ∷ []
+
+-- of all its bytes
+abbrev pub crc_rows : ℕ → List ℕ → List (Bool × Answer)
+crc_rows start whole = (
+  not (crc32c (drop 24 whole
+      ++ take 20 whole) == number_at w32 whole 20),
+  damaged start kinds.Crc,
+) ∷ []
+
+-- of the pages that its header needs, of its header, of the further pages that it needs, and of all
+-- its bytes
+abbrev pub rest_rows : ℕ → Pages → Place → ℕ → List (Bool × Answer)
+rest_rows size pages place total =
+    let start = address_of size place.position in
+    let header_page = page_of_byte size place.position 24 in
+    rows_of_pages size pages place total (start / 8192) header_page
+    ++ header_rows start place.prev (bytes_from size pages 24 place.position)
+    ++ rows_of_pages size pages place total header_page (page_of_byte size place.position total)
+    ++ crc_rows start (bytes_from size pages total place.position)
+
+-- all of them; `bytes` are those of the page in which it starts
 abbrev pub record_rows : ℕ → Pages → Option ℕ → Place → List ℕ → List (Bool × Answer)
 record_rows size pages end place bytes =
-    let start = address_of size place.position in
-    let page = start / 8192 in
     let total = number_at w32 (bytes_from size pages 8 place.position) 0 in
-    let header = bytes_from size pages 24 place.position in
-    let whole = bytes_from size pages total place.position in
-    let header_page = page_of_byte size place.position 24 in
-    ((opens_page size place.position && is_zero_word bytes, ended size place.position) ∷ [])
-    ++ page_answers size page bytes place.timeline
-    ++ ((opens_page size place.position && is_continued bytes, damaged start kinds.Claims)
-    ∷ (is_zero_word header, ended size place.position)
-    ∷ (nat_lt total 24, damaged start kinds.Length)
-    ∷ (is_at_end end (address_of size (place.position + total - 1)), ended size place.position)
-    ∷ [])
-    ++ rows_of_pages size pages place total page header_page
-    ++ ((is_free_manager (slice_index header 17), damaged start kinds.Rmgr)
-    ∷ (not (is_right_prev place.prev start (number_at w64 header 8)), damaged start kinds.Prev)
-    ∷ [])
-    ++ rows_of_pages size pages place total header_page (page_of_byte size place.position total)
-    ++ ((not (crc32c (drop 24 whole ++ take 20 whole) == number_at w32 whole 20), damaged start kinds.Crc) ∷ [])
+    let no_record = is_zero_word (bytes_from size pages 24 place.position) in
+    opening_rows size place bytes
+    ++ (size_rows size end place.position no_record total ++ rest_rows size pages place total)
 
 -- what a record's bytes say: the record, or that it is malformed or has a compressed image
 abbrev pub found_or : ℕ → Place → ℕ → ℕ → Result Record RecErr → Result FoundRecord Answer
 found_or size place total prev (Ok value) =
-    Ok (record { start = record { 0 = address_of size place.position }; end = record { 0 = end_address_of size (place.position + (total + 7) / 8 * 8) }; prev = record { 0 = prev }; total = total; value = value })
-found_or size place total prev (Err Memory) = Err (damaged (address_of size place.position) kinds.Malformed)
-found_or size place total prev (Err (Malformed at kind)) = Err (damaged (address_of size place.position) kinds.Malformed)
-found_or size place total prev (Err (Compressed block)) = Err (answers.Compressed (record { 0 = address_of size place.position }))
+    Ok (record {
+      start = record { 0 = address_of size place.position };
+      end = record { 0 = end_address_of size (place.position + (total + 7) / 8 * 8) };
+      prev = record { 0 = prev };
+      total = total;
+      value = value;
+    })
+found_or size place total prev (Err Memory) =
+    Err (damaged (address_of size place.position) kinds.Malformed)
+found_or size place total prev (Err (Malformed at kind)) =
+    Err (damaged (address_of size place.position) kinds.Malformed)
+found_or size place total prev (Err (Compressed block)) =
+    Err (compressed (address_of size place.position))
 
 -- the first row that holds, or else what the record's bytes say
 abbrev pub answer_or : ℕ → Pages → Place → Option Answer → Result FoundRecord Answer
@@ -112,11 +179,13 @@ answer_or size pages place (Some answer) = Err answer
 answer_or size pages place None =
     let header = bytes_from size pages 24 place.position in
     let total = number_at w32 header 0 in
-    found_or size place total (number_at w64 header 8) (reading_of (bytes_from size pages total place.position))
+    found_or size place total (number_at w64 header 8)
+    (reading_of (bytes_from size pages total place.position))
 
 abbrev pub read_in : ℕ → Pages → Option ℕ → Place → Option (List ℕ) → Result FoundRecord Answer
 read_in size pages end place None = Err (ended size place.position)
-read_in size pages end place (Some bytes) = answer_or size pages place (first_fault (record_rows size pages end place bytes))
+read_in size pages end place (Some bytes) =
+    answer_or size pages place (first_fault (record_rows size pages end place bytes))
 
 -- the record at a place, or what stands there instead; at an end that was given nothing is read
 unfoldable pub read_at : ℕ → Pages → Option ℕ → Place → Result FoundRecord Answer
@@ -135,20 +204,29 @@ place_behind size pages place found = record {
 -- from a place on these records are read, one behind another, and then this answer comes
 abbrev pub ReadsRecords : ℕ → Pages → Option ℕ → Place → List FoundRecord → Answer → Type 0
 ReadsRecords size pages end place [] answer = read_at size pages end place ≡ Err answer
-ReadsRecords size pages end place (found ∷ others) answer = (read_at size pages end place ≡ Ok found) × ReadsRecords size pages end (place_behind size pages place found) others answer
+ReadsRecords size pages end place (found ∷ others) answer =
+    (read_at size pages end place ≡ Ok found)
+    × ReadsRecords size pages end (place_behind size pages place found) others answer
 
 -- a place before any record is read
 abbrev pub first_place : ℕ → ℕ → Result Place Answer
-first_place position timeline = Ok (record { position = position; prev = None; timeline = timeline })
+first_place position timeline =
+    Ok (record { position = position; prev = None; timeline = timeline })
 
--- the first place of a page that a record may start at: behind what is continued there, which may reach over whole pages; `turns` bounds how many
-abbrev pub begin_in : (ℕ → ℕ → Result Place Answer) → ℕ → ℕ → ℕ → Option (List ℕ) → Result Place Answer
+-- the first place of a page that a record may start at: behind what is continued there, which may
+-- reach over whole pages; `turns` bounds how many
+abbrev pub begin_in : (ℕ → ℕ → Result Place Answer) → ℕ → ℕ → ℕ → Option (List ℕ)
+    → Result Place Answer
 begin_in next size page timeline None = Err (ended size (position_of size (page * 8192)))
 begin_in next size page timeline (Some bytes) =
     let first = position_of size (page * 8192) in
     let skipped = (remaining_of bytes + 7) / 8 * 8 in
+    let behind_continued =
+    if nat_le (8192 - header_size size page) skipped then next (page + 1) (timeline_of bytes)
+    else first_place (first + skipped) (timeline_of bytes) in
     if is_zero_word bytes then Err (ended size first)
-    else begun (first_fault (page_answers size page bytes timeline)) (if is_continued bytes then (if nat_le (8192 - header_size size page) skipped then next (page + 1) (timeline_of bytes) else first_place (first + skipped) (timeline_of bytes)) else first_place first (timeline_of bytes))
+    else begun (first_fault (page_answers size page bytes timeline))
+    (if is_continued bytes then behind_continued else first_place first (timeline_of bytes))
   where
     begun : Option Answer → Result Place Answer → Result Place Answer
     begun (Some answer) place = Err answer
@@ -156,19 +234,23 @@ begin_in next size page timeline (Some bytes) =
 
 unfoldable pub begin_at : ℕ → ℕ → Pages → ℕ → ℕ → Result Place Answer
 begin_at zero size pages page timeline = Err (ended size (position_of size (page * 8192)))
-begin_at (suc turns) size pages page timeline = begin_in (begin_at turns size pages) size page timeline (pages page)
+begin_at (suc turns) size pages page timeline =
+    begin_in (begin_at turns size pages) size page timeline (pages page)
 
 -- where reading begins: on the page that holds the start
 abbrev pub beginning : ℕ → Pages → ℕ → Result Place Answer
 beginning size pages start = begin_at (2 ^ 47) size pages (start / 8192) 0
 
 -- from where reading begins these records are read, and then this answer comes
-abbrev pub ReadsFrom : ℕ → Pages → Option ℕ → Result Place Answer → List FoundRecord → Answer → Type 0
-ReadsFrom size pages end (Err stopped) found answer = (found ≡ []) × (answer ≡ stopped)
+abbrev pub ReadsFrom : ℕ → Pages → Option ℕ → Result Place Answer → List FoundRecord → Answer
+    → Type 0
+ReadsFrom size pages end (Err told) found answer = (found ≡ []) × (answer ≡ told)
 ReadsFrom size pages end (Ok place) found answer = ReadsRecords size pages end place found answer
 
--- what pages decode to: the records that start at or behind `start`, and the first thing that is no record
-pub record Decodes (size : ℕ) (pages : Pages) (start : ℕ) (end : Option ℕ) (found : List FoundRecord) (answer : Answer) : Type 0 where
+-- what pages decode to: the records that start at or behind `start`, and the first thing that is no
+-- record
+pub record Decodes (size : ℕ) (pages : Pages) (start : ℕ) (end : Option ℕ)
+    (found : List FoundRecord) (answer : Answer) : Type 0 where
   pub read : List FoundRecord
   pub reads : ReadsFrom size pages end (beginning size pages start) read answer
   pub given : found ≡ filter (λ f. nat_le start f.start.0) read

@@ -6,10 +6,11 @@ pub mod Cache
 pub mod Standpoint
 pub mod Stops
 pub mod Cursor
-pub mod RecordRows
+pub mod RecordRead
 pub mod Beginning
 pub mod Steps
 pub mod Standings
 pub mod Buffers
 pub mod LogReader
 pub mod Settled
+pub mod Runs

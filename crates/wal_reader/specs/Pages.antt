@@ -14,7 +14,9 @@ page_of_image (Some i) page = if nat_lt page i.pages then Some (i.page page) els
 
 -- an image's pages; one that ends above address 2 ^ 60 counts as not there
 abbrev pub pages_in : ℕ → DiskImage → Pages
-pages_in size image page = if nat_le ((page + 1) * 8192) (2 ^ 60) then page_of_image (image (page / pages_of size)) (page % pages_of size) else None
+pages_in size image page =
+    if nat_le ((page + 1) * 8192) (2 ^ 60)
+    then page_of_image (image (page / pages_of size)) (page % pages_of size) else None
 
 -- the byte at an address; 0 where its page is not there
 abbrev pub byte_in_page : Option (List ℕ) → ℕ → ℕ
@@ -27,4 +29,5 @@ byte_at pages address = byte_in_page (pages (address / 8192)) (address % 8192)
 -- n bytes from a byte position on, each at its own address: those of headers are left out
 unfoldable pub bytes_from : ℕ → Pages → ℕ → ℕ → List ℕ
 bytes_from size pages zero position = []
-bytes_from size pages (suc n) position = byte_at pages (address_of size position) ∷ bytes_from size pages n (position + 1)
+bytes_from size pages (suc n) position =
+    byte_at pages (address_of size position) ∷ bytes_from size pages n (position + 1)

@@ -2,16 +2,20 @@
 use Rattle.std.specs.Prelude.{◌≡◌, ℕ, ◌-◌, ◌%◌, ◌^◌, ◌<◌, Result, Ok, Err}
 use Rattle.std.specs.Coded.{Coded-set, coded_ℕ, ×_prop, Unit-prop, le_prop}
 use Rattle.segment_disk.specs.Cause.{Rose}
+use Rattle.wal_types.specs.declared.lsn.Lsn.{Lsn}
+use Rattle.wal_types.specs.declared.record.Record.{Record}
+use Rattle.wal_reader.specs.declared.found.FoundRecord.{FoundRecord}
 use Rattle.wal_reader.specs.declared.found.Answer.{Answer}
 use Rattle.wal_reader.specs.declared.found.Answer.TheVariants as answers
 use Rattle.wal_reader.specs.declared.standing.Standing.{Standing}
 use Rattle.wal_reader.specs.declared.standing.Standing.TheVariants.{NotBegun, At, Stopped}
 use Rattle.wal_reader.specs.declared.standing.Step.{Step}
-use Rattle.wal_reader.specs.declared.standing.Step.TheVariants.{End}
+use Rattle.wal_reader.specs.declared.standing.Step.TheVariants as steps
 use Rattle.wal_reader.specs.declared.standing.ReadErr.{ReadErr}
-use Rattle.wal_reader.specs.declared.standing.ReadErr.TheVariants.{Memory, Disk, Damaged, Compressed, Overwritten}
+use Rattle.wal_reader.specs.declared.standing.ReadErr.TheVariants as reading
 
--- a reader that is before a record stands where reading comes to: at a whole word, below address 2 ^ 60
+-- a reader that is before a record stands where reading comes to: at a whole word, below address 2
+-- ^ 60
 abbrev pub IsOnWay : Standing → Type 0
 IsOnWay NotBegun = Unit {0}
 IsOnWay (At at) = (at.position % 8 ≡ 0) × (at.position < 2 ^ 60)
@@ -28,31 +32,34 @@ left_at NotBegun = 2 ^ 60
 left_at (At standpoint) = 2 ^ 60 - standpoint.position
 left_at (Stopped stop) = 0
 
+-- a record as a step gives it
+abbrev pub given_as : FoundRecord → Step
+given_as found = steps.Record found.start found.end found.prev found.total found.value
+
+-- the record that a step gives
+abbrev pub found_as : Lsn → Lsn → Lsn → ℕ → Record → FoundRecord
+found_as start end prev total value =
+    record { start = start; end = end; prev = prev; total = total; value = value }
+
 -- an answer as a step tells it
 abbrev pub told : Answer → Result Step ReadErr
-told (answers.End at) = Ok (End at)
-told (answers.Damaged at kind) = Err (Damaged at kind)
-told (answers.Compressed at) = Err (Compressed at)
-told (answers.Overwritten at) = Err (Overwritten at)
+told (answers.End at) = Ok (steps.End at)
+told (answers.Stopped stop) = Err (reading.Stopped stop)
 
--- what an answer leaves of a standing: an end is no more than told, all else is told for good
+-- what an answer leaves of a standing: an end is no more than told, a stop is told for good
 abbrev pub standing_after : Standing → Answer → Standing
 standing_after standing (answers.End at) = standing
-standing_after standing (answers.Damaged at kind) = Stopped (answers.Damaged at kind)
-standing_after standing (answers.Compressed at) = Stopped (answers.Compressed at)
-standing_after standing (answers.Overwritten at) = Stopped (answers.Overwritten at)
+standing_after standing (answers.Stopped stop) = Stopped stop
 
 -- a reader that has stopped tells its answer again, and leaves the disk alone
 abbrev pub IsToldAgain : {D : Type 0} → Standing → Result Step ReadErr → D → D → Type 0
 IsToldAgain NotBegun result old new = Unit {0}
 IsToldAgain (At standpoint) result old new = Unit {0}
-IsToldAgain (Stopped stop) result old new = (result ≡ told stop) × (new ≡ old)
+IsToldAgain (Stopped stop) result old new = (result ≡ Err (reading.Stopped stop)) × (new ≡ old)
 
 -- the disk's count of faults: it rises only where the disk failed, and is told there
 abbrev pub HasReadCause : ℕ → ℕ → Result Step ReadErr → Type 0
 HasReadCause old new (Ok step) = new ≡ old
-HasReadCause old new (Err Memory) = new ≡ old
-HasReadCause old new (Err (Disk faults)) = Rose old new × (faults ≡ new)
-HasReadCause old new (Err (Damaged at kind)) = new ≡ old
-HasReadCause old new (Err (Compressed at)) = new ≡ old
-HasReadCause old new (Err (Overwritten at)) = new ≡ old
+HasReadCause old new (Err reading.Memory) = new ≡ old
+HasReadCause old new (Err (reading.Disk faults)) = Rose old new × (faults ≡ new)
+HasReadCause old new (Err (reading.Stopped stop)) = new ≡ old

@@ -7,11 +7,12 @@ use Rattle.wal_reader.specs.declared.stop.Stop.{Stop}
 use Rattle.wal_reader.specs.declared.stop.Stop.TheVariants as stops
 use Rattle.wal_reader.specs.Decodes.{Place, ReadsRecords, Decodes}
 use Rattle.wal_reader.specs.Pages.{Pages}
-use Rattle.wal_reader.specs.RecordRows.{GoesOn}
+use Rattle.wal_reader.specs.RecordRead.{GoesOn}
 use Rattle.wal_reader.specs.Standpoint.{IsReachable, place_of}
 
 -- from a place on these records at or behind `start` are read, and then this answer comes
-pub record GivesFrom (size : ℕ) (pages : Pages) (start : ℕ) (end : Option ℕ) (place : Place) (found : List FoundRecord) (answer : Answer) : Type 0 where
+pub record GivesFrom (size : ℕ) (pages : Pages) (start : ℕ) (end : Option ℕ) (place : Place)
+    (found : List FoundRecord) (answer : Answer) : Type 0 where
   pub read : List FoundRecord
   pub reads : ReadsRecords size pages end place read answer
   pub given : found ≡ filter (λ f. nat_le start f.start.0) read
@@ -19,12 +20,18 @@ pub record GivesFrom (size : ℕ) (pages : Pages) (start : ℕ) (end : Option �
 -- what comes from a standpoint on, or where reading has not begun from where it begins
 abbrev pub Comes : ℕ → Pages → ℕ → Option ℕ → Option Standpoint → List FoundRecord → Answer → Type 0
 Comes size pages start end None found answer = Decodes size pages start end found answer
-Comes size pages start end (Some at) found answer = GivesFrom size pages start end (place_of at) found answer
+Comes size pages start end (Some at) found answer =
+    GivesFrom size pages start end (place_of at) found answer
 
 -- a record is the next that comes, or this answer comes
-abbrev pub ComesNext : ℕ → Pages → ℕ → Option ℕ → Option Standpoint → Result (FoundRecord × Standpoint) Stop → Type 0
-ComesNext size pages start end from (Ok (found, next)) = (others : List FoundRecord) (answer : Answer) → GivesFrom size pages start end (place_of next) others answer → Comes size pages start end from (found ∷ others) answer
-ComesNext size pages start end from (Err (stops.Told answer)) = Comes size pages start end from [] answer
+abbrev pub ComesNext : ℕ → Pages → ℕ → Option ℕ → Option Standpoint
+    → Result (FoundRecord × Standpoint) Stop → Type 0
+ComesNext size pages start end from (Ok (found, next)) =
+    (others : List FoundRecord) (answer : Answer)
+    → GivesFrom size pages start end (place_of next) others answer
+    → Comes size pages start end from (found ∷ others) answer
+ComesNext size pages start end from (Err (stops.Told answer)) =
+    Comes size pages start end from [] answer
 ComesNext size pages start end from (Err stops.Memory) = Unit {0}
 ComesNext size pages start end from (Err stops.Disk) = Unit {0}
 

@@ -31,7 +31,8 @@ pub(crate) enum Front {
     Filled { timeline: u32 },
 }
 
-/// Where reading begins that looks for a start address: on the page that holds it, behind the record that continues there.
+/// Where reading begins that looks for a start address: on the page that holds it, behind the
+/// record that continues there.
 pub(crate) fn find_beginning<D: Disk>(
     cache: &mut PageCache,
     disk: &mut D,
@@ -39,7 +40,9 @@ pub(crate) fn find_beginning<D: Disk>(
 ) -> Result<Standpoint, Stop>
     ensures geometry { cache.new.geometry ≡ cache.old.geometry }
     ensures reachable { IfOk result IsReachable }
-    ensures begins { (pages : Pages) → Sees (D.tape disk.old) cache.old pages → Sees (D.tape disk.new) cache.new pages × IsBegun (beginning cache.old.geometry pages start.0) result }
+    ensures begins { (pages : Pages) → Sees (D.tape disk.old) cache.old pages
+        → Sees (D.tape disk.new) cache.new pages
+        × IsBegun (beginning cache.old.geometry pages start.0) result }
 
     ensures tape { D.tape disk.new ≡ D.tape disk.old }
     ensures moment { D.moment disk.new ≡ D.moment disk.old }
@@ -73,7 +76,9 @@ fn page_end(geometry: Geometry, page: u64) -> Answer
 // Where reading begins on the page that is held; `timeline` is that of the page before.
 fn front_of(cache: &PageCache, page: u64, timeline: u32) -> Result<Front, Answer>
     requires { page < 2 ^ 47 }
-    ensures begins { (next : ℕ → ℕ → Result Place Answer) → begin_in next cache.now.geometry page timeline (Some cache.now.bytes.value) ≡ goes_on next page result }
+    ensures begins { (next : ℕ → ℕ → Result Place Answer)
+        → begin_in next cache.now.geometry page timeline (Some cache.now.bytes.value)
+        ≡ goes_on next page result }
     ensures reachable { IfOk result IsReachableFront }
 {
     if is_zero_word(cache, 0) {

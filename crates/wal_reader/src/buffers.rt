@@ -22,7 +22,8 @@ pub(crate) fn set_up(
     geometry: Geometry,
 ) -> Result<(), AllocError>
     ensures ready { OnOk result (IsTrue (is_some buffers.new)) }
-    ensures holds { (pages : Pages) → HoldsPageOf geometry buffers.old pages → HoldsPageOf geometry buffers.new pages }
+    ensures holds { (pages : Pages) → HoldsPageOf geometry buffers.old pages
+        → HoldsPageOf geometry buffers.new pages }
 {
     if buffers.is_none() {
         *buffers = Some(Buffers::new(alloc, geometry)?);
@@ -31,9 +32,17 @@ pub(crate) fn set_up(
 }
 
 impl Buffers {
+    /// Holds no page from now on: the next one that is asked for is read anew.
+    pub(crate) fn forget_page(&mut self)
+        ensures { self.new ≡ record self.old { cache = record self.old.cache { number = None } } }
+    {
+        self.cache.number = None;
+    }
+
     // No page is held yet.
     fn new(alloc: Global, geometry: Geometry) -> Result<Buffers, AllocError>
-        ensures { IfOk result (λ buffers. (buffers.cache.geometry ≡ geometry) × (buffers.cache.number ≡ None)) }
+        ensures { IfOk result (λ buffers. (buffers.cache.geometry ≡ geometry) ×
+            (buffers.cache.number ≡ None)) }
     {
         Ok(Buffers {
             cache: PageCache::new(alloc, geometry)?,

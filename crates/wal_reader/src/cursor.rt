@@ -27,7 +27,12 @@ impl Extent {
     /// Where the next record is read; `timeline` is that of the page in which this one ends.
     pub(crate) fn behind(self, timeline: u32) -> Standpoint
         requires { self.at.position < 2 ^ 60 }
-        ensures { result ≡ record { position = self.at.position + (self.total + 7) / 8 * 8; prev = Some self.start; timeline = timeline } }
+        ensures { result ≡ record {
+          position = self.at.position +
+              (self.total + 7) / 8 * 8;
+          prev = Some self.start;
+          timeline = timeline;
+        } }
     {
         Standpoint {
             position: self.end(),

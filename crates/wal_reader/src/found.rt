@@ -1,10 +1,12 @@
 ghost use Rattle.std.specs.Prelude.{◌≡◌};
 ghost use Rattle.wal_reader.specs.Names.{page_name};
 
+use thiserror::Error;
 use wal_page::PageErr;
 use wal_types::{Lsn, Record};
 
-/// A record that was read.
+/// A record that was read, as definitions of what a log decodes to list it; a step gives its
+/// fields.
 #[derive(Debug, Drop)]
 pub struct FoundRecord {
     pub start: Lsn,
@@ -28,14 +30,14 @@ pub enum DamageKind {
     Length,
     /// No manager has the record's number.
     Rmgr,
-    /// The record names another record before it than the one read.
-    Prev,
+    /// The record names another record before it than the one read: what it names.
+    Prev { found: Lsn },
     /// A page that a record needs is not there.
     Missing,
     /// A page into which a record continues does not say so.
     NoContinuation,
-    /// A page says that another number of bytes is still to come.
-    RemLen,
+    /// A page says that another number of bytes is still to come: that number.
+    RemLen { found: u32 },
     Crc,
     /// The record's items are not as they should be.
     Malformed,
@@ -54,10 +56,10 @@ impl DamageKind {
             DamageKind::Claims => "claims",
             DamageKind::Length => "length",
             DamageKind::Rmgr => "rmgr",
-            DamageKind::Prev => "prev",
+            DamageKind::Prev { .. } => "prev",
             DamageKind::Missing => "missing",
             DamageKind::NoContinuation => "nocontinuation",
-            DamageKind::RemLen => "remlen",
+            DamageKind::RemLen { .. } => "remlen",
             DamageKind::Crc => "crc",
             DamageKind::Malformed => "malformed",
         }
@@ -80,15 +82,26 @@ fn page_name(fault: PageErr) -> &'static str
     }
 }
 
-/// What stands where no record does.
-#[derive(Clone, Copy, Debug, PartialEq, Eq)]
-pub enum Answer {
-    /// A clean end of the log: where the last record ends, or how far reading came where there is none.
-    End { at: Lsn },
-    /// Damage: a page's address, or the start of the record that fails.
+/// Where and why a log stops that comes to no clean end.
+#[derive(Clone, Copy, Debug, PartialEq, Eq, Error)]
+pub enum Stopped {
+    /// A check failed of the page or the record at this address.
+    #[error("the log is damaged")]
     Damaged { at: Lsn, kind: DamageKind },
     /// A record that starts here has a compressed image.
+    #[error("the log has a compressed image")]
     Compressed { at: Lsn },
     /// A record that starts here was given up, and its continuation overwritten.
+    #[error("a record was overwritten")]
     Overwritten { at: Lsn },
+}
+
+/// What stands where no record does, as definitions of what a log decodes to name it; no call
+/// answers it, a step tells `End` or fails by `Stopped`.
+#[derive(Clone, Copy, Debug)]
+pub enum Answer {
+    /// A clean end of the log: where the last record ends, or how far reading came where there is
+    /// none.
+    End { at: Lsn },
+    Stopped(Stopped),
 }

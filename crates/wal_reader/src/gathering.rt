@@ -1,4 +1,5 @@
-//! The bytes of a record, gathered page by page (PostgreSQL's XLogDecodeNextRecord of xlogreader.c).
+//! The bytes of a record, gathered page by page (PostgreSQL's XLogDecodeNextRecord of
+//! xlogreader.c).
 
 ghost use Rattle.std.specs.Prelude.{◌≡◌, ℕ, ◌+◌, ◌-◌, ◌*◌, ◌/◌, ◌<◌, ◌≤◌, ◌^◌, ◌++◌, length, take, drop, min, vec_len, Some, None, IfOk, OnErr, OnOk, MatchResult};
 ghost use Rattle.byte_position.specs.Position.{address_of};
@@ -17,8 +18,8 @@ use crate::stop::Stop;
 use segment_disk::Disk;
 use std::alloc::AllocError;
 
-/// Gathers a record's bytes behind those that the room has, up to `upto` of them: those of a further page once it has
-/// passed its checks.
+/// Gathers a record's bytes behind those that the room has, up to `upto` of them: those of a
+/// further page once it has passed its checks.
 pub(crate) fn gather<D: Disk>(
     cache: &mut PageCache,
     room: &mut Vec<u8>,
@@ -31,18 +32,28 @@ pub(crate) fn gather<D: Disk>(
     requires upto { upto ≤ extent.total }
     requires len { vec_len room.old ≤ upto }
     requires on { IsOn cache.old cursor }
-    requires gathered { HasGathered cache.old.geometry extent.at.position (vec_len room.old) cursor }
+    requires gathered { HasGathered cache.old.geometry extent.at.position
+        (vec_len room.old) cursor }
     ensures geometry { cache.new.geometry ≡ cache.old.geometry }
     ensures len { OnOk result (vec_len room.new ≡ upto) }
-    ensures cursor { IfOk result (λ now. IsOn cache.new now × HasGathered cache.old.geometry extent.at.position upto now) }
-    ensures sees { (pages : Pages) → Sees (D.tape disk.old) cache.old pages → Sees (D.tape disk.new) cache.new pages }
-    ensures bytes { (pages : Pages) → Sees (D.tape disk.old) cache.old pages → room.old.items ≡ bytes_from cache.old.geometry pages (vec_len room.old) extent.at.position
-        → OnOk result (room.new.items ≡ bytes_from cache.old.geometry pages upto extent.at.position) }
-    ensures room { (pages : Pages) → Sees (D.tape disk.old) cache.old pages → room.old.items ≡ bytes_from cache.old.geometry pages (vec_len room.old) extent.at.position
-        → HoldsPassed cache.old.geometry pages (place_of extent.at) extent.total cursor.page room.new.items }
+    ensures cursor { IfOk result (λ now. IsOn cache.new now
+        × HasGathered cache.old.geometry extent.at.position upto now) }
+    ensures sees { (pages : Pages) → Sees (D.tape disk.old) cache.old pages
+        → Sees (D.tape disk.new) cache.new pages }
+    ensures bytes { (pages : Pages) → Sees (D.tape disk.old) cache.old pages → room.old.items
+        ≡ bytes_from cache.old.geometry pages (vec_len room.old) extent.at.position
+        → OnOk result (room.new.items
+        ≡ bytes_from cache.old.geometry pages upto extent.at.position) }
+    ensures room { (pages : Pages) → Sees (D.tape disk.old) cache.old pages → room.old.items
+        ≡ bytes_from cache.old.geometry pages (vec_len room.old) extent.at.position
+        → HoldsPassed cache.old.geometry pages
+        (place_of extent.at) extent.total cursor.page room.new.items }
     ensures checks { (pages : Pages) → Sees (D.tape disk.old) cache.old pages
-        → MatchResult result (λ now. Crosses cache.old.geometry pages (place_of extent.at) extent.total cursor.page now.page)
-        (IsTold (first_fault (rows_of_pages cache.old.geometry pages (place_of extent.at) extent.total cursor.page (page_of_byte cache.old.geometry extent.at.position upto)))) }
+        → MatchResult result (λ now. Crosses cache.old.geometry pages
+        (place_of extent.at) extent.total cursor.page now.page)
+        (IsTold (first_fault (rows_of_pages cache.old.geometry pages
+        (place_of extent.at) extent.total cursor.page
+        (page_of_byte cache.old.geometry extent.at.position upto)))) }
 
     ensures tape { D.tape disk.new ≡ D.tape disk.old }
     ensures moment { D.moment disk.new ≡ D.moment disk.old }
@@ -72,13 +83,20 @@ fn gather_more<D: Disk>(
     ensures geometry { cache.new.geometry ≡ cache.old.geometry }
     ensures kept { OnErr result (room.new.items ≡ room.old.items) }
     ensures len { OnOk result ((vec_len room.old < vec_len room.new) × (vec_len room.new ≤ upto)) }
-    ensures cursor { IfOk result (λ now. IsOn cache.new now × HasGathered cache.old.geometry extent.at.position (vec_len room.new) now) }
-    ensures sees { (pages : Pages) → Sees (D.tape disk.old) cache.old pages → Sees (D.tape disk.new) cache.new pages }
-    ensures bytes { (pages : Pages) → Sees (D.tape disk.old) cache.old pages → room.old.items ≡ bytes_from cache.old.geometry pages (vec_len room.old) extent.at.position
-        → OnOk result (room.new.items ≡ bytes_from cache.old.geometry pages (vec_len room.new) extent.at.position) }
+    ensures cursor { IfOk result (λ now. IsOn cache.new now
+        × HasGathered cache.old.geometry extent.at.position (vec_len room.new) now) }
+    ensures sees { (pages : Pages) → Sees (D.tape disk.old) cache.old pages
+        → Sees (D.tape disk.new) cache.new pages }
+    ensures bytes { (pages : Pages) → Sees (D.tape disk.old) cache.old pages → room.old.items
+        ≡ bytes_from cache.old.geometry pages (vec_len room.old) extent.at.position
+        → OnOk result (room.new.items ≡ bytes_from cache.old.geometry pages
+        (vec_len room.new) extent.at.position) }
     ensures checks { (pages : Pages) → Sees (D.tape disk.old) cache.old pages
-        → MatchResult result (λ now. Crosses cache.old.geometry pages (place_of extent.at) extent.total cursor.page now.page)
-        (IsTold (first_fault (rows_of_pages cache.old.geometry pages (place_of extent.at) extent.total cursor.page (page_of_byte cache.old.geometry extent.at.position upto)))) }
+        → MatchResult result (λ now. Crosses cache.old.geometry pages
+        (place_of extent.at) extent.total cursor.page now.page)
+        (IsTold (first_fault (rows_of_pages cache.old.geometry pages
+        (place_of extent.at) extent.total cursor.page
+        (page_of_byte cache.old.geometry extent.at.position upto)))) }
 
     ensures tape { D.tape disk.new ≡ D.tape disk.old }
     ensures moment { D.moment disk.new ≡ D.moment disk.old }
@@ -93,7 +111,8 @@ fn gather_more<D: Disk>(
     })
 }
 
-// Goes on to the next page where the cursor is at a page's end; `gathered` bytes of the record are before it.
+// Goes on to the next page where the cursor is at a page's end; `gathered` bytes of the record are
+// before it.
 fn pass_border<D: Disk>(
     cache: &mut PageCache,
     disk: &mut D,
@@ -106,11 +125,17 @@ fn pass_border<D: Disk>(
     requires on { IsOn cache.old cursor }
     requires stands { StandsIn cache.old.geometry (extent.at.position + gathered) cursor }
     ensures geometry { cache.new.geometry ≡ cache.old.geometry }
-    ensures cursor { IfOk result (λ now. IsOn cache.new now × StandsIn cache.old.geometry (extent.at.position + gathered) now × (now.offset < 8192)) }
-    ensures sees { (pages : Pages) → Sees (D.tape disk.old) cache.old pages → Sees (D.tape disk.new) cache.new pages }
+    ensures cursor { IfOk result (λ now. IsOn cache.new now × StandsIn cache.old.geometry
+        (extent.at.position + gathered) now × (now.offset < 8192)) }
+    ensures sees { (pages : Pages) → Sees (D.tape disk.old) cache.old pages
+        → Sees (D.tape disk.new) cache.new pages }
     ensures checks { (pages : Pages) → Sees (D.tape disk.old) cache.old pages
-        → MatchResult result (λ now. Crosses cache.old.geometry pages (place_of extent.at) extent.total cursor.page now.page)
-        (λ stop. (upto : ℕ) → gathered < upto → IsTold (first_fault (rows_of_pages cache.old.geometry pages (place_of extent.at) extent.total cursor.page (page_of_byte cache.old.geometry extent.at.position upto))) stop) }
+        → MatchResult result (λ now. Crosses cache.old.geometry pages
+        (place_of extent.at) extent.total cursor.page now.page)
+        (λ stop. (upto : ℕ) → gathered < upto
+        → IsTold (first_fault (rows_of_pages cache.old.geometry pages
+        (place_of extent.at) extent.total cursor.page
+        (page_of_byte cache.old.geometry extent.at.position upto))) stop) }
 
     ensures tape { D.tape disk.new ≡ D.tape disk.old }
     ensures moment { D.moment disk.new ≡ D.moment disk.old }
@@ -126,7 +151,8 @@ fn pass_border<D: Disk>(
 fn append(room: &mut Vec<u8>, page: &[u8; 8192], offset: u32, most: u32) -> Result<u32, AllocError>
     requires { offset ≤ 8192 }
     ensures count { IfOk result (λ count. count ≡ min (8192 - offset) most) }
-    ensures items { IfOk result (λ count. room.new.items ≡ room.old.items ++ take count (drop offset page.now)) }
+    ensures items { IfOk result (λ count. room.new.items ≡ room.old.items ++ take count
+        (drop offset page.now)) }
     ensures len { IfOk result (λ count. vec_len room.new ≡ vec_len room.old + count) }
     ensures kept { OnErr result (room.new.items ≡ room.old.items) }
     ensures whole { length page.now ≡ 8192 }

@@ -3,9 +3,9 @@
 ghost use Rattle.std.specs.Prelude.{◌≡◌, ◌<◌, option_map, Some, IfOk, IfSome};
 ghost use Rattle.wal_reader.specs.Cursor.{Sees};
 ghost use Rattle.wal_reader.specs.Pages.{Pages};
-ghost use Rattle.wal_reader.specs.RecordRows.{GoesOn};
+ghost use Rattle.wal_reader.specs.RecordRead.{GoesOn, IsBehind};
 ghost use Rattle.wal_reader.specs.Spelled.{IsSpelled};
-ghost use Rattle.wal_reader.specs.Standpoint.{IsReachable};
+ghost use Rattle.wal_reader.specs.Standpoint.{IsOutOfReach, IsReachable};
 ghost use Rattle.wal_reader.specs.Steps.{ComesNext, IsFurther};
 ghost use Rattle.wal_reader.specs.Stops.{HasStopCause};
 
@@ -19,8 +19,8 @@ use segment_disk::Disk;
 use std::alloc::Global;
 use wal_types::Lsn;
 
-/// The next record at or behind `start`, and where the one behind it stands: from a standpoint, or where reading has not
-/// begun from where it begins. `end` is where reading ends, if it is given.
+/// The next record at or behind `start`, and where the one behind it stands: from a standpoint, or
+/// where reading has not begun from where it begins. `end` is where reading ends, if it is given.
 pub(crate) fn next_given<D: Disk>(
     alloc: Global,
     buffers: &mut Buffers,
@@ -31,9 +31,15 @@ pub(crate) fn next_given<D: Disk>(
 ) -> Result<(FoundRecord, Standpoint), Stop>
     requires { IfSome from IsReachable }
     ensures geometry { buffers.new.cache.geometry ≡ buffers.old.cache.geometry }
-    ensures behind { IfOk result (λ r. IsFurther from r.1) }
+    ensures further { IfOk result (λ r. IsFurther from r.1) }
+    ensures unread { IfSome from (λ at. IsOutOfReach buffers.old.cache.geometry
+        (option_map (λ e. e.0) end) at.position → disk.new ≡ disk.old) }
+    ensures behind { IfOk result (λ r. IsBehind buffers.old.cache.geometry r.0 r.1) }
     ensures spelled { IfOk result (λ r. IsSpelled r.0) }
-    ensures next { (pages : Pages) → Sees (D.tape disk.old) buffers.old.cache pages → Sees (D.tape disk.new) buffers.new.cache pages × ComesNext buffers.old.cache.geometry pages start.0 (option_map (λ e. e.0) end) from result }
+    ensures next { (pages : Pages) → Sees (D.tape disk.old) buffers.old.cache pages
+        → Sees (D.tape disk.new) buffers.new.cache pages
+        × ComesNext buffers.old.cache.geometry pages start.0
+        (option_map (λ e. e.0) end) from result }
 
     ensures tape { D.tape disk.new ≡ D.tape disk.old }
     ensures moment { D.moment disk.new ≡ D.moment disk.old }
@@ -57,9 +63,15 @@ fn read_given<D: Disk>(
 ) -> Result<(FoundRecord, Standpoint), Stop>
     requires { IsReachable from }
     ensures geometry { buffers.new.cache.geometry ≡ buffers.old.cache.geometry }
-    ensures behind { IfOk result (λ r. GoesOn from r.1) }
+    ensures further { IfOk result (λ r. GoesOn from r.1) }
+    ensures unread { IsOutOfReach buffers.old.cache.geometry
+        (option_map (λ e. e.0) end) from.position → disk.new ≡ disk.old }
+    ensures behind { IfOk result (λ r. IsBehind buffers.old.cache.geometry r.0 r.1) }
     ensures spelled { IfOk result (λ r. IsSpelled r.0) }
-    ensures next { (pages : Pages) → Sees (D.tape disk.old) buffers.old.cache pages → Sees (D.tape disk.new) buffers.new.cache pages × ComesNext buffers.old.cache.geometry pages start.0 (option_map (λ e. e.0) end) (Some from) result }
+    ensures next { (pages : Pages) → Sees (D.tape disk.old) buffers.old.cache pages
+        → Sees (D.tape disk.new) buffers.new.cache pages
+        × ComesNext buffers.old.cache.geometry pages start.0 (option_map (λ e. e.0) end)
+        (Some from) result }
 
     ensures tape { D.tape disk.new ≡ D.tape disk.old }
     ensures moment { D.moment disk.new ≡ D.moment disk.old }

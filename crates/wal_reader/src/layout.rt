@@ -1,4 +1,5 @@
-//! Where a page and a record's header have what the reader looks at (PostgreSQL's xlog_internal.h and xlogrecord.h).
+//! Where a page and a record's header have what the reader looks at (PostgreSQL's xlog_internal.h
+//! and xlogrecord.h).
 
 pub(crate) const PAGE_SIZE: u32 = 8192;
 

@@ -21,7 +21,7 @@ mod standing;
 mod standpoint;
 mod stop;
 
-pub use found::{Answer, DamageKind, FoundRecord};
-pub use laws::decoding_is_settled;
+pub use found::{Answer, DamageKind, FoundRecord, Stopped};
+pub use laws::{decoding_is_settled, runs_give_fronts};
 pub use log_reader::Reader;
 pub use standing::{ReadErr, Step};

@@ -29,13 +29,21 @@ impl Reader {
     ghost use Rattle.wal_reader.specs.declared.standing.Standing.TheVariants.{NotBegun};
     ghost use Rattle.wal_reader.specs.Pages.{Pages};
     ghost use Rattle.wal_reader.specs.Cursor.{IsLogOf};
-    ghost use Rattle.wal_reader.specs.LogReader.{IsNext, Knows, LeavesReader, reader_state};
+    ghost use Rattle.wal_reader.specs.LogReader.{HoldsNoPage, IsNext, Knows, LeavesReader, NeedsNoPage, OnEnd, StandsAfter, reader_state};
     ghost use Rattle.wal_reader.specs.Spelled.{GivesSpelled};
     ghost use Rattle.wal_reader.specs.Standings.{HasReadCause, IsToldAgain};
 
-    /// A reader of the records from the address `start` on, up to `end` where one is given. It takes no memory and reads nothing yet.
+    /// A reader of the records from the address `start` on, up to `end` where one is given. It
+    /// takes no memory and reads nothing yet.
     pub fn new(geometry: Geometry, start: Lsn, end: Option<Lsn>) -> Reader
-        ensures state { reader_state result ≡ record { size = geometry; start = start.0; end = option_map (λ address. address.0) end; standing = NotBegun } }
+        ensures state { reader_state result
+            ≡ record {
+              size = geometry;
+              start = start.0;
+              end = option_map
+                  (λ address. address.0) end;
+              standing = NotBegun;
+            } }
         ensures knows { (pages : Pages) → Knows result pages }
     {
         Reader {
@@ -47,11 +55,20 @@ impl Reader {
         }
     }
 
-    /// The next record that starts at `start` or behind it, where the log goes on; records before it are read and checked as any
-    /// other. Damage is told again from then on. At an end, on want of memory or where the disk failed the reader stays where it is.
+    /// The next record that starts at `start` or behind it, where the log goes on; records before
+    /// it are read and checked as any other. Damage is told again from then on. At an end, on want
+    /// of memory or where the disk failed the reader stays where it is.
     pub fn next<D: Disk>(&mut self, alloc: Global, disk: &mut D) -> Result<Step, ReadErr>
-        ensures gives { (pages : Pages) → IsLogOf (D.tape disk.old) (reader_state self.old).size pages → Knows self.old pages → Knows self.new pages × IsNext pages (reader_state self.old) (reader_state self.new) result }
+        ensures gives { (pages : Pages) → IsLogOf (D.tape disk.old)
+            (reader_state self.old).size pages → Knows self.old pages → Knows self.new pages
+            × IsNext pages (reader_state self.old) (reader_state self.new) result }
         ensures leaves { LeavesReader (reader_state self.old) (reader_state self.new) result }
+        ensures behind { (pages : Pages) → Knows self.old pages
+            → StandsAfter (reader_state self.old).size (reader_state self.new).standing result }
+        ensures forgets { (pages : Pages) → Knows self.old pages
+            → OnEnd result (HoldsNoPage self.new) }
+        ensures unread { (pages : Pages) → Knows self.old pages
+            → NeedsNoPage (reader_state self.old) self.old.standing → disk.new ≡ disk.old }
         ensures spelled { IfOk result GivesSpelled }
         ensures stopped { IsToldAgain (reader_state self.old).standing result disk.old disk.new }
 
@@ -62,7 +79,7 @@ impl Reader {
         let from = match self.standing {
             Standing::NotBegun => None,
             Standing::At(at) => Some(at),
-            Standing::Stopped(answer) => return told(answer),
+            Standing::Stopped(stopped) => return Err(ReadErr::Stopped(stopped)),
         };
         set_up(&mut self.buffers, alloc, self.geometry)?;
         let Some(buffers) = &mut self.buffers else {
@@ -71,9 +88,17 @@ impl Reader {
         match next_given(alloc, buffers, disk, self.start, self.end, from) {
             Ok((found, behind)) => {
                 self.standing = Standing::At(behind);
-                Ok(Step::Record(found))
+                Ok(Step::Record {
+                    start: found.start,
+                    end: found.end,
+                    prev: found.prev,
+                    total: found.total,
+                    value: found.value,
+                })
             }
             Err(Stop::Told(answer)) => {
+                // What is written behind an end later stands in this page too.
+                buffers.forget_page();
                 self.standing = self.standing.after(answer);
                 told(answer)
             }

@@ -34,16 +34,23 @@ impl PageCache {
         })
     }
 
-    /// Holds a page from now on, where the log has it. A page that is held already is not read again, and one that ends
-    /// above address 2^60 counts as not there. Once a read has failed nothing is held.
+    /// Holds a page from now on, where the log has it. A page that is held already is not read
+    /// again, and one that ends above address 2^60 counts as not there. Once a read has failed
+    /// nothing is held.
     pub(crate) fn load<D: Disk>(&mut self, disk: &mut D, page: u64) -> Result<bool, Failed>
         ensures geometry { self.new.geometry ≡ self.old.geometry }
         ensures held { IfOk result (λ there. IsTrue there → self.new.number ≡ Some page) }
         ensures reach { IfOk result (λ there. IsTrue there → page < 2 ^ 47) }
         ensures nothing_held { OnErr result (self.new.number ≡ None) }
-        ensures caches { IfSome (D.tape disk.old) (λ t. let pages = log_of t self.old.geometry in Caches self.old pages → Caches self.new pages) }
-        ensures loaded { IfOk result (λ there. IfSome (D.tape disk.old) (λ t. let pages = log_of t self.old.geometry in Caches self.old pages → IsLoaded (pages page) page there self.new)) }
-        ensures sees { (pages : Pages) → Sees (D.tape disk.old) self.old pages → Sees (D.tape disk.new) self.new pages × IfOk result (λ there. IsLoaded (pages page) page there self.new) }
+        ensures caches { IfSome (D.tape disk.old)
+            (λ t. let pages = log_of t self.old.geometry in Caches self.old pages
+            → Caches self.new pages) }
+        ensures loaded { IfOk result (λ there. IfSome (D.tape disk.old)
+            (λ t. let pages = log_of t self.old.geometry in Caches self.old pages
+            → IsLoaded (pages page) page there self.new)) }
+        ensures sees { (pages : Pages) → Sees (D.tape disk.old) self.old pages
+            → Sees (D.tape disk.new) self.new pages
+            × IfOk result (λ there. IsLoaded (pages page) page there self.new) }
 
         ensures tape { D.tape disk.new ≡ D.tape disk.old }
         ensures moment { D.moment disk.new ≡ D.moment disk.old }

@@ -12,7 +12,7 @@ ghost use Rattle.wal_reader.specs.Stops.{HasStopCause, Passes, Settles};
 
 use crate::answers::damaged;
 use crate::cursor::Cursor;
-use crate::found::{Answer, DamageKind};
+use crate::found::{Answer, DamageKind, Stopped};
 use crate::layout::{FIRST_PAGE_HEADER_LEN, OTHER_PAGE_HEADER_LEN, PAGE_ADDRESSES};
 use crate::page_cache::PageCache;
 use crate::stop::Stop;
@@ -36,10 +36,14 @@ pub(crate) fn header_len(geometry: Geometry, page: u64) -> u32
 /// The checks of the page that is held, each told at the page's address.
 pub(crate) fn check_held(cache: &PageCache, page: u64, timeline: u32) -> Result<PageInfo, Answer>
     requires { page < 2 ^ 47 }
-    ensures checks { Passes (first_fault (page_answers cache.now.geometry page cache.now.bytes.value timeline)) result }
-    ensures continued { IfOk result (λ info. (info.info % 2 == 1) ≡ is_continued cache.now.bytes.value) }
-    ensures overwritten { IfOk result (λ info. (info.info / 8 % 2 == 1) ≡ is_overwritten cache.now.bytes.value) }
-    ensures info { IfOk result (λ info. (info.timeline ≡ timeline_of cache.now.bytes.value) × (info.rem_len ≡ remaining_of cache.now.bytes.value)) }
+    ensures checks { Passes
+        (first_fault (page_answers cache.now.geometry page cache.now.bytes.value timeline)) result }
+    ensures continued { IfOk result (λ info. (info.info % 2 == 1)
+        ≡ is_continued cache.now.bytes.value) }
+    ensures overwritten { IfOk result (λ info. (info.info / 8 % 2 == 1)
+        ≡ is_overwritten cache.now.bytes.value) }
+    ensures info { IfOk result (λ info. (info.timeline ≡ timeline_of cache.now.bytes.value) ×
+        (info.rem_len ≡ remaining_of cache.now.bytes.value)) }
 {
     match check_page(cache.geometry, page, &cache.bytes, timeline) {
         Ok(info) => Ok(info),
@@ -57,9 +61,14 @@ pub(crate) fn turn_page<D: Disk>(
 ) -> Result<Cursor, Stop>
     requires { cursor.page < 2 ^ 47 }
     ensures geometry { cache.new.geometry ≡ cache.old.geometry }
-    ensures next { IfOk result (λ next. (next.page ≡ cursor.page + 1) × (next.offset ≡ header_size cache.old.geometry (cursor.page + 1)) × (next.page < 2 ^ 47) × IsOn cache.new next) }
-    ensures sees { (pages : Pages) → Sees (D.tape disk.old) cache.old pages → Sees (D.tape disk.new) cache.new pages }
-    ensures checks { (pages : Pages) → Sees (D.tape disk.old) cache.old pages → Settles (first_fault (continuation_rows_of cache.old.geometry (cursor.page + 1) cursor.timeline start.0 owed (pages (cursor.page + 1)))) result }
+    ensures next { IfOk result (λ next. (next.page ≡ cursor.page + 1) × (next.offset
+        ≡ header_size cache.old.geometry (cursor.page + 1)) × (next.page < 2 ^ 47)
+        × IsOn cache.new next) }
+    ensures sees { (pages : Pages) → Sees (D.tape disk.old) cache.old pages
+        → Sees (D.tape disk.new) cache.new pages }
+    ensures checks { (pages : Pages) → Sees (D.tape disk.old) cache.old pages
+        → Settles (first_fault (continuation_rows_of cache.old.geometry
+        (cursor.page + 1) cursor.timeline start.0 owed (pages (cursor.page + 1)))) result }
 
     ensures tape { D.tape disk.new ≡ D.tape disk.old }
     ensures moment { D.moment disk.new ≡ D.moment disk.old }
@@ -71,13 +80,15 @@ pub(crate) fn turn_page<D: Disk>(
     }
     let info = check_held(cache, page, cursor.timeline)?;
     if info.is_overwritten() {
-        return Err(Stop::Told(Answer::Overwritten { at: start }));
+        let overwritten = Stopped::Overwritten { at: start };
+        return Err(Stop::Told(Answer::Stopped(overwritten)));
     }
     if !info.is_continued() {
         return Err(Stop::Told(damaged(start, DamageKind::NoContinuation)));
     }
     if info.rem_len != owed {
-        return Err(Stop::Told(damaged(start, DamageKind::RemLen)));
+        let found = info.rem_len;
+        return Err(Stop::Told(damaged(start, DamageKind::RemLen { found })));
     }
     Ok(Cursor {
         page,

@@ -2,21 +2,20 @@
 
 ghost use Rattle.std.specs.Prelude.{◌≡◌, ◌+◌, ◌*◌, ◌/◌, ◌^◌, ◌<◌, ◌≤◌, ◌++◌, length, take, drop, option_map, IfOk};
 ghost use Rattle.std.specs.Int.{w64};
-ghost use Rattle.byte_position.specs.Position.{address_of};
+ghost use Rattle.byte_position.specs.Position.{address_of, end_address_of};
 ghost use Rattle.wal_crc32c.specs.Crc32c.{crc32c};
 ghost use Rattle.wal_page.specs.Page.{first_fault};
 ghost use Rattle.record_spelling.specs.Record.{is_free_manager};
 ghost use Rattle.record_spelling.specs.Numbers.{number_at};
 ghost use Rattle.record_decode.specs.Reading.{reading_of};
-ghost use Rattle.wal_reader.specs.Decodes.{found_or};
-ghost use Rattle.wal_reader.specs.RecordRows.{crc_rows, header_rows};
+ghost use Rattle.wal_reader.specs.Decodes.{found_or, crc_rows, header_rows};
 ghost use Rattle.wal_reader.specs.Spelled.{IsSpelled};
 ghost use Rattle.wal_reader.specs.Standpoint.{place_of};
 ghost use Rattle.wal_reader.specs.Stops.{Passes};
 
 use crate::answers::damaged;
 use crate::cursor::Extent;
-use crate::found::{Answer, DamageKind, FoundRecord};
+use crate::found::{Answer, DamageKind, FoundRecord, Stopped};
 use crate::layout::*;
 use crate::numbers::{u32_at, u64_at};
 use byte_position::Geometry;
@@ -29,18 +28,19 @@ use wal_types::Lsn;
 /// ValidXLogRecordHeader of xlogreader.c).
 pub(crate) fn check_header(extent: Extent, header: &[u8]) -> Result<(), Answer>
     requires { 24 ≤ length header.now }
-    ensures { Passes (first_fault (header_rows extent.start.0 (option_map (λ start. start.0) extent.at.prev) header.now)) result }
+    ensures { Passes (first_fault (header_rows extent.start.0
+        (option_map (λ start. start.0) extent.at.prev) header.now)) result }
 {
     if is_free_manager(header[RMID_AT]) {
         return Err(damaged(extent.start, DamageKind::Rmgr));
     }
-    let named = u64_at(header, PREV_AT);
+    let found = Lsn(u64_at(header, PREV_AT));
     let is_right = match extent.at.prev {
-        Some(before) => named == before.0,
-        None => named < extent.start.0,
+        Some(before) => found.0 == before.0,
+        None => found.0 < extent.start.0,
     };
     if !is_right {
-        return Err(damaged(extent.start, DamageKind::Prev));
+        return Err(damaged(extent.start, DamageKind::Prev { found }));
     }
     Ok(())
 }
@@ -67,8 +67,12 @@ pub(crate) fn found(
     requires start { extent.start.0 ≡ address_of geometry extent.at.position }
     requires len { (24 ≤ length bytes.now) × (length bytes.now ≡ extent.total) }
     requires end { extent.at.position + (extent.total + 7) / 8 * 8 < 2 ^ 60 }
-    ensures read { IfOk result (λ found. found ≡ found_or geometry (place_of extent.at) extent.total (number_at w64 bytes.now 8) (reading_of bytes.now)) }
+    ensures read { IfOk result (λ found. found ≡ found_or geometry (place_of extent.at) extent.total
+        (number_at w64 bytes.now 8) (reading_of bytes.now)) }
     ensures spelled { IfOk result (λ found. IfOk found IsSpelled) }
+    ensures start { IfOk result (λ found. IfOk found (λ f. f.start ≡ extent.start)) }
+    ensures end { IfOk result (λ found. IfOk found (λ f. f.end.0
+        ≡ end_address_of geometry (extent.at.position + (extent.total + 7) / 8 * 8))) }
 {
     match decode(alloc, bytes) {
         Ok(value) => Ok(Ok(FoundRecord {
@@ -80,7 +84,10 @@ pub(crate) fn found(
         })),
         Err(RecErr::Memory) => Err(AllocError),
         Err(RecErr::Malformed { .. }) => Ok(Err(damaged(extent.start, DamageKind::Malformed))),
-        Err(RecErr::Compressed { .. }) => Ok(Err(Answer::Compressed { at: extent.start })),
+        Err(RecErr::Compressed { .. }) => {
+            let compressed = Stopped::Compressed { at: extent.start };
+            Ok(Err(Answer::Stopped(compressed)))
+        }
     }
 }
 

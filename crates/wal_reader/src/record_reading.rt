@@ -1,17 +1,26 @@
-//! Reading one record (PostgreSQL's XLogDecodeNextRecord of xlogreader.c).
+//! Reading one record (PostgreSQL's XLogReadRecord and XLogDecodeNextRecord of xlogreader.c).
+//!
+//! The checks come in one order, and the first that fails is told. Where a given end is reached
+//! nothing is read. Then the page in which the record starts: it is there, its own checks, and no
+//! other record continues to this place. Then the record's first word and its size. As soon as the
+//! header is gathered, its manager and the record that it names as the one before
+//! (ValidXLogRecordHeader), before a further page is looked at. Then each page on which the record
+//! goes on, before a byte of it is taken. Then the CRC over all bytes (ValidXLogRecord), and last
+//! what the bytes spell. So a size is believed only as far as pages have passed, and no more room
+//! is taken than those pages fill.
 
-ghost use Rattle.std.specs.Prelude.{◌≡◌, ℕ, ◌+◌, ◌*◌, ◌/◌, ◌^◌, ◌<◌, ◌≤◌, Some, length, take, drop, option_map, IfOk, IfErr, IfSome, MatchResult};
+ghost use Rattle.std.specs.Prelude.{◌≡◌, ℕ, ◌+◌, ◌*◌, ◌/◌, ◌^◌, ◌<◌, ◌≤◌, Some, length, take, drop, option_map, false, IfOk, IfErr, IfSome, MatchResult, OnOk};
 ghost use Rattle.byte_position.specs.Position.{address_of};
 ghost use Rattle.wal_page.specs.Page.{first_fault};
 ghost use Rattle.wal_reader.specs.Cursor.{HasGathered, HoldsPassed, IsOn, Sees};
-ghost use Rattle.wal_reader.specs.Decodes.{read_at};
+ghost use Rattle.wal_reader.specs.Decodes.{is_at_end, read_at, rest_rows};
 ghost use Rattle.wal_reader.specs.Pages.{Pages};
-ghost use Rattle.wal_reader.specs.RecordRows.{GoesOn, IsRead, IsRoomAfter, rest_rows, said_of};
+ghost use Rattle.wal_reader.specs.RecordRead.{GoesOn, IsBehind, IsRead, IsRoomAfter, said_of};
 ghost use Rattle.wal_reader.specs.Spelled.{IsSpelled};
-ghost use Rattle.wal_reader.specs.Standpoint.{IsReachable, place_of};
+ghost use Rattle.wal_reader.specs.Standpoint.{IsOutOfReach, IsReachable, place_of};
 ghost use Rattle.wal_reader.specs.Stops.{HasStopCause, IsNoDiskFault};
 
-use crate::answers::{end_of_log, reaches_end};
+use crate::answers::{end_of_log, is_out_of_reach};
 use crate::cursor::{Cursor, Extent};
 use crate::found::FoundRecord;
 use crate::gathering::gather;
@@ -25,9 +34,9 @@ use segment_disk::Disk;
 use std::alloc::Global;
 use wal_types::Lsn;
 
-/// Reads the record at a standpoint, and answers it with the standpoint behind it, or what stands in its place. Where an
-/// end was given, nothing at or above it is read.
-/// Whatever size a record claims, the room takes no more of it than what pages have that passed their checks.
+/// Reads the record at a standpoint, and answers it with the standpoint behind it, or what stands
+/// in its place. Where an end was given, nothing at or above it is read. Whatever size a record
+/// claims, the room takes no more of it than what pages have that passed their checks.
 pub(crate) fn read_record<D: Disk>(
     alloc: Global,
     cache: &mut PageCache,
@@ -39,18 +48,56 @@ pub(crate) fn read_record<D: Disk>(
     requires { IsReachable at }
     ensures geometry { cache.new.geometry ≡ cache.old.geometry }
     ensures goes_on { IfOk result (λ r. GoesOn at r.1) }
+    ensures behind { IfOk result (λ r. IsBehind cache.old.geometry r.0 r.1) }
+    ensures unread { IsOutOfReach cache.old.geometry (option_map (λ end. end.0) end) at.position
+        → (disk.new ≡ disk.old) × OnOk result ⊥ }
     ensures spelled { IfOk result (λ r. IsSpelled r.0) }
-    ensures sees { (pages : Pages) → Sees (D.tape disk.old) cache.old pages → Sees (D.tape disk.new) cache.new pages }
-    ensures room { (pages : Pages) → Sees (D.tape disk.old) cache.old pages → IsRoomAfter cache.old.geometry pages (place_of at) room.old.items room.new.items }
-    ensures reads { (pages : Pages) → Sees (D.tape disk.old) cache.old pages → IsRead cache.old.geometry pages (place_of at) (read_at cache.old.geometry pages (option_map (λ end. end.0) end) (place_of at)) result }
+    ensures sees { (pages : Pages) → Sees (D.tape disk.old) cache.old pages
+        → Sees (D.tape disk.new) cache.new pages }
+    ensures room { (pages : Pages) → Sees (D.tape disk.old) cache.old pages
+        → IsRoomAfter cache.old.geometry pages (place_of at) room.old.items room.new.items }
+    ensures reads { (pages : Pages) → Sees (D.tape disk.old) cache.old pages
+        → IsRead cache.old.geometry pages (place_of at)
+        (read_at cache.old.geometry pages (option_map (λ end. end.0) end) (place_of at)) result }
 
     ensures tape { D.tape disk.new ≡ D.tape disk.old }
     ensures moment { D.moment disk.new ≡ D.moment disk.old }
     ensures cause { HasStopCause (D.faults disk.old) (D.faults disk.new) result }
 {
-    if reaches_end(cache.geometry, at.position, end) {
+    if is_out_of_reach(cache.geometry, at.position, end) {
         return Err(Stop::Told(end_of_log(cache.geometry, at.position)));
     }
+    read_in_reach(alloc, cache, room, disk, end, at)
+}
+
+// Reads the record at a standpoint that is before a given end.
+fn read_in_reach<D: Disk>(
+    alloc: Global,
+    cache: &mut PageCache,
+    room: &mut Vec<u8>,
+    disk: &mut D,
+    end: Option<Lsn>,
+    at: Standpoint,
+) -> Result<(FoundRecord, Standpoint), Stop>
+    requires reachable { IsReachable at }
+    requires before { is_at_end (option_map (λ end. end.0) end)
+        (address_of cache.old.geometry at.position) ≡ false }
+    ensures geometry { cache.new.geometry ≡ cache.old.geometry }
+    ensures goes_on { IfOk result (λ r. GoesOn at r.1) }
+    ensures behind { IfOk result (λ r. IsBehind cache.old.geometry r.0 r.1) }
+    ensures spelled { IfOk result (λ r. IsSpelled r.0) }
+    ensures sees { (pages : Pages) → Sees (D.tape disk.old) cache.old pages
+        → Sees (D.tape disk.new) cache.new pages }
+    ensures room { (pages : Pages) → Sees (D.tape disk.old) cache.old pages
+        → IsRoomAfter cache.old.geometry pages (place_of at) room.old.items room.new.items }
+    ensures reads { (pages : Pages) → Sees (D.tape disk.old) cache.old pages
+        → IsRead cache.old.geometry pages (place_of at)
+        (read_at cache.old.geometry pages (option_map (λ end. end.0) end) (place_of at)) result }
+
+    ensures tape { D.tape disk.new ≡ D.tape disk.old }
+    ensures moment { D.moment disk.new ≡ D.moment disk.old }
+    ensures cause { HasStopCause (D.faults disk.old) (D.faults disk.new) result }
+{
     let start = cache.geometry.to_lsn(at.position);
     let cursor = open_page(cache, disk, at, start)?;
     let extent = claimed(cache, cursor, at, start, end)?;
@@ -76,9 +123,13 @@ fn read_in_page(
     requires within { cursor.offset + extent.total ≤ 8192 }
     requires page { cursor.page ≡ address_of cache.now.geometry extent.at.position / 8192 }
     ensures goes_on { IfOk result (λ r. GoesOn extent.at r.1) }
+    ensures behind { IfOk result (λ r. IsBehind cache.now.geometry r.0 r.1) }
     ensures spelled { IfOk result (λ r. IsSpelled r.0) }
     ensures reads { (pages : Pages) → pages cursor.page ≡ Some cache.now.bytes.value
-        → IsRead cache.now.geometry pages (place_of extent.at) (said_of cache.now.geometry pages (place_of extent.at) extent.total (first_fault (rest_rows cache.now.geometry pages (place_of extent.at) extent.total))) result }
+        → IsRead cache.now.geometry pages (place_of extent.at)
+        (said_of cache.now.geometry pages (place_of extent.at) extent.total
+        (first_fault (rest_rows cache.now.geometry pages
+        (place_of extent.at) extent.total))) result }
     ensures no_disk { IfErr result IsNoDiskFault }
 {
     let bytes = part_of_page(&cache.bytes, cursor.offset, extent.total);
@@ -114,11 +165,18 @@ fn read_over_pages<D: Disk>(
     requires page { cursor.page ≡ address_of cache.old.geometry extent.at.position / 8192 }
     ensures geometry { cache.new.geometry ≡ cache.old.geometry }
     ensures goes_on { IfOk result (λ r. GoesOn extent.at r.1) }
+    ensures behind { IfOk result (λ r. IsBehind cache.old.geometry r.0 r.1) }
     ensures spelled { IfOk result (λ r. IsSpelled r.0) }
-    ensures sees { (pages : Pages) → Sees (D.tape disk.old) cache.old pages → Sees (D.tape disk.new) cache.new pages }
-    ensures room { (pages : Pages) → Sees (D.tape disk.old) cache.old pages → HoldsPassed cache.old.geometry pages (place_of extent.at) extent.total (address_of cache.old.geometry extent.at.position / 8192) room.new.items }
+    ensures sees { (pages : Pages) → Sees (D.tape disk.old) cache.old pages
+        → Sees (D.tape disk.new) cache.new pages }
+    ensures room { (pages : Pages) → Sees (D.tape disk.old) cache.old pages
+        → HoldsPassed cache.old.geometry pages (place_of extent.at) extent.total
+        (address_of cache.old.geometry extent.at.position / 8192) room.new.items }
     ensures reads { (pages : Pages) → Sees (D.tape disk.old) cache.old pages
-        → IsRead cache.old.geometry pages (place_of extent.at) (said_of cache.old.geometry pages (place_of extent.at) extent.total (first_fault (rest_rows cache.old.geometry pages (place_of extent.at) extent.total))) result }
+        → IsRead cache.old.geometry pages (place_of extent.at)
+        (said_of cache.old.geometry pages (place_of extent.at) extent.total
+        (first_fault (rest_rows cache.old.geometry pages
+        (place_of extent.at) extent.total))) result }
 
     ensures tape { D.tape disk.new ≡ D.tape disk.old }
     ensures moment { D.moment disk.new ≡ D.moment disk.old }

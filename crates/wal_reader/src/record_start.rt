@@ -1,4 +1,5 @@
-//! Where a record starts, and how long it claims to be (PostgreSQL's XLogDecodeNextRecord of xlogreader.c).
+//! Where a record starts, and how long it claims to be (PostgreSQL's XLogDecodeNextRecord of
+//! xlogreader.c).
 
 ghost use Rattle.std.specs.Prelude.{◌≡◌, ℕ, ◌+◌, ◌*◌, ◌/◌, ◌%◌, ◌^◌, ◌<◌, ◌≤◌, ◌==◌, length, option_map, IfOk};
 ghost use Rattle.std.specs.Int.{w32, w64};
@@ -7,7 +8,7 @@ ghost use Rattle.wal_page.specs.Page.{first_fault};
 ghost use Rattle.record_spelling.specs.Numbers.{number_at};
 ghost use Rattle.wal_reader.specs.Cursor.{HasGathered, IsOn, Sees};
 ghost use Rattle.wal_reader.specs.Pages.{Pages};
-ghost use Rattle.wal_reader.specs.RecordRows.{opening_of, size_rows};
+ghost use Rattle.wal_reader.specs.Decodes.{opening_of, size_rows};
 ghost use Rattle.wal_reader.specs.Standpoint.{IsReachable, place_of};
 ghost use Rattle.wal_reader.specs.Stops.{HasStopCause, Passes, Settles};
 
@@ -23,8 +24,8 @@ use crate::stop::Stop;
 use segment_disk::Disk;
 use wal_types::Lsn;
 
-/// The page in which a record is to start: it is there and passes its checks, and no other record continues where this one
-/// would start.
+/// The page in which a record is to start: it is there and passes its checks, and no other record
+/// continues where this one would start.
 pub(crate) fn open_page<D: Disk>(
     cache: &mut PageCache,
     disk: &mut D,
@@ -34,10 +35,15 @@ pub(crate) fn open_page<D: Disk>(
     requires start { start.0 ≡ address_of cache.old.geometry at.position }
     requires reachable { IsReachable at }
     ensures geometry { cache.new.geometry ≡ cache.old.geometry }
-    ensures cursor { IfOk result (λ cursor. IsOn cache.new cursor × HasGathered cache.old.geometry at.position 0 cursor) }
-    ensures place { IfOk result (λ cursor. (cursor.page ≡ address_of cache.old.geometry at.position / 8192) × (cursor.offset + 8 ≤ 8192)) }
-    ensures sees { (pages : Pages) → Sees (D.tape disk.old) cache.old pages → Sees (D.tape disk.new) cache.new pages }
-    ensures checks { (pages : Pages) → Sees (D.tape disk.old) cache.old pages → Settles (opening_of cache.old.geometry (place_of at) (pages (address_of cache.old.geometry at.position / 8192))) result }
+    ensures cursor { IfOk result (λ cursor. IsOn cache.new cursor
+        × HasGathered cache.old.geometry at.position 0 cursor) }
+    ensures place { IfOk result (λ cursor. (cursor.page
+        ≡ address_of cache.old.geometry at.position / 8192) × (cursor.offset + 8 ≤ 8192)) }
+    ensures sees { (pages : Pages) → Sees (D.tape disk.old) cache.old pages
+        → Sees (D.tape disk.new) cache.new pages }
+    ensures checks { (pages : Pages) → Sees (D.tape disk.old) cache.old pages
+        → Settles (opening_of cache.old.geometry (place_of at)
+        (pages (address_of cache.old.geometry at.position / 8192))) result }
 
     ensures tape { D.tape disk.new ≡ D.tape disk.old }
     ensures moment { D.moment disk.new ≡ D.moment disk.old }
@@ -63,7 +69,8 @@ pub(crate) fn open_page<D: Disk>(
     })
 }
 
-/// The size that the record at a cursor claims. Where an end was given, the record's last byte is below it.
+/// The size that the record at a cursor claims. Where an end was given, the record's last byte is
+/// below it.
 pub(crate) fn claimed(
     cache: &PageCache,
     cursor: Cursor,
@@ -74,9 +81,14 @@ pub(crate) fn claimed(
     requires start { start.0 ≡ address_of cache.now.geometry at.position }
     requires reachable { IsReachable at }
     requires within { cursor.offset + 8 ≤ 8192 }
-    ensures extent { IfOk result (λ extent. (extent ≡ record { at = at; start = start; total = number_at w32 cache.now.bytes.value cursor.offset }) × (24 ≤ extent.total)) }
+    ensures extent { let total = number_at w32 cache.now.bytes.value cursor.offset in
+        IfOk result (λ extent. (extent ≡ record { at = at; start = start; total = total })
+        × (24 ≤ extent.total)) }
     ensures whole { length cache.now.bytes.value ≡ 8192 }
-    ensures checks { Passes (first_fault (size_rows cache.now.geometry (option_map (λ end. end.0) end) at.position (number_at w64 cache.now.bytes.value cursor.offset == 0) (number_at w32 cache.now.bytes.value cursor.offset))) result }
+    ensures checks { Passes
+        (first_fault (size_rows cache.now.geometry (option_map (λ end. end.0) end) at.position
+        (number_at w64 cache.now.bytes.value cursor.offset == 0)
+        (number_at w32 cache.now.bytes.value cursor.offset))) result }
 {
     if is_zero_word(cache, cursor.offset) {
         return Err(end_of_log(cache.geometry, at.position));

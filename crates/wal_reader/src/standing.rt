@@ -3,11 +3,11 @@
 ghost use Rattle.std.specs.Prelude.{◌≡◌};
 ghost use Rattle.wal_reader.specs.Standings.{standing_after, told};
 
-use crate::found::{Answer, DamageKind, FoundRecord};
+use crate::found::{Answer, Stopped};
 use crate::standpoint::Standpoint;
 use std::alloc::AllocError;
 use thiserror::Error;
-use wal_types::Lsn;
+use wal_types::{Lsn, Record};
 
 /// Where a reader stands.
 #[derive(Clone, Copy, Debug)]
@@ -17,19 +17,17 @@ pub(crate) enum Standing {
     /// Before a record, or where none stands yet.
     At(Standpoint),
     /// This is told from now on.
-    Stopped(Answer),
+    Stopped(Stopped),
 }
 
 impl Standing {
-    /// An end is no more than told; all else is told for good.
+    /// An end is no more than told; a stop is told for good.
     pub(crate) fn after(self, answer: Answer) -> Standing
         ensures { result ≡ standing_after self answer }
     {
         match answer {
             Answer::End { .. } => self,
-            Answer::Damaged { .. } | Answer::Compressed { .. } | Answer::Overwritten { .. } => {
-                Standing::Stopped(answer)
-            }
+            Answer::Stopped(stopped) => Standing::Stopped(stopped),
         }
     }
 }
@@ -38,9 +36,21 @@ impl Standing {
 #[derive(Debug, Drop)]
 pub enum Step {
     /// The next record.
-    Record(FoundRecord),
-    /// A clean end of the log: where the last record ends, or how far reading came where there is none.
-    End { at: Lsn },
+    Record {
+        start: Lsn,
+        /// Just behind the record and its rounding.
+        end: Lsn,
+        /// The start of the record before, as this one names it.
+        prev: Lsn,
+        /// The record's size in bytes.
+        total: u32,
+        value: Record,
+    },
+    /// A clean end of the log: where the last record ends, or how far reading came where there is
+    /// none.
+    End {
+        at: Lsn,
+    },
 }
 
 /// Why a step of reading gives nothing.
@@ -51,15 +61,9 @@ pub enum ReadErr {
     /// The disk failed, and stood at this count of faults then.
     #[error("the disk failed")]
     Disk { faults: u64 },
-    /// Damage: a page's address, or the start of the record that fails.
-    #[error("the log is damaged")]
-    Damaged { at: Lsn, kind: DamageKind },
-    /// A record that starts here has a compressed image.
-    #[error("the log has a compressed image")]
-    Compressed { at: Lsn },
-    /// A record that starts here was given up, and its continuation overwritten.
-    #[error("a record was overwritten")]
-    Overwritten { at: Lsn },
+    /// All records before this were given; it is no end of the log.
+    #[error("{0}")]
+    Stopped(Stopped),
 }
 
 impl From<AllocError> for ReadErr {
@@ -78,8 +82,6 @@ pub(crate) fn told(answer: Answer) -> Result<Step, ReadErr>
 {
     match answer {
         Answer::End { at } => Ok(Step::End { at }),
-        Answer::Damaged { at, kind } => Err(ReadErr::Damaged { at, kind }),
-        Answer::Compressed { at } => Err(ReadErr::Compressed { at }),
-        Answer::Overwritten { at } => Err(ReadErr::Overwritten { at }),
+        Answer::Stopped(stopped) => Err(ReadErr::Stopped(stopped)),
     }
 }

@@ -1,5 +1,5 @@
 -- The writer's spelling of a record is one that a reader accepts.
-use Rattle.std.proofs.Common.{◌≡◌, ℕ, ◌+◌, ◌^◌, ◌<◌, ◌≤◌, Ok, true, ◌&&◌, eqb, ltb, leb, List, [], ◌∷◌, ◌++◌, length, map, Option, Some, None, refl, sym, ap, ◌∙◌, append_assoc, arith, inl, inr}
+use Rattle.std.proofs.Common.{◌≡◌, ℕ, ◌+◌, ◌^◌, ◌<◌, ◌≤◌, Result, Ok, true, ◌&&◌, eqb, ltb, leb, List, [], ◌∷◌, ◌++◌, length, map, Option, Some, None, refl, sym, ap, ◌∙◌, append_assoc, arith, inl, inr}
 use Rattle.std.specs.Bool.{MatchBool, OnTrue}
 use Rattle.std.specs.Prelude.{IfSome, option_map, if◌then◌else◌}
 use Rattle.std.specs.Int.{w16, w32, w64, to_le_bytes}
@@ -12,9 +12,10 @@ use Rattle.wal_types.specs.declared.record.Image.{Image}
 use Rattle.wal_types.specs.declared.record.Record.{Record}
 use Rattle.wal_types.specs.declared.record.Rel.{Rel}
 use Rattle.wal_types.specs.declared.record.Xid.{Xid}
+use Rattle.record_decode.specs.declared.fault.RecErr.{RecErr}
 use Rattle.record_decode.specs.declared.head.BlockHead.{BlockHead}
 use Rattle.record_spelling.specs.Record.{BlockFits, Fits, IsWellFormed, are_right_blocks, is_right_block, is_right_image, is_right_option}
-use Rattle.record_spelling.specs.Spelling.{IsWritable, assembled, block_header, block_headers, block_payload, crc_of, flag, has_image, image_header, is_same_relation, main_header, origin_item, relation_bytes, size_of, spelling, top_xid_item}
+use Rattle.record_spelling.specs.Spelling.{Assembled, IsWritable, spelled, assembled, block_header, block_headers, block_payload, crc_of, flag, has_image, image_header, is_same_relation, main_header, origin_item, relation_bytes, size_of, spelling, top_xid_item}
 use Rattle.record_decode.specs.Reading.{least_id, reading_of}
 use Rattle.record_decode.proofs.Readings.{only}
 use Rattle.record_decode.specs.Spells.{HasRelation, IsPageImage, Spells, SpellsHeads, SpellsItems, SpellsMainHead, StandsBehind, head_of, head_text, image_flag, image_head, image_head_text, item_text, items_in}
@@ -177,3 +178,16 @@ well_formed_reads r prev right fits size = only (spelling r prev) r (spelling_sp
 
 pub spelling_reads : (r : Record) (prev : ℕ) → IsWritable r → prev < 2 ^ 64 → reading_of (spelling r prev) ≡ Ok r
 spelling_reads r prev w lt = well_formed_reads r prev w.well_formed w.fits (omega (arith, w.size))
+
+-- ---- a body's record
+
+pub one_record : (r other : Record) → IsWritable r → IsWritable other → assembled r ≡ assembled other → r ≡ other
+one_record r other w v same =
+    let start : ℕ = 0 in
+    same_value r other
+    (sym (spelling_reads r start w (omega arith))
+    ∙ ap (λ (a : Assembled). reading_of (spelled a start)) same
+    ∙ spelling_reads other start v (omega arith))
+  where
+    same_value : (r other : Record) → (let x : Result Record RecErr = Ok r in x ≡ Ok other) → r ≡ other
+    same_value r other k = cc

@@ -11,4 +11,6 @@ upper_digit_at k n = upper_digit (n / 16 ^ k % 16)
 
 -- a number below 2 ^ 32 in eight digits (`%08X`)
 abbrev pub eight_digits : ℕ → List ℕ
-eight_digits n = upper_digit_at 7 n ∷ upper_digit_at 6 n ∷ upper_digit_at 5 n ∷ upper_digit_at 4 n ∷ upper_digit_at 3 n ∷ upper_digit_at 2 n ∷ upper_digit_at 1 n ∷ upper_digit_at 0 n ∷ []
+eight_digits n =
+    upper_digit_at 7 n ∷ upper_digit_at 6 n ∷ upper_digit_at 5 n ∷ upper_digit_at 4 n
+    ∷ upper_digit_at 3 n ∷ upper_digit_at 2 n ∷ upper_digit_at 1 n ∷ upper_digit_at 0 n ∷ []

@@ -4,7 +4,8 @@ ghost use Rattle.wal_types.specs.LsnText.{lsn_text, without_leading_zeros};
 use crate::hexadecimal::upper_hexadecimal;
 use std::marker::Model;
 
-/// A position of the log: the address of a byte, counted from the log's byte 0 (PostgreSQL's xlogdefs.h).
+/// A position of the log: the address of a byte, counted from the log's byte 0 (PostgreSQL's
+/// xlogdefs.h).
 #[derive(Clone, Copy, Debug, PartialEq, Eq, PartialOrd, Ord)]
 pub struct Lsn(pub u64);
 

@@ -15,15 +15,17 @@ use Rattle.wal_reader.specs.declared.found.Answer.TheVariants as answers
 use Rattle.wal_reader.specs.declared.found.FoundRecord.{FoundRecord}
 use Rattle.wal_reader.specs.declared.log_reader.Reader.{Reader}
 use Rattle.wal_reader.specs.declared.standing.ReadErr.{ReadErr}
-use Rattle.wal_reader.specs.declared.standing.ReadErr.TheVariants.{Memory, Disk, Damaged, Compressed, Overwritten}
+use Rattle.wal_reader.specs.declared.standing.ReadErr.TheVariants.{Memory, Disk, Stopped}
 use Rattle.wal_reader.specs.declared.standing.Step.{Step}
-use Rattle.wal_reader.specs.declared.standing.Step.TheVariants.{Record, End}
+use Rattle.wal_reader.specs.declared.standing.Step.TheVariants.{End}
 use Rattle.wal_reader.specs.declared.standing.Standing.TheVariants.{NotBegun}
 use Rattle.wal_reader.specs.Settled.{IsSettled}
+use Rattle.wal_reader.specs.Standings.{given_as}
 use Rattle.wal_reader.proofs.SettledLaws.{decoding_is_settled, gives_something}
-use Rattle.waldump_text.specs.Dump.{DecodesOnDisk, IsDump, PutsListing, PutsListingFront, failure_of}
+use Rattle.waldump_text.specs.Dump.{DecodesOnDisk, IsDump, PutsListing, PutsListingFront}
 use Rattle.waldump_text.specs.Listing.{line_text, listed_of, listing}
 use Rattle.waldump_text.specs.declared.dumping.DumpErr.TheVariants as errors
+use Rattle.waldump_text.specs.declared.putting.SinkFault.{SinkFault}
 use Rattle.waldump_text.proofs.ListingLaws.{IsUnderway, IsUnderway-none, IsUnderway-more, listed_all, listed_front, listed_front_of_next}
 
 -- there is one thing that a disk's log decodes to
@@ -76,31 +78,29 @@ module _ (size : ℕ) (valid : IsSegmentSize size) (old : Option (List ℕ)) whe
           front_of t mid (underway.listed ++ left.0) left.1 (underway.whole left.0 left.1 left.2) (listed_front (log_of t size) (unread size) old (reader_state reader) mid underway left.0)
 
     -- a record is listed
-    pub ListsLog-more : (tape : Option Tape) (next : Reader) (f : FoundRecord) (new : Option (List ℕ)) → ListsLog tape size reader old mid → Steps tape reader next (Ok (Record f)) → new ≡ with_behind mid (line_text (listed_of f)) → ListsLog tape size next old new
+    pub ListsLog-more : (tape : Option Tape) (next : Reader) (f : FoundRecord) (new : Option (List ℕ)) → ListsLog tape size reader old mid → Steps tape reader next (Ok (given_as f)) → new ≡ with_behind mid (line_text (listed_of f)) → ListsLog tape size next old new
     ListsLog-more None next f new lists steps taken = tt
     ListsLog-more (Some t) next f new lists steps taken =
-        let step = step_of t next (Ok (Record f)) steps lists.0 in
+        let step = step_of t next (Ok (given_as f)) steps lists.0 in
         (step.0, IsUnderway-more (log_of t size) (unread size) old (reader_state reader) mid lists.1 (reader_state next) f step.1 new taken)
 
     pub dump_ended : (tape : Option Tape) (next : Reader) (at : Lsn) → ListsLog tape size reader old mid → Steps tape reader next (Ok (End at)) → IfSome tape (IsDump size old mid (Ok tt))
     dump_ended None next at lists steps = tt
     dump_ended (Some t) next at lists steps = (at, put_all t lists next (answers.End at) (step_of t next (Ok (End at)) steps lists.0).1)
 
-    pub dump_failed : (tape : Option Tape) (next : Reader) (e : ReadErr) → ListsLog tape size reader old mid → Steps tape reader next (Err e) → IfSome tape (IsDump size old mid (Err (failure_of e)))
+    pub dump_failed : (tape : Option Tape) (next : Reader) (e : ReadErr) → ListsLog tape size reader old mid → Steps tape reader next (Err e) → IfSome tape (IsDump size old mid (Err (errors.Read e)))
     dump_failed None next e lists steps = tt
     dump_failed (Some t) next Memory lists steps = put_front t lists
     dump_failed (Some t) next (Disk faults) lists steps = put_front t lists
-    dump_failed (Some t) next (Damaged at kind) lists steps = put_all t lists next (answers.Damaged at kind) (step_of t next (Err (Damaged at kind)) steps lists.0).1
-    dump_failed (Some t) next (Compressed at) lists steps = put_all t lists next (answers.Compressed at) (step_of t next (Err (Compressed at)) steps lists.0).1
-    dump_failed (Some t) next (Overwritten at) lists steps = put_all t lists next (answers.Overwritten at) (step_of t next (Err (Overwritten at)) steps lists.0).1
+    dump_failed (Some t) next (Stopped stop) lists steps = put_all t lists next (answers.Stopped stop) (step_of t next (Err (Stopped stop)) steps lists.0).1
 
   -- the sink fails at a record's line
-  pub dump_cut : (reader next : Reader) (sized : (reader_state reader).size ≡ size) (kept : (reader_state next).size ≡ size) (mid new : Option (List ℕ)) (tape : Option Tape) (f : FoundRecord) (faults : ℕ) → ListsLog tape size reader old mid → Steps tape reader next (Ok (Record f))
-      → (n : ℕ) × (new ≡ with_behind mid (take n (line_text (listed_of f)))) → IfSome tape (IsDump size old new (Err (errors.Sink faults)))
-  dump_cut reader next sized kept mid new None f faults lists steps front = tt
-  dump_cut reader next sized kept mid new (Some t) f faults lists steps front =
+  pub dump_cut : (reader next : Reader) (sized : (reader_state reader).size ≡ size) (kept : (reader_state next).size ≡ size) (mid new : Option (List ℕ)) (tape : Option Tape) (f : FoundRecord) (fault : SinkFault) → ListsLog tape size reader old mid → Steps tape reader next (Ok (given_as f))
+      → (n : ℕ) × (new ≡ with_behind mid (take n (line_text (listed_of f)))) → IfSome tape (IsDump size old new (Err (errors.Sink fault)))
+  dump_cut reader next sized kept mid new None f fault lists steps front = tt
+  dump_cut reader next sized kept mid new (Some t) f fault lists steps front =
       let underway = lists.1 in
-      let is = (step_of reader sized mid t next (Ok (Record f)) steps lists.0).1 in
+      let is = (step_of reader sized mid t next (Ok (given_as f)) steps lists.0).1 in
       let left = still next kept mid t in
       let decodes = underway.whole (f ∷ left.0) left.1 (is left.0 left.1 left.2) in
       front_of reader sized mid t new (underway.listed ++ f ∷ left.0) left.1 decodes (listed_front_of_next (log_of t size) (unread size) old (reader_state reader) mid underway (reader_state next) f is new left.0 front)

@@ -3,11 +3,11 @@ use Rattle.std.proofs.Common.{◌≡◌, ℕ, List, [], ◌∷◌, ◌++◌, tak
 use Rattle.std.proofs.lemmas.Grind.{flat_map-append}
 use Rattle.std.proofs.lemmas.List.{append-nil}
 use Rattle.segment_disk.specs.Stream.{with_behind}
+use Rattle.wal_reader.specs.Standings.{given_as}
 use Rattle.wal_reader.specs.LogReader.{ReaderState, GivesRecords, IsNext}
 use Rattle.wal_reader.specs.Pages.{Pages}
 use Rattle.wal_reader.specs.declared.found.FoundRecord.{FoundRecord}
 use Rattle.wal_reader.specs.declared.found.Answer.{Answer}
-use Rattle.wal_reader.specs.declared.standing.Step.TheVariants.{Record}
 use Rattle.waldump_text.specs.Listing.{line_text, listed_of, listing}
 use Rattle.waldump_text.specs.Put.{HasPut}
 use Rattle.waldump_text.proofs.SinkLaws.{HasPut-front, HasPut-front_of_next, with_behind-append, with_behind-nil}
@@ -40,7 +40,7 @@ module _ (pages : Pages) (start : ReaderState) (old : Option (List ℕ)) where
     pub listed_front : (others : List FoundRecord) → (n : ℕ) × (mid ≡ with_behind old (take n (listing (underway.listed ++ others))))
     listed_front others = HasPut-front (has_put others 0)
 
-    module _ (next : ReaderState) (f : FoundRecord) (is : IsNext pages now next (Ok (Record f))) (new : Option (List ℕ)) where
+    module _ (next : ReaderState) (f : FoundRecord) (is : IsNext pages now next (Ok (given_as f))) (new : Option (List ℕ)) where
       -- the record's line is put
       pub IsUnderway-more : new ≡ with_behind mid (line_text (listed_of f)) → IsUnderway pages start next old new
       IsUnderway-more taken = record {

@@ -25,15 +25,20 @@ data_text main = if length main == 0 then codes "-" else hexadecimal main
 abbrev pub images_len : List Block → ℕ
 images_len blocks = sum_by (λ b. length (image_bytes b.image)) blocks
 
--- the pieces of a record's line before its data: manager, size without and with images, transaction, its start, that of the record before and its word
+-- the pieces of a record's line before its data: manager, size without and with images,
+-- transaction, its start, that of the record before and its word
 abbrev pub head_pieces : Listed → List (List ℕ)
 head_pieces r =
-    codes "rmgr: " ∷ padded_right 11 (manager_name r.value.rmid) ∷ codes " len (rec/tot): " ∷ padded_left 6 (decimal (r.total - images_len r.value.blocks)) ∷ codes "/" ∷ padded_left 6 (decimal r.total) ∷ codes ", tx: " ∷ padded_left 10 (decimal r.value.xid.0)
-    ∷ codes ", lsn: " ∷ lsn_text r.start.0 ∷ codes ", prev " ∷ lsn_text r.prev.0 ∷ codes ", desc: " ∷ record_word r.value.rmid r.value.info ∷ codes " data " ∷ []
+    codes "rmgr: " ∷ padded_right 11 (manager_name r.value.rmid) ∷ codes " len (rec/tot): "
+    ∷ padded_left 6 (decimal (r.total - images_len r.value.blocks)) ∷ codes "/"
+    ∷ padded_left 6 (decimal r.total) ∷ codes ", tx: " ∷ padded_left 10 (decimal r.value.xid.0)
+    ∷ codes ", lsn: " ∷ lsn_text r.start.0 ∷ codes ", prev " ∷ lsn_text r.prev.0 ∷ codes ", desc: "
+    ∷ record_word r.value.rmid r.value.info ∷ codes " data " ∷ []
 
 -- a relation: its tablespace, its database and its own number
 abbrev pub relation_text : Rel → List ℕ
-relation_text rel = joined (decimal rel.spc ∷ codes "/" ∷ decimal rel.db ∷ codes "/" ∷ decimal rel.rel ∷ [])
+relation_text rel =
+    joined (decimal rel.spc ∷ codes "/" ∷ decimal rel.db ∷ codes "/" ∷ decimal rel.rel ∷ [])
 
 -- a fork other than the main one is named
 abbrev pub fork_text : ℕ → List ℕ
@@ -44,18 +49,23 @@ abbrev pub image_text : Option Image → List ℕ
 image_text None = []
 image_text (Some image) = if image.apply then codes " FPW" else codes " FPW for WAL verification"
 
--- a reference to a block: its number in the record, its relation and fork, its own number, and its image
+-- a reference to a block: its number in the record, its relation and fork, its own number, and its
+-- image
 abbrev pub block_pieces : Block → List (List ℕ)
-block_pieces b = codes ", blkref #" ∷ decimal b.id ∷ codes ": rel " ∷ relation_text b.rel ∷ fork_text b.fork ∷ codes " blk " ∷ decimal b.blk ∷ image_text b.image ∷ []
+block_pieces b =
+    codes ", blkref #" ∷ decimal b.id ∷ codes ": rel " ∷ relation_text b.rel ∷ fork_text b.fork
+    ∷ codes " blk " ∷ decimal b.blk ∷ image_text b.image ∷ []
 
 abbrev pub blocks_text : List Block → List ℕ
 blocks_text blocks = flat_map (λ b. joined (block_pieces b)) blocks
 
 -- a record's line: its head, its main data and its block references
 abbrev pub line_text : Listed → List ℕ
-line_text r = joined (head_pieces r ++ data_text r.value.main ∷ blocks_text r.value.blocks ∷ codes "\n" ∷ [])
+line_text r =
+    joined (head_pieces r ++ data_text r.value.main ∷ blocks_text r.value.blocks ∷ codes "\n" ∷ [])
 
--- a record that has a line: its manager and its forks have names, and its images are no more than all of it
+-- a record that has a line: its manager and its forks have names, and its images are no more than
+-- all of it
 pub record IsListable (r : Listed) : Type 0 where
   pub manager : IsTrue (not (is_free_manager r.value.rmid))
   pub forks : All (λ b. b.fork ≤ 3) r.value.blocks

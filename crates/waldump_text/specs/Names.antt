@@ -8,8 +8,12 @@ use Rattle.waldump_text.specs.declared.names.RecordWord.TheVariants.{Known, Unkn
 -- PostgreSQL's own managers, by their numbers from 0
 abbrev pub manager_names : List (List ℕ)
 manager_names =
-    codes "XLOG" ∷ codes "Transaction" ∷ codes "Storage" ∷ codes "CLOG" ∷ codes "Database" ∷ codes "Tablespace" ∷ codes "MultiXact" ∷ codes "RelMap" ∷ codes "Standby" ∷ codes "Heap2" ∷ codes "Heap"
-    ∷ codes "Btree" ∷ codes "Hash" ∷ codes "Gin" ∷ codes "Gist" ∷ codes "Sequence" ∷ codes "SPGist" ∷ codes "BRIN" ∷ codes "CommitTs" ∷ codes "ReplicationOrigin" ∷ codes "Generic" ∷ codes "LogicalMessage" ∷ []
+    codes "XLOG" ∷ codes "Transaction" ∷ codes "Storage" ∷ codes "CLOG" ∷ codes "Database"
+    ∷ codes "Tablespace" ∷ codes "MultiXact" ∷ codes "RelMap" ∷ codes "Standby" ∷ codes "Heap2"
+    ∷ codes "Heap"
+    ∷ codes "Btree" ∷ codes "Hash" ∷ codes "Gin" ∷ codes "Gist" ∷ codes "Sequence" ∷ codes "SPGist"
+    ∷ codes "BRIN" ∷ codes "CommitTs" ∷ codes "ReplicationOrigin" ∷ codes "Generic"
+    ∷ codes "LogicalMessage" ∷ []
 
 -- a number below 1000 in three digits
 abbrev pub three_digits : ℕ → List ℕ
@@ -17,7 +21,9 @@ three_digits n = (48 + n / 100 % 10) ∷ (48 + n / 10 % 10) ∷ (48 + n % 10) �
 
 -- a manager's name; those from 128 on are custom ones
 abbrev pub manager_name : ℕ → List ℕ
-manager_name rmid = if nat_lt rmid 128 then slice_index_or manager_names rmid [] else codes "custom" ++ three_digits rmid
+manager_name rmid =
+    if nat_lt rmid 128 then slice_index_or manager_names rmid []
+    else codes "custom" ++ three_digits rmid
 
 -- the lower-case hexadecimal digit of a number below 16
 abbrev pub lower_digit : ℕ → ℕ
@@ -28,19 +34,27 @@ abbrev pub hexadecimal : List ℕ → List ℕ
 hexadecimal [] = []
 hexadecimal (b ∷ bs) = lower_digit (b / 16 % 16) ∷ lower_digit (b % 16) ∷ hexadecimal bs
 
--- what a record without a name of its own is called: by the upper four bits of its info, without a leading zero
+-- what a record without a name of its own is called: by the upper four bits of its info, without a
+-- leading zero
 abbrev pub unknown_word : ℕ → List ℕ
-unknown_word info = codes "UNKNOWN (" ++ (if info / 16 % 16 == 0 then codes "0" else lower_digit (info / 16 % 16) ∷ 48 ∷ []) ++ codes ")"
+unknown_word info =
+    let digit = info / 16 % 16 in
+    let digits = if digit == 0 then codes "0" else lower_digit digit ∷ 48 ∷ [] in
+    codes "UNKNOWN (" ++ digits ++ codes ")"
 
 -- the records of a manager, by the upper four bits of their info; some have no word
 abbrev pub xlog_words : List (List ℕ)
 xlog_words =
-    codes "CHECKPOINT_SHUTDOWN" ∷ codes "CHECKPOINT_ONLINE" ∷ codes "NOOP" ∷ codes "NEXTOID" ∷ codes "SWITCH" ∷ codes "BACKUP_END" ∷ codes "PARAMETER_CHANGE" ∷ codes "RESTORE_POINT" ∷ codes "FPW_CHANGE" ∷ codes "END_OF_RECOVERY"
+    codes "CHECKPOINT_SHUTDOWN" ∷ codes "CHECKPOINT_ONLINE" ∷ codes "NOOP" ∷ codes "NEXTOID"
+    ∷ codes "SWITCH" ∷ codes "BACKUP_END" ∷ codes "PARAMETER_CHANGE" ∷ codes "RESTORE_POINT"
+    ∷ codes "FPW_CHANGE" ∷ codes "END_OF_RECOVERY"
     ∷ codes "FPI_FOR_HINT" ∷ codes "FPI" ∷ codes "" ∷ codes "OVERWRITE_CONTRECORD" ∷ []
 
 abbrev pub heap_words : List (List ℕ)
 heap_words =
-    codes "INSERT" ∷ codes "DELETE" ∷ codes "UPDATE" ∷ codes "TRUNCATE" ∷ codes "HOT_UPDATE" ∷ codes "HEAP_CONFIRM" ∷ codes "LOCK" ∷ codes "INPLACE" ∷ codes "INSERT+INIT" ∷ codes "" ∷ codes "UPDATE+INIT" ∷ codes ""
+    codes "INSERT" ∷ codes "DELETE" ∷ codes "UPDATE" ∷ codes "TRUNCATE" ∷ codes "HOT_UPDATE"
+    ∷ codes "HEAP_CONFIRM" ∷ codes "LOCK" ∷ codes "INPLACE" ∷ codes "INSERT+INIT" ∷ codes ""
+    ∷ codes "UPDATE+INIT" ∷ codes ""
     ∷ codes "HOT_UPDATE+INIT" ∷ []
 
 abbrev pub message_words : List (List ℕ)
@@ -48,7 +62,9 @@ message_words = codes "MESSAGE" ∷ []
 
 -- those of transactions by bits 4 to 6
 abbrev pub transaction_words : List (List ℕ)
-transaction_words = codes "COMMIT" ∷ codes "PREPARE" ∷ codes "ABORT" ∷ codes "COMMIT_PREPARED" ∷ codes "ABORT_PREPARED" ∷ codes "ASSIGNMENT" ∷ codes "INVALIDATION" ∷ []
+transaction_words =
+    codes "COMMIT" ∷ codes "PREPARE" ∷ codes "ABORT" ∷ codes "COMMIT_PREPARED"
+    ∷ codes "ABORT_PREPARED" ∷ codes "ASSIGNMENT" ∷ codes "INVALIDATION" ∷ []
 
 -- a record's word in its manager's table, or none
 abbrev pub own_word : ℕ → ℕ → List ℕ
@@ -60,7 +76,8 @@ own_word rmid info =
 
 -- a record's word
 abbrev pub record_word : ℕ → ℕ → List ℕ
-record_word rmid info = let word = own_word rmid info in if length word == 0 then unknown_word info else word
+record_word rmid info =
+    let word = own_word rmid info in if length word == 0 then unknown_word info else word
 
 -- the forks of a relation
 abbrev pub fork_names : List (List ℕ)

@@ -10,9 +10,12 @@ joined [] = []
 joined (piece ∷ pieces) = piece ++ joined pieces
 
 -- a sink took a text: all of it, or a front of it where it failed
-abbrev pub Puts : Option (List ℕ) → Option (List ℕ) → ℕ → ℕ → List ℕ → Result (Unit {0}) SinkFault → Type 0
+abbrev pub Puts : Option (List ℕ) → Option (List ℕ) → ℕ → ℕ → List ℕ → Result (Unit {0}) SinkFault
+    → Type 0
 Puts old new before after text (Ok done) = (new ≡ with_behind old text) × (after ≡ before)
-Puts old new before after text (Err fault) = ((n : ℕ) × (new ≡ with_behind old (take n text))) × RoseByOne before after × (fault.faults ≡ after)
+Puts old new before after text (Err fault) =
+    ((n : ℕ) × (new ≡ with_behind old (take n text))) × RoseByOne before after
+    × (fault.faults ≡ after)
 
 -- a sink took a text up to a rest, and has not failed
 pub record HasPut (old new : Option (List ℕ)) (before after : ℕ) (text rest : List ℕ) : Type 0 where
@@ -22,7 +25,8 @@ pub record HasPut (old new : Option (List ℕ)) (before after : ℕ) (text rest 
   pub faults : after ≡ before
 
 -- a sink took a text but for what is held back; or a front of it where it failed
-abbrev pub PutsBut : Option (List ℕ) → Option (List ℕ) → ℕ → ℕ → List ℕ → List ℕ → Result (Unit {0}) SinkFault → Type 0
+abbrev pub PutsBut : Option (List ℕ) → Option (List ℕ) → ℕ → ℕ → List ℕ → List ℕ
+    → Result (Unit {0}) SinkFault → Type 0
 PutsBut old new before after text held (Ok done) = HasPut old new before after text held
 PutsBut old new before after text held (Err fault) = Puts old new before after text (Err fault)
 

@@ -44,7 +44,8 @@ pub(crate) fn put_blocks<O: Sink>(
     out: &mut O,
 ) -> Result<(), SinkFault>
     requires { All (λ b. b.fork ≤ 3) blocks.now }
-    ensures { PutsBut (O.taken out.old) (O.taken out.new) (O.faults out.old) (O.faults out.new) (buffer.old ++ blocks_text blocks.now) buffer.new result }
+    ensures { PutsBut (O.taken out.old) (O.taken out.new) (O.faults out.old) (O.faults out.new)
+        (buffer.old ++ blocks_text blocks.now) buffer.new result }
 {
     for block in blocks {
         buffer.make_room(BLOCK_ROOM, out)?;

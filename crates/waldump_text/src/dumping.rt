@@ -9,39 +9,27 @@ use byte_position::Geometry;
 use segment_disk::{Disk, Sink};
 use std::alloc::Global;
 use thiserror::Error;
-use wal_reader::{Answer, ReadErr, Reader, Step};
+use wal_reader::{ReadErr, Reader, Step};
 use wal_types::Lsn;
 
 /// Why a log was not listed to a clean end.
 #[derive(Clone, Copy, Debug, PartialEq, Eq, Error)]
 pub enum DumpErr {
-    #[error("out of memory")]
-    Memory,
-    /// The disk failed, and stood at this count of faults then.
-    #[error("the disk failed")]
-    Disk { faults: u64 },
-    /// All records before this are listed; it is no end of the log.
-    #[error("the log stops: {0:?}")]
-    Stopped(Answer),
-    /// The sink failed, and stood at this count of faults then.
+    /// The log was not read on; where it stops, all records before are listed.
+    #[error("{0}")]
+    Read(ReadErr),
     #[error("the listing cannot be written")]
-    Sink { faults: u64 },
+    Sink(SinkFault),
 }
 
 impl From<ReadErr> for DumpErr {
     ghost use Rattle.std.specs.Prelude.{◌≡◌};
-    ghost use Rattle.waldump_text.specs.Dump.{failure_of};
+    ghost use Rattle.waldump_text.specs.declared.dumping.DumpErr.TheVariants as errors;
 
-    ghost from_gives = { λ error e. e ≡ failure_of error };
+    ghost from_gives = { λ error e. e ≡ errors.Read error };
 
     fn from(error: ReadErr) -> DumpErr {
-        match error {
-            ReadErr::Memory => DumpErr::Memory,
-            ReadErr::Disk { faults } => DumpErr::Disk { faults },
-            ReadErr::Damaged { at, kind } => DumpErr::Stopped(Answer::Damaged { at, kind }),
-            ReadErr::Compressed { at } => DumpErr::Stopped(Answer::Compressed { at }),
-            ReadErr::Overwritten { at } => DumpErr::Stopped(Answer::Overwritten { at }),
-        }
+        DumpErr::Read(error)
     }
 }
 
@@ -49,12 +37,10 @@ impl From<SinkFault> for DumpErr {
     ghost use Rattle.std.specs.Prelude.{◌≡◌};
     ghost use Rattle.waldump_text.specs.declared.dumping.DumpErr.TheVariants as errors;
 
-    ghost from_gives = { λ fault e. e ≡ errors.Sink fault.faults };
+    ghost from_gives = { λ fault e. e ≡ errors.Sink fault };
 
     fn from(fault: SinkFault) -> DumpErr {
-        DumpErr::Sink {
-            faults: fault.faults,
-        }
+        DumpErr::Sink(fault)
     }
 }
 
@@ -65,16 +51,32 @@ pub fn dump<D: Disk, O: Sink>(
     geometry: Geometry,
     out: &mut O,
 ) -> Result<(), DumpErr>
-    ensures listed { IfSome (D.tape disk.old) (IsDump geometry (O.taken out.old) (O.taken out.new) result) }
+    ensures listed { IfSome (D.tape disk.old)
+        (IsDump geometry (O.taken out.old) (O.taken out.new) result) }
     ensures tape { D.tape disk.new ≡ D.tape disk.old }
     ensures moment { D.moment disk.new ≡ D.moment disk.old }
-    ensures cause { HasDumpCause (D.faults disk.old) (D.faults disk.new) (O.faults out.old) (O.faults out.new) result }
+    ensures cause { HasDumpCause (D.faults disk.old) (D.faults disk.new) (O.faults out.old)
+        (O.faults out.new) result }
 {
     let mut reader = Reader::new(geometry, Lsn(geometry.segment_size()), None);
     let mut buffer = LineBuffer::new();
     'records: loop {
         match reader.next(alloc, disk)? {
-            Step::Record(found) => put_line(&mut buffer, &Listed::from(found), out)?,
+            Step::Record {
+                start,
+                end: _,
+                prev,
+                total,
+                value,
+            } => {
+                let listed = Listed {
+                    start,
+                    prev,
+                    total,
+                    value,
+                };
+                put_line(&mut buffer, &listed, out)?;
+            }
             Step::End { .. } => return Ok(()),
         }
     }

@@ -101,7 +101,8 @@ impl LineBuffer {
 
     /// Lets all that is held back go to the sink.
     pub(crate) fn flush<O: Sink>(&mut self, out: &mut O) -> Result<(), SinkFault>
-        ensures put { Puts (O.taken out.old) (O.taken out.new) (O.faults out.old) (O.faults out.new) self.old result }
+        ensures put { Puts (O.taken out.old) (O.taken out.new) (O.faults out.old)
+            (O.faults out.new) self.old result }
         ensures empty { OnOk result (self.new ≡ []) }
     {
         put(out, self.as_bytes())?;
@@ -112,7 +113,8 @@ impl LineBuffer {
     /// Makes room for so many bytes more.
     pub(crate) fn make_room<O: Sink>(&mut self, count: usize, out: &mut O) -> Result<(), SinkFault>
         requires { count ≤ ROOM }
-        ensures put { PutsBut (O.taken out.old) (O.taken out.new) (O.faults out.old) (O.faults out.new) self.old self.new result }
+        ensures put { PutsBut (O.taken out.old) (O.taken out.new) (O.faults out.old)
+            (O.faults out.new) self.old self.new result }
         ensures room { OnOk result (length self.new + count ≤ ROOM) }
     {
         if ROOM - self.used < count {
@@ -124,7 +126,8 @@ impl LineBuffer {
     /// A text that may have to wait for room.
     pub(crate) fn append<O: Sink>(&mut self, text: &[u8], out: &mut O) -> Result<(), SinkFault>
         requires { length text.now ≤ ROOM }
-        ensures { PutsBut (O.taken out.old) (O.taken out.new) (O.faults out.old) (O.faults out.new) (self.old ++ text.now) self.new result }
+        ensures { PutsBut (O.taken out.old) (O.taken out.new) (O.faults out.old) (O.faults out.new)
+            (self.old ++ text.now) self.new result }
     {
         self.make_room(text.len(), out)?;
         self.push(text);

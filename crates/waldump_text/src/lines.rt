@@ -10,11 +10,12 @@ use crate::names::{manager_name, record_word};
 use crate::putting::SinkFault;
 use segment_disk::Sink;
 
-/// Puts a record's line into a sink (PostgreSQL's pg_waldump.c, XLogDumpDisplayRecord): in one call where the sink
-/// takes it and it has at most 4096 bytes. It takes no memory.
+/// Puts a record's line into a sink (PostgreSQL's pg_waldump.c, XLogDumpDisplayRecord): in one call
+/// where the sink takes it and it has at most 4096 bytes. It takes no memory.
 pub fn line<O: Sink>(r: &Listed, out: &mut O) -> Result<(), SinkFault>
     requires { IsListable r.now }
-    ensures { Puts (O.taken out.old) (O.taken out.new) (O.faults out.old) (O.faults out.new) (line_text r.now) result }
+    ensures { Puts (O.taken out.old) (O.taken out.new) (O.faults out.old) (O.faults out.new)
+        (line_text r.now) result }
 {
     put_line(&mut LineBuffer::new(), r, out)
 }
@@ -27,7 +28,8 @@ pub(crate) fn put_line<O: Sink>(
 ) -> Result<(), SinkFault>
     requires listable { IsListable r.now }
     requires empty { buffer.old ≡ [] }
-    ensures put { Puts (O.taken out.old) (O.taken out.new) (O.faults out.old) (O.faults out.new) (line_text r.now) result }
+    ensures put { Puts (O.taken out.old) (O.taken out.new) (O.faults out.old) (O.faults out.new)
+        (line_text r.now) result }
     ensures empty { OnOk result (buffer.new ≡ []) }
 {
     push_head(buffer, r);
@@ -62,7 +64,8 @@ fn push_head(buffer: &mut LineBuffer, r: &Listed)
 
 // Puts a record's main data: in hexadecimal, or `-` for none.
 fn put_data<O: Sink>(buffer: &mut LineBuffer, main: &[u8], out: &mut O) -> Result<(), SinkFault>
-    ensures { PutsBut (O.taken out.old) (O.taken out.new) (O.faults out.old) (O.faults out.new) (buffer.old ++ data_text main.now) buffer.new result }
+    ensures { PutsBut (O.taken out.old) (O.taken out.new) (O.faults out.old) (O.faults out.new)
+        (buffer.old ++ data_text main.now) buffer.new result }
 {
     if main.is_empty() {
         buffer.append(b"-", out)
@@ -77,7 +80,8 @@ fn put_hexadecimal<O: Sink>(
     bytes: &[u8],
     out: &mut O,
 ) -> Result<(), SinkFault>
-    ensures { PutsBut (O.taken out.old) (O.taken out.new) (O.faults out.old) (O.faults out.new) (buffer.old ++ hexadecimal bytes.now) buffer.new result }
+    ensures { PutsBut (O.taken out.old) (O.taken out.new) (O.faults out.old) (O.faults out.new)
+        (buffer.old ++ hexadecimal bytes.now) buffer.new result }
 {
     for part in bytes.chunks(64) {
         put_digits(buffer, part, out)?;
@@ -88,7 +92,8 @@ fn put_hexadecimal<O: Sink>(
 // Puts up to 64 bytes in hexadecimal.
 fn put_digits<O: Sink>(buffer: &mut LineBuffer, bytes: &[u8], out: &mut O) -> Result<(), SinkFault>
     requires { length bytes.now ≤ 64 }
-    ensures { PutsBut (O.taken out.old) (O.taken out.new) (O.faults out.old) (O.faults out.new) (buffer.old ++ hexadecimal bytes.now) buffer.new result }
+    ensures { PutsBut (O.taken out.old) (O.taken out.new) (O.faults out.old) (O.faults out.new)
+        (buffer.old ++ hexadecimal bytes.now) buffer.new result }
 {
     let mut room = [0; 128];
     let digits = &mut room[..2 * bytes.len()];

@@ -11,7 +11,8 @@ pub struct SinkFault {
 
 /// Puts one piece into a sink, all of it.
 pub fn put<O: Sink>(out: &mut O, piece: &[u8]) -> Result<(), SinkFault>
-    ensures { Puts (O.taken out.old) (O.taken out.new) (O.faults out.old) (O.faults out.new) piece.now result }
+    ensures { Puts (O.taken out.old) (O.taken out.new) (O.faults out.old)
+        (O.faults out.new) piece.now result }
 {
     let mut rest = piece;
     while !rest.is_empty() {
@@ -29,7 +30,8 @@ pub fn put<O: Sink>(out: &mut O, piece: &[u8]) -> Result<(), SinkFault>
 
 /// Puts pieces into a sink, one behind another.
 pub fn put_all<O: Sink>(out: &mut O, pieces: &[&[u8]]) -> Result<(), SinkFault>
-    ensures { Puts (O.taken out.old) (O.taken out.new) (O.faults out.old) (O.faults out.new) (joined (map (λ p. p.now) pieces.now)) result }
+    ensures { Puts (O.taken out.old) (O.taken out.new) (O.faults out.old) (O.faults out.new)
+        (joined (map (λ p. p.now) pieces.now)) result }
 {
     for piece in pieces {
         put(out, piece)?;

@@ -11,10 +11,10 @@ use Rattle.record_spelling.specs.Numbers.{number_at}
 use Rattle.record_decode.specs.Reading.{reading_of}
 use Rattle.wal_page.specs.Page.{is_continued, first_fault}
 use Rattle.wal_reader.specs.Pages.{Pages, bytes_from}
-use Rattle.wal_reader.specs.Decodes.{Place, is_zero_word, opens_page, page_answers, rows_of_pages, page_of_byte, is_right_prev, record_rows, found_or, answer_or, read_in, read_at, ended}
+use Rattle.wal_reader.specs.Decodes.{Place, is_zero_word, opens_page, page_answers, rows_of_pages, page_of_byte, is_right_prev, opening_rows, record_rows, found_or, answer_or, read_in, read_at, ended}
 use Rattle.written_log.proofs.Tables.{NoneHolds, NoneHolds-append, Tells, Tells-append, first_fault-none, first_fault-told}
 use Rattle.written_log.proofs.Tables.NoneHolds.{none, past}
-use Rattle.written_log.proofs.Tables.Tells.{at_once, behind}
+use Rattle.written_log.proofs.Tables.Tells.{at_once}
 use Rattle.written_log.proofs.RecordBytes.{size_in_word, size_in_header, header_is_no_zero_word, prev_in_header, take-filled, crc_in_spelled}
 
 -- a place in a page that is there and passes its own checks, and no record continues into it where the place is its first
@@ -35,6 +35,11 @@ pub record StandsAt (size : ℕ) (pages : Pages) (place : Place) (a : Assembled)
   pub size_fits : assembled_size a < 2 ^ 32
   pub prev_fits : prev < 2 ^ 64
   pub crc_fits : crc_of a prev < 2 ^ 32
+
+-- its page's checks pass
+opening_passes : (size : ℕ) (pages : Pages) (place : Place) (page : List ℕ) → IsIn size pages place page → NoneHolds (opening_rows size place page)
+opening_passes size pages place page in_page =
+    past (and_right (opens_page size place.position) _ in_page.no_zero_word) (NoneHolds-append in_page.passes (past in_page.not_claimed none))
 
 read_at-page : (size : ℕ) (pages : Pages) (place : Place) (page : List ℕ) → pages (address_of size place.position / 8192) ≡ Some page → read_at size pages None place ≡ answer_or size pages place (first_fault (record_rows size pages None place page))
 unfolding read_at
@@ -70,13 +75,10 @@ module _ (size : ℕ) (pages : Pages) (place : Place) (page : List ℕ) (a : Ass
       let header_pages : NoneHolds (rows_of_pages size pages place total start_page header_page) = subst (λ (n : ℕ). NoneHolds (rows_of_pages size pages place n start_page header_page)) (sym read_total) stands.header_pages in
       let last_pages : NoneHolds (rows_of_pages size pages place total header_page (page_of_byte size place.position total)) = subst (λ (n : ℕ). NoneHolds (rows_of_pages size pages place n header_page (page_of_byte size place.position n))) (sym read_total) stands.last_pages in
       let no_zero_word = ap is_zero_word read_header ∙ header_is_no_zero_word a prev stands.rest stands.size_fits in
-      past (and_right (opens_page size place.position) _ in_page.no_zero_word)
-      (NoneHolds-append in_page.passes
-      (past in_page.not_claimed
-      (past no_zero_word
-      (past (le-ltb total 24 (omega (arith, read_total)))
-      (past refl
-      (NoneHolds-append (NoneHolds-append (NoneHolds-append header_pages (past right_manager (past (not_from_true _ right_prev) none))) last_pages) (past (not_from_true _ right_crc) none)))))))
+      let sizes = past no_zero_word (past (le-ltb total 24 (omega (arith, read_total))) (past refl none)) in
+      let of_header = NoneHolds-append header_pages (past right_manager (past (not_from_true _ right_prev) none)) in
+      let rest = NoneHolds-append (NoneHolds-append of_header last_pages) (past (not_from_true _ right_crc) none) in
+      NoneHolds-append (opening_passes size pages place page in_page) (NoneHolds-append sizes rest)
 
   -- a record that stands at a place is read there, as its bytes say
   pub record_is_read : read_at size pages None place ≡ found_or size place (assembled_size a) prev (reading_of (spelled a prev))
@@ -91,10 +93,7 @@ module _ (size : ℕ) (pages : Pages) (place : Place) (page : List ℕ) (a : Ass
 pub zero_word_ends : (size : ℕ) (pages : Pages) (place : Place) (page : List ℕ) → IsIn size pages place page → is_zero_word (bytes_from size pages 24 place.position) ≡ true → read_at size pages None place ≡ Err (ended size place.position)
 zero_word_ends size pages place page in_page zero =
     let told : Tells (record_rows size pages None place page) (ended size place.position) =
-    behind (and_right (opens_page size place.position) _ in_page.no_zero_word)
-    (Tells-append in_page.passes
-    (behind in_page.not_claimed
-    (at_once zero))) in
+    Tells-append (opening_passes size pages place page in_page) (at_once zero) in
     read_at-page size pages place page in_page.here ∙ ap (answer_or size pages place) (first_fault-told told)
 
 -- a page of zeros where a record would start ends the log, and so does one that is not there

@@ -13,15 +13,22 @@ bytes_in size pages e = bytes_from size pages (room_of e.value) e.start
 
 -- each word of the entry's record is its own or 0, and one is not its own
 pub record IsTorn (size : ℕ) (pages : Pages) (e : Entry) (prev : ℕ) : Type 0 where
-  pub words : (k : ℕ) → 8 * k < room_of e.value → (word_at (bytes_in size pages e) k ≡ word_at (filled (assembled e.value) prev) k) ⊎ (word_at (bytes_in size pages e) k ≡ 0)
-  pub missing : (k : ℕ) × (8 * k < room_of e.value) × (word_at (bytes_in size pages e) k ≢ word_at (filled (assembled e.value) prev) k)
+  pub words : (k : ℕ) → 8 * k < room_of e.value
+      → (word_at (bytes_in size pages e) k ≡ word_at (filled (assembled e.value) prev) k)
+      ⊎ (word_at (bytes_in size pages e) k ≡ 0)
+  pub missing : (k : ℕ) × (8 * k < room_of e.value)
+      × (word_at (bytes_in size pages e) k ≢ word_at (filled (assembled e.value) prev) k)
 
--- the reader sees that it is torn: its first word is 0, it names another record before it, or the CRC that stands there is not that of its bytes
+-- the reader sees that it is torn: its first word is 0, it names another record before it, or the
+-- CRC that stands there is not that of its bytes
 abbrev pub IsSeenTorn : ℕ → Pages → Entry → ℕ → Type 0
 IsSeenTorn size pages e prev =
     let bytes = take (size_of e.value) (bytes_in size pages e) in
-    (word_at bytes 0 ≡ 0) ⊎ ((number_at w64 bytes 8 ≢ prev) ⊎ (number_at w32 bytes 20 ≢ crc32c (drop 24 bytes ++ take 20 bytes)))
+    (word_at bytes 0 ≡ 0) ⊎ ((number_at w64 bytes 8 ≢ prev) ⊎
+    (number_at w32 bytes 20 ≢ crc32c (drop 24 bytes ++ take 20 bytes)))
 
 -- no torn record passes its CRC: the premise of all that is said of crashes
 abbrev pub NoTornPass : ℕ → Pages → List Entry → Type 0
-NoTornPass size pages es = (k : ℕ) (e : Entry) → slice_get es k ≡ Some e → IsTorn size pages e (prev_of size 0 (take k es)) → IsSeenTorn size pages e (prev_of size 0 (take k es))
+NoTornPass size pages es =
+    (k : ℕ) (e : Entry) → slice_get es k ≡ Some e → IsTorn size pages e (prev_of size 0 (take k es))
+    → IsSeenTorn size pages e (prev_of size 0 (take k es))

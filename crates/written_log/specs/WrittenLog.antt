@@ -14,21 +14,29 @@ use Rattle.written_log.specs.Written.{found_of}
 abbrev pub last_position : ℕ → List Entry → ℕ
 last_position size es = first_position size + rooms_of es
 
--- pages that hold an order's log: each page from the log's first on that is there is the log's, and each that begins below the log's end is there
+-- pages that hold an order's log: each page from the log's first on that is there is the log's, and
+-- each that begins below the log's end is there
 pub record HavePagesOfLog (size sysid : ℕ) (pages : Pages) (es : List Entry) : Type 0 where
-  pub is_log : (page : ℕ) → pages_of size ≤ page → IfSome (pages page) (IsLogPage size sysid es page)
-  pub there : (page : ℕ) → pages_of size ≤ page → page * 8192 < end_address_of size (last_position size es) → IsSome (pages page)
+  pub is_log : (page : ℕ) → pages_of size ≤ page
+      → IfSome (pages page) (IsLogPage size sysid es page)
+  pub there : (page : ℕ) → pages_of size ≤ page → page * 8192
+      < end_address_of size (last_position size es) → IsSome (pages page)
 
 -- the log's own pages: each is there, each byte the log's
 abbrev pub log_pages : ℕ → ℕ → List Entry → Pages
-log_pages size sysid es page = Some (map (λ k. log_byte size sysid es (page * 8192 + k)) (range_with_len 0 8192))
+log_pages size sysid es page =
+    Some (map (λ k. log_byte size sysid es (page * 8192 + k)) (range_with_len 0 8192))
 
 -- an order's log stands in its own pages
 abbrev pub OwnPagesHoldLog : Type 0
-OwnPagesHoldLog = (size sysid : ℕ) (es : List Entry) → HavePagesOfLog size sysid (log_pages size sysid es) es
+OwnPagesHoldLog =
+    (size sysid : ℕ) (es : List Entry) → HavePagesOfLog size sysid (log_pages size sysid es) es
 
--- an order that ends at address 2 ^ 60 or below reads back, from pages that hold its log, as just its records, and then the log ends
+-- an order that ends at address 2 ^ 60 or below reads back, from pages that hold its log, as just
+-- its records, and then the log ends
 abbrev pub WrittenLogDecodes : Type 0
 WrittenLogDecodes =
-    (size sysid : ℕ) (pages : Pages) (es : List Entry) → IsSegmentSize size → 0 < sysid → sysid < 2 ^ 64 → IsChained size es → end_address_of size (last_position size es) ≤ 2 ^ 60
-    → HavePagesOfLog size sysid pages es → Decodes size pages size None (found_of size es) (ended size (last_position size es))
+    (size sysid : ℕ) (pages : Pages) (es : List Entry) → IsSegmentSize size → 0 < sysid → sysid
+    < 2 ^ 64 → IsChained size es → end_address_of size (last_position size es) ≤ 2 ^ 60
+    → HavePagesOfLog size sysid pages es
+    → Decodes size pages size None (found_of size es) (ended size (last_position size es))

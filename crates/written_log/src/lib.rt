@@ -1,4 +1,5 @@
-//! What a log's writer puts into its pages, as a reader finds it: laws over the writer's definitions and the reader's.
+//! What a log's writer puts into its pages, as a reader finds it: laws over the writer's
+//! definitions and the reader's.
 #![tactic(auto)]
 
 mod laws;

@@ -3,7 +3,7 @@
 ghost use Rattle.std.specs.Prelude.{◌≡◌, ◌+◌, ◌*◌, ◌<◌, ◌≤◌, ◌^◌, [], None, length, IfOk, IsTrue};
 ghost use Rattle.std.specs.List.{sum_by};
 ghost use Rattle.record_decode.specs.Reading.{GivesAs, begins_block, block_item, block_items, fork_flags, fork_item, image_flags, image_item, is_wrong_hole, least_id, number_item, payload_len, relation_item};
-ghost use Rattle.record_decode.specs.Unread.{standing};
+ghost use Rattle.record_decode.specs.Unread.{GivesItem, cursor_of};
 
 use super::cursor::malformed;
 use super::unread::Unread;
@@ -28,14 +28,14 @@ fn fork_flags(byte: u8) -> ForkFlags
 // The fork byte and the length of the block's data.
 #[tactic(auto, unfolding(crate::specs::Reading::fork_item))]
 fn fork_item<'a>(unread: Unread<'a>) -> Result<((ForkFlags, u16), Unread<'a>), RecErr>
-    ensures { GivesAs (λ x. record { value = x.0; next = standing x.1 }) result (fork_item (standing unread.entry)) }
+    ensures { GivesItem result (fork_item (cursor_of unread.entry)) }
 {
     let Some((group, rest)) = unread.bytes.split_first_chunk::<3>() else {
         return Err(malformed(unread.at, RecKind::Short));
     };
     let flags = fork_flags(group[0]);
     let content_len = u16::from_le_bytes([group[1], group[2]]);
-    if flags.fork > 3 {
+    if flags.fork > MAX_FORK {
         return Err(malformed(unread.at, RecKind::Fork));
     }
     if flags.has_data != (content_len > 0) {
@@ -60,7 +60,7 @@ fn image_flags(byte: u8) -> ImageFlags
     }
 }
 
-// The hole of an image of `len` bytes does not lie within its page of 8192 bytes, behind the page's first byte.
+// The hole of an image of `len` bytes does not lie within its page, behind the page's first byte.
 fn is_wrong_hole(len: u16, hole_offset: u16, has_hole: bool) -> bool
     requires { len ≤ 8192 }
     ensures { result ≡ is_wrong_hole len hole_offset has_hole }
@@ -80,7 +80,7 @@ fn image_item<'a>(
     id: u8,
     unread: Unread<'a>,
 ) -> Result<(Option<ImageHead>, Unread<'a>), RecErr>
-    ensures { GivesAs (λ x. record { value = x.0; next = standing x.1 }) result (image_item has_image id (standing unread.entry)) }
+    ensures { GivesItem result (image_item has_image id (cursor_of unread.entry)) }
 {
     if !has_image {
         return Ok((None, unread));
@@ -120,7 +120,7 @@ fn relation_item<'a>(
     before: Option<BlockHead>,
     unread: Unread<'a>,
 ) -> Result<(Rel, Unread<'a>), RecErr>
-    ensures { GivesAs (λ x. record { value = x.0; next = standing x.1 }) result (relation_item same before (standing unread.entry)) }
+    ensures { GivesItem result (relation_item same before (cursor_of unread.entry)) }
 {
     if same {
         let Some(head) = before else {
@@ -146,7 +146,7 @@ fn relation_item<'a>(
 
 #[tactic(auto, unfolding(crate::specs::Reading::number_item))]
 fn number_item<'a>(unread: Unread<'a>) -> Result<(u32, Unread<'a>), RecErr>
-    ensures { GivesAs (λ x. record { value = x.0; next = standing x.1 }) result (number_item (standing unread.entry)) }
+    ensures { GivesItem result (number_item (cursor_of unread.entry)) }
 {
     let Some((group, rest)) = unread.bytes.split_first_chunk::<4>() else {
         return Err(malformed(unread.at, RecKind::Short));
@@ -168,8 +168,9 @@ fn block_item<'a>(
     requires block { IsTrue (begins_block start.bytes.now) }
     requires owed_fits { start.owed < 2 ^ 62 }
     ensures ids { IfOk result (λ x. (least_id before ≤ x.0.id) × (x.0.id ≤ 32)) }
-    ensures owed { IfOk result (λ x. (x.1.owed ≡ start.entry.owed + payload_len x.0) × (payload_len x.0 ≤ 131070)) }
-    ensures exact { GivesAs (λ x. record { value = x.0; next = standing x.1 }) result (block_item before (standing start.entry)) }
+    ensures owed { IfOk result (λ x.
+        (x.1.owed ≡ start.entry.owed + payload_len x.0) × (payload_len x.0 ≤ 131070)) }
+    ensures exact { GivesItem result (block_item before (cursor_of start.entry)) }
 {
     let id = start.bytes[0];
     if before.is_some_and(|head| id <= head.id) {
@@ -211,7 +212,8 @@ pub(super) fn block_items<'a>(
     start: Unread<'a>,
 ) -> Result<(Vec<BlockHead>, Unread<'a>), RecErr>
     requires { start.owed ≡ 0 }
-    ensures exact { GivesAs (λ x. record { value = x.0.items; next = standing x.1 }) result (block_items (length start.entry.bytes.now) None [] (standing start.entry)) }
+    ensures exact { GivesAs (λ x. record { value = x.0.items; next = cursor_of x.1 }) result
+        (block_items (length start.entry.bytes.now) None [] (cursor_of start.entry)) }
     ensures promised { IfOk result (λ x. x.1.owed ≡ sum_by payload_len x.0.items) }
     ensures owed_fits { IfOk result (λ x. x.1.owed < 2 ^ 23) }
 {

@@ -1,9 +1,10 @@
-//! The items of a record that are no blocks: the origin, the top-level transaction and the main data's header.
+//! The items of a record that are no blocks: the origin, the top-level transaction and the main
+//! data's header.
 
 ghost use Rattle.std.specs.Prelude.{◌≡◌, ◌+◌, ◌<◌, ◌≤◌, ◌^◌, length, IfOk};
 ghost use Rattle.std.specs.Int.{w16, w32};
 ghost use Rattle.record_decode.specs.Reading.{GivesAs, main_item, optional_item};
-ghost use Rattle.record_decode.specs.Unread.{standing};
+ghost use Rattle.record_decode.specs.Unread.{GivesItem, cursor_of};
 
 use super::cursor::malformed;
 use super::unread::Unread;
@@ -16,7 +17,7 @@ pub(super) fn optional_u16<'a>(
     unread: Unread<'a>,
 ) -> Result<(Option<u16>, Unread<'a>), RecErr>
     ensures owed { IfOk result (λ x. x.1.owed ≡ unread.entry.owed) }
-    ensures exact { GivesAs (λ x. record { value = x.0; next = standing x.1 }) result (optional_item tag w16 (standing unread.entry)) }
+    ensures exact { GivesItem result (optional_item tag w16 (cursor_of unread.entry)) }
 {
     if !unread.is_at(tag) {
         return Ok((None, unread));
@@ -40,7 +41,7 @@ pub(super) fn optional_u32<'a>(
     unread: Unread<'a>,
 ) -> Result<(Option<u32>, Unread<'a>), RecErr>
     ensures owed { IfOk result (λ x. x.1.owed ≡ unread.entry.owed) }
-    ensures exact { GivesAs (λ x. record { value = x.0; next = standing x.1 }) result (optional_item tag w32 (standing unread.entry)) }
+    ensures exact { GivesItem result (optional_item tag w32 (cursor_of unread.entry)) }
 {
     if !unread.is_at(tag) {
         return Ok((None, unread));
@@ -62,7 +63,7 @@ pub(super) fn optional_u32<'a>(
 pub(super) fn main_item<'a>(unread: Unread<'a>) -> Result<Unread<'a>, RecErr>
     requires { unread.owed < 2 ^ 63 }
     ensures owed { IfOk result (λ x. unread.entry.owed ≤ x.owed) }
-    ensures exact { GivesAs (λ x. standing x) result (main_item (standing unread.entry)) }
+    ensures exact { GivesAs cursor_of result (main_item (cursor_of unread.entry)) }
 {
     if !unread.has_header() {
         return Ok(unread);

@@ -4,11 +4,11 @@ use Rattle.record_decode.proofs.Failing.{cause_told, fails_by}
 use Rattle.record_decode.proofs.Readings.{found_by, only}
 use Rattle.record_decode.proofs.decoding.decode.Goals as goal
 
-pub returns-clause-found : goal.returns-clause-found
-returns-clause-found c = found_by c.reading.result c.args.bytes.now (λ i. omega (arith, c.type_inv.bytes i)) c.reading.ensures
+pub returns-clause-spelled : goal.returns-clause-spelled
+returns-clause-spelled c = found_by c.reading.result c.args.bytes.now (λ i. omega (arith, c.type_inv.bytes i)) c.reading.ensures
 
-pub returns-clause-only : goal.returns-clause-only
-returns-clause-only c = λ r spelled. subst (GivesReading c.reading.result) (only c.args.bytes.now r spelled) c.reading.ensures
+pub returns-clause-reads : goal.returns-clause-reads
+returns-clause-reads c = λ r spelled. subst (GivesReading c.reading.result) (only c.args.bytes.now r spelled) c.reading.ensures
 
 pub returns-clause-fails : goal.returns-clause-fails
 returns-clause-fails c = fails_by c.reading.result c.args.bytes.now (λ i. omega (arith, c.type_inv.bytes i)) c.reading.ensures

@@ -1,4 +1,4 @@
-use Rattle.std.proofs.Common.{◌≡◌, ℕ, Some, None, Ok, option_map, subst}
+use Rattle.std.proofs.Common.{◌≡◌, ℕ, Some, None, Ok, option_map, subst, ◌∙◌}
 use Rattle.wal_types.specs.declared.lsn.Lsn.{Lsn}
 use Rattle.wal_reader.specs.Cursor.{Sees}
 use Rattle.wal_reader.specs.Decodes.{beginning}
@@ -26,4 +26,11 @@ returns-clause-next g c pages sees =
           let begun : beginning c.args.buffers.now.cache.geometry pages c.args.start.0 ≡ Ok (place_of c.match-from.at) = rw w.at-is begins.1 in
           let all : ComesNext c.args.buffers.now.cache.geometry pages c.args.start.0 end None c.read_given.result = ComesNext-begun c.args.buffers.now.cache.geometry pages c.args.start.0 end c.match-from.at c.read_given.result begun same in
           (next.0, rw w.in-None.is all))
+    ]
+
+pub returns-clause-unread : goal.returns-clause-unread
+returns-clause-unread g c =
+    elim c.match-from.branch [
+      | in-Some w ↦ rw w.in-Some.is (λ out. c.read_given.ensures.unread (rw (w.buffers-is, w.at-is) out) ∙ w.disk-is)
+      | in-None+in_ok-at-in-None w ↦ rw w.in-None.is tt
     ]

@@ -6,14 +6,32 @@ use Rattle.wal_reader.specs.declared.standpoint.Standpoint.{Standpoint}
 use Rattle.wal_reader.specs.declared.stop.Stop.{Stop}
 use Rattle.wal_reader.specs.Decodes.{Place, read_at}
 use Rattle.wal_reader.specs.Pages.{Pages}
-use Rattle.wal_reader.specs.RecordRows.{IsRead}
-use Rattle.wal_reader.specs.Standpoint.{place_of}
+use Rattle.wal_reader.specs.RecordRead.{IsRead}
+use Rattle.wal_reader.specs.Standpoint.{IsOutOfReach, place_of}
 use Rattle.wal_reader.proofs.GivesLaws.{GivesFrom-given, GivesFrom-passed, ComesNext-stopped}
 use Rattle.wal_reader.proofs.given.read_given.Goals as goal
 
 -- what was read, of the log that the buffers was for
 read_of : (size other : ℕ) (pages : Pages) (end : Option ℕ) (place : Place) (result : Result (FoundRecord × Standpoint) Stop) → size ≡ other → IsRead size pages place (read_at size pages end place) result → IsRead other pages place (read_at other pages end place) result
 read_of size other pages end place result same read = subst (λ (n : ℕ). IsRead n pages place (read_at n pages end place) result) same read
+
+-- the place from which nothing is read is that of the first turn
+out_here : (size other : ℕ) (end : Option ℕ) (at from : Standpoint) → size ≡ other → at ≡ from → IsOutOfReach other end from.position → IsOutOfReach size end at.position
+out_here size other end at from same here out = rw (same, here) out
+
+pub returns-in_err-found-clause-unread : goal.returns-in_err-found-clause-unread
+returns-in_err-found-clause-unread g c out =
+    let end = option_map (λ (e : Lsn). e.0) c.args.end in
+    let first = c.records.invariant.unread out in
+    let here = out_here c.records.buffers.cache.geometry c.args.buffers.now.cache.geometry end c.records.at c.args.from c.records.invariant.geometry first.0 out in
+    (c.in_err-found.ensures.unread here).0 ∙ first.1
+
+pub returns-then-found-start-clause-unread : goal.returns-then-found-start-clause-unread
+returns-then-found-start-clause-unread g c out =
+    let end = option_map (λ (e : Lsn). e.0) c.args.end in
+    let first = c.records.invariant.unread out in
+    let here = out_here c.records.buffers.cache.geometry c.args.buffers.now.cache.geometry end c.records.at c.args.from c.records.invariant.geometry first.0 out in
+    absurd (c.in_ok-found.ensures.unread here).1
 
 pub returns-in_err-found-clause-next : goal.returns-in_err-found-clause-next
 returns-in_err-found-clause-next g c pages sees =
@@ -43,6 +61,10 @@ records-preserved g c = record {
   reachable = c.in_ok-found.ensures.goes_on.1;
   further = (let further = c.in_ok-found.ensures.goes_on.0 in
       omega arith);
+  unread = λ out. (let first = c.records.invariant.unread out in
+      let end = option_map (λ (e : Lsn). e.0) c.args.end in
+      let here = out_here c.records.buffers.cache.geometry c.args.buffers.now.cache.geometry end c.records.at c.args.from c.records.invariant.geometry first.0 out in
+      absurd (c.in_ok-found.ensures.unread here).1);
   comes = λ pages sees. (let before = c.records.invariant.comes pages sees in
       let now = c.in_ok-found.ensures.sees pages before.0 in
       let end = option_map (λ (e : Lsn). e.0) c.args.end in

@@ -37,7 +37,7 @@ returns-then-info-owed-clause-checks g c = λ pages sees.
     let flag : is_overwritten c.load.new.self.bytes.value ≡ false = sym c.in_ok-info.ensures.overwritten ∙ sym c.is_overwritten.ensures ∙ c.if-is_overwritten.false in
     let continued : is_continued c.load.new.self.bytes.value ≡ true = sym c.in_ok-info.ensures.continued ∙ sym c.is_continued.ensures ∙ c.if-not-is_continued.false in
     let other : eqb (remaining_of c.load.new.self.bytes.value) c.args.owed ≡ false = ne_eqb _ _ (λ e. c.if-info-owed.true (c.in_ok-info.ensures.info.1 ∙ e)) in
-    rw (c.damaged-then-info-owed.ensures, ← c.in_ok-load.ensures.geometry) (is_continued_otherwise c.load.new.self.geometry (c.args.cursor.page + 1) c.args.cursor.timeline c.args.start.0 c.args.owed _ _ here c.in_ok-info.ensures.checks flag continued other)
+    rw (c.damaged-then-info-owed.ensures, c.in_ok-info.ensures.info.1, ← c.in_ok-load.ensures.geometry) (is_continued_otherwise c.load.new.self.geometry (c.args.cursor.page + 1) c.args.cursor.timeline c.args.start.0 c.args.owed _ _ here c.in_ok-info.ensures.checks flag continued other)
 
 pub returns-clause-checks : goal.returns-clause-checks
 returns-clause-checks g c = λ pages sees.

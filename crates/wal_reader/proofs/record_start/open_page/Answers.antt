@@ -7,8 +7,7 @@ use Rattle.wal_page.specs.Page.{first_fault, is_continued}
 use Rattle.wal_reader.specs.declared.cursor.Cursor.{Cursor}
 use Rattle.wal_reader.specs.declared.found.Answer.{Answer}
 use Rattle.wal_reader.specs.declared.found.DamageKind.TheVariants as kinds
-use Rattle.wal_reader.specs.RecordRows.{opening_of}
-use Rattle.wal_reader.specs.Decodes.{damaged, is_zero_word, opens_page, page_answers}
+use Rattle.wal_reader.specs.Decodes.{opening_of, damaged, is_zero_word, opens_page, page_answers}
 use Rattle.wal_reader.specs.Pages.{Pages}
 use Rattle.wal_reader.specs.Cursor.{Sees}
 use Rattle.wal_reader.specs.Standpoint.{place_of}

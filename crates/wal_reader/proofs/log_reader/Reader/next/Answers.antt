@@ -3,14 +3,16 @@ use Rattle.wal_types.specs.declared.lsn.Lsn.{Lsn}
 use Rattle.wal_reader.specs.Cursor.{IsLogOf, Sees}
 use Rattle.wal_reader.specs.Pages.{Pages}
 use Rattle.wal_reader.specs.Buffers.{HoldsPageOf}
-use Rattle.wal_reader.specs.LogReader.{Knows, reader_state}
+use Rattle.wal_reader.specs.LogReader.{Knows, NeedsNoPage, reader_state}
+use Rattle.wal_reader.specs.RecordRead.{IsBehind}
+use Rattle.wal_reader.specs.Standpoint.{IsOutOfReach}
 use Rattle.wal_reader.specs.Steps.{ComesNext}
 use Rattle.wal_reader.specs.declared.buffers.Buffers.{Buffers}
 use Rattle.wal_reader.specs.declared.found.FoundRecord.{FoundRecord}
 use Rattle.wal_reader.specs.declared.standpoint.Standpoint.{Standpoint}
 use Rattle.wal_reader.specs.declared.stop.Stop.{Stop}
 use Rattle.wal_reader.specs.declared.stop.Stop.TheVariants as stops
-use Rattle.wal_reader.proofs.LogReaderLaws.{standing_from, Gives-comes, IsNext-told, Leaves-told}
+use Rattle.wal_reader.proofs.LogReaderLaws.{standing_from, Gives-comes, IsNext-told, Leaves-told, OnEnd-told, StandsAfter-told}
 use Rattle.wal_reader.proofs.log_reader.Reader.next.Given.{Over}
 use Rattle.wal_reader.proofs.log_reader.Reader.next.Goals as goal
 use Rattle.wal_reader.proofs.log_reader.Reader.next.Goals.{After-next_given, in-NotBegun, in-At}
@@ -47,6 +49,11 @@ returns-in-Ok-clause-gives g c pages log knows =
     let next : ComesNext c.args.self.now.geometry pages c.args.self.now.start.0 end c.match-self.from (Ok (c.in-Ok.found, c.in-Ok.behind)) = subst (λ (r : Result (FoundRecord × Standpoint) Stop). ComesNext c.args.self.now.geometry pages c.args.self.now.start.0 end c.match-self.from r) c.in-Ok.is (comes g before pages log knows) in
     (knows_still g before pages log knows, λ others answer rest. Gives-comes pages (reader_state c.args.self.now) c.match-self.from (c.in-Ok.found ∷ others) answer (stands g before) (next others answer rest))
 
+pub returns-in-Ok-clause-behind : goal.returns-in-Ok-clause-behind
+returns-in-Ok-clause-behind g c pages knows =
+    let before = (goal.at.returns-in-Ok-clause-behind g c).After-next_given in
+    subst (λ (n : ℕ). IsBehind n c.in-Ok.found c.in-Ok.behind) (in_buffers g before pages knows).0 c.in-Ok.ensures.behind
+
 pub returns-in-Err-Told-clause-gives : goal.returns-in-Err-Told-clause-gives
 returns-in-Err-Told-clause-gives g c pages log knows =
     let before = (goal.at.returns-in-Err-Told-clause-gives g c).After-next_given in
@@ -54,8 +61,42 @@ returns-in-Err-Told-clause-gives g c pages log knows =
     let said : Result (FoundRecord × Standpoint) Stop = Err (stops.Told c.in-Err-Told.answer) in
     let next : ComesNext c.args.self.now.geometry pages c.args.self.now.start.0 end c.match-self.from said = subst (λ (r : Result (FoundRecord × Standpoint) Stop). ComesNext c.args.self.now.geometry pages c.args.self.now.start.0 end c.match-self.from r) (c.in-Err-Told.is ∙ ap Err c.in-Err-Told.field-0-is) (comes g before pages log knows) in
     let gives = Gives-comes pages (reader_state c.args.self.now) c.match-self.from [] c.in-Err-Told.answer (stands g before) next in
-    (knows_still g before pages log knows, rw c.told-in-Err-Told.ensures (IsNext-told pages (reader_state c.args.self.now) _ c.in-Err-Told.answer gives))
+    let held = knows_still g before pages log knows in
+    (rw c.forget_page.ensures (held.0, tt), rw c.told.ensures (IsNext-told pages (reader_state c.args.self.now) _ c.in-Err-Told.answer gives))
+
+pub returns-in-Err-Told-clause-forgets : goal.returns-in-Err-Told-clause-forgets
+returns-in-Err-Told-clause-forgets g c pages knows =
+    let before = (goal.at.returns-in-Err-Told-clause-forgets g c).After-next_given in
+    let geometry = c.next_given.ensures.geometry ∙ (in_buffers g before pages knows).0 in
+    rw c.told.ensures (OnEnd-told c.in-Err-Told.answer _ (λ others. rw c.forget_page.ensures (geometry, tt)))
+
+pub returns-in-Err-Told-clause-behind : goal.returns-in-Err-Told-clause-behind
+returns-in-Err-Told-clause-behind g c pages knows =
+    rw c.told.ensures (StandsAfter-told c.args.self.now.geometry _ c.in-Err-Told.answer)
 
 pub returns-in-Err-Told-clause-leaves : goal.returns-in-Err-Told-clause-leaves
 returns-in-Err-Told-clause-leaves g c =
-    rw (c.after-self.ensures, c.told-in-Err-Told.ensures) (Leaves-told (reader_state c.args.self.now) c.in-Err-Told.answer)
+    rw (c.after-self.ensures, c.told.ensures) (Leaves-told (reader_state c.args.self.now) c.in-Err-Told.answer)
+
+-- where nothing is read the disk is left alone
+left_alone : (g : Over) (c : After-next_given g) (pages : Pages) → Knows c.args.self.now pages → NeedsNoPage (reader_state c.args.self.now) c.args.self.now.standing → c.next_given.new.disk ≡ c.args.disk.now
+left_alone g c pages knows needs =
+    elim c.match-self.branch [
+      | in-NotBegun w ↦ absurd (rw w.in-NotBegun.is at needs)
+      | in-At w ↦
+          (let out : IsOutOfReach c.args.self.now.geometry (option_map (λ (e : Lsn). e.0) c.args.self.now.end) w.in-At.at.position = rw w.in-At.is at needs in
+          let unread = rw w.from-is at c.next_given.ensures.unread in
+          unread (rw (in_buffers g c pages knows).0 out))
+    ]
+
+pub returns-in-Ok-clause-unread : goal.returns-in-Ok-clause-unread
+returns-in-Ok-clause-unread g c = left_alone g (goal.at.returns-in-Ok-clause-unread g c).After-next_given
+
+pub returns-in-Err-Told-clause-unread : goal.returns-in-Err-Told-clause-unread
+returns-in-Err-Told-clause-unread g c = left_alone g (goal.at.returns-in-Err-Told-clause-unread g c).After-next_given
+
+pub returns-in-Err-Memory-clause-unread : goal.returns-in-Err-Memory-clause-unread
+returns-in-Err-Memory-clause-unread g c = left_alone g (goal.at.returns-in-Err-Memory-clause-unread g c).After-next_given
+
+pub returns-in-Err-Disk-clause-unread : goal.returns-in-Err-Disk-clause-unread
+returns-in-Err-Disk-clause-unread g c = left_alone g (goal.at.returns-in-Err-Disk-clause-unread g c).After-next_given
