@@ -2,11 +2,17 @@
 #![tactic(auto)]
 
 #[cfg(test)]
+mod causes;
+#[cfg(test)]
 mod damage;
+#[cfg(test)]
+mod gates;
 #[cfg(test)]
 mod limits;
 #[cfg(test)]
 mod listing;
+#[cfg(test)]
+mod moments;
 #[cfg(test)]
 mod pages;
 #[cfg(test)]

@@ -97,6 +97,23 @@ fn a_record_that_ends_a_page_ends_at_the_pages_end(rt: HostRuntime) -> Result<()
 }
 
 #[test]
+fn a_flush_to_a_pages_end_writes_no_word_of_the_next_page(rt: HostRuntime) -> Result<(), Fail> {
+    let alloc = rt.alloc();
+    let mut disk = runs(
+        &rt,
+        alloc,
+        &[],
+        b"I 1 10 00 8123*5a\nF\n",
+        b"0 1 wrote 0/00100028 0/00102000\n0 2 flushed 0/00102000 3\nrecords 1 commits 0 bytes 8152 end 0/00102000 segments 1\n",
+    )?;
+    let geometry = Geometry::new(1 << 20).ok_or("1 MiB is a segment's size")?;
+    let mut second = [0xff; 8192];
+    assert_eq!(rt; disk.read_page(geometry, 1, 1, &mut second), Ok(true));
+    assert!(rt; second.iter().all(|byte| *byte == 0));
+    Ok(())
+}
+
+#[test]
 fn a_record_of_a_byte_more_continues_on_the_next_page(rt: HostRuntime) -> Result<(), Fail> {
     let alloc = rt.alloc();
     let mut disk = runs(

@@ -50,12 +50,13 @@ pub fn setting_of(alloc: Global, script: &[u8], disk: MemDisk) -> Result<Setting
     })
 }
 
-/// Plays a command.
-pub fn play<R: Threads + Wait + Sync>(
+/// Plays a command, each line of a script through a gate.
+pub fn play_through<R: Threads + Wait + Sync, G: Gate + Sync>(
     rt: &R,
     alloc: Global,
     words: &[&str],
     setting: Setting,
+    gate: &G,
 ) -> Result<Played, Fail> {
     let mut given = Vec::new(alloc);
     given.push(String::from_str(alloc, "pgwal")?)?;
@@ -76,9 +77,19 @@ pub fn play<R: Threads + Wait + Sync>(
         disk,
         &mut out,
         &mut err,
-        &Open,
+        gate,
     );
     Ok(Played { ended, out, err })
+}
+
+/// Plays a command.
+pub fn play<R: Threads + Wait + Sync>(
+    rt: &R,
+    alloc: Global,
+    words: &[&str],
+    setting: Setting,
+) -> Result<Played, Fail> {
+    play_through(rt, alloc, words, setting, &Open)
 }
 
 /// The disk that a run of one commit leaves.

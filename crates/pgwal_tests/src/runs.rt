@@ -21,7 +21,8 @@ fn hard(start: u64, end: u64, moment: u64) -> Told {
     }
 }
 
-// Checks the bytes of the page of one commit: its header, the record's header without the CRC, its data, and zeros behind.
+// Checks the bytes of the page of one commit: its header, the record's header with its CRC, its data, and
+// zeros behind.
 fn check_page_of_one_commit<R: Abort>(rt: &R, page: &[u8; 8192]) -> Result<(), Fail> {
     assert_eq!(rt;
         &page[..40],
@@ -31,7 +32,10 @@ fn check_page_of_one_commit<R: Abort>(rt: &R, page: &[u8; 8192]) -> Result<(), F
         &page[40..56],
         b"\x22\x00\x00\x00\xbc\x02\x00\x00\x00\x00\x00\x00\x00\x00\x00\x00".as_slice()
     );
-    assert_eq!(rt; &page[56..60], b"\x00\x01\x00\x00".as_slice());
+    assert_eq!(rt;
+        &page[56..64],
+        b"\x00\x01\x00\x00\x3c\x08\xa5\xd9".as_slice()
+    );
     assert_eq!(rt;
         &page[64..80],
         b"\xff\x08\x00\x00\x00\x00\x00\x00\x00\x00\x00\x00\x00\x00\x00\x00".as_slice()
@@ -97,6 +101,7 @@ fn a_flush_alone_is_told_the_logs_start(rt: HostRuntime) -> Result<(), Fail> {
         &RUN,
         setting_of(alloc, b"F", empty_disk(alloc, &[])?)?,
     )?;
+    assert_eq!(rt; played.ended.status, 0);
     assert_eq!(rt; played.ended.told.len(), 1);
     assert_eq!(rt;
         played.ended.told.of(0),

@@ -18,7 +18,7 @@ use Rattle.log_answers.specs.declared.Receipt.{Receipt}
 use Rattle.log_answers.specs.declared.Refused.{Refused}
 use Rattle.serial_log.specs.Ring.{RingState, HoldsWords}
 use Rattle.serial_log.specs.Words.{AreGiven, HasWritten, words_upto}
-use Rattle.serial_log.specs.OnDisk.{KeepsBelow, LeavesOnly, Preserves, moments_of}
+use Rattle.serial_log.specs.OnDisk.{KeepsBelow, Preserves, moments_of}
 use Rattle.flush_core.specs.Pages.{HoldsNothing}
 use Rattle.serial_log.specs.Buffers.{GoesDown, IsSameOrFurther, RingHas, RingTakes, Spans, WritesOn}
 use Rattle.serial_log.specs.History.{LogHistory, end_of, next_entry, with_entry}

@@ -1,5 +1,5 @@
 -- A log that is opened: it has no words, and nothing is written.
-use Rattle.std.proofs.Common.{◌≡◌, ℕ, ◌+◌, ◌-◌, ◌*◌, ◌%◌, ◌^◌, ◌≤◌, false, [], take, drop, replicate, List, length, Option, Some, None, IfSome, refl, sym, ap, subst, ◌∙◌, ◌/◌, inl, inr, add-zero, arith}
+use Rattle.std.proofs.Common.{◌≡◌, ℕ, ◌+◌, ◌-◌, ◌*◌, ◌%◌, ◌^◌, ◌≤◌, false, [], take, drop, replicate, length, Option, Some, None, IfSome, refl, sym, ap, subst, ◌∙◌, ◌/◌, inl, inr, add-zero, arith}
 use Rattle.std.specs.Int.{w64, to_le_bytes}
 use Rattle.std.proofs.lemmas.Bool.{cases_lt}
 use Rattle.std.proofs.lemmas.List.{drop-replicate, take-replicate}

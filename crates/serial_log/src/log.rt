@@ -165,7 +165,8 @@ impl<D: Disk> Log<D> {
     pub fn insert(&mut self, body: &Body) -> Result<Receipt, Refused>
         ensures inserts { (known : RecordOf body.now)
             → StepsLog D.tape D.faults self.old self.new (λ faults_at_open before after.
-            Inserts self.old.size self.old.capacity faults_at_open before known.value result after) }
+            Inserts self.old.size self.old.capacity faults_at_open before known.value
+            result after) }
         ensures known { RecordOf body.now }
         ensures down_again { IfSome (writer_fault self.old.writer) (λ faults.
             (result ≡ Err (down_again faults)) × (self.new ≡ self.old)) }
@@ -238,7 +239,8 @@ impl<D: Disk> Log<D> {
     pub fn commit(&mut self, body: &Body) -> Result<Sealed, Refused>
         ensures commits { (known : RecordOf body.now)
             → StepsLog D.tape D.faults self.old self.new (λ faults_at_open before after.
-            Commits self.old.size self.old.capacity faults_at_open before known.value result after) }
+            Commits self.old.size self.old.capacity faults_at_open before known.value
+            result after) }
         ensures known { RecordOf body.now }
         ensures down_again { IfSome (writer_fault self.old.writer) (λ faults.
             (result ≡ Err (down_again faults)) × (self.new ≡ self.old)) }
@@ -293,7 +295,8 @@ impl<D: Disk> Log<D> {
         requires fits { self.old.bytes + assembled_room body.now ≤ self.old.capacity }
         ensures inserts { (known : RecordOf body.now)
             → StepsLog D.tape D.faults self.old self.new (λ faults_at_open before after.
-            Inserts self.old.size self.old.capacity faults_at_open before known.value result after) }
+            Inserts self.old.size self.old.capacity faults_at_open before known.value
+            result after) }
         ensures keeps { KeepsFlushed D.tape D.faults self.old self.new }
         ensures calls { MatchResult result
             (λ _. MakesWrites D.tape D.moment self.old.writer self.new.writer)

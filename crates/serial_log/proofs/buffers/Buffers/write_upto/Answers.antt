@@ -1,5 +1,5 @@
 -- Page by page, until one fails to be written.
-use Rattle.std.proofs.Common.{◌<◌, ◌∙◌, inl, inr, refl, subst, arith, rules}
+use Rattle.std.proofs.Common.{◌<◌, ◌∙◌, inl, inr, refl, arith, rules}
 use Rattle.flush_core.specs.Writer.{written_of}
 use Rattle.std.proofs.lemmas.Result.{err_from_is_err_and}
 use Rattle.serial_log.specs.Buffers.{RingHas}
