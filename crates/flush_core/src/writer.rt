@@ -17,8 +17,8 @@ pub struct DiskFault {
 /// A log's pages on a disk (PostgreSQL's `XLogWrite` of xlog.c), in the protocol of `Disk`: a
 /// segment is made before its first page is written, its pages are written in place and in order,
 /// the last one again as it fills, and it is synced as soon as all of it is written, or on demand
-/// (`harden`). A page that was hardened is written again only with the same words below the
-/// hardened position: so a crash after any call leaves these, and of all else only words that were
+/// (`harden`). As long as its caller puts a page that was hardened only with the same words below
+/// the hardened position, a crash after any call leaves these, and of all else only words that were
 /// put, or zeros.
 ///
 /// Once the disk has failed no further device call is made, and the same fault is told again: a

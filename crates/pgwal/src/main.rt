@@ -85,15 +85,21 @@ fn run<R: Threads + Wait + Sync>(threads: &R, rt: HostRuntime) -> Result<u8, Mem
 
 fn main(rt: HostRuntime) -> ExitCode {
     // They stay taken until the end.
-    let Ok(_taken) = take_free_numbers(rt) else {
-        let _ = rt.eprintln("pgwal: source fault");
-        return ExitCode::from(7);
+    let _taken = match take_free_numbers(rt) {
+        Ok(taken) => taken,
+        Err(error) if error.kind() == ErrorKind::OutOfMemory => return out_of_memory(rt),
+        Err(_) => {
+            let _ = rt.eprintln("pgwal: source fault");
+            return ExitCode::from(7);
+        }
     };
     match run(&rt, rt) {
         Ok(status) => ExitCode::from(status),
-        Err(Memory) => {
-            let _ = rt.eprintln("pgwal: out of memory");
-            ExitCode::from(1)
-        }
+        Err(Memory) => out_of_memory(rt),
     }
+}
+
+fn out_of_memory(rt: HostRuntime) -> ExitCode {
+    let _ = rt.eprintln("pgwal: out of memory");
+    ExitCode::from(1)
 }

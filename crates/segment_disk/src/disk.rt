@@ -41,8 +41,8 @@ pub struct Call {
 /// it leaves of each word of the page what was durable or what was written since the last sync;
 /// behind a sync that was done just what was written. A call that a crash cut short, or that
 /// failed, may have had its effect or not. So after a fault nothing more is called: what the disk
-/// holds is no longer known, and a sync that answers Ok behind one that failed does not say that
-/// the writes before are durable.
+/// holds is no longer known. (Of a real disk a sync that answers Ok behind one that failed does not
+/// say that the writes before are durable. The tape does not tell this, so a writer stops.)
 ///
 /// The caller keeps a segment below 2^64 / its size and a page below the segment's pages.
 pub trait Disk {
