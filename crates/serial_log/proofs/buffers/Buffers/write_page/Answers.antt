@@ -59,7 +59,7 @@ returns-clause-calls g c =
     let at : page ≡ written_of old / 8192 = ap (λ (n : ℕ). n / 8192) c.written-written.ensures in
     let rises : written_of old < upto = omega (arith, c.end_in_page.ensures, c.requires.rises, c.written-written.ensures) in
     let within : upto ≤ (written_of old / 8192 + 1) * 8192 = omega (arith, c.end_in_page.ensures, c.written-written.ensures) in
-    match_of _ c.put_page.result
-    (λ done written. MakesWrites-page D tape moment old new put.size page upto bytes at rises within written done.made)
+    match_of _ _ c.put_page.result
+    (λ done written last. MakesWrites-page D tape moment old new page upto bytes at rises within put.size written last done.made)
     (λ e tells. BreaksWrites-page D tape moment old new page upto bytes at rises within (breaks-told D tape old new moment g.D.Disk.faults _ put.size e.faults c.requires.up tells))
-    put.done put.written put.failed
+    put.done put.written put.made put.failed
