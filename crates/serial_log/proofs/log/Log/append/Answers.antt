@@ -40,10 +40,10 @@ returns-clause-inserts g c =
       | in-Ok w ↦
           (let done = w.in-Ok.ensures in
           inserts_at log.size log.capacity faults_at_open s known.value c.match-copy.result _ _ w.result-is
-          (appended_ok D tape moment faults tape_at_open faults_at_open log up copied.ring copied.writer l.first c.from.result start end body from place s known.value is known.same known.writable reaches done.writes done.further done.spans done.words))
+          (appended_ok D tape moment faults tape_at_open faults_at_open log up copied.ring copied.writer l.first c.from.result start end body from place s known.value is known.same known.writable reaches done.leaves.writes done.further done.spans done.words))
       | in-Err w ↦
           inserts_at log.size log.capacity faults_at_open s known.value c.match-copy.result _ _ w.result-is
-          (appended_err D tape moment faults tape_at_open faults_at_open log up copied.ring copied.writer l.first c.from.result start end body from place s known.value is known.same known.writable w.in-Err.field-0.faults w.in-Err.ensures.fails)
+          (appended_err D tape moment faults tape_at_open faults_at_open log up copied.ring copied.writer l.first c.from.result start end body from place s known.value is known.same known.writable w.in-Err.field-0.faults w.in-Err.ensures.leaves.fails)
     ])
 
 pub returns-clause-leaves : goal.returns-clause-leaves
@@ -77,27 +77,27 @@ returns-clause-leaves g c =
           let at = unwritten D l.geometry l.first l.bytes c.from.result l.flushed.0 l.buffers.ring l.buffers.writer copied.writer c.self.invariant.0 some (c.self.invariant.1.reaches up) from.next end.0 (placed_next from c.new-placed.ensures) c.to_end_lsn-end.ensures done.unfinished in
           rw w.result-is (record {
             keeps = λ tape_at_open faults_at_open s at position is within kept.
-                keeps_appended D tape moment faults tape_at_open faults_at_open log up copied.ring copied.writer l.first c.from.result start end body from (place tape_at_open faults_at_open) s known.value is known.same known.writable done.writes.preserves at position within kept;
-            calls = done.calls;
+                keeps_appended D tape moment faults tape_at_open faults_at_open log up copied.ring copied.writer l.first c.from.result start end body from (place tape_at_open faults_at_open) s known.value is known.same known.writable done.leaves.writes.preserves at position within kept;
+            calls = done.leaves.calls;
             same_log = record { size = refl; capacity = refl; sysid = refl };
             left_by_refusal = tt;
             told_moment_same = refl;
             unflushed = record { written = at.0; flushed = at.1 };
             end = c.to_end_lsn-end.ensures ∙ ap (λ (n : ℕ). end_address_of l.geometry (n + more)) c.self.invariant.0.position_is;
-            moment_never_falls = done.writes.moment_never_falls;
+            moment_never_falls = done.leaves.writes.moment_never_falls;
           }))
       | in-Err w ↦
           (let failed = w.in-Err.ensures in
           rw w.result-is (record {
             keeps = λ tape_at_open faults_at_open s at position is within kept.
-                keeps_appended D tape moment faults tape_at_open faults_at_open log up copied.ring copied.writer l.first c.from.result start end body from (place tape_at_open faults_at_open) s known.value is known.same known.writable failed.fails.preserves at position within kept;
-            calls = inr failed.calls;
+                keeps_appended D tape moment faults tape_at_open faults_at_open log up copied.ring copied.writer l.first c.from.result start end body from (place tape_at_open faults_at_open) s known.value is known.same known.writable failed.leaves.fails.preserves at position within kept;
+            calls = inr failed.leaves.calls;
             same_log = record { size = refl; capacity = refl; sysid = refl };
-            left_by_refusal = failed.fails.down;
+            left_by_refusal = failed.leaves.fails.down;
             told_moment_same = refl;
             unflushed = tt;
             end = tt;
-            moment_never_falls = failed.fails.moment_never_falls;
+            moment_never_falls = failed.leaves.fails.moment_never_falls;
           }))
     ])
 
