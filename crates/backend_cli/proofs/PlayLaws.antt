@@ -67,9 +67,6 @@ module _ (D : Type 0) (tape : D → Option Tape) (faults : D → ℕ) (old : Log
       let whole : take i lines ≡ lines = take_all i lines (omega (arith, length-AreTasks lines tasks are)) in
       (so_far.0, subst (λ (ls : List Line). Plays old.size old.capacity faults_at_open before ls told so_far.0) whole so_far.1, so_far.2)
 
--- the same log, one call on
-pub IsSameLog-trans : {D : Type 0} (old mid new : LogState D) → IsSameLog old mid → IsSameLog mid new → IsSameLog old new
-IsSameLog-trans old mid new first second = record { size = second.size ∙ first.size; capacity = second.capacity ∙ first.capacity; sysid = second.sysid ∙ first.sysid }
-
+-- the same log
 pub IsSameLog-refl : {D : Type 0} (log : LogState D) → IsSameLog log log
 IsSameLog-refl log = record { size = refl; capacity = refl; sysid = refl }

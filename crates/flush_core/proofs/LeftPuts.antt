@@ -1,8 +1,8 @@
 -- What a writer's calls leave to each crash: what was kept, and nothing but what was put.
-use Rattle.std.proofs.Common.{◌≡◌, ℕ, ◌+◌, ◌-◌, ◌*◌, ◌/◌, ◌%◌, ◌<◌, ◌≤◌, inl, inr, Bool, false, List, [], ◌∷◌, length, Option, Some, None, IfSome, refl, sym, ap, subst, ◌∙◌, ◌==◌, arith}
-use Rattle.std.proofs.lemmas.Bool.{cases_eq, cases_lt, eq-eqb, ne_eqb, eqb-true}
+use Rattle.std.proofs.Common.{◌≡◌, ℕ, ◌+◌, ◌-◌, ◌*◌, ◌/◌, ◌%◌, ◌<◌, ◌≤◌, inl, inr, Bool, nat_lt, false, List, [], ◌∷◌, length, Option, Some, None, IfSome, refl, sym, ap, subst, ◌∙◌, ◌==◌, arith}
+use Rattle.std.proofs.lemmas.Bool.{cases_eq, cases_lt, eq-eqb, ne_eqb, ltb-true}
 use Rattle.std.proofs.lemmas.Option.{IfSome_then}
-use Rattle.std.proofs.Math.Nat.{div-add-mod, div-div-eq-div-mul, div-zero, div-mul-le_self, div-lt_iff_lt-mul}
+use Rattle.std.proofs.Math.Nat.{div-add-mod, div-zero, div-mul-le_self, div-lt_iff_lt-mul, mul-le-mul_right}
 use Rattle.byte_position.specs.Geometry.{IsSegmentSize, pages_of}
 use Rattle.byte_position.proofs.SegmentSizes.{segment_size_in_pages}
 use Rattle.segment_disk.specs.declared.disk.Call.{Call}
@@ -33,27 +33,26 @@ module _ (page : ℕ) (bytes : List ℕ) where
   pub HoldsOnly-more : (size : ℕ) (puts : PutHistory) (moment : ℕ) (tape : Option Tape) → IfSome tape (TapeAssures size IsNowhere (IsWordPut puts) moment) → IfSome tape (TapeAssures size IsNowhere (IsWordPut (with_put puts page bytes)) moment)
   HoldsOnly-more size puts moment tape assures = IfSome_then tape assures (λ t only. TapeAssures-weaker size IsNowhere (IsWordPut puts) (IsWordPut (with_put puts page bytes)) (put_before puts) moment t only)
 
-module _ (size written upto page : ℕ) (bytes : List ℕ) (stored : List Call) (are : stored ≡ put_calls size written page upto bytes) (valid : IsSegmentSize size) (at : page ≡ written / 8192) where
+module _ (size made written upto page : ℕ) (bytes : List ℕ) (stored : List Call) (are : stored ≡ put_calls size made page upto bytes) (valid : IsSegmentSize size) (at : page ≡ written / 8192) where
   number : page ≡ page / pages_of size * pages_of size + page % pages_of size
   number = let parts = div-add-mod page (pages_of size) in omega arith
 
-  -- a segment that is made begins at the written position
-  begins : written % size ≡ 0 → written ≡ page / pages_of size * pages_of size * 8192
-  begins start =
+  -- a segment that is new begins where all that is written ends, or above
+  begins : written ≤ made * size + size → made < page / pages_of size → written ≤ page / pages_of size * pages_of size * 8192
+  begins reached new =
       let count = pages_of size in
       let whole = segment_size_in_pages size valid in
-      let parts = div-add-mod written size in
-      let of_written : written / size ≡ page / count = ap (λ (m : ℕ). written / m) whole.0 ∙ sym (div-div-eq-div-mul written 8192 count) ∙ ap (λ (m : ℕ). m / count) (sym at) in
-      let product : size * (written / size) ≡ 8192 * count * (page / count) = ap (λ (m : ℕ). m * (written / size)) whole.0 ∙ ap (λ (m : ℕ). 8192 * count * m) of_written in
+      let more : (made + 1) * size ≤ page / count * size = mul-le-mul_right size (omega arith) in
+      let product : page / count * size ≡ page / count * (8192 * count) = ap (λ (m : ℕ). page / count * m) whole.0 in
       omega arith
 
   -- the calls that put a page fit what is kept below a position that is written
-  pub put_keeps : (position : ℕ) (pages : PutPages) → position ≤ written → SameBelow position page bytes (pages page) → AllFit size (IsMadeUpto size position) (IsKeptWord position pages) stored
-  put_keeps position pages low same =
+  pub put_keeps : written ≤ made * size + size → (position : ℕ) (pages : PutPages) → position ≤ written → SameBelow position page bytes (pages page) → AllFit size (IsMadeUpto size position) (IsKeptWord position pages) stored
+  put_keeps reached position pages low same =
       let count = pages_of size in
       subst (AllFit size (IsMadeUpto size position) (IsKeptWord position pages)) (sym are)
-      (store_fits size (IsMadeUpto size position) (IsKeptWord position pages) (page / count) (page % count) bytes (written % size == 0) (upto % size == 0)
-      (λ new k word within small below. absurd (omega (arith, begins (eqb-true (written % size) 0 new))))
+      (store_fits size (IsMadeUpto size position) (IsKeptWord position pages) (page / count) (page % count) bytes (nat_lt made (page / count)) (upto % size == 0)
+      (λ new k word within small below. absurd (omega (arith, begins reached (ltb-true made (page / count) new))))
       (subst (λ (n : ℕ). SameBelow position n bytes (pages n)) number same))
 
   zeros_put : (puts : List (List ℕ)) (word : ℕ) → IsWordOf puts word (word_of zero_page word)
@@ -68,7 +67,7 @@ module _ (size written upto page : ℕ) (bytes : List ℕ) (stored : List Call) 
   put_adds puts =
       let count = pages_of size in
       subst (AllFit size IsNowhere (IsWordPut (with_put puts page bytes))) (sym are)
-      (store_fits size IsNowhere (IsWordPut (with_put puts page bytes)) (page / count) (page % count) bytes (written % size == 0) (upto % size == 0)
+      (store_fits size IsNowhere (IsWordPut (with_put puts page bytes)) (page / count) (page % count) bytes (nat_lt made (page / count)) (upto % size == 0)
       (λ new k word within small. zeros_put (with_put puts page bytes (page / count * count + k)) word)
       (subst (λ (n : ℕ). (word : ℕ) → word < 1024 → IsWordOf (with_put puts page bytes n) word (word_of bytes word)) number (λ word _. put_now puts word)))
 
@@ -102,7 +101,7 @@ module _ (size : ℕ) (pages : PutPages) where
 -- a writer for which nothing waits for a sync
 pub IsKept-synced : (D : Type 0) (tape : D → Option Tape) (moment_of : D → ℕ) → ((disk : D) → IfSome (tape disk) (λ t. moment_of disk ≡ length t.calls)) → (writer : Writer D) (position moment : ℕ) (pages : PutPages) → writer.unsynced ≡ false
     → position ≤ writer.written.0 → moment ≡ moment_of writer.disk → IsWriter tape writer pages → IsKept tape writer moment position pages
-IsKept-synced D tape moment_of counts writer position moment pages synced low now is = by_tape (tape writer.disk) is.holds (counts writer.disk)
+IsKept-synced D tape moment_of counts writer position moment pages synced low now is = (is.reached, by_tape (tape writer.disk) is.holds (counts writer.disk))
   where
     by_tape : (o : Option Tape) → IfSome o (λ t. HoldsPut writer.geometry writer.written.0 writer.unsynced (state_now t) pages) → IfSome o (λ t. moment_of writer.disk ≡ length t.calls)
         → IfSome o (TapeAssures writer.geometry (IsMadeUpto writer.geometry position) (IsKeptWord position pages) moment)

@@ -1,8 +1,8 @@
 -- A page that is put is held, and all is held durably once it is synced.
-use Rattle.std.proofs.Common.{◌≡◌, ◌≢◌, ℕ, ◌+◌, ◌-◌, ◌*◌, ◌/◌, ◌%◌, ◌<◌, ◌≤◌, inl, inr, Bool, true, false, not, List, [], length, Option, Some, None, refl, sym, ap, subst, ◌∙◌, ◌==◌, arith}
-use Rattle.std.proofs.lemmas.Bool.{cases_eq, eq-eqb, ne_eqb, eqb-true, both_ways}
+use Rattle.std.proofs.Common.{◌≡◌, ◌≢◌, ℕ, ◌+◌, ◌-◌, ◌*◌, ◌/◌, ◌%◌, ◌<◌, ◌≤◌, inl, inr, Bool, max, nat_lt, true, false, not, List, [], length, Option, Some, None, refl, sym, ap, subst, ◌∙◌, ◌==◌, arith}
+use Rattle.std.proofs.lemmas.Bool.{cases_eq, eq-eqb, ne_eqb, eqb-true, both_ways, lt-ltb, le-ltb}
 use Rattle.std.proofs.lemmas.Nat.{div-mul-add}
-use Rattle.std.proofs.Math.Nat.{div-add-mod, div-div-eq-div-mul}
+use Rattle.std.proofs.Math.Nat.{div-add-mod, div-div-eq-div-mul, mul-le-mul_right, max-eq_right, le-max_right}
 use Rattle.byte_position.specs.Geometry.{IsSegmentSize, pages_of}
 use Rattle.byte_position.proofs.SegmentSizes.{segment_size_in_pages}
 use Rattle.segment_disk.specs.Tape.{Segment, DiskState, zero_page, after_call, after_calls, after_writes, sync_call}
@@ -66,6 +66,17 @@ record IsPlaced (size written upto page segment number : ℕ) : Type 0 where
   of_upto : 0 < upto % size → upto / size ≡ segment
   starts : written % size ≡ 0 → written ≡ segment * pages_of size * 8192
 
+-- what is put up to its page's end or below lies in segments that are made up to that of the page
+pub page_reaches : (size upto page : ℕ) → IsSegmentSize size → upto ≤ (page + 1) * 8192 → (made : ℕ) → upto ≤ max made (page / pages_of size) * size + size
+page_reaches size upto page valid below made =
+    let count = pages_of size in
+    let segment = page / count in
+    let whole = segment_size_in_pages size valid in
+    let parts = div-add-mod page count in
+    let full : segment * size ≡ segment * (8192 * count) = ap (λ (m : ℕ). segment * m) whole.0 in
+    let high : segment * size ≤ max made segment * size = mul-le-mul_right size (le-max_right made segment) in
+    omega (arith, whole.0)
+
 module _ (size written upto page : ℕ) (valid : IsSegmentSize size) (begun : size ≤ written) (at : page ≡ written / 8192) (above : page * 8192 < upto) (below : upto ≤ (page + 1) * 8192) where
   placed : IsPlaced size written upto page (page / pages_of size) (page % pages_of size)
   placed =
@@ -92,6 +103,25 @@ module _ (size written upto page : ℕ) (valid : IsSegmentSize size) (begun : si
         of_upto = λ inside. sym (made_inside size upto (omega arith) inside) ∙ behind;
         starts = λ start. (let product : size * (written / size) ≡ 8192 * count * segment = ap (λ (m : ℕ). m * (written / size)) whole.0 ∙ ap (λ (m : ℕ). 8192 * count * m) of_written in omega arith);
       }
+
+  -- its segment is not made just where the written position begins it
+  is_new : (made : ℕ) → made ≡ made_upto size written → nat_lt made (page / pages_of size) ≡ (written % size == 0)
+  is_new made is = elim (cases_eq (written % size) 0) [
+    | inl start ↦ lt-ltb made (page / pages_of size) (omega (arith, is, placed.made_new start, placed.positive)) ∙ sym (eq-eqb (written % size) 0 start)
+    | inr inside ↦ (let some : 0 < written % size = omega arith in le-ltb made (page / pages_of size) (omega (arith, is, placed.made_there some)) ∙ sym (ne_eqb (written % size) 0 inside))
+  ]
+
+  -- behind it all segments are made up to that of the page
+  pub put_makes : (made : ℕ) → made ≡ made_upto size written → max made (page / pages_of size) ≡ made_upto size upto
+  put_makes made is =
+      let low : made ≤ page / pages_of size = elim (cases_eq (written % size) 0) [
+        | inl start ↦ omega (arith, is, placed.made_new start, placed.positive)
+        | inr inside ↦ (let some : 0 < written % size = omega arith in omega (arith, is, placed.made_there some))
+      ] in
+      max-eq_right low ∙ sym placed.made_behind
+
+  pub put_reaches : (made : ℕ) → upto ≤ max made (page / pages_of size) * size + size
+  put_reaches made = page_reaches size upto page valid below made
 
   module _ (state : DiskState) (pages : PutPages) (bytes : List ℕ) (unsynced : Bool) (put : ArePutUpto written pages) (holds : HoldsPut size written unsynced state pages) where
     before : (is_new : Bool) → is_new ≡ (written % size == 0) → StandsBefore size (page / pages_of size) (page % pages_of size) state pages bytes placed.positive placed.within is_new
@@ -127,8 +157,11 @@ module _ (size written upto page : ℕ) (valid : IsSegmentSize size) (begun : si
         }
 
     -- a page that is put is held
-    pub HoldsPut-put : HoldsPut size upto (not (upto % size == 0)) (after_calls state (put_calls size written page upto bytes)) (with_page pages page bytes)
-    HoldsPut-put = held (upto % size == 0) refl
+    pub HoldsPut-put : (made : ℕ) → made ≡ made_upto size written
+        → HoldsPut size upto (not (upto % size == 0)) (after_calls state (put_calls size made page upto bytes)) (with_page pages page bytes)
+    HoldsPut-put made is =
+        subst (λ (b : Bool). HoldsPut size upto (not (upto % size == 0)) (after_calls state (store_calls size (page / pages_of size) (page % pages_of size) b (upto % size == 0) bytes)) (with_page pages page bytes))
+        (sym (is_new made is)) (held (upto % size == 0) refl)
 
   pub ArePutUpto-put : (pages : PutPages) (bytes : List ℕ) → ArePutUpto written pages → length bytes ≡ 8192 → written ≤ upto → ArePutUpto upto (with_page pages page bytes)
   ArePutUpto-put pages bytes put whole rises = record {

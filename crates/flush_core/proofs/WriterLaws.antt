@@ -1,5 +1,5 @@
 -- What a writer's calls leave of it.
-use Rattle.std.proofs.Common.{◌≡◌, ℕ, ◌+◌, ◌-◌, ◌*◌, ◌/◌, ◌%◌, ◌^◌, ◌<◌, ◌≤◌, ◌⊎◌, inl, inr, true, false, not, List, [], ◌∷◌, length, Option, Some, None, IfSome, refl, sym, ap, subst, ◌∙◌, ◌==◌, arith}
+use Rattle.std.proofs.Common.{◌≡◌, ℕ, ◌+◌, ◌-◌, ◌*◌, ◌/◌, ◌%◌, ◌^◌, ◌<◌, ◌≤◌, ◌⊎◌, inl, inr, max, nat_lt, true, false, not, List, [], ◌∷◌, length, Option, Some, None, IfSome, refl, sym, ap, subst, ◌∙◌, ◌==◌, arith}
 use Rattle.std.proofs.lemmas.Option.{IfSome_then}
 use Rattle.byte_position.specs.Geometry.{IsSegmentSize, pages_of}
 use Rattle.wal_types.specs.declared.lsn.Lsn.{Lsn}
@@ -10,28 +10,30 @@ use Rattle.flush_core.specs.Calls.{store_calls, put_calls, harden_calls, with_ca
 use Rattle.flush_core.specs.Pages.{PutPages, with_page, HoldsPut}
 use Rattle.flush_core.specs.Writer.{IsWriter, TellsFault}
 use Rattle.flush_core.proofs.CallLaws.{holds-with_calls, breaks_off}
-use Rattle.flush_core.proofs.PutLaws.{HoldsPut-put, HoldsPut-synced, ArePutUpto-put}
+use Rattle.flush_core.proofs.PutLaws.{HoldsPut-put, HoldsPut-synced, ArePutUpto-put, put_makes, put_reaches}
 
 -- the calls of a page's place are those that put it
-pub put_calls_are : (size written page upto segment number size_1 size_2 : ℕ) (bytes : List ℕ) → segment ≡ page / pages_of size → number ≡ page % pages_of size → size_1 ≡ size → size_2 ≡ size
-    → store_calls size segment number (written % size_1 == 0) (upto % size_2 == 0) bytes ≡ put_calls size written page upto bytes
-put_calls_are size written page upto segment number size_1 size_2 bytes of_segment of_number same_1 same_2 = rw (of_segment, of_number, same_1, same_2) refl
+pub put_calls_are : (size made page upto segment number size_now : ℕ) (bytes : List ℕ) → segment ≡ page / pages_of size → number ≡ page % pages_of size → size_now ≡ size
+    → store_calls size segment number (nat_lt made segment) (upto % size_now == 0) bytes ≡ put_calls size made page upto bytes
+put_calls_are size made page upto segment number size_now bytes of_segment of_number same = rw (of_segment, of_number, same) refl
 
 module _ (D : Type 0) (tape : D → Option Tape) (old : Writer D) (disk : D) where
   -- a page was put
-  pub IsWriter-put : (page : ℕ) (upto : Lsn) (bytes : List ℕ) (size : ℕ) (stored : List Call) → IsSegmentSize old.geometry → page ≡ old.written.0 / 8192 → old.written.0 ≤ upto.0 → page * 8192 < upto.0 → upto.0 ≤ (page + 1) * 8192 → length bytes ≡ 8192
-      → tape disk ≡ with_calls (tape old.disk) stored → stored ≡ put_calls old.geometry old.written.0 page upto.0 bytes → size ≡ old.geometry → (pages : PutPages) → IsWriter tape old pages
-      → IsWriter tape (record { disk = disk; geometry = old.geometry; written = upto; unsynced = not (upto.0 % size == 0); fault = old.fault }) (with_page pages page bytes)
-  IsWriter-put page upto bytes size stored valid at rises above below whole made are same pages is =
-      let calls = put_calls old.geometry old.written.0 page upto.0 bytes in
-      let held = IfSome_then (tape old.disk) is.holds (λ t holds. HoldsPut-put old.geometry old.written.0 upto.0 page valid is.begun at above below (state_now t) pages bytes old.unsynced is.put holds) in
+  pub IsWriter-put : (page : ℕ) (upto : Lsn) (bytes : List ℕ) (size made : ℕ) (stored : List Call) → IsSegmentSize old.geometry → page ≡ old.written.0 / 8192 → old.written.0 ≤ upto.0 → page * 8192 < upto.0 → upto.0 ≤ (page + 1) * 8192 → length bytes ≡ 8192
+      → tape disk ≡ with_calls (tape old.disk) stored → stored ≡ put_calls old.geometry old.made page upto.0 bytes → size ≡ old.geometry → made ≡ max old.made (page / pages_of old.geometry) → (pages : PutPages) → IsWriter tape old pages
+      → IsWriter tape (record { disk = disk; geometry = old.geometry; written = upto; made = made; unsynced = not (upto.0 % size == 0); fault = old.fault }) (with_page pages page bytes)
+  IsWriter-put page upto bytes size made stored valid at rises above below whole are_made are same makes pages is =
+      let calls = put_calls old.geometry old.made page upto.0 bytes in
+      let held = IfSome_then (tape old.disk) is.holds (λ t holds. HoldsPut-put old.geometry old.written.0 upto.0 page valid is.begun at above below (state_now t) pages bytes old.unsynced is.put holds old.made is.made) in
       let after = holds-with_calls (λ (s : DiskState). HoldsPut old.geometry upto.0 (not (upto.0 % old.geometry == 0)) s (with_page pages page bytes)) (tape old.disk) calls held in
       record {
         up = is.up;
         begun = omega (arith, is.begun);
+        reached = subst (λ (m : ℕ). upto.0 ≤ m * old.geometry + old.geometry) (sym makes) (put_reaches old.geometry old.written.0 upto.0 page valid is.begun at above below old.made);
+        made = makes ∙ put_makes old.geometry old.written.0 upto.0 page valid is.begun at above below old.made is.made;
         put = ArePutUpto-put old.geometry old.written.0 upto.0 page valid is.begun at above below pages bytes is.put whole rises;
         holds = subst (λ (n : ℕ). IfSome (tape disk) (λ t. HoldsPut old.geometry upto.0 (not (upto.0 % n == 0)) (state_now t) (with_page pages page bytes))) (sym same)
-            (subst (λ (o : Option Tape). IfSome o (λ t. HoldsPut old.geometry upto.0 (not (upto.0 % old.geometry == 0)) (state_now t) (with_page pages page bytes))) (sym (made ∙ ap (with_calls (tape old.disk)) are)) after);
+            (subst (λ (o : Option Tape). IfSome o (λ t. HoldsPut old.geometry upto.0 (not (upto.0 % old.geometry == 0)) (state_now t) (with_page pages page bytes))) (sym (are_made ∙ ap (with_calls (tape old.disk)) are)) after);
       }
 
   -- what waited for a sync was synced
@@ -44,6 +46,8 @@ module _ (D : Type 0) (tape : D → Option Tape) (old : Writer D) (disk : D) whe
       record {
         up = is.up;
         begun = is.begun;
+        reached = is.reached;
+        made = is.made;
         put = is.put;
         holds = subst (λ (o : Option Tape). IfSome o (λ t. HoldsPut size written false (state_now t) pages)) (sym made) after;
       }

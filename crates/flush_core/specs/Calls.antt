@@ -1,5 +1,5 @@
 -- The calls that a writer makes of its disk.
-use Rattle.std.specs.Prelude.{◌≡◌, ℕ, ◌+◌, ◌/◌, ◌%◌, Bool, List, [], ◌∷◌, ◌++◌, length, Option, ◌==◌, if◌then◌else◌}
+use Rattle.std.specs.Prelude.{◌≡◌, ℕ, ◌+◌, ◌/◌, ◌%◌, Bool, List, [], ◌∷◌, ◌++◌, length, Option, ◌==◌, nat_lt, if◌then◌else◌}
 use Rattle.byte_position.specs.Geometry.{pages_of}
 use Rattle.segment_disk.specs.declared.disk.Call.{Call}
 use Rattle.segment_disk.specs.Tape.{Tape, Fails, create_call, sync_call, with_call, write_call}
@@ -12,12 +12,12 @@ store_calls size segment page is_new is_full bytes =
     ++ write_call size segment page bytes ∷ []
     ++ (if is_full then sync_call size segment ∷ [] else [])
 
--- the calls that put a page: its segment is new where none of it is written yet, and full where
--- then all of it is
+-- the calls that put a page: its segment is new where none as high is made yet, and full where then
+-- all of it is written
 abbrev pub put_calls : ℕ → ℕ → ℕ → ℕ → List ℕ → List Call
-put_calls size written page upto bytes =
+put_calls size made page upto bytes =
     store_calls size (page / pages_of size) (page % pages_of size)
-    (written % size == 0) (upto % size == 0) bytes
+    (nat_lt made (page / pages_of size)) (upto % size == 0) bytes
 
 -- the calls that harden what is written: one sync of the segment under way, where something waits
 -- for it

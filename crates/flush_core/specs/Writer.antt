@@ -1,12 +1,12 @@
 -- A writer: what its fields tell, what it holds, and what a call of it leaves.
-use Rattle.std.specs.Prelude.{◌≡◌, ℕ, ◌≤◌, ◌⊎◌, Bool, List, Option, Some, None, IfSome}
+use Rattle.std.specs.Prelude.{◌≡◌, ℕ, ◌+◌, ◌*◌, ◌≤◌, ◌⊎◌, Bool, List, Option, Some, None, IfSome}
 use Rattle.segment_disk.specs.declared.disk.Call.{Call}
 use Rattle.segment_disk.specs.Cause.{Rose}
 use Rattle.segment_disk.specs.Tape.{Tape, state_now}
 use Rattle.flush_core.specs.declared.writer.Writer.{Writer}
 use Rattle.flush_core.specs.Calls.{AreMade, BreaksOff, harden_calls, put_calls}
 use Rattle.flush_core.specs.Left.{PutHistory, IsMadeUpto, IsKeptWord, IsNowhere, IsWordPut, TapeAssures}
-use Rattle.flush_core.specs.Pages.{PutPages, HoldsPut, ArePutUpto}
+use Rattle.flush_core.specs.Pages.{PutPages, HoldsPut, ArePutUpto, made_upto}
 
 -- the disk that a writer writes to
 abbrev pub disk_of : {D : Type 0} → Writer D → D
@@ -20,6 +20,10 @@ writer_segment_size writer = writer.geometry
 abbrev pub written_of : {D : Type 0} → Writer D → ℕ
 written_of writer = writer.written.0
 
+-- the last segment that is made, 0 where none is
+abbrev pub last_made : {D : Type 0} → Writer D → ℕ
+last_made writer = writer.made
+
 -- whether a write waits for a sync
 abbrev pub is_unsynced : {D : Type 0} → Writer D → Bool
 is_unsynced writer = writer.unsynced
@@ -31,17 +35,23 @@ writer_fault writer = writer.fault
 -- the calls that it makes to put a page
 abbrev pub calls_to_put : {D : Type 0} → Writer D → ℕ → ℕ → List ℕ → List Call
 calls_to_put writer page upto bytes =
-    put_calls writer.geometry writer.written.0 page upto bytes
+    put_calls writer.geometry writer.made page upto bytes
 
 -- the calls that it makes to harden what is written
 abbrev pub calls_to_harden : {D : Type 0} → Writer D → List Call
 calls_to_harden writer = harden_calls writer.geometry writer.written.0 writer.unsynced
+
+-- all that is written lies in segments that are made, but for a next one that begins with it
+abbrev pub IsReached : {D : Type 0} → Writer D → Type 0
+IsReached writer = writer.written.0 ≤ writer.made * writer.geometry + writer.geometry
 
 -- a writer on a disk that has not failed and, where it tells what it holds, holds just these pages
 pub record IsWriter {D : Type 0} (tape : D → Option Tape) (writer : Writer D) (pages : PutPages)
     : Type 0 where
   pub up : writer.fault ≡ None
   pub begun : writer.geometry ≤ writer.written.0
+  pub reached : IsReached writer
+  pub made : writer.made ≡ made_upto writer.geometry writer.written.0
   pub put : ArePutUpto writer.written.0 pages
   pub holds : IfSome (tape writer.disk)
       (λ t. HoldsPut writer.geometry writer.written.0 writer.unsynced (state_now t) pages)
@@ -51,7 +61,8 @@ pub record IsWriter {D : Type 0} (tape : D → Option Tape) (writer : Writer D) 
 abbrev pub IsKept : {D : Type 0} → (D → Option Tape) → Writer D → ℕ → ℕ → PutPages → Type 0
 IsKept tape writer moment position pages =
     let size = writer.geometry in
-    IfSome (tape writer.disk)
+    IsReached writer
+    × IfSome (tape writer.disk)
     (TapeAssures size (IsMadeUpto size position) (IsKeptWord position pages) moment)
 
 -- each crash from a moment on leaves nothing but what was put: in whatever segment is there, each

@@ -1,7 +1,8 @@
-ghost use Rattle.std.specs.Prelude.{◌≡◌, ℕ, ◌+◌, ◌*◌, ◌/◌, ◌%◌, ◌<◌, ◌≤◌, false, not, ◌==◌, OnOk, IfOk, IfErr, MatchResult};
+ghost use Rattle.std.specs.Prelude.{◌≡◌, ℕ, ◌+◌, ◌*◌, ◌/◌, ◌%◌, ◌<◌, ◌≤◌, false, max, not, ◌==◌, OnOk, IfOk, IfErr, MatchResult};
+ghost use Rattle.byte_position.specs.Geometry.{pages_of};
 ghost use Rattle.flush_core.specs.Left.{PutHistory, SameBelow, no_puts, with_put};
 ghost use Rattle.flush_core.specs.Pages.{HoldsNothing, PutPages, no_pages, with_page};
-ghost use Rattle.flush_core.specs.Writer.{HasDone, HoldsOnly, IsKept, IsWriter, TellsFault, calls_to_harden, calls_to_put, disk_of, writer_fault, is_unsynced, writer_segment_size, written_of};
+ghost use Rattle.flush_core.specs.Writer.{HasDone, HoldsOnly, IsKept, IsWriter, TellsFault, calls_to_harden, calls_to_put, disk_of, last_made, writer_fault, is_unsynced, writer_segment_size, written_of};
 
 use crate::store::{place_of, store_page};
 use byte_position::Geometry;
@@ -29,6 +30,8 @@ pub struct Writer<D> {
     geometry: Geometry,
     /// Up to where the log is written.
     written: Lsn,
+    /// The last segment that is made, 0 where none is.
+    made: u64,
     /// Whether a write waits for a sync: only in the segment of the written position, since full
     /// ones are synced.
     unsynced: bool,
@@ -42,6 +45,7 @@ impl<D: Disk> Writer<D> {
         ensures disk { disk_of result ≡ disk }
         ensures size { writer_segment_size result ≡ geometry }
         ensures written { written_of result ≡ geometry }
+        ensures made { last_made result ≡ 0 }
         ensures synced { is_unsynced result ≡ false }
         ensures up { writer_fault result ≡ None }
         ensures holds { HoldsNothing (D.tape disk) → IsWriter D.tape result no_pages }
@@ -52,6 +56,7 @@ impl<D: Disk> Writer<D> {
             disk,
             geometry,
             written: Lsn(geometry.segment_size()),
+            made: 0,
             unsynced: false,
             fault: None,
         }
@@ -114,6 +119,10 @@ impl<D: Disk> Writer<D> {
             ≡ not (upto.0 % writer_segment_size self.old == 0)) }
         ensures failed { IfErr result (λ e. TellsFault D.tape D.moment D.faults self.old self.new
             e.faults (calls_to_put self.old page upto.0 bytes.now)) }
+        ensures made { MatchResult result
+            (λ _. last_made self.new
+            ≡ max (last_made self.old) (page / pages_of (writer_segment_size self.old)))
+            (λ _. last_made self.new ≡ last_made self.old) }
         ensures size { writer_segment_size self.new ≡ writer_segment_size self.old }
         ensures moment_rises { OnOk result
             (D.moment (disk_of self.old) < D.moment (disk_of self.new)) }
@@ -122,11 +131,13 @@ impl<D: Disk> Writer<D> {
         self.check()?;
         let geometry = self.geometry;
         let place = place_of(geometry, page);
-        let is_new = self.written.0 % geometry.segment_size() == 0;
+        let is_new = self.made < place.segment;
+        let made = self.made.max(place.segment);
         let is_full = upto.0 % geometry.segment_size() == 0;
         match store_page(&mut self.disk, geometry, place, is_new, is_full, bytes) {
             Ok(()) => {
                 self.written = upto;
+                self.made = made;
                 self.unsynced = !is_full;
                 Ok(())
             }
@@ -156,6 +167,7 @@ impl<D: Disk> Writer<D> {
         ensures failed { IfErr result (λ e. TellsFault D.tape D.moment D.faults self.old self.new
             e.faults (calls_to_harden self.old)) }
         ensures same { is_unsynced self.old ≡ false → self.new ≡ self.old }
+        ensures made { last_made self.new ≡ last_made self.old }
         ensures size { writer_segment_size self.new ≡ writer_segment_size self.old }
         ensures moment_never_falls { D.moment (disk_of self.old) ≤ D.moment (disk_of self.new) }
     {

@@ -1,12 +1,13 @@
 -- Device calls that are made one after another.
-use Rattle.std.proofs.Common.{◌≡◌, ℕ, ◌+◌, ◌*◌, ◌/◌, ◌<◌, ◌≤◌, ◌⊎◌, inl, inr, Bool, false, List, [], ◌∷◌, ◌++◌, length, Option, refl, sym, ap, subst, ◌∙◌, arith}
+use Rattle.std.proofs.Common.{◌≡◌, ℕ, ◌+◌, ◌*◌, ◌/◌, ◌<◌, ◌≤◌, ◌⊎◌, inl, inr, Bool, false, List, [], ◌∷◌, ◌++◌, length, max, Option, refl, sym, ap, subst, ◌∙◌, arith}
 use Rattle.std.proofs.lemmas.List.{append-nil, append_assoc, length-append}
+use Rattle.byte_position.specs.Geometry.{pages_of}
 use Rattle.segment_disk.specs.declared.disk.Call.{Call}
 use Rattle.segment_disk.specs.Tape.{Fails, Tape, with_call}
 use Rattle.flush_core.specs.declared.writer.Writer.{Writer}
 use Rattle.flush_core.specs.Calls.{AreMade, BreaksOff, harden_calls, put_calls, with_calls}
-use Rattle.flush_core.specs.Writer.{disk_of, writer_segment_size, written_of}
-use Rattle.serial_log.specs.DeviceCalls.{BreaksFlush, BreaksWrites, MakesFlush, MakesWrites, WritesOut, nothing_to_write, page_behind}
+use Rattle.flush_core.specs.Writer.{disk_of, last_made, writer_segment_size, written_of}
+use Rattle.serial_log.specs.DeviceCalls.{BreaksFlush, BreaksWrites, MakesFlush, MakesWrites, WritesFrom, WritesOut, nothing_to_write, page_behind}
 
 with_calls-append : (tape : Option Tape) (xs ys : List Call) → with_calls tape (xs ++ ys) ≡ with_calls (with_calls tape xs) ys
 with_calls-append tape [] ys = refl
@@ -34,64 +35,71 @@ BreaksOff-behind old mid new at then to xs ys first breaks =
       fails = subst (λ (m : ℕ). Fails (with_calls old (xs ++ breaks.front)) new m to breaks.next) moment (subst (λ (t : Option Tape). Fails t new (then + length breaks.front) to breaks.next) tape breaks.fails);
     }
 
-pub WritesOut-then : (size from mid upto : ℕ) (xs ys : List Call) → WritesOut size from mid xs → WritesOut size mid upto ys → WritesOut size from upto (xs ++ ys)
-WritesOut-then size from mid upto xs ys first nothing_to_write = subst (WritesOut size from mid) (sym (append-nil xs)) first
-WritesOut-then size from mid upto xs ys first (page_behind at to bytes calls rest less within) =
-    subst (WritesOut size from to) (append_assoc xs calls (put_calls size at (at / 8192) to bytes)) (page_behind at to bytes (xs ++ calls) (WritesOut-then size from mid at xs calls first rest) less within)
+pub WritesOut-then : (size from made mid last upto behind : ℕ) (xs ys : List Call) → WritesOut size from made mid last xs → WritesOut size mid last upto behind ys → WritesOut size from made upto behind (xs ++ ys)
+WritesOut-then size from made mid last upto behind xs ys first nothing_to_write = subst (WritesOut size from made mid last) (sym (append-nil xs)) first
+WritesOut-then size from made mid last upto behind xs ys first (page_behind at so_far to bytes calls rest less within) =
+    subst (WritesOut size from made to (max so_far (at / 8192 / pages_of size))) (append_assoc xs calls (put_calls size so_far (at / 8192) to bytes))
+    (page_behind at so_far to bytes (xs ++ calls) (WritesOut-then size from made mid last at so_far xs calls first rest) less within)
 
 module _ (D : Type 0) (tape : D → Option Tape) (moment : D → ℕ) where
   pub makes_no_writes : (w : Writer D) → MakesWrites tape moment w w
   makes_no_writes w = record { same_size = refl; calls = []; out = nothing_to_write; made = AreMade-none (tape (disk_of w)) (moment (disk_of w)) }
 
   -- a page is put
-  pub MakesWrites-page : (old new : Writer D) → writer_segment_size new ≡ writer_segment_size old → (page end : ℕ) (bytes : List ℕ) → page ≡ written_of old / 8192 → written_of old < end → end ≤ (written_of old / 8192 + 1) * 8192 → written_of new ≡ end
-      → AreMade (tape (disk_of old)) (tape (disk_of new)) (moment (disk_of old)) (moment (disk_of new)) (put_calls (writer_segment_size old) (written_of old) page end bytes) → MakesWrites tape moment old new
-  MakesWrites-page old new same_size page end bytes at rises within written made =
-      let size = writer_segment_size old in
-      let from = written_of old in
-      let calls = put_calls size from (from / 8192) end bytes in
-      record {
-        same_size = same_size;
-        calls = calls;
-        out = subst (λ (n : ℕ). WritesOut size from n calls) (sym written) (page_behind from end bytes [] nothing_to_write rises within);
-        made = subst (λ (p : ℕ). AreMade (tape (disk_of old)) (tape (disk_of new)) (moment (disk_of old)) (moment (disk_of new)) (put_calls size from p end bytes)) at made;
-      }
+  module _ (old new : Writer D) (page end : ℕ) (bytes : List ℕ) (at : page ≡ written_of old / 8192) (rises : written_of old < end) (within : end ≤ (written_of old / 8192 + 1) * 8192) where
+    abbrev made_behind : ℕ
+    made_behind = max (last_made old) (written_of old / 8192 / pages_of (writer_segment_size old))
 
-  pub BreaksWrites-page : (old new : Writer D) (page end : ℕ) (bytes : List ℕ) → page ≡ written_of old / 8192 → written_of old < end → end ≤ (written_of old / 8192 + 1) * 8192
-      → BreaksOff (tape (disk_of old)) (tape (disk_of new)) (moment (disk_of old)) (moment (disk_of new)) (put_calls (writer_segment_size old) (written_of old) page end bytes) → BreaksWrites tape moment old new
-  BreaksWrites-page old new page end bytes at rises within made =
-      let size = writer_segment_size old in
-      let from = written_of old in
-      record {
-        upto = end;
-        calls = put_calls size from (from / 8192) end bytes;
-        out = page_behind from end bytes [] nothing_to_write rises within;
-        made = subst (λ (p : ℕ). BreaksOff (tape (disk_of old)) (tape (disk_of new)) (moment (disk_of old)) (moment (disk_of new)) (put_calls size from p end bytes)) at made;
-      }
+    abbrev calls_of : List Call
+    calls_of = put_calls (writer_segment_size old) (last_made old) (written_of old / 8192) end bytes
+
+    puts_out : WritesFrom old end made_behind calls_of
+    puts_out = page_behind (written_of old) (last_made old) end bytes [] nothing_to_write rises within
+
+    pub MakesWrites-page : writer_segment_size new ≡ writer_segment_size old → written_of new ≡ end → last_made new ≡ max (last_made old) (page / pages_of (writer_segment_size old))
+        → AreMade (tape (disk_of old)) (tape (disk_of new)) (moment (disk_of old)) (moment (disk_of new)) (put_calls (writer_segment_size old) (last_made old) page end bytes) → MakesWrites tape moment old new
+    MakesWrites-page same_size written made_is made =
+        let last : last_made new ≡ made_behind = made_is ∙ ap (λ (p : ℕ). max (last_made old) (p / pages_of (writer_segment_size old))) at in
+        record {
+          same_size = same_size;
+          calls = calls_of;
+          out = subst (λ (m : ℕ). WritesFrom old (written_of new) m calls_of) (sym last) (subst (λ (n : ℕ). WritesFrom old n made_behind calls_of) (sym written) puts_out);
+          made = subst (λ (p : ℕ). AreMade (tape (disk_of old)) (tape (disk_of new)) (moment (disk_of old)) (moment (disk_of new)) (put_calls (writer_segment_size old) (last_made old) p end bytes)) at made;
+        }
+
+    pub BreaksWrites-page : BreaksOff (tape (disk_of old)) (tape (disk_of new)) (moment (disk_of old)) (moment (disk_of new)) (put_calls (writer_segment_size old) (last_made old) page end bytes) → BreaksWrites tape moment old new
+    BreaksWrites-page made = record {
+      upto = end;
+      last = made_behind;
+      calls = calls_of;
+      out = puts_out;
+      made = subst (λ (p : ℕ). BreaksOff (tape (disk_of old)) (tape (disk_of new)) (moment (disk_of old)) (moment (disk_of new)) (put_calls (writer_segment_size old) (last_made old) p end bytes)) at made;
+    }
 
   module _ (a b c : Writer D) (first : MakesWrites tape moment a b) where
     same : writer_segment_size b ≡ writer_segment_size a
     same = first.same_size
 
-    at_size : (upto : ℕ) (calls : List Call) → WritesOut (writer_segment_size b) (written_of b) upto calls → WritesOut (writer_segment_size a) (written_of b) upto calls
-    at_size upto calls = subst (λ (size : ℕ). WritesOut size (written_of b) upto calls) same
+    at_size : (upto last : ℕ) (calls : List Call) → WritesFrom b upto last calls → WritesOut (writer_segment_size a) (written_of b) (last_made b) upto last calls
+    at_size upto last calls = subst (λ (size : ℕ). WritesOut size (written_of b) (last_made b) upto last calls) same
 
-    out_then : (upto : ℕ) (calls : List Call) → WritesOut (writer_segment_size b) (written_of b) upto calls → WritesOut (writer_segment_size a) (written_of a) upto (first.calls ++ calls)
-    out_then upto calls out = WritesOut-then (writer_segment_size a) (written_of a) (written_of b) upto first.calls calls first.out (at_size upto calls out)
+    out_then : (upto last : ℕ) (calls : List Call) → WritesFrom b upto last calls → WritesFrom a upto last (first.calls ++ calls)
+    out_then upto last calls out = WritesOut-then (writer_segment_size a) (written_of a) (last_made a) (written_of b) (last_made b) upto last first.calls calls first.out (at_size upto last calls out)
 
     pub MakesWrites-then : MakesWrites tape moment b c → MakesWrites tape moment a c
     MakesWrites-then second = record {
       same_size = second.same_size ∙ same;
       calls = first.calls ++ second.calls;
-      out = out_then (written_of c) second.calls second.out;
+      out = out_then (written_of c) (last_made c) second.calls second.out;
       made = AreMade-then (tape (disk_of a)) (tape (disk_of b)) (tape (disk_of c)) (moment (disk_of a)) (moment (disk_of b)) (moment (disk_of c)) first.calls second.calls first.made second.made;
     }
 
     pub BreaksWrites-behind : BreaksWrites tape moment b c → BreaksWrites tape moment a c
     BreaksWrites-behind breaks = record {
       upto = breaks.upto;
+      last = breaks.last;
       calls = first.calls ++ breaks.calls;
-      out = out_then breaks.upto breaks.calls breaks.out;
+      out = out_then breaks.upto breaks.last breaks.calls breaks.out;
       made = BreaksOff-behind (tape (disk_of a)) (tape (disk_of b)) (tape (disk_of c)) (moment (disk_of a)) (moment (disk_of b)) (moment (disk_of c)) first.calls breaks.calls first.made breaks.made;
     }
 
@@ -103,7 +111,7 @@ module _ (D : Type 0) (tape : D → Option Tape) (moment : D → ℕ) where
         record {
           calls = first.calls ++ second.calls;
           unsynced = second.unsynced;
-          out = out_then (written_of c) second.calls second.out;
+          out = out_then (written_of c) (last_made c) second.calls second.out;
           made = subst (λ (l : List Call). AreMade (tape (disk_of a)) (tape (disk_of c)) (moment (disk_of a)) (moment (disk_of c)) l) (sym (append_assoc first.calls second.calls synced))
               (AreMade-then (tape (disk_of a)) (tape (disk_of b)) (tape (disk_of c)) (moment (disk_of a)) (moment (disk_of b)) (moment (disk_of c)) first.calls (second.calls ++ synced) first.made made);
         }
@@ -114,26 +122,27 @@ module _ (D : Type 0) (tape : D → Option Tape) (moment : D → ℕ) where
         let made = subst (λ (size : ℕ). BreaksOff (tape (disk_of b)) (tape (disk_of c)) (moment (disk_of b)) (moment (disk_of c)) (breaks.calls ++ harden_calls size breaks.upto breaks.unsynced)) same breaks.made in
         record {
           upto = breaks.upto;
+          last = breaks.last;
           calls = first.calls ++ breaks.calls;
           unsynced = breaks.unsynced;
-          out = out_then breaks.upto breaks.calls breaks.out;
+          out = out_then breaks.upto breaks.last breaks.calls breaks.out;
           made = subst (λ (l : List Call). BreaksOff (tape (disk_of a)) (tape (disk_of c)) (moment (disk_of a)) (moment (disk_of c)) l) (sym (append_assoc first.calls breaks.calls synced))
               (BreaksOff-behind (tape (disk_of a)) (tape (disk_of b)) (tape (disk_of c)) (moment (disk_of a)) (moment (disk_of b)) (moment (disk_of c)) first.calls (breaks.calls ++ synced) first.made made);
         }
 
   -- a sync alone
-  pub MakesFlush-sync : (b c : Writer D) (unsynced : Bool) → written_of c ≡ written_of b
+  pub MakesFlush-sync : (b c : Writer D) (unsynced : Bool) → written_of c ≡ written_of b → last_made c ≡ last_made b
       → AreMade (tape (disk_of b)) (tape (disk_of c)) (moment (disk_of b)) (moment (disk_of c)) (harden_calls (writer_segment_size b) (written_of b) unsynced) → MakesFlush tape moment b c
-  MakesFlush-sync b c unsynced same made = record {
+  MakesFlush-sync b c unsynced same same_made made = record {
     calls = [];
     unsynced = unsynced;
-    out = subst (λ (n : ℕ). WritesOut (writer_segment_size b) (written_of b) n []) (sym same) nothing_to_write;
+    out = subst (λ (m : ℕ). WritesFrom b (written_of c) m []) (sym same_made) (subst (λ (n : ℕ). WritesFrom b n (last_made b) []) (sym same) nothing_to_write);
     made = subst (λ (n : ℕ). AreMade (tape (disk_of b)) (tape (disk_of c)) (moment (disk_of b)) (moment (disk_of c)) (harden_calls (writer_segment_size b) n unsynced)) (sym same) made;
   }
 
   pub BreaksFlush-sync : (b c : Writer D) (unsynced : Bool)
       → BreaksOff (tape (disk_of b)) (tape (disk_of c)) (moment (disk_of b)) (moment (disk_of c)) (harden_calls (writer_segment_size b) (written_of b) unsynced) → BreaksFlush tape moment b c
-  BreaksFlush-sync b c unsynced made = record { upto = written_of b; calls = []; unsynced = unsynced; out = nothing_to_write; made = made }
+  BreaksFlush-sync b c unsynced made = record { upto = written_of b; last = last_made b; calls = []; unsynced = unsynced; out = nothing_to_write; made = made }
 
   -- writes are a flush without its sync
   pub MakesFlush-writes : (a b : Writer D) → MakesWrites tape moment a b → MakesFlush tape moment a b
@@ -147,6 +156,7 @@ module _ (D : Type 0) (tape : D → Option Tape) (moment : D → ℕ) where
   pub BreaksFlush-writes : (a b : Writer D) → BreaksWrites tape moment a b → BreaksFlush tape moment a b
   BreaksFlush-writes a b breaks = record {
     upto = breaks.upto;
+    last = breaks.last;
     calls = breaks.calls;
     unsynced = false;
     out = breaks.out;

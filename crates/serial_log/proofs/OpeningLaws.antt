@@ -17,7 +17,7 @@ use Rattle.segment_disk.specs.DiskImage.{ImageSegment}
 use Rattle.std.proofs.Math.Nat.{div-eq_of_lt}
 use Rattle.std.proofs.lemmas.Option.{IfSome_then}
 use Rattle.serial_log.specs.OnDisk.{moments_of}
-use Rattle.flush_core.specs.Writer.{HoldsOnly, IsWriter, disk_of, writer_segment_size, written_of, is_unsynced, writer_fault}
+use Rattle.flush_core.specs.Writer.{HoldsOnly, IsReached, IsWriter, disk_of, writer_segment_size, written_of, is_unsynced, writer_fault}
 use Rattle.serial_log.specs.Ring.{RingState, HoldsWords}
 use Rattle.serial_log.specs.Words.{words_upto}
 use Rattle.serial_log.specs.History.{at_opening}
@@ -88,6 +88,10 @@ module _ (D : Type 0) (size pages : ℕ) (ring : RingState) (writer : Writer D) 
       let upto : made_upto writer.geometry flushed ≡ 0 = rw (same, begun) last in
       omega (arith, made.0, made.1)
 
+  -- nothing is written that would lie in a segment
+  reached : writer_segment_size writer ≡ size → IsReached writer
+  reached same = omega (arith, same, written)
+
   pub IsInOrder-opened : (capacity flushed : ℕ) → writer_segment_size writer ≡ size → capacity ≤ 2 ^ 42 → flushed ≡ size → IsInOrder size capacity 0 flushed ring writer
   IsInOrder-opened capacity flushed same_size small begun = record {
     same_size = same_size;
@@ -127,7 +131,7 @@ module _ (D : Type 0) (size pages : ℕ) (ring : RingState) (writer : Writer D) 
       };
       kept = record {
         pages = no_pages;
-        left = IfSome_then (tape (disk_of writer)) (only empty) (λ t left. kept_of_none writer.geometry flushed moment t (at_start flushed begun same_size) left);
+        left = (reached same_size, IfSome_then (tape (disk_of writer)) (only empty) (λ t left. kept_of_none writer.geometry flushed moment t (at_start flushed begun same_size) left));
         words = λ page n lt end. word_of-zeros 8192 (8 * n) (omega arith) ∙ ap (to_le_bytes w64) (sym (no_words size sysid valid (page * 8192 + 8 * n) (omega arith)));
       };
     };

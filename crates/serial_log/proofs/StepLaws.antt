@@ -10,6 +10,7 @@ use Rattle.log_answers.specs.declared.Cause.{Cause}
 use Rattle.log_answers.specs.declared.Cause.TheVariants.{Full, Disk, Down}
 use Rattle.wal_page.specs.Order.{finish_of}
 use Rattle.serial_log.specs.History.{LogHistory, end_of, next_entry, with_entry}
+use Rattle.serial_log.specs.LogState.{IsSameLog, LogState}
 use Rattle.serial_log.specs.Steps.{Commits, HasFlushed, HasInserted, InsertsThenFlushes, IsReserved, RefusesFlush, RefusesRecord}
 
 -- ---- how a commit is made
@@ -66,3 +67,8 @@ module _ (size capacity faults_at_open : ℕ) (s after : LogHistory) (value : Re
   RefusesRecord-of refused (inl refuses) = refuses
   RefusesRecord-of refused (inr (receipt, named, then_flushes)) =
       subst (λ (reserved : Option Lsn). RefusesRecord size capacity faults_at_open s value refused.cause reserved after) (sym named) (refuses_at receipt refused.cause refused.reserved named then_flushes)
+
+-- ---- two calls of the same log
+
+pub IsSameLog-trans : {D : Type 0} (old mid new : LogState D) → IsSameLog old mid → IsSameLog mid new → IsSameLog old new
+IsSameLog-trans old mid new first second = record { size = second.size ∙ first.size; capacity = second.capacity ∙ first.capacity; sysid = second.sysid ∙ first.sysid }

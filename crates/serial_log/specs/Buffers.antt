@@ -1,11 +1,13 @@
 -- What is in memory of a log's last pages, what is written of them, and what writing leaves.
-use Rattle.std.specs.Prelude.{◌≡◌, ℕ, ◌+◌, ◌*◌, ◌<◌, ◌≤◌, ◌⊎◌, Option, Some, None}
+use Rattle.std.specs.Prelude.{◌≡◌, ℕ, ◌+◌, ◌*◌, ◌<◌, ◌≤◌, ◌⊎◌, Option, Some, None, Result, IfErr, MatchResult, OnOk}
 use Rattle.segment_disk.specs.Cause.{Rose}
 use Rattle.segment_disk.specs.Tape.{Tape}
 use Rattle.wal_page.specs.Placed.{PlacedState}
+use Rattle.flush_core.specs.declared.writer.DiskFault.{DiskFault}
 use Rattle.flush_core.specs.declared.writer.Writer.{Writer}
 use Rattle.flush_core.specs.Writer.{disk_of, writer_segment_size, written_of, writer_fault}
 use Rattle.serial_log.specs.Ring.{RingState, HoldsWords}
+use Rattle.serial_log.specs.DeviceCalls.{BreaksWrites, MakesWrites}
 use Rattle.serial_log.specs.OnDisk.{Preserves}
 use Rattle.serial_log.specs.Words.{AreGiven, HasWritten, words_upto}
 
@@ -54,3 +56,12 @@ pub record GoesDown {D : Type 0} (tape : D → Option Tape) (moment faults : D �
   pub rose : Rose (faults (disk_of old)) told
   pub moment_never_falls : moment (disk_of old) ≤ moment (disk_of new)
   pub preserves : Preserves tape Has old new
+
+-- writing leaves pages written, or the disk failed; either way it made no calls but those that
+-- write pages in their turn
+pub record WritingLeaves {D T : Type 0} (tape : D → Option Tape) (moment faults : D → ℕ)
+    (Has : (ℕ → ℕ) → Type 0) (old new : Writer D) (answer : Result T DiskFault) : Type 0 where
+  pub writes : OnOk answer (WritesOn tape moment faults Has old new)
+  pub fails : IfErr answer (λ e. GoesDown tape moment faults Has old new e.faults)
+  pub calls : MatchResult answer
+      (λ _. MakesWrites tape moment old new) (λ _. BreaksWrites tape moment old new)

@@ -1,25 +1,31 @@
 -- The device calls of a log: its pages one behind another, and one sync at the end of a flush.
-use Rattle.std.specs.Prelude.{◌≡◌, ℕ, ◌+◌, ◌*◌, ◌/◌, ◌<◌, ◌≤◌, Bool, List, [], ◌++◌, Option}
+use Rattle.std.specs.Prelude.{◌≡◌, ℕ, ◌+◌, ◌*◌, ◌/◌, ◌<◌, ◌≤◌, Bool, List, [], ◌++◌, Option, max}
+use Rattle.byte_position.specs.Geometry.{pages_of}
 use Rattle.segment_disk.specs.declared.disk.Call.{Call}
 use Rattle.segment_disk.specs.Tape.{Tape}
 use Rattle.flush_core.specs.declared.writer.Writer.{Writer}
 use Rattle.flush_core.specs.Calls.{AreMade, BreaksOff, harden_calls, put_calls}
-use Rattle.flush_core.specs.Writer.{disk_of, writer_segment_size, written_of}
+use Rattle.flush_core.specs.Writer.{disk_of, last_made, writer_segment_size, written_of}
 
--- the calls that write a log's pages from one position up to another: each page in its turn, as far
--- as its words reach
-pub data WritesOut (size from : ℕ) : ℕ → List Call → Type 0 where
-  nothing_to_write : WritesOut size from from []
-  page_behind : (at upto : ℕ) (bytes : List ℕ) (calls : List Call)
-      → WritesOut size from at calls → at < upto → upto ≤ (at / 8192 + 1) * 8192
-      → WritesOut size from upto (calls ++ put_calls size at (at / 8192) upto bytes)
+-- the calls that write a log's pages from one position up to another, each page in its turn as far
+-- as its words reach, and the last segment made before them and behind them
+pub data WritesOut (size from made : ℕ) : ℕ → ℕ → List Call → Type 0 where
+  nothing_to_write : WritesOut size from made from made []
+  page_behind : (at last upto : ℕ) (bytes : List ℕ) (calls : List Call)
+      → WritesOut size from made at last calls → at < upto → upto ≤ (at / 8192 + 1) * 8192
+      → WritesOut size from made upto (max last (at / 8192 / pages_of size))
+      (calls ++ put_calls size last (at / 8192) upto bytes)
+
+-- the calls that write from where a writer stands
+abbrev pub WritesFrom : {D : Type 0} → Writer D → ℕ → ℕ → List Call → Type 0
+WritesFrom writer = WritesOut (writer_segment_size writer) (written_of writer) (last_made writer)
 
 -- the disk has made just the calls that write from the one written position to the other
 pub record MakesWrites {D : Type 0} (tape : D → Option Tape) (moment : D → ℕ) (old new : Writer D)
     : Type 0 where
   pub same_size : writer_segment_size new ≡ writer_segment_size old
   pub calls : List Call
-  pub out : WritesOut (writer_segment_size old) (written_of old) (written_of new) calls
+  pub out : WritesFrom old (written_of new) (last_made new) calls
   pub made : AreMade (tape (disk_of old)) (tape (disk_of new)) (moment (disk_of old))
       (moment (disk_of new)) calls
 
@@ -28,7 +34,7 @@ pub record MakesFlush {D : Type 0} (tape : D → Option Tape) (moment : D → �
     : Type 0 where
   pub calls : List Call
   pub unsynced : Bool
-  pub out : WritesOut (writer_segment_size old) (written_of old) (written_of new) calls
+  pub out : WritesFrom old (written_of new) (last_made new) calls
   pub made : AreMade (tape (disk_of old)) (tape (disk_of new)) (moment (disk_of old))
       (moment (disk_of new))
       (calls ++ harden_calls (writer_segment_size old) (written_of new) unsynced)
@@ -37,8 +43,9 @@ pub record MakesFlush {D : Type 0} (tape : D → Option Tape) (moment : D → �
 pub record BreaksWrites {D : Type 0} (tape : D → Option Tape) (moment : D → ℕ)
     (old new : Writer D) : Type 0 where
   pub upto : ℕ
+  pub last : ℕ
   pub calls : List Call
-  pub out : WritesOut (writer_segment_size old) (written_of old) upto calls
+  pub out : WritesFrom old upto last calls
   pub made : BreaksOff (tape (disk_of old)) (tape (disk_of new)) (moment (disk_of old))
       (moment (disk_of new)) calls
 
@@ -46,8 +53,9 @@ pub record BreaksWrites {D : Type 0} (tape : D → Option Tape) (moment : D → 
 pub record BreaksFlush {D : Type 0} (tape : D → Option Tape) (moment : D → ℕ)
     (old new : Writer D) : Type 0 where
   pub upto : ℕ
+  pub last : ℕ
   pub calls : List Call
   pub unsynced : Bool
-  pub out : WritesOut (writer_segment_size old) (written_of old) upto calls
+  pub out : WritesFrom old upto last calls
   pub made : BreaksOff (tape (disk_of old)) (tape (disk_of new)) (moment (disk_of old))
       (moment (disk_of new)) (calls ++ harden_calls (writer_segment_size old) upto unsynced)

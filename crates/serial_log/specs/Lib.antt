@@ -9,5 +9,6 @@ pub mod History
 pub mod Steps
 pub mod LogState
 pub mod Refusing
+pub mod Leaving
 pub mod LogImage
 pub mod Opening

@@ -4,10 +4,10 @@ ghost use Rattle.record_spelling.specs.Spelling.{assembled_room};
 ghost use Rattle.flush_core.specs.Pages.{HoldsNothing, no_pages};
 ghost use Rattle.flush_core.specs.Left.{no_puts};
 ghost use Rattle.flush_core.specs.Writer.{HoldsOnly, IsWriter, disk_of, writer_fault, writer_segment_size, is_unsynced, written_of};
-ghost use Rattle.serial_log.specs.DeviceCalls.{BreaksFlush, BreaksWrites, MakesFlush, MakesWrites};
+ghost use Rattle.serial_log.specs.DeviceCalls.{BreaksFlush, MakesFlush};
 ghost use Rattle.serial_log.specs.OnDisk.{KeepsBelow};
 ghost use Rattle.serial_log.specs.Words.{HasWritten};
-ghost use Rattle.serial_log.specs.Buffers.{GoesDown, IsSameOrFurther, RingHas, RingTakes, Spans, StaysUp, WritesOn};
+ghost use Rattle.serial_log.specs.Buffers.{GoesDown, IsSameOrFurther, RingHas, RingTakes, Spans, WritesOn, WritingLeaves};
 
 use crate::copy::end_in_page;
 use crate::ring::Ring;
@@ -72,13 +72,8 @@ impl<D: Disk> Buffers<D> {
         requires up { writer_fault self.old.writer ≡ None }
         requires spans { Spans self.old.ring self.old.writer upto.0 }
         requires rises { written_of self.old.writer < upto.0 }
-        ensures writes { OnOk result (WritesOn D.tape D.moment D.faults
-            (RingHas self.old.ring upto.0) self.old.writer self.new.writer) }
-        ensures fails { IfErr result (λ e. GoesDown D.tape D.moment D.faults
-            (RingHas self.old.ring upto.0) self.old.writer self.new.writer e.faults) }
-        ensures calls { MatchResult result
-            (λ _. MakesWrites D.tape D.moment self.old.writer self.new.writer)
-            (λ _. BreaksWrites D.tape D.moment self.old.writer self.new.writer) }
+        ensures leaves { WritingLeaves D.tape D.moment D.faults
+            (RingHas self.old.ring upto.0) self.old.writer self.new.writer result }
         ensures written { OnOk result (written_of self.new.writer
             ≡ min upto.0 ((written_of self.old.writer / 8192 + 1) * 8192)) }
         ensures ring { self.new.ring ≡ self.old.ring }
@@ -94,13 +89,8 @@ impl<D: Disk> Buffers<D> {
     fn write_upto(&mut self, upto: Lsn) -> Result<(), DiskFault>
         requires up { writer_fault self.old.writer ≡ None }
         requires spans { Spans self.old.ring self.old.writer upto.0 }
-        ensures writes { OnOk result (WritesOn D.tape D.moment D.faults
-            (RingHas self.old.ring upto.0) self.old.writer self.new.writer) }
-        ensures fails { IfErr result (λ e. GoesDown D.tape D.moment D.faults
-            (RingHas self.old.ring upto.0) self.old.writer self.new.writer e.faults) }
-        ensures calls { MatchResult result
-            (λ _. MakesWrites D.tape D.moment self.old.writer self.new.writer)
-            (λ _. BreaksWrites D.tape D.moment self.old.writer self.new.writer) }
+        ensures leaves { WritingLeaves D.tape D.moment D.faults
+            (RingHas self.old.ring upto.0) self.old.writer self.new.writer result }
         ensures further { OnOk result (IsSameOrFurther self.old.writer self.new.writer) }
         ensures written { OnOk result (written_of self.new.writer ≡ upto.0) }
         ensures ring { self.new.ring ≡ self.old.ring }
@@ -118,13 +108,8 @@ impl<D: Disk> Buffers<D> {
         requires up { writer_fault self.old.writer ≡ None }
         requires spans { Spans self.old.ring self.old.writer next.0 }
         requires bound { next.0 < 2 ^ 62 }
-        ensures writes { OnOk result (WritesOn D.tape D.moment D.faults
-            (RingHas self.old.ring next.0) self.old.writer self.new.writer) }
-        ensures fails { IfErr result (λ e. GoesDown D.tape D.moment D.faults
-            (RingHas self.old.ring next.0) self.old.writer self.new.writer e.faults) }
-        ensures calls { MatchResult result
-            (λ _. MakesWrites D.tape D.moment self.old.writer self.new.writer)
-            (λ _. BreaksWrites D.tape D.moment self.old.writer self.new.writer) }
+        ensures leaves { WritingLeaves D.tape D.moment D.faults
+            (RingHas self.old.ring next.0) self.old.writer self.new.writer result }
         ensures further { OnOk result (IsSameOrFurther self.old.writer self.new.writer) }
         ensures spans { OnOk result (Spans self.new.ring self.new.writer next.0) }
         ensures held { OnOk result (next.0 < self.new.ring.mapped * 8192) }
@@ -151,13 +136,8 @@ impl<D: Disk> Buffers<D> {
             ≡ end_address_of placed.old.size (placed.old.start + assembled_room placed.old.body) }
         requires begins { placed.old.next ≤ end.0 }
         requires bound { end.0 < 2 ^ 62 }
-        ensures writes { OnOk result (WritesOn D.tape D.moment D.faults
-            (RingTakes self.old.ring placed.old end.0) self.old.writer self.new.writer) }
-        ensures fails { IfErr result (λ e. GoesDown D.tape D.moment D.faults
-            (RingTakes self.old.ring placed.old end.0) self.old.writer self.new.writer e.faults) }
-        ensures calls { MatchResult result
-            (λ _. MakesWrites D.tape D.moment self.old.writer self.new.writer)
-            (λ _. BreaksWrites D.tape D.moment self.old.writer self.new.writer) }
+        ensures leaves { WritingLeaves D.tape D.moment D.faults
+            (RingTakes self.old.ring placed.old end.0) self.old.writer self.new.writer result }
         ensures further { OnOk result (IsSameOrFurther self.old.writer self.new.writer) }
         ensures spans { OnOk result (Spans self.new.ring self.new.writer end.0) }
         ensures words { OnOk result ((word : ℕ → ℕ)

@@ -1,13 +1,13 @@
-ghost use Rattle.std.specs.Prelude.{◌≡◌, ℕ, ◌+◌, ◌<◌, ◌≤◌, ◌⊎◌, None, Option, Err, IfOk, IfErr, IfSome, MatchResult, OnErr, OnOk};
+ghost use Rattle.std.specs.Prelude.{◌≡◌, ℕ, ◌+◌, ◌<◌, ◌≤◌, ◌⊎◌, None, Option, Err, IfOk, IfErr, IfSome, OnOk};
 ghost use Rattle.segment_disk.specs.Tape.{Tape, page_of_segment, state_now};
 ghost use Rattle.record_spelling.specs.Spelling.{RecordOf, assembled_room};
 ghost use Rattle.flush_core.specs.Pages.{HoldsNothing};
 ghost use Rattle.flush_core.specs.Writer.{writer_fault};
 ghost use Rattle.serial_log.specs.LogImage.{HoldsLog};
-ghost use Rattle.serial_log.specs.LogState.{IsLog, IsSameLog, HasUnwritten, KeepsFlushed, StepsLog, log_disk, log_end};
-ghost use Rattle.serial_log.specs.DeviceCalls.{BreaksFlush, BreaksWrites, MakesFlush, MakesWrites};
+ghost use Rattle.serial_log.specs.LogState.{IsLog, HasUnwritten, StepsLog, log_disk, log_end};
 ghost use Rattle.segment_disk.specs.Tape.{IsUncalled};
 ghost use Rattle.serial_log.specs.Opening.{RefusesToOpen};
+ghost use Rattle.serial_log.specs.Leaving.{FlushLeaves, InsertLeaves};
 ghost use Rattle.serial_log.specs.Refusing.{HasFailed, IsLeftBy, down_again};
 ghost use Rattle.serial_log.specs.History.{LogHistory, at_opening, capacity_of, end_of};
 ghost use Rattle.serial_log.specs.Steps.{Commits, Flushes, Inserts};
@@ -170,18 +170,7 @@ impl<D: Disk> Log<D> {
         ensures known { RecordOf body.now }
         ensures down_again { IfSome (writer_fault self.old.writer) (λ faults.
             (result ≡ Err (down_again faults)) × (self.new ≡ self.old)) }
-        ensures keeps { KeepsFlushed D.tape D.faults self.old self.new }
-        ensures calls { MatchResult result
-            (λ _. MakesWrites D.tape D.moment self.old.writer self.new.writer)
-            (λ _. MakesWrites D.tape D.moment self.old.writer self.new.writer
-            ⊎ BreaksWrites D.tape D.moment self.old.writer self.new.writer) }
-        ensures same_log { IsSameLog self.old self.new }
-        ensures left_by_refusal { IfErr result (λ refused.
-            IsLeftBy refused.cause self.old self.new) }
-        ensures told_moment_same { self.new.moment ≡ self.old.moment }
-        ensures unflushed { OnOk result (HasUnwritten self.new) }
-        ensures end { IfOk result (λ receipt. receipt.end.0 ≡ log_end self.new) }
-        ensures moment_never_falls { D.moment (log_disk self.old) ≤ D.moment (log_disk self.new) }
+        ensures leaves { InsertLeaves D.tape D.moment D.faults self.old self.new result }
     {
         let room = u64::from(body.room());
         self.check()?;
@@ -204,12 +193,7 @@ impl<D: Disk> Log<D> {
             Flushes self.old.size faults_at_open before upto.0 result after) }
         ensures down_again { IfSome (writer_fault self.old.writer) (λ faults.
             (result ≡ Err (down_again faults)) × (self.new ≡ self.old)) }
-        ensures keeps { KeepsFlushed D.tape D.faults self.old self.new }
-        ensures calls { MatchResult result
-            (λ _. MakesFlush D.tape D.moment self.old.writer self.new.writer)
-            (λ _. MakesFlush D.tape D.moment self.old.writer self.new.writer
-            ⊎ BreaksFlush D.tape D.moment self.old.writer self.new.writer) }
-        ensures same_log { IsSameLog self.old self.new }
+        ensures leaves { FlushLeaves D.tape D.moment D.faults self.old self.new result }
         ensures has_failed { IfErr result (λ refused. HasFailed refused.cause self.new) }
         ensures flushed { OnOk result (log_end self.old ≤ upto.0
             → self.new.flushed ≡ log_end self.new) }
@@ -219,10 +203,8 @@ impl<D: Disk> Log<D> {
         ensures tells_disk_moment { OnOk result (self.old.flushed < upto.0
             → self.old.flushed < log_end self.old
             → self.new.moment ≡ D.moment (log_disk self.new)) }
-        ensures told_moment_same { OnErr result (self.new.moment ≡ self.old.moment) }
         ensures moment_rises { OnOk result (self.old.flushed < upto.0 → HasUnwritten self.old
             → D.moment (log_disk self.old) < D.moment (log_disk self.new)) }
-        ensures moment_never_falls { D.moment (log_disk self.old) ≤ D.moment (log_disk self.new) }
     {
         self.check()?;
         let end = self.end();
@@ -244,21 +226,14 @@ impl<D: Disk> Log<D> {
         ensures known { RecordOf body.now }
         ensures down_again { IfSome (writer_fault self.old.writer) (λ faults.
             (result ≡ Err (down_again faults)) × (self.new ≡ self.old)) }
-        ensures keeps { KeepsFlushed D.tape D.faults self.old self.new }
-        ensures calls { MatchResult result
-            (λ _. MakesFlush D.tape D.moment self.old.writer self.new.writer)
-            (λ _. MakesFlush D.tape D.moment self.old.writer self.new.writer
-            ⊎ BreaksFlush D.tape D.moment self.old.writer self.new.writer) }
-        ensures same_log { IsSameLog self.old self.new }
+        ensures leaves { FlushLeaves D.tape D.moment D.faults self.old self.new result }
         ensures left_by_refusal { IfErr result (λ refused.
             IsLeftBy refused.cause self.old self.new) }
         ensures flushed { OnOk result (self.new.flushed ≡ log_end self.new) }
         ensures tells_moment { IfOk result (λ sealed. (sealed.moment ≡ self.new.moment)
             × (sealed.moment ≡ D.moment (log_disk self.new))) }
-        ensures told_moment_same { OnErr result (self.new.moment ≡ self.old.moment) }
         ensures moment_rises { OnOk result
             (D.moment (log_disk self.old) < D.moment (log_disk self.new)) }
-        ensures moment_never_falls { D.moment (log_disk self.old) ≤ D.moment (log_disk self.new) }
     {
         let Receipt { start, end } = self.insert(body)?;
         match self.flush(end) {
@@ -297,18 +272,7 @@ impl<D: Disk> Log<D> {
             → StepsLog D.tape D.faults self.old self.new (λ faults_at_open before after.
             Inserts self.old.size self.old.capacity faults_at_open before known.value
             result after) }
-        ensures keeps { KeepsFlushed D.tape D.faults self.old self.new }
-        ensures calls { MatchResult result
-            (λ _. MakesWrites D.tape D.moment self.old.writer self.new.writer)
-            (λ _. MakesWrites D.tape D.moment self.old.writer self.new.writer
-            ⊎ BreaksWrites D.tape D.moment self.old.writer self.new.writer) }
-        ensures same_log { IsSameLog self.old self.new }
-        ensures left_by_refusal { IfErr result (λ refused.
-            IsLeftBy refused.cause self.old self.new) }
-        ensures told_moment_same { self.new.moment ≡ self.old.moment }
-        ensures unflushed { OnOk result (HasUnwritten self.new) }
-        ensures end { IfOk result (λ receipt. receipt.end.0 ≡ log_end self.new) }
-        ensures moment_never_falls { D.moment (log_disk self.old) ≤ D.moment (log_disk self.new) }
+        ensures leaves { InsertLeaves D.tape D.moment D.faults self.old self.new result }
     {
         let position = self.first + self.bytes;
         let start = self.geometry.to_lsn(position);
@@ -332,20 +296,13 @@ impl<D: Disk> Log<D> {
         requires above { self.old.flushed < asked.0 }
         ensures flushes { StepsLog D.tape D.faults self.old self.new (λ faults_at_open before after.
             Flushes self.old.size faults_at_open before asked.0 result after) }
-        ensures keeps { KeepsFlushed D.tape D.faults self.old self.new }
-        ensures calls { MatchResult result
-            (λ _. MakesFlush D.tape D.moment self.old.writer self.new.writer)
-            (λ _. MakesFlush D.tape D.moment self.old.writer self.new.writer
-            ⊎ BreaksFlush D.tape D.moment self.old.writer self.new.writer) }
-        ensures same_log { IsSameLog self.old self.new }
+        ensures leaves { FlushLeaves D.tape D.moment D.faults self.old self.new result }
         ensures has_failed { IfErr result (λ refused. HasFailed refused.cause self.new) }
         ensures flushed { OnOk result (self.new.flushed ≡ log_end self.new) }
         ensures tells_moment { IfOk result (λ hard. hard.moment ≡ self.new.moment) }
         ensures tells_disk_moment { OnOk result (self.new.moment ≡ D.moment (log_disk self.new)) }
-        ensures told_moment_same { OnErr result (self.new.moment ≡ self.old.moment) }
         ensures moment_rises { OnOk result (HasUnwritten self.old
             → D.moment (log_disk self.old) < D.moment (log_disk self.new)) }
-        ensures moment_never_falls { D.moment (log_disk self.old) ≤ D.moment (log_disk self.new) }
     {
         match self.buffers.flush(end) {
             Ok(moment) => {

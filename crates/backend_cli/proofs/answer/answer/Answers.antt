@@ -35,16 +35,16 @@ pub returns-in-Insert-clause-moments : goal.returns-in-Insert-clause-moments
 returns-in-Insert-clause-moments g c = λ last tracked.
     let called = c.insert.ensures in
     subst (λ (told : Told). StepsOn g.D.Disk.moment last told c.insert.new.self) (sym c.of_insert.ensures)
-    (insert_moments g.row.D.Denot g.D.Disk.moment last c.args.log.now c.insert.new.self tracked called.moment_never_falls c.insert.result called.told_moment_same called.unflushed called.left_by_refusal)
+    (insert_moments g.row.D.Denot g.D.Disk.moment last c.args.log.now c.insert.new.self tracked called.leaves.moment_never_falls c.insert.result called.leaves.told_moment_same called.leaves.unflushed called.leaves.left_by_refusal)
 
 pub returns-in-Commit-clause-moments : goal.returns-in-Commit-clause-moments
 returns-in-Commit-clause-moments g c = λ last tracked.
     let called = c.commit.ensures in
     subst (λ (told : Told). StepsOn g.D.Disk.moment last told c.commit.new.self) (sym c.of_commit.ensures)
-    (commit_moments g.row.D.Denot g.D.Disk.moment last c.args.log.now c.commit.new.self tracked called.moment_never_falls c.commit.result called.tells_moment called.moment_rises called.flushed called.told_moment_same called.left_by_refusal)
+    (commit_moments g.row.D.Denot g.D.Disk.moment last c.args.log.now c.commit.new.self tracked called.leaves.moment_never_falls c.commit.result called.tells_moment called.moment_rises called.flushed called.leaves.told_moment_same called.left_by_refusal)
 
 pub returns-in-Flush-clause-moments : goal.returns-in-Flush-clause-moments
 returns-in-Flush-clause-moments g c = λ last tracked.
     let called = c.flush.ensures in
     subst (λ (told : Told). StepsOn g.D.Disk.moment last told c.flush.new.self) (sym c.of_flush.ensures)
-    (flush_moments g.row.D.Denot g.D.Disk.moment last c.args.log.now c.flush.new.self tracked called.moment_never_falls c.end-end.result.0 c.end-end.ensures c.flush.result called.down_again called.tells_moment called.reached called.tells_disk_moment called.moment_rises called.flushed called.told_moment_same called.has_failed)
+    (flush_moments g.row.D.Denot g.D.Disk.moment last c.args.log.now c.flush.new.self tracked called.leaves.moment_never_falls c.end-end.result.0 c.end-end.ensures c.flush.result called.down_again called.tells_moment called.reached called.tells_disk_moment called.moment_rises called.flushed called.leaves.told_moment_same called.has_failed)

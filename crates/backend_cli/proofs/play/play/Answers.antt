@@ -3,7 +3,8 @@ use Rattle.std.proofs.Common.{List, sym, subst, arith}
 use Rattle.backend_cli.specs.declared.told.Told.{Told}
 use Rattle.backend_cli.specs.Moments.{MomentsReach}
 use Rattle.backend_cli.proofs.MomentLaws.{MomentsReach_push}
-use Rattle.backend_cli.proofs.PlayLaws.{IsPlayed_more, IsPlayed_all, IsSameLog-trans}
+use Rattle.serial_log.proofs.StepLaws.{IsSameLog-trans}
+use Rattle.backend_cli.proofs.PlayLaws.{IsPlayed_more, IsPlayed_all}
 use Rattle.backend_cli.proofs.play.play.Goals as goal
 
 pub loop-task-preserved : goal.loop-task-preserved

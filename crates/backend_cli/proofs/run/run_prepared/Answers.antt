@@ -20,7 +20,7 @@ use Rattle.backend_cli.specs.Moments.{MomentsRise}
 use Rattle.waldump_text.specs.Put.{Puts}
 use Rattle.backend_cli.proofs.LastFlush.{behind_flush}
 use Rattle.backend_cli.proofs.MomentLaws.{tracked_at_opening}
-use Rattle.backend_cli.proofs.PlayLaws.{IsSameLog-trans}
+use Rattle.serial_log.proofs.StepLaws.{IsSameLog-trans}
 use Rattle.backend_cli.proofs.RunLaws.{opened_holds, failed_to_open, found_a_log, no_memory}
 use Rattle.backend_cli.proofs.run.run_prepared.Goals as goal
 
@@ -39,7 +39,7 @@ returns-clause-holds g c = λ before after lines means ready.
     let are = subst (AreTasks lines) (sym c.deref.ensures.value) ready.tasks in
     let played = c.play.ensures.plays lines are (tape disk) (faults disk) (at_opening opened.size) c.in-Ok.ensures.opened in
     let flushed = c.flush.ensures.flushes (tape disk) (faults disk) played.0 played.2 in
-    let same = IsSameLog-trans opened played_log log c.play.ensures.same c.flush.ensures.same_log in
+    let same = IsSameLog-trans opened played_log log c.play.ensures.same c.flush.ensures.leaves.same_log in
     let made = c.in-Ok.ensures.shape in
     let size_is : opened.size ≡ size = made.0 ∙ ap (λ (r : Shape). r.geometry) ready.log in
     let capacity_is : opened.capacity ≡ capacity = made.1 ∙ ap (λ (r : Shape). capacity_of r.geometry r.cap_segments) ready.log in
@@ -49,15 +49,15 @@ returns-clause-holds g c = λ before after lines means ready.
     let small : capacity ≤ 2 ^ 42 = capacity_of-le size c.args.shape.cap_segments valid c.args.shape.cap_high in
     let asked = c.end-end.result.0 in
     let all : asked ≡ end_of played_log.size played.0.entries = c.end-end.ensures ∙ ap (λ (n : ℕ). end_address_of played_log.size (first_position played_log.size + n)) played.2.bytes in
-    let all_now : asked ≡ end_of log.size played.0.entries = subst (λ (n : ℕ). asked ≡ end_of n played.0.entries) (sym c.flush.ensures.same_log.size) all in
-    let behind = behind_flush log.size (faults disk) played.0 asked all_now c.flush.result flushed.0 (subst (λ (n : ℕ). Flushes n (faults disk) played.0 asked c.flush.result flushed.0) (sym c.flush.ensures.same_log.size) flushed.1) in
+    let all_now : asked ≡ end_of log.size played.0.entries = subst (λ (n : ℕ). asked ≡ end_of n played.0.entries) (sym c.flush.ensures.leaves.same_log.size) all in
+    let behind = behind_flush log.size (faults disk) played.0 asked all_now c.flush.result flushed.0 (subst (λ (n : ℕ). Flushes n (faults disk) played.0 asked c.flush.result flushed.0) (sym c.flush.ensures.leaves.same_log.size) flushed.1) in
     let summarizes = subst (λ t. Summarizes size log.bytes t c.summary_of-summary.result) c.deref-in-Ok.ensures.value c.summary_of-summary.ensures in
     let puts = subst (λ t. Puts (g.O.Sink.taken c.args.out.now) (g.O.Sink.taken c.print.new.out) (g.O.Sink.faults c.args.out.now) (g.O.Sink.faults c.print.new.out) (printed_text c.args.list c.args.prepared.tasks.items t c.summary_of-summary.result) c.print.result) c.deref-in-Ok-3.ensures.value
     (subst (λ t. Puts (g.O.Sink.taken c.args.out.now) (g.O.Sink.taken c.print.new.out) (g.O.Sink.faults c.args.out.now) (g.O.Sink.faults c.print.new.out) (printed_text c.args.list t c.deref-in-Ok-3.result.now c.summary_of-summary.result) c.print.result) c.deref-in-Ok-2.ensures.value c.print.ensures) in
     let concludes = subst (λ b. Concludes c.down.result told (not b) c.conclusion.result) c.is_ok-is_printed.ensures.value
     (subst (λ t. Concludes c.down.result t (not c.is_ok-is_printed.result) c.conclusion.result) c.deref-in-Ok-4.ensures.value c.conclusion.ensures) in
     let reached = c.play.ensures.moments _ (tracked_at_opening _ tape moment faults disk opened c.in-Ok.ensures.opened c.in-Ok.ensures.moment c.in-Ok.ensures.uncalled.same_moment) in
-    let rises : MomentsRise (moment disk) told (moment (log_disk log)) = (reached.0, reached.1, omega (arith, reached.2.kept, reached.2.within, c.flush.ensures.moment_never_falls)) in
+    let rises : MomentsRise (moment disk) told (moment (log_disk log)) = (reached.0, reached.1, omega (arith, reached.2.kept, reached.2.within, c.flush.ensures.leaves.moment_never_falls)) in
     opened_holds _ tape moment faults disk log played.0 flushed.0 flushed.2 behind size capacity c.args.list c.conclusion.result lines c.args.prepared.tasks.items told c.summary_of-summary.result _ _ _ _ c.print.result before after c.down.result c.into_disk.result c.one.result
     (same.size ∙ size_is) (same.capacity ∙ capacity_is) small (same.sysid ∙ made.2) c.into_disk.ensures.disk c.one.ensures plays means ready.tasks summarizes puts c.down.ensures concludes rises c.in-Ok.ensures.empty
     (c.into_disk.ensures.settled (tape disk) (faults disk) flushed.0 flushed.2)

@@ -4,7 +4,7 @@ use Rattle.segment_disk.specs.Tape.{Tape, sync_call}
 use Rattle.flush_core.specs.declared.writer.Writer.{Writer}
 use Rattle.flush_core.specs.Pages.{PutPages}
 use Rattle.flush_core.specs.Left.{IsMadeUpto, IsKeptWord, TapeAssures}
-use Rattle.flush_core.specs.Writer.{IsWriter}
+use Rattle.flush_core.specs.Writer.{IsReached, IsWriter}
 use Rattle.flush_core.specs.Left.{IsWordPut, IsNowhere}
 use Rattle.flush_core.proofs.LeftLaws.{TapeAssures-with_call, TapeAssures-failed}
 use Rattle.flush_core.proofs.LeftPuts.{IsKept-synced}
@@ -55,7 +55,12 @@ fits_behind g c IsThere Fits moment assures =
     ]
 
 pub returns-clause-keeps : goal.returns-clause-keeps
-returns-clause-keeps g c = λ moment position pages. fits_behind g c (λ size. IsMadeUpto size position) (IsKeptWord position pages) moment
+returns-clause-keeps g c =
+    let reached = λ (was : IsReached c.args.self.now). let is : IsReached c.if-self.self = elim c.if-self.branch [
+      | then-self+in-Ok w ↦ subst (λ (new : Writer g.row.D.Denot). IsReached new) (sym w.self-is) was
+      | else-self w ↦ subst (λ (new : Writer g.row.D.Denot). IsReached new) (sym w.self-is) was
+    ] in is in
+    λ moment position pages kept. (reached kept.0, fits_behind g c (λ size. IsMadeUpto size position) (IsKeptWord position pages) moment kept.1)
 
 pub returns-clause-only : goal.returns-clause-only
 returns-clause-only g c = λ moment puts. fits_behind g c (λ size. IsNowhere) (IsWordPut puts) moment
@@ -69,7 +74,10 @@ fits_failed g c IsThere Fits moment assures =
     subst (λ (new : Writer g.row.D.Denot). IfSome (tape new.disk) (TapeAssures new.geometry (IsThere new.geometry) Fits moment)) (sym c.fail.ensures.kept) (TapeAssures-failed old.geometry (IsThere old.geometry) Fits moment (tape old.disk) (tape c.sync.new.self) _ _ (sync_call old.geometry (old.written.0 / c.segment_size.result)) tt c.in-Err.ensures.answers assures)
 
 pub returns-in-Err-clause-keeps : goal.returns-in-Err-clause-keeps
-returns-in-Err-clause-keeps g c = λ moment position pages. fits_failed g c (λ size. IsMadeUpto size position) (IsKeptWord position pages) moment
+returns-in-Err-clause-keeps g c = λ moment position pages kept. (
+  subst (λ (new : Writer g.row.D.Denot). IsReached new) (sym c.fail.ensures.kept) kept.0,
+  fits_failed g c (λ size. IsMadeUpto size position) (IsKeptWord position pages) moment kept.1,
+)
 
 pub returns-in-Err-clause-only : goal.returns-in-Err-clause-only
 returns-in-Err-clause-only g c = λ moment puts. fits_failed g c (λ size. IsNowhere) (IsWordPut puts) moment

@@ -1,6 +1,6 @@
 -- A page is put by the calls of its place.
-use Rattle.std.proofs.Common.{◌≡◌, ◌%◌, ◌==◌, ◌≤◌, ℕ, Option, Some, IfSome, List, subst, sym, arith}
-use Rattle.byte_position.specs.Geometry.{IsSegmentSize}
+use Rattle.std.proofs.Common.{◌≡◌, ◌+◌, ◌*◌, ◌/◌, ◌%◌, ◌==◌, ◌≤◌, ◌∙◌, ℕ, max, nat_lt, Option, Some, IfSome, List, ap, subst, sym, arith}
+use Rattle.byte_position.specs.Geometry.{IsSegmentSize, pages_of}
 use Rattle.segment_disk.specs.declared.disk.Call.{Call}
 use Rattle.segment_disk.specs.Tape.{Tape}
 use Rattle.flush_core.specs.declared.writer.Writer.{Writer}
@@ -8,6 +8,8 @@ use Rattle.flush_core.specs.Calls.{store_calls, put_calls, with_calls, BreaksOff
 use Rattle.flush_core.specs.Pages.{PutPages}
 use Rattle.flush_core.specs.Left.{PutHistory, with_put, IsMadeUpto, IsKeptWord, SameBelow, TapeAssures}
 use Rattle.flush_core.specs.Left.{IsWordPut, IsNowhere}
+use Rattle.flush_core.specs.Writer.{IsReached}
+use Rattle.flush_core.proofs.PutLaws.{page_reaches}
 use Rattle.flush_core.proofs.LeftLaws.{AllFit, TapeAssures-with_calls, TapeAssures-broken}
 use Rattle.flush_core.proofs.LeftPuts.{put_keeps, put_adds, HoldsOnly-more}
 use Rattle.flush_core.proofs.WriterLaws.{put_calls_are, IsWriter-put}
@@ -18,12 +20,15 @@ use Rattle.flush_core.proofs.writer.Writer.put_page.Goals as goal
 module _ (g : Over) (c : After-store_page g) where
   -- the calls that store the page at its place
   abbrev stored : List Call
-  stored = store_calls c.args.self.now.geometry c.place_of-place.result.segment c.place_of-place.result.page (c.args.self.now.written.0 % c.segment_size.result == 0) (c.args.upto.0 % c.segment_size-2.result == 0) c.args.bytes.now
+  stored = store_calls c.args.self.now.geometry c.place_of-place.result.segment c.place_of-place.result.page (nat_lt c.args.self.now.made c.place_of-place.result.segment) (c.args.upto.0 % c.segment_size.result == 0) c.args.bytes.now
 
-  stored_are : stored ≡ put_calls c.args.self.now.geometry c.args.self.now.written.0 c.args.page c.args.upto.0 c.args.bytes.now
+  stored_are : stored ≡ put_calls c.args.self.now.geometry c.args.self.now.made c.args.page c.args.upto.0 c.args.bytes.now
   stored_are =
-      put_calls_are c.args.self.now.geometry c.args.self.now.written.0 c.args.page c.args.upto.0 c.place_of-place.result.segment c.place_of-place.result.page c.segment_size.result c.segment_size-2.result c.args.bytes.now
-      c.place_of-place.ensures.segment c.place_of-place.ensures.page c.segment_size.ensures.value c.segment_size-2.ensures.value
+      put_calls_are c.args.self.now.geometry c.args.self.now.made c.args.page c.args.upto.0 c.place_of-place.result.segment c.place_of-place.result.page c.segment_size.result c.args.bytes.now
+      c.place_of-place.ensures.segment c.place_of-place.ensures.page c.segment_size.ensures.value
+
+  makes : c.max-made.result ≡ max c.args.self.now.made (c.args.page / pages_of c.args.self.now.geometry)
+  makes = c.max-made.ensures ∙ ap (max c.args.self.now.made) c.place_of-place.ensures.segment
 
   valid : IsSegmentSize c.args.self.now.geometry
   valid = subst IsSegmentSize c.segment_size.ensures.value c.segment_size.ensures.valid
@@ -31,8 +36,8 @@ module _ (g : Over) (c : After-store_page g) where
 pub returns-in-Ok-clause-put : goal.returns-in-Ok-clause-put
 returns-in-Ok-clause-put g c =
     let before = (goal.at.returns-in-Ok-clause-put g c).After-store_page in
-    IsWriter-put g.row.D.Denot g.D.Disk.tape c.args.self.now c.store_page.new.disk c.args.page c.args.upto c.args.bytes.now c.segment_size-2.result (stored g before) (valid g before) c.requires.page c.requires.rises c.requires.begun c.requires.within (omega arith)
-    c.in-Ok.ensures.ok.tape (stored_are g before) c.segment_size-2.ensures.value
+    IsWriter-put g.row.D.Denot g.D.Disk.tape c.args.self.now c.store_page.new.disk c.args.page c.args.upto c.args.bytes.now c.segment_size.result c.max-made.result (stored g before) (valid g before) c.requires.page c.requires.rises c.requires.begun c.requires.within (omega arith)
+    c.in-Ok.ensures.ok.tape (stored_are g before) c.segment_size.ensures.value (makes g before)
 
 -- the calls were made, or broke off, and they fit
 module _ (g : Over) (c : After-store_page g) (IsThere : ℕ → ℕ → Type 0) (Fits : ℕ → ℕ → List ℕ → Type 0) (moment : ℕ) (fit : AllFit c.args.self.now.geometry (IsThere c.args.self.now.geometry) Fits (stored g c)) (assures : IfSome (g.D.Disk.tape c.args.self.now.disk) (TapeAssures c.args.self.now.geometry (IsThere c.args.self.now.geometry) Fits moment)) where
@@ -47,11 +52,16 @@ module _ (g : Over) (c : After-store_page g) (IsThere : ℕ → ℕ → Type 0) 
       (TapeAssures-broken c.args.self.now.geometry (IsThere c.args.self.now.geometry) Fits moment (g.D.Disk.tape c.args.self.now.disk) (g.D.Disk.tape disk) old_moment new_moment (stored g c) broken fit assures)
 
 module _ (g : Over) (c : After-store_page g) where
-  keeps : (position : ℕ) (pages : PutPages) → position ≤ c.args.self.now.written.0 → SameBelow position c.args.page c.args.bytes.now (pages c.args.page) → AllFit c.args.self.now.geometry (IsMadeUpto c.args.self.now.geometry position) (IsKeptWord position pages) (stored g c)
-  keeps = put_keeps c.args.self.now.geometry c.args.self.now.written.0 c.args.upto.0 c.args.page c.args.bytes.now (stored g c) (stored_are g c) (valid g c) c.requires.page
+  keeps : IsReached c.args.self.now → (position : ℕ) (pages : PutPages) → position ≤ c.args.self.now.written.0 → SameBelow position c.args.page c.args.bytes.now (pages c.args.page) → AllFit c.args.self.now.geometry (IsMadeUpto c.args.self.now.geometry position) (IsKeptWord position pages) (stored g c)
+  keeps = put_keeps c.args.self.now.geometry c.args.self.now.made c.args.self.now.written.0 c.args.upto.0 c.args.page c.args.bytes.now (stored g c) (stored_are g c) (valid g c) c.requires.page
+
+  reaches : c.args.upto.0 ≤ c.max-made.result * c.args.self.now.geometry + c.args.self.now.geometry
+  reaches =
+      subst (λ (m : ℕ). c.args.upto.0 ≤ m * c.args.self.now.geometry + c.args.self.now.geometry) (sym (makes g c))
+      (page_reaches c.args.self.now.geometry c.args.upto.0 c.args.page (valid g c) c.requires.within c.args.self.now.made)
 
   adds : (puts : PutHistory) → AllFit c.args.self.now.geometry IsNowhere (IsWordPut (with_put puts c.args.page c.args.bytes.now)) (stored g c)
-  adds = put_adds c.args.self.now.geometry c.args.self.now.written.0 c.args.upto.0 c.args.page c.args.bytes.now (stored g c) (stored_are g c) (valid g c) c.requires.page
+  adds = put_adds c.args.self.now.geometry c.args.self.now.made c.args.self.now.written.0 c.args.upto.0 c.args.page c.args.bytes.now (stored g c) (stored_are g c) (valid g c) c.requires.page
 
   more : (puts : PutHistory) (moment : ℕ) → IfSome (g.D.Disk.tape c.args.self.now.disk) (TapeAssures c.args.self.now.geometry IsNowhere (IsWordPut puts) moment)
       → IfSome (g.D.Disk.tape c.args.self.now.disk) (TapeAssures c.args.self.now.geometry IsNowhere (IsWordPut (with_put puts c.args.page c.args.bytes.now)) moment)
@@ -60,12 +70,18 @@ module _ (g : Over) (c : After-store_page g) where
 pub returns-in-Ok-clause-keeps : goal.returns-in-Ok-clause-keeps
 returns-in-Ok-clause-keeps g c =
     let before = (goal.at.returns-in-Ok-clause-keeps g c).After-store_page in
-    λ moment position pages low same kept. fits_made g before (λ size. IsMadeUpto size position) (IsKeptWord position pages) moment (keeps g before position pages low same) kept c.store_page.new.disk c.in-Ok.ensures.ok.tape
+    λ moment position pages low same kept. (
+      reaches g before,
+      fits_made g before (λ size. IsMadeUpto size position) (IsKeptWord position pages) moment (keeps g before kept.0 position pages low same) kept.1 c.store_page.new.disk c.in-Ok.ensures.ok.tape,
+    )
 
 pub returns-in-Err-clause-keeps : goal.returns-in-Err-clause-keeps
 returns-in-Err-clause-keeps g c =
     let before = (goal.at.returns-in-Err-clause-keeps g c).After-store_page in
-    λ moment position pages low same kept. fits_broken g before (λ size. IsMadeUpto size position) (IsKeptWord position pages) moment (keeps g before position pages low same) kept c.store_page.new.disk c.fail.new.self _ _ c.fail.result.faults c.in-Err.ensures.err c.fail.ensures.kept
+    λ moment position pages low same kept. (
+      subst (λ (w : Writer g.row.D.Denot). IsReached w) (sym c.fail.ensures.kept) kept.0,
+      fits_broken g before (λ size. IsMadeUpto size position) (IsKeptWord position pages) moment (keeps g before kept.0 position pages low same) kept.1 c.store_page.new.disk c.fail.new.self _ _ c.fail.result.faults c.in-Err.ensures.err c.fail.ensures.kept,
+    )
 
 pub returns-in-Ok-clause-only : goal.returns-in-Ok-clause-only
 returns-in-Ok-clause-only g c =

@@ -17,9 +17,9 @@ loop-end-preserved g c =
     c.loop-end.placed c.copy.new.placed c.loop-end.self.ring c.hold_page.new.self.ring c.copy.new.self c.loop-end.self.writer c.hold_page.new.self.writer c.end_in_page.result.0
     c.requires.whole.1 left c.loop-end.invariant
     (record {
-      writes = held.writes;
+      writes = held.leaves.writes;
       further = held.further;
-      calls = held.calls;
+      calls = held.leaves.calls;
       spans = held.spans;
       holds = held.held;
       words = held.words;
@@ -30,8 +30,8 @@ loop-end-preserved g c =
       copies = copied.words;
     })
 
-pub returns-in_err-hold_page-clause-fails : goal.returns-in_err-hold_page-clause-fails
-returns-in_err-hold_page-clause-fails g c =
+pub returns-in_err-hold_page-clause-leaves : goal.returns-in_err-hold_page-clause-leaves
+returns-in_err-hold_page-clause-leaves g c =
     let D = g.row.D.Denot in
     let tape = g.D.Disk.tape in
     let moment = g.D.Disk.moment in
@@ -42,15 +42,13 @@ returns-in_err-hold_page-clause-fails g c =
     let new = c.hold_page.new.self.writer in
     let takes = RingTakes old.ring c.args.placed.now c.args.end.0 in
     let held = RingHas mid.ring c.loop-end.placed.next in
-    let down = rw c.next_lsn-next.ensures at c.in_err-hold_page.ensures.fails in
+    let failed = rw c.next_lsn-next.ensures at c.in_err-hold_page.ensures.leaves in
     let p = err_from_is_err_and c.from_residual.result c.from_residual.ensures.1 in
-    rw (p.1, p.2) (GoesDown-behind D tape moment faults takes old.writer mid.writer new _ so_far.writes (GoesDown-given D tape moment faults held takes mid.writer new _ so_far.words down))
-
-pub returns-in_err-hold_page-clause-calls : goal.returns-in_err-hold_page-clause-calls
-returns-in_err-hold_page-clause-calls g c =
-    let p = err_from_is_err_and c.from_residual.result c.from_residual.ensures.1 in
-    let so_far = c.loop-end.invariant in
-    rw p.1 (BreaksWrites-behind g.row.D.Denot g.D.Disk.tape g.D.Disk.moment c.args.self.now.writer c.loop-end.self.writer c.hold_page.new.self.writer so_far.calls c.in_err-hold_page.ensures.calls)
+    rw (p.1, p.2) (record {
+      writes = tt;
+      fails = GoesDown-behind D tape moment faults takes old.writer mid.writer new _ so_far.writes (GoesDown-given D tape moment faults held takes mid.writer new _ so_far.words failed.fails);
+      calls = BreaksWrites-behind D tape moment old.writer mid.writer new so_far.calls failed.calls;
+    })
 
 pub loop-end-init : goal.loop-end-init
 loop-end-init g c = IsCopied-none g.row.D.Denot g.D.Disk.tape g.D.Disk.moment g.D.Disk.faults c.args.placed.now c.args.end.0 c.args.self.now.ring c.args.self.now.writer c.requires.up c.requires.spans c.requires.whole.0 c.requires.begins

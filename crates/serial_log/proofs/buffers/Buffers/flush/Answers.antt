@@ -17,7 +17,7 @@ returns-clause-writes g c =
     let made = c.harden.ensures in
     on_ok_two c.harden.result
     (λ done holds. WritesOn-synced D tape moment faults has c.args.self.now.writer c.write_upto.new.self.writer c.harden.new.self _
-    c.in_ok-write_upto.ensures.writes done made.size made.written made.moment_never_falls holds (Preserves-synced D tape moment faults has c.write_upto.new.self.writer c.harden.new.self made.keeps made.only))
+    c.in_ok-write_upto.ensures.leaves.writes done made.size made.written made.moment_never_falls holds (Preserves-synced D tape moment faults has c.write_upto.new.self.writer c.harden.new.self made.keeps made.only))
     made.done made.holds
 
 pub returns-clause-fails : goal.returns-clause-fails
@@ -28,7 +28,7 @@ returns-clause-fails g c =
     let faults = g.D.Disk.faults in
     let has = RingHas c.args.self.now.ring c.args.upto.0 in
     let made = c.harden.ensures in
-    let writes = c.in_ok-write_upto.ensures.writes in
+    let writes = c.in_ok-write_upto.ensures.leaves.writes in
     let written = c.write_upto.new.self.writer in
     if_err_then c.harden.result
     (λ e tells. GoesDown-behind D tape moment faults has c.args.self.now.writer written c.harden.new.self e.faults writes
@@ -42,7 +42,7 @@ returns-clause-hardened g c =
     let has = RingHas c.args.self.now.ring c.args.upto.0 in
     let written = c.write_upto.new.self.writer in
     if_ok_then c.harden.result
-    (λ hardened kept word holds was. KeepsBelow-hardened D tape g.D.Disk.moment g.D.Disk.faults has c.args.self.now.writer written c.harden.new.self c.args.upto.0 hardened c.in_ok-write_upto.ensures.written c.in_ok-write_upto.ensures.writes kept word holds was)
+    (λ hardened kept word holds was. KeepsBelow-hardened D tape g.D.Disk.moment g.D.Disk.faults has c.args.self.now.writer written c.harden.new.self c.args.upto.0 hardened c.in_ok-write_upto.ensures.written c.in_ok-write_upto.ensures.leaves.writes kept word holds was)
     c.harden.ensures.hardened
 
 pub returns-clause-calls : goal.returns-clause-calls
@@ -54,13 +54,13 @@ returns-clause-calls g c =
     let written = c.write_upto.new.self.writer in
     let new = c.harden.new.self in
     let made = c.harden.ensures in
-    let writes = c.in_ok-write_upto.ensures.calls in
+    let writes = c.in_ok-write_upto.ensures.leaves.calls in
     match_ok_err c.harden.result
-    (λ done. MakesFlush-then D tape moment old written new writes (MakesFlush-sync D tape moment written new _ made.written done.made))
-    (λ e tells. BreaksFlush-behind D tape moment old written new writes (BreaksFlush-sync D tape moment written new _ (breaks-told D tape written new moment g.D.Disk.faults _ made.size e.faults c.in_ok-write_upto.ensures.writes.up.up tells)))
+    (λ done. MakesFlush-then D tape moment old written new writes (MakesFlush-sync D tape moment written new _ made.written made.made done.made))
+    (λ e tells. BreaksFlush-behind D tape moment old written new writes (BreaksFlush-sync D tape moment written new _ (breaks-told D tape written new moment g.D.Disk.faults _ made.size e.faults c.in_ok-write_upto.ensures.leaves.writes.up.up tells)))
     made.done made.failed
 
 pub returns-in_err-write_upto-clause-calls : goal.returns-in_err-write_upto-clause-calls
 returns-in_err-write_upto-clause-calls g c =
     let p = err_from_is_err_and c.from_residual.result c.from_residual.ensures.1 in
-    rw p.1 (BreaksFlush-writes g.row.D.Denot g.D.Disk.tape g.D.Disk.moment c.args.self.now.writer c.write_upto.new.self.writer c.in_err-write_upto.ensures.calls)
+    rw p.1 (BreaksFlush-writes g.row.D.Denot g.D.Disk.tape g.D.Disk.moment c.args.self.now.writer c.write_upto.new.self.writer c.in_err-write_upto.ensures.leaves.calls)

@@ -11,55 +11,36 @@ use Rattle.serial_log.proofs.BufferLaws.{breaks-told, GoesDown-told, HasWritten-
 use Rattle.serial_log.proofs.CallLaws.{BreaksWrites-page, MakesWrites-page}
 use Rattle.serial_log.proofs.buffers.Buffers.write_page.Goals as goal
 
-pub returns-clause-writes : goal.returns-clause-writes
-returns-clause-writes g c =
-    let D = g.row.D.Denot in
-    let tape = g.D.Disk.tape in
-    let old = c.args.self.now in
-    let new = c.put_page.new.self in
-    let put = c.put_page.ensures in
-    let page = c.written-written.result.0 / 8192 in
-    let bytes = c.deref.result.now in
-    let at : page ≡ written_of old.writer / 8192 = ap (λ (n : ℕ). n / 8192) c.written-written.ensures in
-    let words : (n : ℕ) → n < 1024 → word_of bytes n ≡ to_le_bytes w64 (ring_word old.ring page n) = λ n lt. ap (λ (bytes : List ℕ). word_of bytes n) c.deref.ensures ∙ c.put_bytes.ensures n lt in
-    let end = c.end_in_page.ensures in
-    let preserves : Preserves tape (RingHas old.ring c.args.upto.0) old.writer new = Preserves-put D tape old.writer new old.ring c.args.upto.0 page bytes at c.requires.spans c.requires.rises words put.keeps put.only in
-    on_ok_four _ c.put_page.result
-    (λ puts written_is done later.
-    WritesOn-page D tape old.writer new g.D.Disk.moment g.D.Disk.faults _ put.size old.ring c.args.upto.0 c.end_in_page.result.0 (omega (arith, end, c.requires.rises, c.written-written.ensures)) done written_is later
-    (λ word holds has. HasWritten-put D tape old.writer new word old.ring c.args.upto.0 c.end_in_page.result.0 page bytes at c.requires.spans c.requires.rises end written_is words puts holds has)
-    preserves)
-    put.put put.written put.done put.moment_rises
-
-pub returns-clause-fails : goal.returns-clause-fails
-returns-clause-fails g c =
-    let D = g.row.D.Denot in
-    let tape = g.D.Disk.tape in
-    let old = c.args.self.now in
-    let new = c.put_page.new.self in
-    let put = c.put_page.ensures in
-    let page = c.written-written.result.0 / 8192 in
-    let bytes = c.deref.result.now in
-    let at : page ≡ written_of old.writer / 8192 = ap (λ (n : ℕ). n / 8192) c.written-written.ensures in
-    let words : (n : ℕ) → n < 1024 → word_of bytes n ≡ to_le_bytes w64 (ring_word old.ring page n) = λ n lt. ap (λ (bytes : List ℕ). word_of bytes n) c.deref.ensures ∙ c.put_bytes.ensures n lt in
-    let preserves : Preserves tape (RingHas old.ring c.args.upto.0) old.writer new = Preserves-put D tape old.writer new old.ring c.args.upto.0 page bytes at c.requires.spans c.requires.rises words put.keeps put.only in
-    if_err_then c.put_page.result (λ e tells. GoesDown-told D tape old.writer new g.D.Disk.moment g.D.Disk.faults _ put.size (RingHas old.ring c.args.upto.0) e.faults c.requires.up put.moment_never_falls preserves tells) put.failed
-
-pub returns-clause-calls : goal.returns-clause-calls
-returns-clause-calls g c =
+pub returns-clause-leaves : goal.returns-clause-leaves
+returns-clause-leaves g c =
     let D = g.row.D.Denot in
     let tape = g.D.Disk.tape in
     let moment = g.D.Disk.moment in
+    let faults = g.D.Disk.faults in
+    let ring = c.args.self.now.ring in
     let old = c.args.self.now.writer in
     let new = c.put_page.new.self in
     let put = c.put_page.ensures in
+    let written = c.written-written.ensures in
     let page = c.written-written.result.0 / 8192 in
-    let upto = c.end_in_page.result.0 in
+    let end = c.end_in_page.result.0 in
+    let end_is = c.end_in_page.ensures in
     let bytes = c.deref.result.now in
-    let at : page ≡ written_of old / 8192 = ap (λ (n : ℕ). n / 8192) c.written-written.ensures in
-    let rises : written_of old < upto = omega (arith, c.end_in_page.ensures, c.requires.rises, c.written-written.ensures) in
-    let within : upto ≤ (written_of old / 8192 + 1) * 8192 = omega (arith, c.end_in_page.ensures, c.written-written.ensures) in
-    match_of _ c.put_page.result
-    (λ done written. MakesWrites-page D tape moment old new put.size page upto bytes at rises within written done.made)
-    (λ e tells. BreaksWrites-page D tape moment old new page upto bytes at rises within (breaks-told D tape old new moment g.D.Disk.faults _ put.size e.faults c.requires.up tells))
-    put.done put.written put.failed
+    let at : page ≡ written_of old / 8192 = ap (λ (n : ℕ). n / 8192) written in
+    let rises : written_of old < end = omega (arith, end_is, c.requires.rises, written) in
+    let within : end ≤ (written_of old / 8192 + 1) * 8192 = omega (arith, end_is, written) in
+    let words : (n : ℕ) → n < 1024 → word_of bytes n ≡ to_le_bytes w64 (ring_word ring page n) = λ n lt. ap (λ (bytes : List ℕ). word_of bytes n) c.deref.ensures ∙ c.put_bytes.ensures n lt in
+    let preserves : Preserves tape (RingHas ring c.args.upto.0) old new = Preserves-put D tape old new ring c.args.upto.0 page bytes at c.requires.spans c.requires.rises words put.keeps put.only in
+    record {
+      writes = on_ok_four _ c.put_page.result
+          (λ puts written_is done later.
+          WritesOn-page D tape old new moment faults _ put.size ring c.args.upto.0 end rises done written_is later
+          (λ word holds has. HasWritten-put D tape old new word ring c.args.upto.0 end page bytes at c.requires.spans c.requires.rises end_is written_is words puts holds has)
+          preserves)
+          put.put put.written put.done put.moment_rises;
+      fails = if_err_then c.put_page.result (λ e tells. GoesDown-told D tape old new moment faults _ put.size (RingHas ring c.args.upto.0) e.faults c.requires.up put.moment_never_falls preserves tells) put.failed;
+      calls = match_of _ _ c.put_page.result
+          (λ done written_is last. MakesWrites-page D tape moment old new page end bytes at rises within put.size written_is last done.made)
+          (λ e tells. BreaksWrites-page D tape moment old new page end bytes at rises within (breaks-told D tape old new moment faults _ put.size e.faults c.requires.up tells))
+          put.done put.written put.made put.failed;
+    }

@@ -7,8 +7,8 @@ use Rattle.serial_log.proofs.WritingLaws.{GoesDown-page_on, IsSameOrFurther-then
 use Rattle.serial_log.proofs.CallLaws.{BreaksWrites-behind, makes_no_writes, MakesWrites-then}
 use Rattle.serial_log.proofs.buffers.Buffers.write_upto.Goals as goal
 
-pub returns-in_err-write_page-clause-fails : goal.returns-in_err-write_page-clause-fails
-returns-in_err-write_page-clause-fails g c =
+pub returns-in_err-write_page-clause-leaves : goal.returns-in_err-write_page-clause-leaves
+returns-in_err-write_page-clause-leaves g c =
     let D = g.row.D.Denot in
     let tape = g.D.Disk.tape in
     let moment = g.D.Disk.moment in
@@ -17,13 +17,12 @@ returns-in_err-write_page-clause-fails g c =
     let mid = c.loop-upto.self.writer in
     let new = c.write_page.new.self.writer in
     let p = err_from_is_err_and c.from_residual.result c.from_residual.ensures.1 in
-    rw (p.1, p.2) (GoesDown-page_on D tape moment faults c.args.self.now.ring c.loop-upto.self.ring c.args.upto.0 c.args.self.now.writer mid new so_far.ring so_far.writes _ c.in_err-write_page.ensures.fails)
-
-pub returns-in_err-write_page-clause-calls : goal.returns-in_err-write_page-clause-calls
-returns-in_err-write_page-clause-calls g c =
-    let p = err_from_is_err_and c.from_residual.result c.from_residual.ensures.1 in
-    let so_far = c.loop-upto.invariant in
-    rw p.1 (BreaksWrites-behind g.row.D.Denot g.D.Disk.tape g.D.Disk.moment c.args.self.now.writer c.loop-upto.self.writer c.write_page.new.self.writer so_far.calls c.in_err-write_page.ensures.calls)
+    let page = c.in_err-write_page.ensures.leaves in
+    rw (p.1, p.2) (record {
+      writes = tt;
+      fails = GoesDown-page_on D tape moment faults c.args.self.now.ring c.loop-upto.self.ring c.args.upto.0 c.args.self.now.writer mid new so_far.ring so_far.writes _ page.fails;
+      calls = BreaksWrites-behind D tape moment c.args.self.now.writer mid new so_far.calls page.calls;
+    })
 
 pub loop-upto-init : goal.loop-upto-init
 loop-upto-init g c =
@@ -52,7 +51,7 @@ loop-upto-preserved g c =
     record {
       ring = page.ring ∙ so_far.ring;
       spans = Spans-page_on D tape moment faults old.ring upto mid.writer new.writer left page.written so_far.spans;
-      writes = WritesOn-page_on D tape moment faults old.ring mid.ring upto old.writer mid.writer new.writer so_far.ring so_far.writes page.writes;
+      writes = WritesOn-page_on D tape moment faults old.ring mid.ring upto old.writer mid.writer new.writer so_far.ring so_far.writes page.leaves.writes;
       further = IsSameOrFurther-then D tape moment faults old.writer mid.writer new.writer so_far.further (inr (omega (arith, page.written, left)));
-      calls = MakesWrites-then D tape moment old.writer mid.writer new.writer so_far.calls page.calls;
+      calls = MakesWrites-then D tape moment old.writer mid.writer new.writer so_far.calls page.leaves.calls;
     }

@@ -1,10 +1,11 @@
 -- The record's words come behind the log's, or the disk fails.
-use Rattle.std.proofs.Common.{◌≡◌, ◌<◌, ◌≤◌, ◌+◌, ◌%◌, ℕ, None, inr, sym, ap, subst, ◌∙◌, arith}
+use Rattle.std.proofs.Common.{◌≡◌, ◌<◌, ◌≤◌, ◌+◌, ◌%◌, ℕ, None, Option, inr, refl, sym, ap, subst, ◌∙◌, arith}
 use Rattle.byte_position.specs.Position.{end_address_of}
 use Rattle.byte_position.proofs.EndAddresses.{end_address_of-le_address_of}
 use Rattle.byte_position.proofs.Rising.{address_of-bound}
 use Rattle.byte_position.proofs.Words.{end_address_of-mod_word}
 use Rattle.record_spelling.specs.Spelling.{assembled_room}
+use Rattle.segment_disk.specs.Tape.{Tape}
 use Rattle.flush_core.specs.Writer.{writer_fault}
 use Rattle.serial_log.specs.LogState.{LogState}
 use Rattle.serial_log.proofs.LogLaws.{IsPlace, appended_ok, appended_err, inserts_at, keeps_appended, placed_next, unwritten}
@@ -39,14 +40,14 @@ returns-clause-inserts g c =
       | in-Ok w ↦
           (let done = w.in-Ok.ensures in
           inserts_at log.size log.capacity faults_at_open s known.value c.match-copy.result _ _ w.result-is
-          (appended_ok D tape moment faults tape_at_open faults_at_open log up copied.ring copied.writer l.first c.from.result start end body from place s known.value is known.same known.writable reaches done.writes done.further done.spans done.words))
+          (appended_ok D tape moment faults tape_at_open faults_at_open log up copied.ring copied.writer l.first c.from.result start end body from place s known.value is known.same known.writable reaches done.leaves.writes done.further done.spans done.words))
       | in-Err w ↦
           inserts_at log.size log.capacity faults_at_open s known.value c.match-copy.result _ _ w.result-is
-          (appended_err D tape moment faults tape_at_open faults_at_open log up copied.ring copied.writer l.first c.from.result start end body from place s known.value is known.same known.writable w.in-Err.field-0.faults w.in-Err.ensures.fails)
+          (appended_err D tape moment faults tape_at_open faults_at_open log up copied.ring copied.writer l.first c.from.result start end body from place s known.value is known.same known.writable w.in-Err.field-0.faults w.in-Err.ensures.leaves.fails)
     ])
 
-pub returns-clause-keeps : goal.returns-clause-keeps
-returns-clause-keeps g c =
+pub returns-clause-leaves : goal.returns-clause-leaves
+returns-clause-leaves g c =
     let D = g.row.D.Denot in
     let tape = g.D.Disk.tape in
     let moment = g.D.Disk.moment in
@@ -58,10 +59,9 @@ returns-clause-keeps g c =
     let end = c.to_end_lsn-end.result in
     let from = c.new-placed.result in
     let body = c.args.body.now in
-    let up : writer_fault log.writer ≡ None = ap (λ (v : LogState D). writer_fault v.writer) c.self.view_is ∙ c.requires.up in
-    rw (← c.self.view_is) (λ tape_at_open faults_at_open s at position is within kept.
     let known = c.room.ensures.known in
-    let place : IsPlace D tape moment faults tape_at_open faults_at_open log up copied.ring copied.writer l.first c.from.result start end body from = record {
+    let up : writer_fault log.writer ≡ None = ap (λ (v : LogState D). writer_fault v.writer) c.self.view_is ∙ c.requires.up in
+    let place : (tape_at_open : Option Tape) (faults_at_open : ℕ) → IsPlace D tape moment faults tape_at_open faults_at_open log up copied.ring copied.writer l.first c.from.result start end body from = λ tape_at_open faults_at_open. record {
       begins = c.self.invariant.0;
       room_is = c.from.ensures ∙ c.room.ensures.room;
       fits = subst (λ (v : LogState D). v.bytes + assembled_room body ≤ v.capacity) (sym c.self.view_is) c.requires.fits;
@@ -69,11 +69,36 @@ returns-clause-keeps g c =
       end_is = c.to_end_lsn-end.ensures;
       from_is = c.new-placed.ensures;
     } in
-    elim c.match-copy.branch [
+    let some : 0 < c.from.result = omega (arith, c.from.ensures, c.room.ensures.bounds) in
+    let more = l.bytes + c.from.result in
+    rw (← c.self.view_is) (elim c.match-copy.branch [
       | in-Ok w ↦
-          keeps_appended D tape moment faults tape_at_open faults_at_open log up copied.ring copied.writer l.first c.from.result start end body from place s known.value is known.same known.writable w.in-Ok.ensures.writes.preserves at position within kept
+          (let done = w.in-Ok.ensures in
+          let at = unwritten D l.geometry l.first l.bytes c.from.result l.flushed.0 l.buffers.ring l.buffers.writer copied.writer c.self.invariant.0 some (c.self.invariant.1.reaches up) from.next end.0 (placed_next from c.new-placed.ensures) c.to_end_lsn-end.ensures done.unfinished in
+          rw w.result-is (record {
+            keeps = λ tape_at_open faults_at_open s at position is within kept.
+                keeps_appended D tape moment faults tape_at_open faults_at_open log up copied.ring copied.writer l.first c.from.result start end body from (place tape_at_open faults_at_open) s known.value is known.same known.writable done.leaves.writes.preserves at position within kept;
+            calls = done.leaves.calls;
+            same_log = record { size = refl; capacity = refl; sysid = refl };
+            left_by_refusal = tt;
+            told_moment_same = refl;
+            unflushed = record { written = at.0; flushed = at.1 };
+            end = c.to_end_lsn-end.ensures ∙ ap (λ (n : ℕ). end_address_of l.geometry (n + more)) c.self.invariant.0.position_is;
+            moment_never_falls = done.leaves.writes.moment_never_falls;
+          }))
       | in-Err w ↦
-          keeps_appended D tape moment faults tape_at_open faults_at_open log up copied.ring copied.writer l.first c.from.result start end body from place s known.value is known.same known.writable w.in-Err.ensures.fails.preserves at position within kept
+          (let failed = w.in-Err.ensures in
+          rw w.result-is (record {
+            keeps = λ tape_at_open faults_at_open s at position is within kept.
+                keeps_appended D tape moment faults tape_at_open faults_at_open log up copied.ring copied.writer l.first c.from.result start end body from (place tape_at_open faults_at_open) s known.value is known.same known.writable failed.leaves.fails.preserves at position within kept;
+            calls = inr failed.leaves.calls;
+            same_log = record { size = refl; capacity = refl; sysid = refl };
+            left_by_refusal = failed.leaves.fails.down;
+            told_moment_same = refl;
+            unflushed = tt;
+            end = tt;
+            moment_never_falls = failed.leaves.fails.moment_never_falls;
+          }))
     ])
 
 pub copy-requires-clause-whole : goal.copy-requires-clause-whole
@@ -95,33 +120,3 @@ copy-requires-clause-bound g c =
     let order = c.self.invariant.1 in
     let behind = l.first + (l.bytes + c.from.result) in
     omega (arith, c.to_end_lsn-end.ensures, end_address_of-le_address_of l.geometry begins.valid behind, address_of-bound l.geometry begins.valid behind, begins.low, order.small, order.within, c.from.ensures, c.room.ensures.bounds)
-
-pub returns-clause-unflushed : goal.returns-clause-unflushed
-returns-clause-unflushed g c =
-    let D = g.row.D.Denot in
-    let l = c.self.inside in
-    let up : writer_fault l.buffers.writer ≡ None = ap (λ (v : LogState D). writer_fault v.writer) c.self.view_is ∙ c.requires.up in
-    let some : 0 < c.from.result = omega (arith, c.from.ensures, c.room.ensures.bounds) in
-    elim c.match-copy.branch [
-      | in-Ok w ↦
-          (let at = unwritten D l.geometry l.first l.bytes c.from.result l.flushed.0 l.buffers.ring l.buffers.writer c.copy.new.self.writer c.self.invariant.0 some (c.self.invariant.1.reaches up) c.new-placed.result.next c.to_end_lsn-end.result.0
-          (placed_next c.new-placed.result c.new-placed.ensures) c.to_end_lsn-end.ensures w.in-Ok.ensures.unfinished in
-          rw w.result-is (record { written = at.0; flushed = at.1 }))
-      | in-Err w ↦ rw w.result-is tt
-    ]
-
-pub returns-clause-end : goal.returns-clause-end
-returns-clause-end g c =
-    let l = c.self.inside in
-    let more = l.bytes + c.from.result in
-    elim c.match-copy.branch [
-      | in-Ok w ↦ rw w.result-is (c.to_end_lsn-end.ensures ∙ ap (λ (n : ℕ). end_address_of l.geometry (n + more)) c.self.invariant.0.position_is)
-      | in-Err w ↦ rw w.result-is tt
-    ]
-
-pub returns-clause-calls : goal.returns-clause-calls
-returns-clause-calls g c =
-    rw (← c.self.view_is) (elim c.match-copy.branch [
-      | in-Ok w ↦ rw w.result-is w.in-Ok.ensures.calls
-      | in-Err w ↦ rw w.result-is (inr w.in-Err.ensures.calls)
-    ])

@@ -1,5 +1,5 @@
 -- All is written and synced, or the disk fails.
-use Rattle.std.proofs.Common.{◌≡◌, ◌<◌, None, inr, sym, ap, subst, ◌∙◌}
+use Rattle.std.proofs.Common.{◌≡◌, ◌<◌, None, inr, refl, sym, ap, subst, ◌∙◌}
 use Rattle.flush_core.specs.Writer.{writer_fault}
 use Rattle.serial_log.specs.Ring.{RingState}
 use Rattle.serial_log.specs.LogState.{LogState, IsLog, log_end}
@@ -39,30 +39,36 @@ returns-in-Err-clause-flushes g c =
     (sym done.ring)
     (flushed_err D g.D.Disk.tape g.D.Disk.moment g.D.Disk.faults tape_at_open faults_at_open log up s is c.args.asked.0 c.flush.new.self.writer above c.args.end.0 faults end done.fails))
 
-pub returns-in-Ok-clause-keeps : goal.returns-in-Ok-clause-keeps
-returns-in-Ok-clause-keeps g c =
+pub returns-in-Ok-clause-leaves : goal.returns-in-Ok-clause-leaves
+returns-in-Ok-clause-leaves g c =
     let D = g.row.D.Denot in
     let l = c.self.inside in
     let log : LogState D = record { size = l.geometry; capacity = l.capacity; sysid = l.sysid; ring = l.buffers.ring; writer = l.buffers.writer; bytes = l.bytes; prev = l.prev.0; flushed = l.flushed.0; moment = l.moment } in
     let done = c.in-Ok.ensures in
     let up : writer_fault log.writer ≡ None = ap (λ (v : LogState D). writer_fault v.writer) c.self.view_is ∙ c.requires.up in
     let end : c.args.end.0 ≡ log_end log = c.requires.end ∙ ap (λ (v : LogState D). log_end v) (sym c.self.view_is) in
-    rw (← c.self.view_is) (λ tape_at_open faults_at_open s moment position is within kept.
-    keeps_flushed D g.D.Disk.tape g.D.Disk.moment g.D.Disk.faults tape_at_open faults_at_open log up s is c.args.asked.0 c.flush.new.self.writer c.args.end.0 end done.writes.preserves moment position within kept)
+    rw (← c.self.view_is) (record {
+      keeps = λ tape_at_open faults_at_open s moment position is within kept.
+          keeps_flushed D g.D.Disk.tape g.D.Disk.moment g.D.Disk.faults tape_at_open faults_at_open log up s is c.args.asked.0 c.flush.new.self.writer c.args.end.0 end done.writes.preserves moment position within kept;
+      calls = done.calls;
+      same_log = record { size = refl; capacity = refl; sysid = refl };
+      told_moment_same = tt;
+      moment_never_falls = done.writes.moment_never_falls;
+    })
 
-pub returns-in-Err-clause-keeps : goal.returns-in-Err-clause-keeps
-returns-in-Err-clause-keeps g c =
+pub returns-in-Err-clause-leaves : goal.returns-in-Err-clause-leaves
+returns-in-Err-clause-leaves g c =
     let D = g.row.D.Denot in
     let l = c.self.inside in
     let log : LogState D = record { size = l.geometry; capacity = l.capacity; sysid = l.sysid; ring = l.buffers.ring; writer = l.buffers.writer; bytes = l.bytes; prev = l.prev.0; flushed = l.flushed.0; moment = l.moment } in
     let done = c.in-Err.ensures in
     let up : writer_fault log.writer ≡ None = ap (λ (v : LogState D). writer_fault v.writer) c.self.view_is ∙ c.requires.up in
     let end : c.args.end.0 ≡ log_end log = c.requires.end ∙ ap (λ (v : LogState D). log_end v) (sym c.self.view_is) in
-    rw (← c.self.view_is) (λ tape_at_open faults_at_open s moment position is within kept.
-    keeps_flushed D g.D.Disk.tape g.D.Disk.moment g.D.Disk.faults tape_at_open faults_at_open log up s is c.args.asked.0 c.flush.new.self.writer c.args.end.0 end done.fails.preserves moment position within kept)
-
-pub returns-in-Ok-clause-calls : goal.returns-in-Ok-clause-calls
-returns-in-Ok-clause-calls g c = rw (← c.self.view_is) c.in-Ok.ensures.calls
-
-pub returns-in-Err-clause-calls : goal.returns-in-Err-clause-calls
-returns-in-Err-clause-calls g c = rw (← c.self.view_is) (inr c.in-Err.ensures.calls)
+    rw (← c.self.view_is) (record {
+      keeps = λ tape_at_open faults_at_open s moment position is within kept.
+          keeps_flushed D g.D.Disk.tape g.D.Disk.moment g.D.Disk.faults tape_at_open faults_at_open log up s is c.args.asked.0 c.flush.new.self.writer c.args.end.0 end done.fails.preserves moment position within kept;
+      calls = inr done.calls;
+      same_log = record { size = refl; capacity = refl; sysid = refl };
+      told_moment_same = refl;
+      moment_never_falls = done.fails.moment_never_falls;
+    })
