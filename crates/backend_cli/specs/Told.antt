@@ -5,7 +5,7 @@ use Rattle.wal_types.specs.declared.lsn.Lsn.{Lsn}
 use Rattle.wal_types.specs.declared.record.Record.{Record}
 use Rattle.byte_position.specs.Position.{position_of, address_of, end_address_of, first_position}
 use Rattle.record_spelling.specs.Spelling.{room_of}
-use Rattle.wal_page.specs.Order.{Entry, position_behind, rooms_of}
+use Rattle.wal_page.specs.Order.{Entry, position_behind, rooms_of, end_position}
 use Rattle.wal_script.specs.declared.line.Line.{Line}
 use Rattle.wal_script.specs.declared.line.Action.{Action}
 use Rattle.wal_script.specs.declared.line.Action.TheVariants.{Insert, Commit, Flush}
@@ -25,7 +25,7 @@ reserved_by (Refused cause reserved) = reserved
 abbrev pub entry_at : ℕ → ℕ → Record → Option Lsn → Option Entry
 entry_at size backend value None = None
 entry_at size backend value (Some start) =
-    Some (record { pass = backend; value = value; start = position_of size start.0 })
+    Some (record { pass = Some backend; value = value; start = position_of size start.0 })
 
 abbrev pub entry_of : ℕ → ℕ → Action → Told → Option Entry
 entry_of size backend (Insert value) told = entry_at size backend value (reserved_by told)
@@ -90,7 +90,7 @@ pub record IsFault (logged : Logged) (faults : ℕ) : Type 0 where
 pub record MayBeFull (logged : Logged) (behind : ℕ) (value : Record) (free : ℕ) : Type 0 where
   pub front : ℕ
   pub within : front ≤ length logged.order
-  pub earlier : behind ≤ first_position logged.size + rooms_of (take front logged.order)
+  pub earlier : behind ≤ end_position logged.size (take front logged.order)
   pub left : free + rooms_of (take front logged.order) ≡ logged.capacity
   pub short : free < room_of value
 
@@ -131,7 +131,7 @@ FitsLine logged behind Flush (Wrote start end) = ⊥
 FitsLine logged behind Flush (Hard start end moment) = ⊥
 FitsLine logged behind Flush (Flushed upto moment) =
     (end_address_of logged.size behind ≤ upto.0)
-    × (upto.0 ≤ end_address_of logged.size (first_position logged.size + rooms_of logged.order))
+    × (upto.0 ≤ end_address_of logged.size (end_position logged.size logged.order))
 FitsLine logged behind Flush (Refused cause reserved) = MayRefuseFlush logged cause reserved
 
 -- the byte position at which a backend's entries end after one more line

@@ -1,14 +1,14 @@
 -- The order of the log's records (PostgreSQL's xlog.c, ReserveXLogInsertLocation). Everywhere
 -- `size` is the size of a segment in bytes.
-use Rattle.std.specs.Prelude.{◌≡◌, ℕ, ◌+◌, List, [], ◌∷◌, sum_by, nat_lt, if◌then◌else◌}
+use Rattle.std.specs.Prelude.{◌≡◌, ℕ, ◌+◌, List, [], ◌∷◌, Option, sum_by, nat_lt, if◌then◌else◌}
 use Rattle.byte_position.specs.Position.{address_of, end_address_of, first_position}
 use Rattle.wal_types.specs.declared.record.Record.{Record}
 use Rattle.record_spelling.specs.Spelling.{room_of, IsWritable}
 
--- an entry of the log: the pass that reserved it, its record, and the byte position at which it
--- starts
+-- an entry of the log: the pass that reserved it (none where a restart found it), its record, and
+-- the byte position at which it starts
 pub record Entry : Type 0 where
-  pub pass : ℕ
+  pub pass : Option ℕ
   pub value : Record
   pub start : ℕ
 

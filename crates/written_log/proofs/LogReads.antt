@@ -10,7 +10,7 @@ use Rattle.record_spelling.specs.Record.{is_free_manager}
 use Rattle.record_spelling.specs.Spelling.{IsWritable, assembled, size_of, room_of}
 use Rattle.wal_record.proofs.SpellingReads.{spelling_reads}
 use Rattle.record_spelling.proofs.SpellingLaws.{ready, crc_below}
-use Rattle.wal_page.specs.Order.{Entry, FollowsFrom, IsChained, position_behind, rooms_of}
+use Rattle.wal_page.specs.Order.{Entry, FollowsFrom, IsChained, position_behind, rooms_of, end_position}
 use Rattle.wal_page.specs.Page.{is_continued}
 use Rattle.wal_page.specs.Log.{stream_of, stream_from, owner_of, remaining_at}
 use Rattle.wal_page.proofs.OrderLaws.{rooms_of_cons}
@@ -20,7 +20,6 @@ use Rattle.wal_reader.specs.declared.found.FoundRecord.{FoundRecord}
 use Rattle.wal_reader.specs.Pages.{Pages}
 use Rattle.wal_reader.specs.Decodes.{Place, ReadsRecords, read_at, place_behind, is_right_prev, opens_page, continuation_rows, continuation_rows_of, rows_of_pages, found_or}
 use Rattle.written_log.specs.Written.{found_entry, found_from}
-use Rattle.written_log.specs.WrittenLog.{last_position}
 use Rattle.written_log.proofs.Tables.{NoneHolds, NoneHolds-append}
 use Rattle.written_log.proofs.Tables.NoneHolds.{none, past}
 use Rattle.written_log.proofs.RecordBytes.{drop-filled}
@@ -77,7 +76,7 @@ module _ (size sysid : ℕ) (pages : Pages) (es : List Entry) (w : IsWritten siz
         let page = address_of size p / 8192 in
         let from = page_from_first size w.valid p (omega arith) in
         let begins = page_begins size w.valid p in
-        let below : position_of size (page * 8192) < last_position size es = omega (arith, within) in
+        let below : position_of size (page * 8192) < end_position size es = omega (arith, within) in
         elim (cases_Bool (opens_page size p)) [
           | inl t ↦
               (let opens_at = opening_position size w.valid p (eqb-true _ _ t) in
@@ -110,7 +109,7 @@ module _ (size sysid : ℕ) (pages : Pages) (es : List Entry) (w : IsWritten siz
         let p = position_of size (page * 8192) in
         let start = address_of size (first_position size + k) in
         let owed = first_position size + k + size_of e.value - p in
-        let below : p < last_position size es = omega (arith, within, start_is) in
+        let below : p < end_position size es = omega (arith, within, start_is) in
         let sound = page_is_sound size sysid pages es w page e (omega arith) below (owns p (omega arith) (omega arith)) in
         let bytes = sound.0 in
         let rises = position_of-mono size ((page - 1) * 8192) (page * 8192) (omega arith) in
@@ -176,7 +175,7 @@ module _ (size sysid : ℕ) (pages : Pages) (es : List Entry) (w : IsWritten siz
           follows = subst (λ (p : ℕ). FollowsFrom p others) next stand.follows.2;
           front = stand.front ++ e ∷ [];
           parts = stand.parts ∙ sym (append_assoc stand.front (e ∷ []) others);
-          prev_fits = omega (arith, address_of-below_end size w.valid e.start (last_position size es) (omega (arith, start_is, within)), w.bounded);
+          prev_fits = omega (arith, address_of-below_end size w.valid e.start (end_position size es) (omega (arith, start_is, within)), w.bounded);
         }
 
   -- entries are read where they stand, and then what stands behind them

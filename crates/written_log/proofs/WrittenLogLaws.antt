@@ -7,7 +7,7 @@ use Rattle.std.proofs.lemmas.Bool.{lt-ltb, le-ltb, le-leb, cond-true, cond-false
 use Rattle.byte_position.specs.Geometry.{IsSegmentSize, pages_of}
 use Rattle.byte_position.specs.Position.{position_of, address_of, first_position}
 use Rattle.byte_position.proofs.SegmentSizes.{segment_size_in_pages}
-use Rattle.wal_page.specs.Order.{Entry, FollowsFrom, position_behind, rooms_of}
+use Rattle.wal_page.specs.Order.{Entry, FollowsFrom, position_behind, rooms_of, end_position}
 use Rattle.wal_page.specs.LogPage.{IsLogPage}
 use Rattle.wal_page.specs.Log.{remaining_at, log_byte}
 use Rattle.wal_page.proofs.OrderLaws.{rooms_of_cons, room_of-pos}
@@ -18,7 +18,7 @@ use Rattle.wal_reader.specs.declared.found.Answer.TheVariants.{End}
 use Rattle.wal_reader.specs.Pages.{Pages}
 use Rattle.wal_reader.specs.Decodes.{Place, Decodes, ReadsRecords, ReadsFrom, beginning, ended}
 use Rattle.written_log.specs.Written.{found_entry, found_from, found_of}
-use Rattle.written_log.specs.WrittenLog.{HavePagesOfLog, last_position, OwnPagesHoldLog, WrittenLogDecodes}
+use Rattle.written_log.specs.WrittenLog.{HavePagesOfLog, OwnPagesHoldLog, WrittenLogDecodes}
 use Rattle.wal_reader.proofs.PagesLaws.{end_address_of-first_position}
 use Rattle.written_log.proofs.BeginLaws.{begins_nowhere, begins_empty, begins_behind_header}
 use Rattle.written_log.proofs.Tables.{first_fault-none}
@@ -51,7 +51,7 @@ module _ (size sysid : ℕ) (pages : Pages) (holds : HavePagesOfLog size sysid p
   begins_nothing None there = begins_nowhere size pages w.valid there
   begins_nothing (Some bytes) there = begins_empty size pages w.valid bytes there (page_begins_with_zeros size sysid pages [] holds w (pages_of size) bytes (omega arith) there (omega (arith, first_page_position size w.valid)))
 
-  nothing_decodes : Decodes size pages size None [] (ended size (last_position size []))
+  nothing_decodes : Decodes size pages size None [] (ended size (end_position size []))
   nothing_decodes =
       let end : ended size (first_position size + 0) ≡ End (record { 0 = size }) = ap (ended size) (add-zero (first_position size)) ∙ ap (λ (a : ℕ). End (record { 0 = a })) (end_address_of-first_position size w.valid) in
       let begins = begins_nothing (pages (pages_of size)) refl in
@@ -93,10 +93,10 @@ module _ (size sysid : ℕ) (pages : Pages) (e : Entry) (es : List Entry) (w : I
       let right = lt-ltb 0 (address_of size (first_position size + 0)) (omega (arith, above, segment_size_in_pages size w.valid)) in
       subst (λ (begun : Result Place Answer). ReadsFrom size pages None begun (found_of size all ++ found) answer) (sym begins_at_first) (entries_are_read size sysid pages all w all 0 0 None found answer stand right behind)
 
-  something_decodes : HavePagesOfLog size sysid pages (e ∷ es) → Decodes size pages size None (found_of size (e ∷ es)) (ended size (last_position size (e ∷ es)))
+  something_decodes : HavePagesOfLog size sysid pages (e ∷ es) → Decodes size pages size None (found_of size (e ∷ es)) (ended size (end_position size (e ∷ es)))
   something_decodes holds =
       let all = e ∷ es in
-      let end = ended size (last_position size all) in
+      let end = ended size (end_position size all) in
       let read = entries_are_read_first [] end (log_ends size sysid pages all holds w (last_start size None all)) in
       record {
         read = found_of size all;
