@@ -19,11 +19,11 @@ use Rattle.written_log.proofs.WrittenLogLaws.{written_log_decodes}
 use Rattle.backend_cli.specs.Run.{DecodesTo, IsWhole}
 use Rattle.backend_cli.specs.Whole.{HeldLogIsWhole}
 
-module _ (size sysid : ℕ) (es : List Entry) (valid : IsSegmentSize size) (known : 0 < sysid) (narrow : sysid < 2 ^ 64) (chained : IsChained size es) (within : rooms_of es ≤ 2 ^ 42) where
+module _ (size sysid : ℕ) (es : List Entry) (valid : IsSegmentSize size) (known : 0 < sysid) (narrow : sysid < 2 ^ 64) (chained : IsChained size es) (within : rooms_of size es ≤ 2 ^ 42) where
   -- the log ends far below the last address that is read
   bounded : end_address_of size (end_position size es) ≤ 2 ^ 60
   bounded =
-      let p = first_position size + rooms_of es in
+      let p = first_position size + rooms_of size es in
       omega (arith, end_address_of-le_address_of size valid p, address_of-bound size valid p, position_of-le_self size size, (segment_size_tests size valid).2)
 
   module _ (image : DiskImage) (is : IsLogImage size sysid es image) where

@@ -89,8 +89,8 @@ abbrev pub summary_text : ℕ → List Entry → ℕ → List ℕ
 summary_text size order commits =
     let end = end_address_of size (end_position size order) in
     joined (codes "records " ∷ decimal (length order) ∷ codes " commits " ∷ decimal commits ∷
-    codes " bytes " ∷ decimal (rooms_of order) ∷ codes " end " ∷ lsn_text end ∷ codes " segments " ∷
-    decimal (segments_upto size order end) ∷ codes "\n" ∷ [])
+    codes " bytes " ∷ decimal (rooms_of size order) ∷ codes " end " ∷ lsn_text end ∷
+    codes " segments " ∷ decimal (segments_upto size order end) ∷ codes "\n" ∷ [])
 
 -- all that a run prints: the told lines where they are asked for, then the summary
 abbrev pub run_text : ℕ → Bool → List (List Line) → List (List Told) → List Entry → List ℕ

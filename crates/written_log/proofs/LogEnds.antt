@@ -77,14 +77,14 @@ module _ (size sysid : ℕ) (pages : Pages) (es : List Entry) (holds : HavePages
     page_begins_with_zeros page bytes from there behind =
         let bounds = header_size_bounds size w.valid page in
         zero_word bytes (λ k lt.
-        (is_log_page page bytes from there).each k (omega arith) ∙ log_byte-page_header size sysid es page k None w.valid (omega arith) (owner_of-none_behind (first_position size) es w.chained (position_of size (page * 8192)) behind))
+        (is_log_page page bytes from there).each k (omega arith) ∙ log_byte-page_header size sysid es page k None w.valid (omega arith) (owner_of-none_behind size (first_position size) es w.chained (position_of size (page * 8192)) behind))
 
-    log_ends_on : (before : Option ℕ) (here : Option (List ℕ)) → pages (address_of size (end_position size es) / 8192) ≡ here → read_at size pages None (log_place size (rooms_of es) before) ≡ Err (ended size (end_position size es))
-    log_ends_on before None there = no_page_ends size pages (log_place size (rooms_of es) before) there
+    log_ends_on : (before : Option ℕ) (here : Option (List ℕ)) → pages (address_of size (end_position size es) / 8192) ≡ here → read_at size pages None (log_place size (rooms_of size es) before) ≡ Err (ended size (end_position size es))
+    log_ends_on before None there = no_page_ends size pages (log_place size (rooms_of size es) before) there
     log_ends_on before (Some bytes) there =
         let p = end_position size es in
         let page = address_of size p / 8192 in
-        let place = log_place size (rooms_of es) before in
+        let place = log_place size (rooms_of size es) before in
         let from = page_from_first size w.valid p (omega arith) in
         let begins = page_begins size w.valid p in
         elim (cases_lt (position_of size (page * 8192)) p) [
@@ -108,5 +108,5 @@ module _ (size sysid : ℕ) (pages : Pages) (es : List Entry) (holds : HavePages
               zero_page_ends size pages place bytes there opens zeros)
         ]
 
-    pub log_ends : (before : Option ℕ) → read_at size pages None (log_place size (rooms_of es) before) ≡ Err (ended size (end_position size es))
+    pub log_ends : (before : Option ℕ) → read_at size pages None (log_place size (rooms_of size es) before) ≡ Err (ended size (end_position size es))
     log_ends before = log_ends_on before (pages (address_of size (end_position size es) / 8192)) refl

@@ -32,7 +32,7 @@ pub record IsWritten (size sysid : ℕ) (pages : Pages) (es : List Entry) : Type
   pub each : (address : ℕ) → size ≤ address → address < end_address_of size (end_position size es) → byte_at pages address ≡ log_byte size sysid es address
 
 -- a header's bytes are those that the owner of the page's first position gives it
-pub log_byte-page_header : (size sysid : ℕ) (es : List Entry) (page k : ℕ) (owner : Option Entry) → IsSegmentSize size → k < header_size size page → owner_of es (position_of size (page * 8192)) ≡ owner
+pub log_byte-page_header : (size sysid : ℕ) (es : List Entry) (page k : ℕ) (owner : Option Entry) → IsSegmentSize size → k < header_size size page → owner_of size es (position_of size (page * 8192)) ≡ owner
     → log_byte size sysid es (page * 8192 + k) ≡ header_byte size sysid (page * 8192 + k) (position_of size (page * 8192)) owner
 log_byte-page_header size sysid es page k owner valid within owns =
     log_byte-header size sysid es (page * 8192 + k) (is_in_header-page_header_times size valid page k within) ∙ rw (position_of-page_header_times size valid page k (omega arith), owns) refl
@@ -58,7 +58,7 @@ module _ (size sysid : ℕ) (pages : Pages) (es : List Entry) (w : IsWritten siz
     header_below_end = omega (arith, address_of-below_end size w.valid (position_of size (page * 8192)) (end_position size es) below, address_of-page_start_times size w.valid page)
 
     -- it is there, with the header that the owner of its first position gives it
-    pub page_is_owned : (e : Entry) → owner_of es (position_of size (page * 8192)) ≡ Some e → (rest : List ℕ) × (pages page ≡ Some (page_header size sysid page (remaining_at e (position_of size (page * 8192))) ++ rest))
+    pub page_is_owned : (e : Entry) → owner_of size es (position_of size (page * 8192)) ≡ Some e → (rest : List ℕ) × (pages page ≡ Some (page_header size sysid page (remaining_at e (position_of size (page * 8192))) ++ rest))
     page_is_owned e owns =
         let h = header_size size page in
         let remaining = remaining_at e (position_of size (page * 8192)) in
@@ -75,7 +75,7 @@ module _ (size sysid : ℕ) (pages : Pages) (es : List Entry) (w : IsWritten siz
         (drop h bytes, here.1 ∙ ap (λ (l : List ℕ). Some l) (sym (take-append-drop h bytes) ∙ ap (λ (l : List ℕ). l ++ drop h bytes) front))
 
   -- it is sound
-  pub page_is_sound : (page : ℕ) (e : Entry) → pages_of size ≤ page → position_of size (page * 8192) < end_position size es → owner_of es (position_of size (page * 8192)) ≡ Some e
+  pub page_is_sound : (page : ℕ) (e : Entry) → pages_of size ≤ page → position_of size (page * 8192) < end_position size es → owner_of size es (position_of size (page * 8192)) ≡ Some e
       → (bytes : List ℕ) × (pages page ≡ Some bytes) × IsSound size page (remaining_at e (position_of size (page * 8192))) bytes
   page_is_sound page e from below owns =
       let remaining = remaining_at e (position_of size (page * 8192)) in
@@ -84,8 +84,8 @@ module _ (size sysid : ℕ) (pages : Pages) (es : List Entry) (w : IsWritten siz
       let end = header_below_end page from below in
       (page_header size sysid page remaining ++ owned.0, owned.1, log_header_is_sound size sysid remaining owned.0 page (omega (arith, whole)) w.known w.narrow (omega (arith, end, w.bounded)))
 
-  pub owner_here : (page : ℕ) → pages_of size ≤ page → position_of size (page * 8192) < end_position size es → (e : Entry) × (owner_of es (position_of size (page * 8192)) ≡ Some e)
-  owner_here page from below = some_is (owner_of es (position_of size (page * 8192))) (owner_of-some (first_position size) es w.chained (position_of size (page * 8192)) (position_of-log_page size w.valid page from) below)
+  pub owner_here : (page : ℕ) → pages_of size ≤ page → position_of size (page * 8192) < end_position size es → (e : Entry) × (owner_of size es (position_of size (page * 8192)) ≡ Some e)
+  owner_here page from below = some_is (owner_of size es (position_of size (page * 8192))) (owner_of-some size (first_position size) es w.chained (position_of size (page * 8192)) (position_of-log_page size w.valid page from) below)
 
   pub timeline_is : (page : ℕ) → pages_of size ≤ page → position_of size (page * 8192) < end_position size es → timeline_or (pages page) 1 ≡ 1
   timeline_is page from below =
@@ -103,7 +103,7 @@ module _ (size sysid : ℕ) (pages : Pages) (es : List Entry) (w : IsWritten siz
 
   -- ---- the bytes of the records
 
-  byte_at-log : (k : ℕ) → k < rooms_of es → byte_at pages (address_of size (first_position size + k)) ≡ get_or (stream_of size es) k 0
+  byte_at-log : (k : ℕ) → k < rooms_of size es → byte_at pages (address_of size (first_position size + k)) ≡ get_or (stream_of size es) k 0
   byte_at-log k below =
       let p = first_position size + k in
       let a = address_of size p in
@@ -113,7 +113,7 @@ module _ (size sysid : ℕ) (pages : Pages) (es : List Entry) (w : IsWritten siz
       ∙ log_byte-stream size sysid es a (is_in_header-address_of size w.valid p) (omega (arith, position)) ∙ ap (λ (i : ℕ). get_or (stream_of size es) i 0) back
 
   -- bytes of the records stand in the pages as they do in the stream
-  pub bytes_from-log : (n k : ℕ) → k + n ≤ rooms_of es → bytes_from size pages n (first_position size + k) ≡ take n (drop k (stream_of size es))
+  pub bytes_from-log : (n k : ℕ) → k + n ≤ rooms_of size es → bytes_from size pages n (first_position size + k) ≡ take n (drop k (stream_of size es))
   unfolding bytes_from
   bytes_from-log zero k within = refl
   bytes_from-log (suc n) k within =
