@@ -6,8 +6,8 @@ use Rattle.std.proofs.lemmas.Option.{same_Some, none-some}
 use Rattle.byte_position.specs.Geometry.{IsSegmentSize}
 use Rattle.byte_position.specs.Position.{position_of, end_address_of, first_position}
 use Rattle.byte_position.proofs.EndAddresses.{le-position_of, end_address_of-le}
-use Rattle.record_spelling.specs.Spelling.{Assembled, assembled, assembled_room}
-use Rattle.wal_page.specs.Order.{Entry, FollowsFrom, IsChained, position_behind, rooms_of}
+use Rattle.record_spelling.specs.Spelling.{Assembled, assembled}
+use Rattle.wal_page.specs.Order.{Entry, FollowsFrom, IsChained, position_behind, rooms_of, assembled_room_at}
 use Rattle.wal_page.specs.Log.{owner_of, owner_at}
 use Rattle.wal_page.specs.Placed.{Owns}
 use Rattle.wal_page.proofs.OrderLaws.{rooms_of_cons, FollowsFrom-parts}
@@ -99,24 +99,24 @@ owner_of_push size (f ∷ es) e p away =
 
 -- ---- addresses
 
-pub owns_or_not : (size : ℕ) (a : Assembled) (start address : ℕ) → (Owns size a start address → ⊥) → (position_of size address < start) ⊎ (start + assembled_room a ≤ position_of size address)
+pub owns_or_not : (size : ℕ) (a : Assembled) (start address : ℕ) → (Owns size a start address → ⊥) → (position_of size address < start) ⊎ (start + assembled_room_at size start a ≤ position_of size address)
 owns_or_not size a start address h =
     elim (cases_lt (position_of size address) start) [
       | inl lt ↦ inl lt
-      | inr from ↦ elim (cases_lt (position_of size address) (start + assembled_room a)) [ inl lt ↦ absurd (h (from, lt)) | inr le ↦ inr le ]
+      | inr from ↦ elim (cases_lt (position_of size address) (start + assembled_room_at size start a)) [ inl lt ↦ absurd (h (from, lt)) | inr le ↦ inr le ]
     ]
 
 -- an entry owns the addresses from its start's end form up to the end form behind it
-pub Owns-between : (size : ℕ) → IsSegmentSize size → (a : Assembled) (start address : ℕ) → Owns size a start address → (end_address_of size start ≤ address) × (address < end_address_of size (start + assembled_room a))
+pub Owns-between : (size : ℕ) → IsSegmentSize size → (a : Assembled) (start address : ℕ) → Owns size a start address → (end_address_of size start ≤ address) × (address < end_address_of size (start + assembled_room_at size start a))
 Owns-between size valid a start address owns = (
   end_address_of-le size valid start address owns.0,
-  elim (cases_lt address (end_address_of size (start + assembled_room a))) [ inl lt ↦ lt | inr le ↦ absurd (omega (arith, le-position_of size valid (start + assembled_room a) address le, owns.1)) ],
+  elim (cases_lt address (end_address_of size (start + assembled_room_at size start a))) [ inl lt ↦ lt | inr le ↦ absurd (omega (arith, le-position_of size valid (start + assembled_room_at size start a) address le, owns.1)) ],
 )
 
-pub Owns-from_between : (size : ℕ) → IsSegmentSize size → (a : Assembled) (start address : ℕ) → end_address_of size start ≤ address → address < end_address_of size (start + assembled_room a) → Owns size a start address
+pub Owns-from_between : (size : ℕ) → IsSegmentSize size → (a : Assembled) (start address : ℕ) → end_address_of size start ≤ address → address < end_address_of size (start + assembled_room_at size start a) → Owns size a start address
 Owns-from_between size valid a start address from below = (
   le-position_of size valid start address from,
-  elim (cases_lt (position_of size address) (start + assembled_room a)) [ inl lt ↦ lt | inr le ↦ absurd (omega (arith, end_address_of-le size valid (start + assembled_room a) address le)) ],
+  elim (cases_lt (position_of size address) (start + assembled_room_at size start a)) [ inl lt ↦ lt | inr le ↦ absurd (omega (arith, end_address_of-le size valid (start + assembled_room_at size start a) address le)) ],
 )
 
 -- a chained order's bytes have owners from segment 1 on up to its end
@@ -157,7 +157,7 @@ start-whole size valid front back e chain =
 pub owner_at-entry_iff : (size : ℕ) (front back : List Entry) (e : Entry) → IsChained size (front ++ e ∷ back) → (address : ℕ) → (owner_at size (front ++ e ∷ back) address ≡ Some e) ↔ Owns size (assembled e.value) e.start address
 owner_at-entry_iff size front back e chain address = (λ owner. owner_of-found size (front ++ e ∷ back) (position_of size address) e owner, λ owns. owner_of-entry size (first_position size) front back e chain (position_of size address) owns.0 owns.1)
 
-pub Owns_iff : (size : ℕ) → IsSegmentSize size → (a : Assembled) (start address : ℕ) → Owns size a start address ↔ ((end_address_of size start ≤ address) × (address < end_address_of size (start + assembled_room a)))
+pub Owns_iff : (size : ℕ) → IsSegmentSize size → (a : Assembled) (start address : ℕ) → Owns size a start address ↔ ((end_address_of size start ≤ address) × (address < end_address_of size (start + assembled_room_at size start a)))
 Owns_iff size valid a start address = (Owns-between size valid a start address, λ between. Owns-from_between size valid a start address between.0 between.1)
 
 pub owner_at-some_iff : (size : ℕ) → IsSegmentSize size → (es : List Entry) → IsChained size es → (address : ℕ) → IsSome (owner_at size es address) ↔ ((size ≤ address) × (address < end_address_of size (first_position size + rooms_of size es)))

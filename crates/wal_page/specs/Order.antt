@@ -3,7 +3,7 @@
 use Rattle.std.specs.Prelude.{◌≡◌, ℕ, ◌+◌, List, [], ◌∷◌, Option, sum_by, nat_lt, if◌then◌else◌}
 use Rattle.byte_position.specs.Position.{address_of, end_address_of, first_position}
 use Rattle.wal_types.specs.declared.record.Record.{Record}
-use Rattle.record_spelling.specs.Spelling.{room_of, IsWritable}
+use Rattle.record_spelling.specs.Spelling.{Assembled, assembled, assembled_room, IsWritable}
 
 -- an entry of the log: the pass that reserved it (none where a restart found it), its record, and
 -- the byte position at which it starts
@@ -15,8 +15,11 @@ pub record Entry : Type 0 where
 -- how many bytes of the log a record takes up that starts at a byte position: its room, wherever it
 -- starts; all that follows asks for it by the start, so that a record may take the rest of its
 -- segment
+abbrev pub assembled_room_at : ℕ → ℕ → Assembled → ℕ
+assembled_room_at size start a = assembled_room a
+
 abbrev pub room_at : ℕ → ℕ → Record → ℕ
-room_at size start value = room_of value
+room_at size start value = assembled_room_at size start (assembled value)
 
 -- the byte position behind an entry
 abbrev pub position_behind : ℕ → Entry → ℕ

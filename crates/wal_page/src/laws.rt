@@ -4,8 +4,8 @@ ghost use Rattle.std.specs.Prelude.{◌≡◌, ℕ, ◌+◌, ◌*◌, ◌%◌, �
 ghost use Rattle.std.specs.Int.{w64, to_le_bytes};
 ghost use Rattle.byte_position.specs.Geometry.{IsSegmentSize};
 ghost use Rattle.byte_position.specs.Position.{address_of, end_address_of};
-ghost use Rattle.record_spelling.specs.Spelling.{Assembled, assembled, assembled_room, filled, word_at, IsWritable};
-ghost use Rattle.wal_page.specs.Order.{Entry, FollowsFrom, end_position, IsChained, position_behind, prev_in, prev_of, rooms_of, room_at};
+ghost use Rattle.record_spelling.specs.Spelling.{Assembled, assembled, filled, word_at, IsWritable};
+ghost use Rattle.wal_page.specs.Order.{Entry, FollowsFrom, end_position, IsChained, position_behind, prev_in, prev_of, rooms_of, room_at, assembled_room_at};
 ghost use Rattle.wal_page.specs.EntryWords.{address_of_word, words_owned};
 ghost use Rattle.wal_page.specs.Page.{header_size};
 ghost use Rattle.wal_page.specs.Log.{log_byte, log_word, owner_at, stream_of};
@@ -57,7 +57,7 @@ pub fn entries_own_stretches()
         ↔ Owns size (assembled e.value) e.start address }
     ensures owned { (size : ℕ) (a : Assembled) (start address : ℕ) → IsSegmentSize size
         → Owns size a start address ↔ ((end_address_of size start ≤ address)
-        × (address < end_address_of size (start + assembled_room a))) }
+        × (address < end_address_of size (start + assembled_room_at size start a))) }
     ensures together { (size : ℕ) (es : List Entry) (address : ℕ) → IsSegmentSize size
         → IsChained size es
         → IsSome (owner_at size es address) ↔ ((size ≤ address)
