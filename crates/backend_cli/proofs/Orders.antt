@@ -1,14 +1,14 @@
 -- Entries that follow each other rise, and rising entries stand sorted.
 use Rattle.std.proofs.Common.{◌≡◌, ℕ, List, [], ◌∷◌, refl, ap, ◌∙◌, arith, true, leb, le-leb}
 use Rattle.wal_page.specs.Order.{Entry, FollowsFrom, position_behind}
-use Rattle.wal_page.proofs.OrderLaws.{room_of-pos}
+use Rattle.wal_page.proofs.OrderLaws.{room_at-pos}
 use Rattle.backend_cli.specs.Told.{IsRising, insert_by_start, sorted_by_start}
 
-pub IsRising-FollowsFrom : (position : ℕ) (es : List Entry) → FollowsFrom position es → IsRising es
-IsRising-FollowsFrom position [] chain = tt
-IsRising-FollowsFrom position (e ∷ []) chain = tt
-IsRising-FollowsFrom position (e ∷ f ∷ es) chain =
-    (omega (arith, chain.2.0, room_of-pos e), IsRising-FollowsFrom (position_behind e) (f ∷ es) chain.2)
+pub IsRising-FollowsFrom : (size position : ℕ) (es : List Entry) → FollowsFrom size position es → IsRising es
+IsRising-FollowsFrom size position [] chain = tt
+IsRising-FollowsFrom size position (e ∷ []) chain = tt
+IsRising-FollowsFrom size position (e ∷ f ∷ es) chain =
+    (omega (arith, chain.2.0, room_at-pos size e), IsRising-FollowsFrom size (position_behind size e) (f ∷ es) chain.2)
 
 pub IsRising-tail : (e : Entry) (es : List Entry) → IsRising (e ∷ es) → IsRising es
 IsRising-tail e [] rising = tt

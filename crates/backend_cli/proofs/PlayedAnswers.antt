@@ -1,8 +1,7 @@
 -- Answers that refuse a line: without a fault of the disk a line is refused only by a full log, and then the script's records do not fit together.
 use Rattle.std.proofs.Common.{◌≡◌, ℕ, ◌+◌, ◌<◌, ◌≤◌, List, [], ◌∷◌, Option, Some, None, sym, ap, ◌∙◌, inl, inr, arith}
 use Rattle.wal_types.specs.declared.record.Record.{Record}
-use Rattle.record_spelling.specs.Spelling.{room_of}
-use Rattle.wal_page.specs.Order.{rooms_of}
+use Rattle.wal_page.specs.Order.{rooms_of, room_behind}
 use Rattle.wal_page.proofs.OrderLaws.{rooms_of_push}
 use Rattle.wal_script.specs.declared.line.Line.{Line}
 use Rattle.wal_script.specs.declared.line.Action.{Action}
@@ -60,17 +59,17 @@ pub played_refusals : (size capacity faults_at_open : ℕ) (lines : List Line) (
 played_refusals size capacity faults_at_open lines told after plays = plays_refusals size capacity faults_at_open lines told (at_opening size) after plays
 
 -- a step takes up no more than its line asks for, and one that finds the log full asks for more than is left
-record AsksFor (capacity : ℕ) (before : LogHistory) (action : Action) (told : Told) (after : LogHistory) : Type 0 where
-  taken : rooms_of after.entries ≤ rooms_of before.entries + room_asked action
-  full : IsFullAnswer told → capacity < rooms_of before.entries + room_asked action
+record AsksFor (size capacity : ℕ) (before : LogHistory) (action : Action) (told : Told) (after : LogHistory) : Type 0 where
+  taken : rooms_of size after.entries ≤ rooms_of size before.entries + room_asked action
+  full : IsFullAnswer told → capacity < rooms_of size before.entries + room_asked action
 
-abbrev TakesRoom : ℕ → StepFact
-TakesRoom capacity before action told after = AsksFor capacity before action told after
+abbrev TakesRoom : ℕ → ℕ → StepFact
+TakesRoom size capacity before action told after = AsksFor size capacity before action told after
 
-next_rooms : (size : ℕ) (s : LogHistory) (value : Record) → rooms_of (with_entry size s.entries value) ≤ rooms_of s.entries + room_of value
-next_rooms size s value = omega (arith, rooms_of_push s.entries (next_entry size s.entries value))
+next_rooms : (size : ℕ) (s : LogHistory) (value : Record) → rooms_of size (with_entry size s.entries value) ≤ rooms_of size s.entries + room_behind size s.entries value
+next_rooms size s value = omega (arith, rooms_of_push size s.entries (next_entry size s.entries value))
 
-steps_room : (size capacity faults_at_open : ℕ) → HoldsOfSteps size capacity faults_at_open (TakesRoom capacity)
+steps_room : (size capacity faults_at_open : ℕ) → HoldsOfSteps size capacity faults_at_open (TakesRoom size capacity)
 steps_room size capacity faults_at_open = record {
   wrote = λ s value start end reserves ends. record { taken = next_rooms size s value; full = λ no. absurd no };
   insert_full = λ s value free up left short. record { taken = omega arith; full = λ full. omega arith };
@@ -85,15 +84,15 @@ steps_room size capacity faults_at_open = record {
   flush_down = λ s faults down. record { taken = omega arith; full = λ no. absurd no };
 }
 
-pub plays_full : (size capacity faults_at_open : ℕ) (lines : List Line) (told : List Told) (before after : LogHistory) → Plays size capacity faults_at_open before lines told after → SomeAnswer IsFullAnswer told → capacity < rooms_of before.entries + rooms_asked lines
+pub plays_full : (size capacity faults_at_open : ℕ) (lines : List Line) (told : List Told) (before after : LogHistory) → Plays size capacity faults_at_open before lines told after → SomeAnswer IsFullAnswer told → capacity < rooms_of size before.entries + rooms_asked lines
 plays_full size capacity faults_at_open [] [] before after plays full = absurd full
 plays_full size capacity faults_at_open [] (answer ∷ told) before after plays full = absurd plays
 plays_full size capacity faults_at_open (line ∷ lines) [] before after plays full = absurd plays
 plays_full size capacity faults_at_open (line ∷ lines) (answer ∷ told) before after plays (inl here) =
-    let room = fact-Steps size capacity faults_at_open (TakesRoom capacity) (steps_room size capacity faults_at_open) before line.action answer plays.0 plays.1 in
+    let room = fact-Steps size capacity faults_at_open (TakesRoom size capacity) (steps_room size capacity faults_at_open) before line.action answer plays.0 plays.1 in
     omega (arith, room.full here)
 plays_full size capacity faults_at_open (line ∷ lines) (answer ∷ told) before after plays (inr later) =
-    let room = fact-Steps size capacity faults_at_open (TakesRoom capacity) (steps_room size capacity faults_at_open) before line.action answer plays.0 plays.1 in
+    let room = fact-Steps size capacity faults_at_open (TakesRoom size capacity) (steps_room size capacity faults_at_open) before line.action answer plays.0 plays.1 in
     omega (arith, room.taken, plays_full size capacity faults_at_open lines told plays.0 after plays.2 later)
 
 pub played_full : (size capacity faults_at_open : ℕ) (lines : List Line) (told : List Told) (after : LogHistory) → Plays size capacity faults_at_open (at_opening size) lines told after → SomeAnswer IsFullAnswer told → capacity < rooms_asked lines

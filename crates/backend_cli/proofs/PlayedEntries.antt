@@ -1,5 +1,5 @@
 -- The entries of lines that were played: those that the lines were told, chained and in the order of the lines.
-use Rattle.std.proofs.Common.{◌≡◌, ℕ, ◌+◌, List, [], ◌∷◌, ◌++◌, length, option_to_list, sym, ap, ◌∙◌, refl, subst, append_assoc, append-nil, arith}
+use Rattle.std.proofs.Common.{Some, ◌≡◌, ℕ, ◌+◌, List, [], ◌∷◌, ◌++◌, length, option_to_list, sym, ap, ◌∙◌, refl, subst, append_assoc, append-nil, arith}
 use Rattle.std.proofs.lemmas.List.{length_push}
 use Rattle.byte_position.specs.Geometry.{IsSegmentSize}
 use Rattle.byte_position.specs.Position.{position_of, address_of, first_position}
@@ -22,11 +22,11 @@ abbrev AddsEntry : ℕ → StepFact
 AddsEntry size before action told after = after.entries ≡ before.entries ++ option_to_list (entry_of size 0 action told)
 
 -- the entry of a record that starts where the others end
-entry_at_end : (size : ℕ) → IsSegmentSize size → (es : List Entry) (value : Record) (start : Lsn) → start.0 ≡ address_of size (first_position size + rooms_of es)
-    → es ++ next_entry size es value ∷ [] ≡ es ++ (record { pass = 0; value = value; start = position_of size start.0 }) ∷ []
+entry_at_end : (size : ℕ) → IsSegmentSize size → (es : List Entry) (value : Record) (start : Lsn) → start.0 ≡ address_of size (first_position size + rooms_of size es)
+    → es ++ next_entry size es value ∷ [] ≡ es ++ (record { pass = Some 0; value = value; start = position_of size start.0 }) ∷ []
 entry_at_end size valid es value start at =
-    let position : position_of size start.0 ≡ first_position size + rooms_of es = ap (position_of size) at ∙ position_of-address_of size valid (first_position size + rooms_of es) in
-    ap (λ (n : ℕ). es ++ (record { pass = 0; value = value; start = n }) ∷ []) (sym position)
+    let position : position_of size start.0 ≡ first_position size + rooms_of size es = ap (position_of size) at ∙ position_of-address_of size valid (first_position size + rooms_of size es) in
+    ap (λ (n : ℕ). es ++ (record { pass = Some 0; value = value; start = n }) ∷ []) (sym position)
 
 steps_entries : (size capacity faults_at_open : ℕ) → IsSegmentSize size → HoldsOfSteps size capacity faults_at_open (AddsEntry size)
 steps_entries size capacity faults_at_open valid = record {
@@ -93,12 +93,12 @@ played_chained size capacity faults_at_open lines told after plays = plays_chain
 -- the reserved order is that of the entries
 pub played_order : (size capacity faults_at_open : ℕ) (lines : List Line) (told : List Told) (after : LogHistory) → IsSegmentSize size → Plays size capacity faults_at_open (at_opening size) lines told after → order_of size (lines ∷ []) (told ∷ []) ≡ after.entries
 played_order size capacity faults_at_open lines told after valid plays =
-    let rising = IsRising-FollowsFrom (first_position size) after.entries (played_chained size capacity faults_at_open lines told after plays) in
+    let rising = IsRising-FollowsFrom size (first_position size) after.entries (played_chained size capacity faults_at_open lines told after plays) in
     ap sorted_by_start (append-nil (entries_of size 0 lines told) ∙ played_entries size capacity faults_at_open lines told after valid plays) ∙ sorted_by_start-rising after.entries rising
 
 pub played_rises : (size capacity faults_at_open : ℕ) (lines : List Line) (told : List Told) (after : LogHistory) → IsSegmentSize size → Plays size capacity faults_at_open (at_opening size) lines told after → RiseInLineOrder size 0 (lines ∷ []) (told ∷ [])
 played_rises size capacity faults_at_open lines told after valid plays =
-    let rising = IsRising-FollowsFrom (first_position size) after.entries (played_chained size capacity faults_at_open lines told after plays) in
+    let rising = IsRising-FollowsFrom size (first_position size) after.entries (played_chained size capacity faults_at_open lines told after plays) in
     (subst IsRising (sym (played_entries size capacity faults_at_open lines told after valid plays)) rising, tt)
 
 -- there are as many as answers that reserved a record

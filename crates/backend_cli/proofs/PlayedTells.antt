@@ -8,8 +8,7 @@ use Rattle.byte_position.proofs.PositionLaws.{position_of-address_of}
 use Rattle.segment_disk.specs.Cause.{Rose}
 use Rattle.wal_types.specs.declared.record.Record.{Record}
 use Rattle.wal_types.specs.declared.lsn.Lsn.{Lsn}
-use Rattle.record_spelling.specs.Spelling.{room_of}
-use Rattle.wal_page.specs.Order.{Entry, rooms_of, finish_of}
+use Rattle.wal_page.specs.Order.{Entry, rooms_of, finish_of, room_at, room_behind}
 use Rattle.wal_page.proofs.OrderLaws.{rooms_of_push, rooms_of-append}
 use Rattle.wal_script.specs.declared.line.Line.{Line}
 use Rattle.wal_script.specs.declared.line.Action.{Action}
@@ -64,30 +63,30 @@ logged_of size capacity order faults_at_open last = record { size = size; capaci
 
 -- an answer as it may be behind some entries, and what is known for the next line
 record TellsLine (size capacity faults_at_open last : ℕ) (order es : List Entry) (action : Action) (told : Told) (after : LogHistory) : Type 0 where
-  fits : FitsLine (logged_of size capacity order faults_at_open last) (first_position size + rooms_of es) action told
-  behind : behind_or (first_position size + rooms_of es) (entry_of size 0 action told) ≡ first_position size + rooms_of after.entries
+  fits : FitsLine (logged_of size capacity order faults_at_open last) (first_position size + rooms_of size es) action told
+  behind : behind_or size (first_position size + rooms_of size es) (entry_of size 0 action told) ≡ first_position size + rooms_of size after.entries
   failed : HasFailed faults_at_open after.down
 
 abbrev TellsStep : ℕ → ℕ → ℕ → ℕ → List Entry → StepFact
 TellsStep size capacity faults_at_open last order before action told after =
     (more : List Entry) → order ≡ after.entries ++ more → HasFailed faults_at_open before.down → IsLast last after.down → TellsLine size capacity faults_at_open last order before.entries action told after
 
-position_at_end : (size : ℕ) → IsSegmentSize size → (es : List Entry) (start : Lsn) → start.0 ≡ address_of size (first_position size + rooms_of es) → position_of size start.0 ≡ first_position size + rooms_of es
-position_at_end size valid es start at = ap (position_of size) at ∙ position_of-address_of size valid (first_position size + rooms_of es)
+position_at_end : (size : ℕ) → IsSegmentSize size → (es : List Entry) (start : Lsn) → start.0 ≡ address_of size (first_position size + rooms_of size es) → position_of size start.0 ≡ first_position size + rooms_of size es
+position_at_end size valid es start at = ap (position_of size) at ∙ position_of-address_of size valid (first_position size + rooms_of size es)
 
-start_at_end : (size : ℕ) → IsSegmentSize size → (es : List Entry) (start : Lsn) → start.0 ≡ address_of size (first_position size + rooms_of es) → start.0 ≡ address_of size (position_of size start.0)
+start_at_end : (size : ℕ) → IsSegmentSize size → (es : List Entry) (start : Lsn) → start.0 ≡ address_of size (first_position size + rooms_of size es) → start.0 ≡ address_of size (position_of size start.0)
 start_at_end size valid es start at = at ∙ ap (address_of size) (sym (position_at_end size valid es start at))
 
 -- the new entry ends where the entries with it do
-behind_at_end : (size : ℕ) → IsSegmentSize size → (es : List Entry) (value : Record) (start : Lsn) → start.0 ≡ address_of size (first_position size + rooms_of es)
-    → position_of size start.0 + room_of value ≡ first_position size + rooms_of (es ++ next_entry size es value ∷ [])
-behind_at_end size valid es value start at = omega (arith, position_at_end size valid es start at, rooms_of_push es (next_entry size es value))
+behind_at_end : (size : ℕ) → IsSegmentSize size → (es : List Entry) (value : Record) (start : Lsn) → start.0 ≡ address_of size (first_position size + rooms_of size es)
+    → position_of size start.0 + room_at size (position_of size start.0) value ≡ first_position size + rooms_of size (es ++ next_entry size es value ∷ [])
+behind_at_end size valid es value start at = omega (arith, position_at_end size valid es start at, rooms_of_push size es (next_entry size es value))
 
-full_line : (size capacity faults_at_open last : ℕ) (order es more : List Entry) (value : Record) (free : ℕ) → order ≡ es ++ more → free + rooms_of es ≡ capacity → free < room_of value
-    → MayBeFull (logged_of size capacity order faults_at_open last) (first_position size + rooms_of es) value free
+full_line : (size capacity faults_at_open last : ℕ) (order es more : List Entry) (value : Record) (free : ℕ) → order ≡ es ++ more → free + rooms_of size es ≡ capacity → free < room_behind size es value
+    → MayBeFull (logged_of size capacity order faults_at_open last) (first_position size + rooms_of size es) value free
 full_line size capacity faults_at_open last order es more value free parts left short =
     let front : take (length es) order ≡ es = ap (take (length es)) parts ∙ take-append_seam es more in
-    let rooms : rooms_of (take (length es) order) ≡ rooms_of es = ap rooms_of front in
+    let rooms : rooms_of size (take (length es) order) ≡ rooms_of size es = ap (rooms_of size) front in
     record {
       front = length es;
       within = omega (arith, ap length parts, length-append es more);
@@ -97,10 +96,10 @@ full_line size capacity faults_at_open last order es more value free parts left 
     }
 
 flushed_line : (size capacity faults_at_open last : ℕ) → IsSegmentSize size → (order es more : List Entry) (upto : Lsn) → order ≡ es ++ more → upto.0 ≡ end_of size es
-    → (end_address_of size (first_position size + rooms_of es) ≤ upto.0) × (upto.0 ≤ end_address_of size (first_position size + rooms_of order))
+    → (end_address_of size (first_position size + rooms_of size es) ≤ upto.0) × (upto.0 ≤ end_address_of size (first_position size + rooms_of size order))
 flushed_line size capacity faults_at_open last valid order es more upto parts at =
-    let rooms : rooms_of es ≤ rooms_of order = omega (arith, ap rooms_of parts, rooms_of-append es more) in
-    let rises = end_address_of-mono size valid (first_position size + rooms_of es) (first_position size + rooms_of order) (omega (arith, rooms)) in
+    let rooms : rooms_of size es ≤ rooms_of size order = omega (arith, ap (rooms_of size) parts, rooms_of-append size es more) in
+    let rises = end_address_of-mono size valid (first_position size + rooms_of size es) (first_position size + rooms_of size order) (omega (arith, rooms)) in
     (omega (arith, at), omega (arith, at, rises))
 
 -- a record that was reserved stands at its place
@@ -109,7 +108,7 @@ placed_line size capacity valid s value start end reserves ends =
     let position = position_at_end size valid s.entries start reserves.reserved.start_is in
     record {
       starts = start_at_end size valid s.entries start reserves.reserved.start_is;
-      ends = ends ∙ ap (λ (n : ℕ). end_address_of size (n + room_of value)) (sym position);
+      ends = ends ∙ ap (λ (n : ℕ). end_address_of size (n + room_at size n value)) (sym position);
     }
 
 -- a fault that is told since the opening
@@ -179,7 +178,7 @@ steps_tell size capacity faults_at_open last order valid = record {
 }
 
 plays_tell : (size capacity faults_at_open last : ℕ) (order : List Entry) → IsSegmentSize size → (lines : List Line) (told : List Told) (before after : LogHistory) → Plays size capacity faults_at_open before lines told after → order ≡ after.entries
-    → HasFailed faults_at_open before.down → IsLast last after.down → TellsFrom (logged_of size capacity order faults_at_open last) 0 (first_position size + rooms_of before.entries) lines told
+    → HasFailed faults_at_open before.down → IsLast last after.down → TellsFrom (logged_of size capacity order faults_at_open last) 0 (first_position size + rooms_of size before.entries) lines told
 plays_tell size capacity faults_at_open last order valid [] [] before after plays all failed is_last = tt
 plays_tell size capacity faults_at_open last order valid [] (answer ∷ told) before after plays all failed is_last = absurd plays
 plays_tell size capacity faults_at_open last order valid (line ∷ lines) [] before after plays all failed is_last = absurd plays
@@ -200,7 +199,7 @@ tells_over : (size capacity faults_at_open last : ℕ) (order : List Entry) (lin
 tells_over size capacity faults_at_open last order lines told after valid plays known all =
     let failed : HasFailed faults_at_open None = λ faults down. absurd (let no : ⊥ = cc in no) in
     let tells = plays_tell size capacity faults_at_open last order valid lines told (at_opening size) after plays all failed (IsLast-IfSome last after.down known) in
-    let from : first_position size + rooms_of [] ≡ first_position size = omega arith in
+    let from : first_position size + rooms_of size [] ≡ first_position size = omega arith in
     (subst (λ (n : ℕ). TellsFrom (logged_of size capacity order faults_at_open last) 0 n lines told) from tells, tt)
 
 pub played_tells : (size capacity faults_at_open last : ℕ) (lines : List Line) (told : List Told) (after : LogHistory) → IsSegmentSize size → Plays size capacity faults_at_open (at_opening size) lines told after → IfSome after.down (λ faults. faults ≡ last)

@@ -106,26 +106,26 @@ ends_opened outside told None false outcome (inr room) since up full printed unp
     subst (EndsOpened outside (told ∷ [])) (sym room.1) (up refl, (λ refused. ⊎_elim (λ answer. room.0 (full refl answer)) (λ no. no) refused), printed refl)
 
 -- the segments of a summary are those up to the log's end
-segments_are : (size : ℕ) (es : List Entry) (end : ℕ) → (if rooms_of es == 0 then 0 else (end - 1) / size) ≡ segments_upto size es end
+segments_are : (size : ℕ) (es : List Entry) (end : ℕ) → (if rooms_of size es == 0 then 0 else (end - 1) / size) ≡ segments_upto size es end
 segments_are size [] end = refl
 segments_are size (e ∷ es) end =
-    let more : 0 < rooms_of (e ∷ es) = omega (arith, rooms_of_cons e es, (room_is (assembled e.value)).1) in
-    let apart : eqb (rooms_of (e ∷ es)) 0 ≡ false = grind arith in
+    let more : 0 < rooms_of size (e ∷ es) = omega (arith, rooms_of_cons size e es, (room_is (assembled e.value)).1) in
+    let apart : eqb (rooms_of size (e ∷ es)) 0 ≡ false = grind arith in
     ap (λ (b : Bool). cond b 0 ((end - 1) / size)) apart
 
 -- a summary's line is that of the order
-summary_is : (size : ℕ) (es : List Entry) (told : List Told) (s : Summary) → Summarizes size (rooms_of es) told s → length es ≡ reserved_count told → summary_line s ≡ summary_text size es (commits_of told)
+summary_is : (size : ℕ) (es : List Entry) (told : List Told) (s : Summary) → Summarizes size (rooms_of size es) told s → length es ≡ reserved_count told → summary_line s ≡ summary_text size es (commits_of told)
 summary_is size es told s is count =
-    let end = end_address_of size (first_position size + rooms_of es) in
+    let end = end_address_of size (first_position size + rooms_of size es) in
     let line = λ (records commits bytes at segments : ℕ). joined (codes "records " ∷ decimal records ∷ codes " commits " ∷ decimal commits ∷ codes " bytes " ∷ decimal bytes ∷ codes " end " ∷ lsn_text at ∷ codes " segments " ∷ decimal segments ∷ codes "\n" ∷ []) in
     ap (λ (n : ℕ). line n s.commits s.bytes s.end.0 s.segments) (is.records ∙ sym count)
     ∙ ap (λ (n : ℕ). line (length es) n s.bytes s.end.0 s.segments) is.commits
     ∙ ap (λ (n : ℕ). line (length es) (commits_of told) n s.end.0 s.segments) is.bytes
-    ∙ ap (λ (n : ℕ). line (length es) (commits_of told) (rooms_of es) s.end.0 n) (is.segments ∙ segments_are size es s.end.0)
-    ∙ ap (λ (n : ℕ). line (length es) (commits_of told) (rooms_of es) n (segments_upto size es n)) is.end
+    ∙ ap (λ (n : ℕ). line (length es) (commits_of told) (rooms_of size es) s.end.0 n) (is.segments ∙ segments_are size es s.end.0)
+    ∙ ap (λ (n : ℕ). line (length es) (commits_of told) (rooms_of size es) n (segments_upto size es n)) is.end
 
 -- what is printed is the run's text
-pub text_is : (size : ℕ) (list : Bool) (lines : List Line) (tasks : List Task) (told : List Told) (es : List Entry) (s : Summary) → AreTasks lines tasks → Summarizes size (rooms_of es) told s → length es ≡ reserved_count told
+pub text_is : (size : ℕ) (list : Bool) (lines : List Line) (tasks : List Task) (told : List Told) (es : List Entry) (s : Summary) → AreTasks lines tasks → Summarizes size (rooms_of size es) told s → length es ≡ reserved_count told
     → printed_text list tasks told s ≡ run_text size list (lines ∷ []) (told ∷ []) es
 text_is size list lines tasks told es s are is count =
     let line = summary_is size es told s is count in
@@ -147,7 +147,7 @@ module _ (D : Type 0) (tape : D → Option Tape) (moment faults : D → ℕ) (di
       let valid : IsSegmentSize size = subst IsSegmentSize same_size is_log.valid in
       let order : order_of size (lines ∷ []) (told ∷ []) ≡ after.entries = played_order size capacity (faults disk) lines told after valid plays in
       let since = fell D tape faults (tape disk) (faults disk) log last is_log in
-      let used : Summarizes size (rooms_of after.entries) told summary = subst (λ (n : ℕ). Summarizes size n told summary) (is_log.bytes ∙ ap (λ (es : List Entry). rooms_of es) behind.same) summarizes in
+      let used : Summarizes size (rooms_of size after.entries) told summary = subst (λ (n : ℕ). Summarizes size n told summary) (is_log.bytes ∙ ap (λ (es : List Entry). rooms_of size es) behind.same) summarizes in
       let text = text_is size list lines tasks told after.entries summary are used (counted size capacity (faults disk) lines told after plays) in
       let order_text : printed_text list tasks told summary ≡ run_text size list (lines ∷ []) (told ∷ []) (order_of size (lines ∷ []) (told ∷ [])) = text ∙ ap (run_text size list (lines ∷ []) (told ∷ [])) (sym order) in
       let whole_at_end : faults (log_disk log) ≡ faults disk → faults disk < 2 ^ 64 - 1 → HoldsNothing (tape disk) → IsWhole size (tape (log_disk log)) after.entries = λ same low nothing.
@@ -156,7 +156,7 @@ module _ (D : Type 0) (tape : D → Option Tape) (moment faults : D → ℕ) (di
       let by_size : IfSome (tape (log_disk log)) (HoldsLog size log.sysid last.entries) = subst (λ (n : ℕ). IfSome (tape (log_disk log)) (HoldsLog n log.sysid last.entries)) same_size held in
       let by_sysid : IfSome (tape (log_disk log)) (HoldsLog size 1 last.entries) = subst (λ (n : ℕ). IfSome (tape (log_disk log)) (HoldsLog size n last.entries)) sysid by_size in
       let by_entries : IfSome (tape (log_disk log)) (HoldsLog size 1 after.entries) = subst (λ (es : List Entry). IfSome (tape (log_disk log)) (HoldsLog size 1 es)) behind.same by_sysid in
-      let within : rooms_of after.entries ≤ 2 ^ 42 = omega (arith, is_log.within, ap (λ (es : List Entry). rooms_of es) behind.same, same_capacity, small) in
+      let within : rooms_of size after.entries ≤ 2 ^ 42 = omega (arith, is_log.within, ap (λ (es : List Entry). rooms_of size es) behind.same, same_capacity, small) in
       whole size 1 after.entries (tape (log_disk log)) valid (omega arith) (omega arith) (played_chained size capacity (faults disk) lines told after plays) within by_entries) in
       let holds : RunHolds outside size capacity list outcome (told ∷ []) = (
         lines ∷ [],

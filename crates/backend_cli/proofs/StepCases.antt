@@ -3,8 +3,8 @@ use Rattle.std.proofs.Common.{◌≡◌, ℕ, ◌+◌, ◌<◌, Option, Some, No
 use Rattle.segment_disk.specs.Cause.{Rose}
 use Rattle.wal_types.specs.declared.record.Record.{Record}
 use Rattle.wal_types.specs.declared.lsn.Lsn.{Lsn}
-use Rattle.record_spelling.specs.Spelling.{room_of, IsWritable}
-use Rattle.wal_page.specs.Order.{rooms_of, finish_of}
+use Rattle.record_spelling.specs.Spelling.{IsWritable}
+use Rattle.wal_page.specs.Order.{rooms_of, finish_of, room_behind}
 use Rattle.log_answers.specs.declared.Receipt.{Receipt}
 use Rattle.log_answers.specs.declared.Hard as hard
 use Rattle.log_answers.specs.declared.Sealed.{Sealed}
@@ -33,13 +33,13 @@ pub record Reserves (size capacity : ℕ) (before : LogHistory) (value : Record)
 pub record HoldsOfSteps (size capacity faults_at_open : ℕ) (P : StepFact) : Type 0 where
   pub wrote : (s : LogHistory) (value : Record) (start end : Lsn) → Reserves size capacity s value start.0 → end.0 ≡ finish_of size (next_entry size s.entries value)
       → P s (Insert value) (Wrote start end) (record s { entries = with_entry size s.entries value })
-  pub insert_full : (s : LogHistory) (value : Record) (free : ℕ) → s.down ≡ None → free + rooms_of s.entries ≡ capacity → free < room_of value → P s (Insert value) (Refused (Full free) None) s
+  pub insert_full : (s : LogHistory) (value : Record) (free : ℕ) → s.down ≡ None → free + rooms_of size s.entries ≡ capacity → free < room_behind size s.entries value → P s (Insert value) (Refused (Full free) None) s
   pub insert_failed : (s : LogHistory) (value : Record) (start : Lsn) (faults : ℕ) → Reserves size capacity s value start.0 → Rose faults_at_open faults
       → P s (Insert value) (Refused (Disk faults) (Some start)) (record s { entries = with_entry size s.entries value; down = Some faults })
   pub insert_down : (s : LogHistory) (value : Record) (faults : ℕ) → s.down ≡ Some faults → P s (Insert value) (Refused (Down faults) None) s
   pub hard : (s : LogHistory) (value : Record) (start end : Lsn) (moment : ℕ) → Reserves size capacity s value start.0 → end.0 ≡ finish_of size (next_entry size s.entries value)
       → P s (Commit value) (Hard start end moment) (record s { entries = with_entry size s.entries value; flushed = end.0 })
-  pub commit_full : (s : LogHistory) (value : Record) (free : ℕ) → s.down ≡ None → free + rooms_of s.entries ≡ capacity → free < room_of value → P s (Commit value) (Refused (Full free) None) s
+  pub commit_full : (s : LogHistory) (value : Record) (free : ℕ) → s.down ≡ None → free + rooms_of size s.entries ≡ capacity → free < room_behind size s.entries value → P s (Commit value) (Refused (Full free) None) s
   pub commit_failed : (s : LogHistory) (value : Record) (start : Lsn) (faults : ℕ) → Reserves size capacity s value start.0 → Rose faults_at_open faults
       → P s (Commit value) (Refused (Disk faults) (Some start)) (record s { entries = with_entry size s.entries value; down = Some faults })
   pub commit_down : (s : LogHistory) (value : Record) (faults : ℕ) → s.down ≡ Some faults → P s (Commit value) (Refused (Down faults) None) s

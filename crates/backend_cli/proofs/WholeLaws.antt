@@ -10,21 +10,20 @@ use Rattle.byte_position.proofs.Rising.{position_of-le_self, address_of-bound}
 use Rattle.byte_position.proofs.SegmentSizes.{segment_size_tests}
 use Rattle.segment_disk.specs.Tape.{Tape}
 use Rattle.segment_disk.specs.DiskImage.{DiskImage, ImageSegment}
-use Rattle.wal_page.specs.Order.{Entry, IsChained, rooms_of}
+use Rattle.wal_page.specs.Order.{Entry, IsChained, rooms_of, end_position}
 use Rattle.serial_log.specs.LogImage.{IsLogImage, HoldsLog, HoldsLogSegment, last_segment}
 use Rattle.wal_reader.specs.Pages.{pages_in}
-use Rattle.written_log.specs.WrittenLog.{last_position}
 use Rattle.written_log.specs.LogSegments.{HoldsSegments, IsLogSegment}
 use Rattle.written_log.proofs.LogSegmentLaws.{segments_hold_log}
 use Rattle.written_log.proofs.WrittenLogLaws.{written_log_decodes}
 use Rattle.backend_cli.specs.Run.{DecodesTo, IsWhole}
 use Rattle.backend_cli.specs.Whole.{HeldLogIsWhole}
 
-module _ (size sysid : ℕ) (es : List Entry) (valid : IsSegmentSize size) (known : 0 < sysid) (narrow : sysid < 2 ^ 64) (chained : IsChained size es) (within : rooms_of es ≤ 2 ^ 42) where
+module _ (size sysid : ℕ) (es : List Entry) (valid : IsSegmentSize size) (known : 0 < sysid) (narrow : sysid < 2 ^ 64) (chained : IsChained size es) (within : rooms_of size es ≤ 2 ^ 42) where
   -- the log ends far below the last address that is read
-  bounded : end_address_of size (last_position size es) ≤ 2 ^ 60
+  bounded : end_address_of size (end_position size es) ≤ 2 ^ 60
   bounded =
-      let p = first_position size + rooms_of es in
+      let p = first_position size + rooms_of size es in
       omega (arith, end_address_of-le_address_of size valid p, address_of-bound size valid p, position_of-le_self size size, (segment_size_tests size valid).2)
 
   module _ (image : DiskImage) (is : IsLogImage size sysid es image) where
@@ -45,10 +44,10 @@ module _ (size sysid : ℕ) (es : List Entry) (valid : IsSegmentSize size) (know
         ]
 
     -- those below the log's end are there
-    there_segment : (segment : ℕ) → 1 ≤ segment → segment * size < end_address_of size (last_position size es) → IsSome (image segment)
+    there_segment : (segment : ℕ) → 1 ≤ segment → segment * size < end_address_of size (end_position size es) → IsSome (image segment)
     there_segment segment from below =
         let some : 0 < size = omega (arith, (segment_size_tests size valid).1) in
-        let before : segment * size ≤ end_address_of size (last_position size es) - 1 = omega arith in
+        let before : segment * size ≤ end_address_of size (end_position size es) - 1 = omega arith in
         some_segment segment (image segment) (is.there segment from ((le-div_iff_mul-le some).1 before))
 
     image_decodes : DecodesTo size image es

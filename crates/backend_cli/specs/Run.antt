@@ -1,11 +1,10 @@
 -- What a run promises.
 use Rattle.std.specs.Prelude.{◌≡◌, ℕ, ◌+◌, ◌-◌, ◌^◌, ◌<◌, Bool, List, [], ◌∷◌, Option, Some, None, Ok, Err, IfSome, IsSome}
-use Rattle.byte_position.specs.Position.{first_position}
 use Rattle.segment_disk.specs.Tape.{Tape, state_now, page_of_segment}
 use Rattle.segment_disk.specs.DiskImage.{DiskImage, MayLeave, image_as_read}
 use Rattle.flush_core.specs.Pages.{HoldsNothing}
 use Rattle.record_spelling.specs.Spelling.{room_of}
-use Rattle.wal_page.specs.Order.{Entry, IsChained, rooms_of}
+use Rattle.wal_page.specs.Order.{Entry, IsChained, end_position}
 use Rattle.wal_script.specs.declared.line.Line.{Line}
 use Rattle.wal_script.specs.declared.line.Action.{Action}
 use Rattle.wal_script.specs.declared.line.Action.TheVariants.{Insert, Commit, Flush}
@@ -61,7 +60,7 @@ EndsOpened outside told others = ⊥
 abbrev pub DecodesTo : ℕ → DiskImage → List Entry → Type 0
 DecodesTo size image es =
     Decodes size (pages_in size image) size None (found_of size es)
-    (ended size (first_position size + rooms_of es))
+    (ended size (end_position size es))
 
 -- where the disk told nothing but an empty log at the start and did not fail, every image that a
 -- crash may leave at the last moment, and the disk as it is read, decode to the whole order

@@ -1,10 +1,10 @@
 -- What a run prints.
 use Rattle.std.specs.Prelude.{ℕ, ◌+◌, ◌-◌, ◌/◌, List, [], ◌∷◌, ◌++◌, length, Option, Some, None, codes, Bool, if◌then◌else◌}
 use Rattle.std.specs.Fmt.{decimal}
-use Rattle.byte_position.specs.Position.{end_address_of, first_position}
+use Rattle.byte_position.specs.Position.{end_address_of}
 use Rattle.wal_types.specs.LsnText.{lsn_text}
 use Rattle.wal_types.specs.declared.lsn.Lsn.{Lsn}
-use Rattle.wal_page.specs.Order.{Entry, rooms_of}
+use Rattle.wal_page.specs.Order.{Entry, rooms_of, end_position}
 use Rattle.wal_script.specs.declared.line.Line.{Line}
 use Rattle.waldump_text.specs.Put.{joined}
 use Rattle.backend_cli.specs.declared.told.Told.{Told}
@@ -87,10 +87,10 @@ segments_upto size (e ∷ es) end = (end - 1) / size
 -- segments
 abbrev pub summary_text : ℕ → List Entry → ℕ → List ℕ
 summary_text size order commits =
-    let end = end_address_of size (first_position size + rooms_of order) in
+    let end = end_address_of size (end_position size order) in
     joined (codes "records " ∷ decimal (length order) ∷ codes " commits " ∷ decimal commits ∷
-    codes " bytes " ∷ decimal (rooms_of order) ∷ codes " end " ∷ lsn_text end ∷ codes " segments " ∷
-    decimal (segments_upto size order end) ∷ codes "\n" ∷ [])
+    codes " bytes " ∷ decimal (rooms_of size order) ∷ codes " end " ∷ lsn_text end ∷
+    codes " segments " ∷ decimal (segments_upto size order end) ∷ codes "\n" ∷ [])
 
 -- all that a run prints: the told lines where they are asked for, then the summary
 abbrev pub run_text : ℕ → Bool → List (List Line) → List (List Told) → List Entry → List ℕ

@@ -4,8 +4,7 @@ use Rattle.segment_disk.specs.Cause.{Rose}
 use Rattle.wal_types.specs.declared.lsn.Lsn.{Lsn}
 use Rattle.wal_types.specs.declared.record.Record.{Record}
 use Rattle.byte_position.specs.Position.{position_of, address_of, end_address_of, first_position}
-use Rattle.record_spelling.specs.Spelling.{room_of}
-use Rattle.wal_page.specs.Order.{Entry, position_behind, rooms_of}
+use Rattle.wal_page.specs.Order.{Entry, position_behind, rooms_of, end_position, room_at, room_behind}
 use Rattle.wal_script.specs.declared.line.Line.{Line}
 use Rattle.wal_script.specs.declared.line.Action.{Action}
 use Rattle.wal_script.specs.declared.line.Action.TheVariants.{Insert, Commit, Flush}
@@ -25,7 +24,7 @@ reserved_by (Refused cause reserved) = reserved
 abbrev pub entry_at : ℕ → ℕ → Record → Option Lsn → Option Entry
 entry_at size backend value None = None
 entry_at size backend value (Some start) =
-    Some (record { pass = backend; value = value; start = position_of size start.0 })
+    Some (record { pass = Some backend; value = value; start = position_of size start.0 })
 
 abbrev pub entry_of : ℕ → ℕ → Action → Told → Option Entry
 entry_of size backend (Insert value) told = entry_at size backend value (reserved_by told)
@@ -78,7 +77,8 @@ pub record Logged : Type 0 where
 -- the position behind it
 pub record IsPlaced (size : ℕ) (value : Record) (start end : ℕ) : Type 0 where
   pub starts : start ≡ address_of size (position_of size start)
-  pub ends : end ≡ end_address_of size (position_of size start + room_of value)
+  pub ends : end
+      ≡ end_address_of size (position_of size start + room_at size (position_of size start) value)
 
 -- the disk failed since the opening, and this was its count of faults then
 pub record IsFault (logged : Logged) (faults : ℕ) : Type 0 where
@@ -90,9 +90,9 @@ pub record IsFault (logged : Logged) (faults : ℕ) : Type 0 where
 pub record MayBeFull (logged : Logged) (behind : ℕ) (value : Record) (free : ℕ) : Type 0 where
   pub front : ℕ
   pub within : front ≤ length logged.order
-  pub earlier : behind ≤ first_position logged.size + rooms_of (take front logged.order)
-  pub left : free + rooms_of (take front logged.order) ≡ logged.capacity
-  pub short : free < room_of value
+  pub earlier : behind ≤ end_position logged.size (take front logged.order)
+  pub left : free + rooms_of logged.size (take front logged.order) ≡ logged.capacity
+  pub short : free < room_behind logged.size (take front logged.order) value
 
 -- why an insert or a commit may be refused: a fault in its own device calls comes once its record
 -- is reserved
@@ -131,13 +131,13 @@ FitsLine logged behind Flush (Wrote start end) = ⊥
 FitsLine logged behind Flush (Hard start end moment) = ⊥
 FitsLine logged behind Flush (Flushed upto moment) =
     (end_address_of logged.size behind ≤ upto.0)
-    × (upto.0 ≤ end_address_of logged.size (first_position logged.size + rooms_of logged.order))
+    × (upto.0 ≤ end_address_of logged.size (end_position logged.size logged.order))
 FitsLine logged behind Flush (Refused cause reserved) = MayRefuseFlush logged cause reserved
 
 -- the byte position at which a backend's entries end after one more line
-abbrev pub behind_or : ℕ → Option Entry → ℕ
-behind_or behind None = behind
-behind_or behind (Some e) = position_behind e
+abbrev pub behind_or : ℕ → ℕ → Option Entry → ℕ
+behind_or size behind None = behind
+behind_or size behind (Some e) = position_behind size e
 
 -- one answer for each line, in order, each as it may be
 abbrev pub TellsFrom : Logged → ℕ → ℕ → List Line → List Told → Type 0
@@ -147,7 +147,7 @@ TellsFrom logged backend behind (line ∷ lines) [] = ⊥
 TellsFrom logged backend behind (line ∷ lines) (told ∷ others) =
     FitsLine logged behind line.action told
     × TellsFrom logged backend
-    (behind_or behind (entry_of logged.size backend line.action told)) lines others
+    (behind_or logged.size behind (entry_of logged.size backend line.action told)) lines others
 
 -- a list for each backend from a number on, and one answer for each of its lines
 abbrev pub TellsAll : Logged → ℕ → List (List Line) → List (List Told) → Type 0

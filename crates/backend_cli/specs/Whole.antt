@@ -11,5 +11,5 @@ use Rattle.backend_cli.specs.Run.{IsWhole}
 abbrev pub HeldLogIsWhole : Type 0
 HeldLogIsWhole =
     (size sysid : ℕ) (es : List Entry) (tape : Option Tape) → IsSegmentSize size → 0 < sysid
-    → sysid < 2 ^ 64 → IsChained size es → rooms_of es ≤ 2 ^ 42
+    → sysid < 2 ^ 64 → IsChained size es → rooms_of size es ≤ 2 ^ 42
     → IfSome tape (HoldsLog size sysid es) → IsWhole size tape es

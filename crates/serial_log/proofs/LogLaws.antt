@@ -84,14 +84,14 @@ module _ (D : Type 0) (tape : D → Option Tape) (moment faults : D → ℕ) (ta
       abbrev more : List Entry
       more = with_entry size es value
 
-      position_is : first + log.bytes ≡ first_position size + rooms_of es
+      position_is : first + log.bytes ≡ first_position size + rooms_of size es
       position_is = omega (arith, place.begins.position_is, is.bytes)
 
-      rooms_is : log.bytes + room ≡ rooms_of more
-      rooms_is = omega (arith, is.bytes, place.room_is, ap assembled_room same, rooms_of_push es (next_entry size es value))
+      rooms_is : log.bytes + room ≡ rooms_of size more
+      rooms_is = omega (arith, is.bytes, place.room_is, ap assembled_room same, rooms_of_push size es (next_entry size es value))
 
       end_is_more : end.0 ≡ end_of size more
-      end_is_more = let at : first + (log.bytes + room) ≡ first_position size + rooms_of more = omega (arith, place.begins.position_is, rooms_is) in place.end_is ∙ ap (end_address_of size) at
+      end_is_more = let at : first + (log.bytes + room) ≡ first_position size + rooms_of size more = omega (arith, place.begins.position_is, rooms_is) in place.end_is ∙ ap (end_address_of size) at
 
       is_reserved : IsReserved size log.capacity s value start.0
       is_reserved = record {
@@ -107,8 +107,8 @@ module _ (D : Type 0) (tape : D → Option Tape) (moment faults : D → ℕ) (ta
           valid = is.valid;
           same_size = same_size ∙ is.same_size;
           chained = subst (IsChained size) (sym entries) (chained_more size log.sysid is.valid es value is.chained writable);
-          within = omega (arith, place.fits, place.room_is, rooms_is, ap rooms_of entries);
-          bytes = rooms_is ∙ ap rooms_of (sym entries);
+          within = omega (arith, place.fits, place.room_is, rooms_is, ap (rooms_of size) entries);
+          bytes = rooms_is ∙ ap (rooms_of size) (sym entries);
           prev = place.start_is ∙ ap (address_of size) position_is ∙ sym (prev_of_push size 0 es (next_entry size es value)) ∙ ap (prev_of size 0) (sym entries);
           flushed = is.flushed ∙ sym flushed;
           down = down;
@@ -119,7 +119,7 @@ module _ (D : Type 0) (tape : D → Option Tape) (moment faults : D → ℕ) (ta
       -- its words are the log's from its end on
       given : AreGiven from end.0 (log_word size log.sysid more)
       given =
-          let from_here = place.from_is ∙ placed_at size log.sysid body (assembled value) (first + log.bytes) (first_position size + rooms_of es) log.prev (prev_of size 0 es) (end_address_of size (first + log.bytes)) (end_of size es) same position_is is.prev (ap (end_address_of size) position_is) in
+          let from_here = place.from_is ∙ placed_at size log.sysid body (assembled value) (first + log.bytes) (first_position size + rooms_of size es) log.prev (prev_of size 0 es) (end_address_of size (first + log.bytes)) (end_of size es) same position_is is.prev (ap (end_address_of size) position_is) in
           subst (λ (n : ℕ). AreGiven from n (log_word size log.sysid more)) (sym end_is_more) (AreGiven-more size log.sysid is.valid es value is.chained writable from from_here)
 
       next_is : from.next ≡ end_of size es

@@ -48,10 +48,10 @@ module _ (size sysid : ℕ) (valid : IsSegmentSize size) where
     pub chained_more : IsChained size more
     chained_more = IsChained_push size es entry chained refl writable
 
-    pub end_of_more : end_address_of size (position_behind entry) ≡ end_of size more
+    pub end_of_more : end_address_of size (position_behind size entry) ≡ end_of size more
     end_of_more =
-        let rooms = rooms_of_push es entry in
-        let at : position_behind entry ≡ first_position size + rooms_of more = omega arith in
+        let rooms = rooms_of_push size es entry in
+        let at : position_behind size entry ≡ first_position size + rooms_of size more = omega arith in
         ap (end_address_of size) at
 
     -- below its old end the log is as it was

@@ -104,8 +104,8 @@ pub record IsLog {D : Type 0} (tape : D → Option Tape) (faults : D → ℕ)
   pub valid : IsSegmentSize log.size
   pub same_size : writer_segment_size log.writer ≡ log.size
   pub chained : IsChained log.size s.entries
-  pub within : rooms_of s.entries ≤ log.capacity
-  pub bytes : log.bytes ≡ rooms_of s.entries
+  pub within : rooms_of log.size s.entries ≤ log.capacity
+  pub bytes : log.bytes ≡ rooms_of log.size s.entries
   pub prev : log.prev ≡ prev_of log.size 0 s.entries
   pub flushed : log.flushed ≡ s.flushed
   pub down : writer_fault log.writer ≡ s.down

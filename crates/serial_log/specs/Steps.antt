@@ -3,9 +3,8 @@
 use Rattle.std.specs.Prelude.{◌≡◌, ℕ, ◌+◌, ◌<◌, ◌≤◌, ◌⊎◌, Option, Some, None, Result, Ok, Err}
 use Rattle.wal_types.specs.declared.record.Record.{Record}
 use Rattle.wal_types.specs.declared.lsn.Lsn.{Lsn}
-use Rattle.record_spelling.specs.Spelling.{room_of}
 use Rattle.segment_disk.specs.Cause.{Rose}
-use Rattle.wal_page.specs.Order.{rooms_of, start_of, finish_of}
+use Rattle.wal_page.specs.Order.{rooms_of, start_of, finish_of, room_behind}
 use Rattle.log_answers.specs.declared.Receipt.{Receipt}
 use Rattle.log_answers.specs.declared.Hard.{Hard}
 use Rattle.log_answers.specs.declared.Sealed.{Sealed}
@@ -20,15 +19,15 @@ use Rattle.serial_log.specs.History.{LogHistory, end_of, next_entry, with_entry}
 pub record IsReserved (size capacity : ℕ) (before : LogHistory) (value : Record) (start : ℕ)
     : Type 0 where
   pub up : before.down ≡ None
-  pub fits : rooms_of before.entries + room_of value ≤ capacity
+  pub fits : rooms_of size before.entries + room_behind size before.entries value ≤ capacity
   pub start_is : start ≡ start_of size (next_entry size before.entries value)
 
 -- the record does not fit into the bytes that are left: nothing is reserved
-pub record FindsFull (capacity : ℕ) (before : LogHistory) (value : Record) (free : ℕ)
+pub record FindsFull (size capacity : ℕ) (before : LogHistory) (value : Record) (free : ℕ)
     (after : LogHistory) : Type 0 where
   pub up : before.down ≡ None
-  pub left : free + rooms_of before.entries ≡ capacity
-  pub small : free < room_of value
+  pub left : free + rooms_of size before.entries ≡ capacity
+  pub small : free < room_behind size before.entries value
   pub same : after ≡ before
 
 -- the disk had failed before, and this is its count of faults then: nothing is reserved
@@ -48,7 +47,7 @@ pub record FailsReserved (size capacity faults_at_open : ℕ) (before : LogHisto
 abbrev pub RefusesRecord : ℕ → ℕ → ℕ → LogHistory → Record → Cause → Option Lsn → LogHistory
     → Type 0
 RefusesRecord size capacity faults_at_open before value (Full free) None after =
-    FindsFull capacity before value free after
+    FindsFull size capacity before value free after
 RefusesRecord size capacity faults_at_open before value (Full free) (Some start) after = ⊥
 RefusesRecord size capacity faults_at_open before value (Disk faults) None after = ⊥
 RefusesRecord size capacity faults_at_open before value (Disk faults) (Some start) after =

@@ -1,6 +1,5 @@
 ghost use Rattle.std.specs.Prelude.{◌≡◌, ℕ, ◌+◌, ◌*◌, ◌/◌, ◌%◌, ◌<◌, ◌≤◌, ◌^◌, min, None, MatchResult, OnOk, IfOk, IfErr, false};
-ghost use Rattle.byte_position.specs.Position.{end_address_of};
-ghost use Rattle.record_spelling.specs.Spelling.{assembled_room};
+ghost use Rattle.wal_page.specs.Placed.{placed_end};
 ghost use Rattle.flush_core.specs.Pages.{HoldsNothing, no_pages};
 ghost use Rattle.flush_core.specs.Left.{no_puts};
 ghost use Rattle.flush_core.specs.Writer.{HoldsOnly, IsWriter, disk_of, writer_fault, writer_segment_size, is_unsynced, written_of};
@@ -132,8 +131,7 @@ impl<D: Disk> Buffers<D> {
         requires up { writer_fault self.old.writer ≡ None }
         requires spans { Spans self.old.ring self.old.writer placed.old.next }
         requires whole { (placed.old.next % 8 ≡ 0) × (end.0 % 8 ≡ 0) }
-        requires end { end.0
-            ≡ end_address_of placed.old.size (placed.old.start + assembled_room placed.old.body) }
+        requires end { end.0 ≡ placed_end placed.old }
         requires begins { placed.old.next ≤ end.0 }
         requires bound { end.0 < 2 ^ 62 }
         ensures leaves { WritingLeaves D.tape D.moment D.faults

@@ -1,7 +1,5 @@
 ghost use Rattle.std.specs.Prelude.{◌≡◌, ℕ, ◌+◌, ◌*◌, ◌/◌, ◌<◌, ◌≤◌, length, min, slice_index};
-ghost use Rattle.byte_position.specs.Position.{end_address_of};
-ghost use Rattle.record_spelling.specs.Spelling.{assembled_room};
-ghost use Rattle.wal_page.specs.Placed.{placed_word};
+ghost use Rattle.wal_page.specs.Placed.{placed_word, placed_end};
 
 use byte_position::PAGE_SIZE;
 use wal_page::Placed;
@@ -22,8 +20,7 @@ pub(crate) fn end_in_page(at: Lsn, upto: Lsn) -> Lsn
 
 /// Copies the next words of a record, as many as there is place for.
 pub(crate) fn copy_words(placed: &mut Placed, words: &mut [u64])
-    requires { placed.old.next + 8 * length words.old
-        ≤ end_address_of placed.old.size (placed.old.start + assembled_room placed.old.body) }
+    requires { placed.old.next + 8 * length words.old ≤ placed_end placed.old }
     ensures placed { placed.new
         ≡ record placed.old { next = placed.old.next + 8 * length words.old } }
     ensures words { (k : ℕ) → k < length words.old

@@ -1,7 +1,6 @@
 ghost use Rattle.std.specs.Prelude.{◌≡◌, ℕ, ◌+◌, ◌*◌, ◌/◌, ◌%◌, ◌<◌, ◌≤◌, ◌^◌, length, IfOk};
 ghost use Rattle.std.specs.Int.{w64, to_le_bytes};
-ghost use Rattle.byte_position.specs.Position.{end_address_of};
-ghost use Rattle.record_spelling.specs.Spelling.{assembled_room};
+ghost use Rattle.wal_page.specs.Placed.{placed_end};
 ghost use Rattle.segment_disk.specs.DiskImage.{word_of};
 ghost use Rattle.serial_log.specs.Ring.{HoldsWords, IsMapped, ring_word};
 ghost use Rattle.serial_log.specs.Words.{AreGiven};
@@ -98,8 +97,7 @@ impl Ring {
         requires begins { placed.old.next ≤ upto.0 }
         requires within { upto.0 ≤ (placed.old.next / 8192 + 1) * 8192 }
         requires whole { (placed.old.next % 8 ≡ 0) × (upto.0 % 8 ≡ 0) }
-        requires owned { upto.0
-            ≤ end_address_of placed.old.size (placed.old.start + assembled_room placed.old.body) }
+        requires owned { upto.0 ≤ placed_end placed.old }
         ensures placed { placed.new ≡ record placed.old { next = upto.0 } }
         ensures shape { (self.new.pages ≡ self.old.pages) × (self.new.mapped ≡ self.old.mapped) }
         ensures words { (word : ℕ → ℕ) → AreGiven placed.old upto.0 word

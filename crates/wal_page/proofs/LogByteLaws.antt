@@ -6,11 +6,11 @@ use Rattle.std.proofs.lemmas.List.{get_or_append_left, get_or-append_right, get_
 use Rattle.std.proofs.lemmas.List.Elements.{All-nil, All-from_recursion}
 use Rattle.byte_position.specs.Geometry.{IsSegmentSize}
 use Rattle.byte_position.specs.Position.{is_in_header, position_of, address_of, end_address_of, first_position}
-use Rattle.record_spelling.specs.Spelling.{assembled, filled, room_of}
+use Rattle.record_spelling.specs.Spelling.{assembled, filled}
 use Rattle.record_spelling.proofs.Bytes.{IsBytes-from_All}
 use Rattle.record_spelling.proofs.AfterHeader.{AreBytes, bytes_and, bytes16, bytes32, bytes64}
 use Rattle.record_spelling.proofs.SpellingLaws.{length-filled, ready, bytes_filled}
-use Rattle.wal_page.specs.Order.{Entry, FollowsFrom, IsChained, position_behind, rooms_of, prev_of}
+use Rattle.wal_page.specs.Order.{Entry, FollowsFrom, IsChained, position_behind, rooms_of, prev_of, room_at}
 use Rattle.wal_page.specs.Page.{is_first_page, page_header}
 use Rattle.wal_page.specs.Log.{stream_from, stream_of, owner_of, owner_at, remaining_at, header_byte, log_byte}
 use Rattle.wal_page.specs.Placed.{Owns}
@@ -20,7 +20,7 @@ use Rattle.wal_page.proofs.OwnerLaws.{owner_of_push, owner_of-none_where, owns_o
 
 -- ---- the three cases: a header's byte, one before the log's first position, a record's
 
-pub log_byte-header : (size sysid : ℕ) (es : List Entry) (a : ℕ) → is_in_header size a ≡ true → log_byte size sysid es a ≡ header_byte size sysid a (position_of size a) (owner_of es (position_of size a))
+pub log_byte-header : (size sysid : ℕ) (es : List Entry) (a : ℕ) → is_in_header size a ≡ true → log_byte size sysid es a ≡ header_byte size sysid a (position_of size a) (owner_of size es (position_of size a))
 log_byte-header size sysid es a inside = cond-true (is_in_header size a) _ _ inside
 
 pub log_byte-before : (size sysid : ℕ) (es : List Entry) (a : ℕ) → is_in_header size a ≡ false → position_of size a < first_position size → log_byte size sysid es a ≡ 0
@@ -41,22 +41,22 @@ stream_from-append size prev (e ∷ es) fs =
     ap (λ (bytes : List ℕ). first ++ bytes) (stream_from-append size start es fs) ∙ sym (append_assoc first (stream_from size start es) (stream_from size (prev_of size start es) fs))
 
 -- an entry's bytes stand behind those of the entries before it
-pub stream_of-entry : (size : ℕ) (front back : List Entry) (e : Entry) (k : ℕ) → k < room_of e.value → get_or (stream_of size (front ++ e ∷ back)) (rooms_of front + k) 0 ≡ get_or (filled (assembled e.value) (prev_of size 0 front)) k 0
+pub stream_of-entry : (size : ℕ) (front back : List Entry) (e : Entry) (k : ℕ) → k < room_at size e.start e.value → get_or (stream_of size (front ++ e ∷ back)) (rooms_of size front + k) 0 ≡ get_or (filled (assembled e.value) (prev_of size 0 front)) k 0
 stream_of-entry size front back e k within =
     let before = stream_of size front in
     let own = filled (assembled e.value) (prev_of size 0 front) in
     let rest = stream_from size (address_of size e.start) back in
     let split : stream_of size (front ++ e ∷ back) ≡ before ++ (own ++ rest) = stream_from-append size 0 front (e ∷ back) in
-    let at : rooms_of front + k - rooms_of front ≡ k = omega arith in
-    ap (λ (bytes : List ℕ). get_or bytes (rooms_of front + k) 0) split
-    ∙ get_or-append_right before (own ++ rest) (rooms_of front) (rooms_of front + k) 0 (length-stream_of size front) (omega arith)
+    let at : rooms_of size front + k - rooms_of size front ≡ k = omega arith in
+    ap (λ (bytes : List ℕ). get_or bytes (rooms_of size front + k) 0) split
+    ∙ get_or-append_right before (own ++ rest) (rooms_of size front) (rooms_of size front + k) 0 (length-stream_of size front) (omega arith)
     ∙ ap (λ (i : ℕ). get_or (own ++ rest) i 0) at
     ∙ get_or_append_left own rest 0 k (omega (arith, length-filled (assembled e.value) (prev_of size 0 front)))
 
 -- ---- an entry that follows
 
 -- an entry that follows gives no byte that it does not own
-pub log_byte_push : (size sysid : ℕ) (es : List Entry) (e : Entry) → e.start ≡ first_position size + rooms_of es → (a : ℕ) → (Owns size (assembled e.value) e.start a → ⊥) → log_byte size sysid (es ++ e ∷ []) a ≡ log_byte size sysid es a
+pub log_byte_push : (size sysid : ℕ) (es : List Entry) (e : Entry) → e.start ≡ first_position size + rooms_of size es → (a : ℕ) → (Owns size (assembled e.value) e.start a → ⊥) → log_byte size sysid (es ++ e ∷ []) a ≡ log_byte size sysid es a
 log_byte_push size sysid es e at a not_owned =
     let p = position_of size a in
     let more = es ++ e ∷ [] in
@@ -64,12 +64,12 @@ log_byte_push size sysid es e at a not_owned =
     let long = length-stream_of size es in
     let own = filled (assembled e.value) (prev_of size 0 es) in
     elim (cases_Bool (is_in_header size a)) [
-      | inl inside ↦ log_byte-header size sysid more a inside ∙ ap (header_byte size sysid a p) (owner_of_push es e p away) ∙ sym (log_byte-header size sysid es a inside)
+      | inl inside ↦ log_byte-header size sysid more a inside ∙ ap (header_byte size sysid a p) (owner_of_push size es e p away) ∙ sym (log_byte-header size sysid es a inside)
       | inr outside ↦ elim (cases_lt p (first_position size)) [
         | inl before ↦ log_byte-before size sysid more a outside before ∙ sym (log_byte-before size sysid es a outside before)
         | inr from ↦ log_byte-stream size sysid more a outside from ∙ elim away [
           | inl below ↦ ap (λ (bytes : List ℕ). get_or bytes (p - first_position size) 0) (stream_of_push size es e) ∙ get_or_append_left (stream_of size es) own 0 (p - first_position size) (omega (arith, at, long))
-          | inr behind ↦ get_or_past (stream_of size more) (p - first_position size) 0 (omega (arith, at, length-stream_of size more, rooms_of_push es e)) ∙ sym (get_or_past (stream_of size es) (p - first_position size) 0 (omega (arith, at, long)))
+          | inr behind ↦ get_or_past (stream_of size more) (p - first_position size) 0 (omega (arith, at, length-stream_of size more, rooms_of_push size es e)) ∙ sym (get_or_past (stream_of size es) (p - first_position size) 0 (omega (arith, at, long)))
         ] ∙ sym (log_byte-stream size sysid es a outside from)
       ]
     ]
@@ -83,14 +83,14 @@ log_byte-unowned size sysid es chain a none =
       | inl inside ↦ log_byte-header size sysid es a inside ∙ ap (header_byte size sysid a p) none
       | inr outside ↦ elim (cases_lt p (first_position size)) [
         | inl before ↦ log_byte-before size sysid es a outside before
-        | inr from ↦ elim (owner_of-none_where (first_position size) es chain p none) [
+        | inr from ↦ elim (owner_of-none_where size (first_position size) es chain p none) [
           | inl below ↦ absurd (omega arith)
           | inr behind ↦ log_byte-stream size sysid es a outside from ∙ get_or_past (stream_of size es) (p - first_position size) 0 (omega (arith, length-stream_of size es))
         ]
       ]
     ]
 
-pub log_byte-behind : (size sysid : ℕ) → IsSegmentSize size → (es : List Entry) → IsChained size es → (a : ℕ) → end_address_of size (first_position size + rooms_of es) ≤ a → log_byte size sysid es a ≡ 0
+pub log_byte-behind : (size sysid : ℕ) → IsSegmentSize size → (es : List Entry) → IsChained size es → (a : ℕ) → end_address_of size (first_position size + rooms_of size es) ≤ a → log_byte size sysid es a ≡ 0
 log_byte-behind size sysid valid es chain a behind = log_byte-unowned size sysid es chain a (owner_at-none_behind size valid es chain a behind)
 
 -- ---- bytes fit
@@ -102,11 +102,11 @@ page_header_bytes size sysid page remaining =
     let behind : AreBytes (cond (is_first_page size page) long []) = cond_both (is_first_page size page) long [] AreBytes (λ _. bytes_and (bytes_and (bytes64 sysid) (bytes32 size)) (bytes32 8192)) (λ _. record { each = All-nil (λ b. b < 256) }) in
     bytes_and (bytes_and (bytes_and (bytes_and (bytes_and (bytes_and (bytes16 0xD113) (bytes16 _)) (bytes32 1)) (bytes64 (page * 8192))) (bytes32 remaining)) zeros) behind
 
-stream_from_bytes : (size prev position : ℕ) (es : List Entry) → FollowsFrom position es → AreBytes (stream_from size prev es)
+stream_from_bytes : (size prev position : ℕ) (es : List Entry) → FollowsFrom size position es → AreBytes (stream_from size prev es)
 stream_from_bytes size prev position [] chain = record { each = All-nil (λ b. b < 256) }
 stream_from_bytes size prev position (e ∷ es) chain =
     let own : AreBytes (filled (assembled e.value) prev) = record { each = bytes_filled (assembled e.value) prev (ready e.value chain.1) } in
-    bytes_and own (stream_from_bytes size (address_of size e.start) (position_behind e) es chain.2)
+    bytes_and own (stream_from_bytes size (address_of size e.start) (position_behind size e) es chain.2)
 
 header_byte-fits : (size sysid a p : ℕ) (owner : Option Entry) → header_byte size sysid a p owner < 256
 header_byte-fits size sysid a p None = omega arith
@@ -116,7 +116,7 @@ pub log_byte-fits : (size sysid : ℕ) (es : List Entry) → IsChained size es �
 log_byte-fits size sysid es chain a =
     let p = position_of size a in
     elim (cases_Bool (is_in_header size a)) [
-      | inl inside ↦ subst (λ (b : ℕ). b < 256) (sym (log_byte-header size sysid es a inside)) (header_byte-fits size sysid a p (owner_of es p))
+      | inl inside ↦ subst (λ (b : ℕ). b < 256) (sym (log_byte-header size sysid es a inside)) (header_byte-fits size sysid a p (owner_of size es p))
       | inr outside ↦ elim (cases_lt p (first_position size)) [
         | inl before ↦ omega (arith, log_byte-before size sysid es a outside before)
         | inr from ↦ subst (λ (b : ℕ). b < 256) (sym (log_byte-stream size sysid es a outside from)) (IsBytes-from_All (stream_of size es) (stream_from_bytes size 0 (first_position size) es chain).each (p - first_position size))

@@ -92,9 +92,9 @@ module _ (size sysid : ℕ) (valid : IsSegmentSize size) where
       let same = position_of-header_word size valid a i whole (omega arith) inside in
       let page : (a + i) / 8192 ≡ a / 8192 = omega arith in
       let place : (a + i) % 8192 ≡ 8 * (a % 8192 / 8) + i = omega arith in
-      let owner = owner_of-entry (first_position size) front back e chain p owns.0 owns.1 in
+      let owner = owner_of-entry size (first_position size) front back e chain p owns.0 owns.1 in
       log_byte-header size sysid es (a + i) (is_in_header-word size valid a i whole lt ∙ inside)
-      ∙ ap (λ (q : ℕ). header_byte size sysid (a + i) q (owner_of es q)) same
+      ∙ ap (λ (q : ℕ). header_byte size sysid (a + i) q (owner_of size es q)) same
       ∙ ap (header_byte size sysid (a + i) p) owner
       ∙ ap (λ (q : ℕ). get_or (page_header size sysid q (remaining_at e p)) ((a + i) % 8192) 0) page
       ∙ ap (λ (q : ℕ). get_or (page_header size sysid (a / 8192) (remaining_at e p)) q 0) place
@@ -106,12 +106,12 @@ module _ (size sysid : ℕ) (valid : IsSegmentSize size) where
       let p = position_of size a in
       let first = first_position size in
       let next = position_of-own_word size valid a i whole (omega arith) outside in
-      let parts = FollowsFrom-parts first front (e ∷ back) chain in
+      let parts = FollowsFrom-parts size first front (e ∷ back) chain in
       let whole_start = start-whole size valid front back e chain in
       let whole_position = position_of-whole size valid a whole in
       let own = filled (assembled e.value) (prev_of size 0 front) in
       let k : ℕ = 8 * ((p - e.start) / 8) + i in
-      let at : position_of size (a + i) - first ≡ rooms_of front + k = omega (arith, next, parts.1.0, whole_start, whole_position, owns.0) in
+      let at : position_of size (a + i) - first ≡ rooms_of size front + k = omega (arith, next, parts.1.0, whole_start, whole_position, owns.0) in
       log_byte-stream size sysid es (a + i) (is_in_header-word size valid a i whole lt ∙ outside) (omega (arith, next, parts.1.0, owns.0))
       ∙ ap (λ (q : ℕ). get_or (stream_of size es) q 0) at
       ∙ stream_of-entry size front back e k (omega (arith, whole_start, whole_position, owns.0, owns.1))
@@ -173,21 +173,21 @@ module _ (size sysid : ℕ) (valid : IsSegmentSize size) where
       let at = position_in_word address i whole lt in
       elim (owns_or_not size a start address not_owned) [ inl before ↦ omega (arith, at.0, at.1, at.2, owns.0) | inr behind ↦ omega (arith, at.0, at.1, at.2, owns.1) ]
 
-  pub log_word_push : (es : List Entry) (e : Entry) → e.start ≡ first_position size + rooms_of es → (a : ℕ) → a % 8 ≡ 0 → (Owns size (assembled e.value) e.start a → ⊥) → log_word size sysid (es ++ e ∷ []) a ≡ log_word size sysid es a
+  pub log_word_push : (es : List Entry) (e : Entry) → e.start ≡ first_position size + rooms_of size es → (a : ℕ) → a % 8 ≡ 0 → (Owns size (assembled e.value) e.start a → ⊥) → log_word size sysid (es ++ e ∷ []) a ≡ log_word size sysid es a
   log_word_push es e at a whole not_owned =
-      let whole_start : e.start % 8 ≡ 0 = omega (arith, at, rooms_of-whole es, first_position-whole size valid) in
+      let whole_start : e.start % 8 ≡ 0 = omega (arith, at, rooms_of-whole size es, first_position-whole size valid) in
       log_word-reads size sysid (es ++ e ∷ []) a (bytes_at size sysid es a) (λ i lt. log_byte_push size sysid es e at (a + i) (owns_in_word (assembled e.value) e.start whole_start a i whole lt not_owned) ∙ sym (bytes_at-reads size sysid es a i lt))
 
   pub log_word-unowned : (es : List Entry) → IsChained size es → (a : ℕ) → a % 8 ≡ 0 → owner_at size es a ≡ None → log_word size sysid es a ≡ 0
   log_word-unowned es chain a whole none =
       let first = first_position size in
-      let wholes : (first % 8 ≡ 0) × (rooms_of es % 8 ≡ 0) = (first_position-whole size valid, rooms_of-whole es) in
+      let wholes : (first % 8 ≡ 0) × (rooms_of size es % 8 ≡ 0) = (first_position-whole size valid, rooms_of-whole size es) in
       log_word-zero size sysid es a (λ i lt.
       let at = position_in_word a i whole lt in
-      log_byte-unowned size sysid es chain (a + i) (elim (owner_of-none_where first es chain (position_of size a) none) [
-        | inl before ↦ owner_of-none_before first es chain (position_of size (a + i)) (omega (arith, at.0, at.2, wholes.0))
-        | inr behind ↦ owner_of-none_behind first es chain (position_of size (a + i)) (omega (arith, at.1))
+      log_byte-unowned size sysid es chain (a + i) (elim (owner_of-none_where size first es chain (position_of size a) none) [
+        | inl before ↦ owner_of-none_before size first es chain (position_of size (a + i)) (omega (arith, at.0, at.2, wholes.0))
+        | inr behind ↦ owner_of-none_behind size first es chain (position_of size (a + i)) (omega (arith, at.1))
       ]))
 
-  pub log_word-behind : (es : List Entry) → IsChained size es → (a : ℕ) → end_address_of size (first_position size + rooms_of es) ≤ a → log_word size sysid es a ≡ 0
+  pub log_word-behind : (es : List Entry) → IsChained size es → (a : ℕ) → end_address_of size (first_position size + rooms_of size es) ≤ a → log_word size sysid es a ≡ 0
   log_word-behind es chain a behind = log_word-zero size sysid es a (λ i lt. log_byte-behind size sysid valid es chain (a + i) (omega arith))

@@ -6,7 +6,8 @@ use Rattle.byte_position.specs.Position.{is_in_header, position_of, end_address_
 use Rattle.byte_position.proofs.EndAddresses.{end_address_of-le, le-position_of, position_of-end_address_of}
 use Rattle.byte_position.proofs.Rising.{position_of-mono}
 use Rattle.byte_position.proofs.Words.{end_address_of-mod_word}
-use Rattle.record_spelling.specs.Spelling.{Assembled, assembled_size, assembled_room, filled, word_at}
+use Rattle.record_spelling.specs.Spelling.{Assembled, assembled_size, filled, word_at}
+use Rattle.wal_page.specs.Order.{assembled_room_at}
 use Rattle.wal_page.specs.Page.{page_header}
 use Rattle.wal_page.specs.Placed.{Owns, StandsAt, entry_word, still_to_come}
 use Rattle.wal_page.proofs.WordPositions.{position_of-header_word, position_of-own_word, position_of-whole, address-bound}
@@ -21,7 +22,7 @@ still_to_come-passed a start position passed e =
     ]
 
 -- before the first word
-pub stands_first : (size : ℕ) (a : Assembled) (start : ℕ) → IsSegmentSize size → start % 8 ≡ 0 → start + assembled_room a < 2 ^ 60 → StandsAt size a start (end_address_of size start) 0
+pub stands_first : (size : ℕ) (a : Assembled) (start : ℕ) → IsSegmentSize size → start % 8 ≡ 0 → start + assembled_room_at size start a < 2 ^ 60 → StandsAt size a start (end_address_of size start) 0
 stands_first size a start valid whole within =
     let at = position_of-end_address_of size valid start in
     record {
@@ -31,22 +32,22 @@ stands_first size a start valid whole within =
       whole_next = end_address_of-mod_word size valid start whole;
       position = omega (arith, at);
       passed_within = omega arith;
-      next_within = end_address_of-le size valid start (end_address_of size (start + assembled_room a)) (omega (arith, position_of-end_address_of size valid (start + assembled_room a)));
+      next_within = end_address_of-le size valid start (end_address_of size (start + assembled_room_at size start a)) (omega (arith, position_of-end_address_of size valid (start + assembled_room_at size start a)));
     }
 
 -- before a word further on
-pub stands_between : (size : ℕ) (a : Assembled) (start next : ℕ) → IsSegmentSize size → start % 8 ≡ 0 → start + assembled_room a < 2 ^ 60 → next % 8 ≡ 0 → end_address_of size start ≤ next → next ≤ end_address_of size (start + assembled_room a)
+pub stands_between : (size : ℕ) (a : Assembled) (start next : ℕ) → IsSegmentSize size → start % 8 ≡ 0 → start + assembled_room_at size start a < 2 ^ 60 → next % 8 ≡ 0 → end_address_of size start ≤ next → next ≤ end_address_of size (start + assembled_room_at size start a)
     → StandsAt size a start next (position_of size next - start)
 stands_between size a start next valid whole within at_word begun owned =
     let from = le-position_of size valid start next begun in
-    let below = position_of-mono size next (end_address_of size (start + assembled_room a)) owned in
+    let below = position_of-mono size next (end_address_of size (start + assembled_room_at size start a)) owned in
     record {
       valid = valid;
       whole_start = whole;
       within = within;
       whole_next = at_word;
       position = omega (arith, from);
-      passed_within = omega (arith, below, position_of-end_address_of size valid (start + assembled_room a));
+      passed_within = omega (arith, below, position_of-end_address_of size valid (start + assembled_room_at size start a));
       next_within = owned;
     }
 
@@ -60,22 +61,22 @@ module _ (size : ℕ) (a : Assembled) (start next passed : ℕ) (stands : Stands
   next-bound = omega (arith, address-bound size stands.valid next, stands.position, stands.passed_within, stands.within)
 
   -- behind the last word
-  pub stands_behind : passed ≡ assembled_room a → next ≡ end_address_of size (start + assembled_room a)
+  pub stands_behind : passed ≡ assembled_room_at size start a → next ≡ end_address_of size (start + assembled_room_at size start a)
   stands_behind all =
-      let reached = end_address_of-le size stands.valid (start + assembled_room a) next (omega (arith, stands.position)) in
+      let reached = end_address_of-le size stands.valid (start + assembled_room_at size start a) next (omega (arith, stands.position)) in
       omega (arith, reached, stands.next_within)
 
-  pub owns-next : passed < assembled_room a → Owns size a start next
+  pub owns-next : passed < assembled_room_at size start a → Owns size a start next
   owns-next left = (omega (arith, stands.position), omega (arith, stands.position))
 
-  next_word_within : passed < assembled_room a → next + 8 ≤ end_address_of size (start + assembled_room a)
+  next_word_within : passed < assembled_room_at size start a → next + 8 ≤ end_address_of size (start + assembled_room_at size start a)
   next_word_within left =
       let below = (Owns-between size stands.valid a start next (owns-next left)).1 in
-      let whole = end_address_of-mod_word size stands.valid (start + assembled_room a) (omega (arith, stands.whole_start)) in
+      let whole = end_address_of-mod_word size stands.valid (start + assembled_room_at size start a) (omega (arith, stands.whole_start)) in
       omega (arith, below, whole, stands.whole_next)
 
   -- over a word of a header
-  pub stands_over_header : passed < assembled_room a → is_in_header size next ≡ true → StandsAt size a start (next + 8) passed
+  pub stands_over_header : passed < assembled_room_at size start a → is_in_header size next ≡ true → StandsAt size a start (next + 8) passed
   stands_over_header left inside =
       let same = position_of-header_word size stands.valid next 8 stands.whole_next (omega arith) inside in
       record {
@@ -89,7 +90,7 @@ module _ (size : ℕ) (a : Assembled) (start next passed : ℕ) (stands : Stands
       }
 
   -- over a word of the record
-  pub stands_over_own : passed < assembled_room a → is_in_header size next ≡ false → StandsAt size a start (next + 8) (passed + 8)
+  pub stands_over_own : passed < assembled_room_at size start a → is_in_header size next ≡ false → StandsAt size a start (next + 8) (passed + 8)
   stands_over_own left outside =
       let on = position_of-own_word size stands.valid next 8 stands.whole_next (omega arith) outside in
       record {
@@ -114,7 +115,7 @@ module _ (size : ℕ) (a : Assembled) (start next passed : ℕ) (stands : Stands
 
 -- ---- a page that the record has the header of
 
-pub page-bound : (size : ℕ) (a : Assembled) (start page : ℕ) → IsSegmentSize size → Owns size a start (page * 8192) → start + assembled_room a < 2 ^ 60 → page * 8192 < 2 ^ 62
+pub page-bound : (size : ℕ) (a : Assembled) (start page : ℕ) → IsSegmentSize size → Owns size a start (page * 8192) → start + assembled_room_at size start a < 2 ^ 60 → page * 8192 < 2 ^ 62
 page-bound size a start page valid owns within = omega (arith, address-bound size valid (page * 8192), owns.1)
 
 pub page_position-whole : (size start page : ℕ) → IsSegmentSize size → start % 8 ≡ 0 → (position_of size (page * 8192) - start) % 8 ≡ 0

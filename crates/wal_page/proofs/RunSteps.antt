@@ -8,7 +8,8 @@ use Rattle.byte_position.proofs.EndAddresses.{position_of-end_address_of}
 use Rattle.byte_position.proofs.Pages.{is_in_header-by_page, header_below}
 use Rattle.byte_position.proofs.PositionLaws.{position_of-run}
 use Rattle.byte_position.proofs.Rising.{position_of-mono}
-use Rattle.record_spelling.specs.Spelling.{Assembled, assembled_room, filled, word_at}
+use Rattle.record_spelling.specs.Spelling.{Assembled, filled, word_at}
+use Rattle.wal_page.specs.Order.{assembled_room_at}
 use Rattle.wal_page.specs.Page.{header_size}
 use Rattle.wal_page.specs.Placed.{PlacedState, HasWordsFrom, StandsAt, entry_word}
 use Rattle.wal_page.proofs.PlacedSteps.{passed-whole}
@@ -36,11 +37,11 @@ module _ (size : ℕ) (a : Assembled) (start next passed : ℕ) (stands : Stands
       let place : (position_of size at - start) / 8 ≡ passed / 8 + k = omega (arith, on, stands.position, passed-whole size a start next passed stands) in
       cond-false (is_in_header size at) _ _ (outside_on_page size stands.valid next outside (8 * k) (omega arith)) ∙ ap (word_at (filled a prev)) place
 
-  module _ (owned : next + 8 * count ≤ end_address_of size (start + assembled_room a)) where
-    pub run_within : passed + 8 * count ≤ assembled_room a
+  module _ (owned : next + 8 * count ≤ end_address_of size (start + assembled_room_at size start a)) where
+    pub run_within : passed + 8 * count ≤ assembled_room_at size start a
     run_within =
-        let below = position_of-mono size (next + 8 * count) (end_address_of size (start + assembled_room a)) owned in
-        omega (arith, below, position_behind_run, position_of-end_address_of size stands.valid (start + assembled_room a))
+        let below = position_of-mono size (next + 8 * count) (end_address_of size (start + assembled_room_at size start a)) owned in
+        omega (arith, below, position_behind_run, position_of-end_address_of size stands.valid (start + assembled_room_at size start a))
 
     pub stands_over_run : StandsAt size a start (next + 8 * count) (passed + 8 * count)
     stands_over_run = record {

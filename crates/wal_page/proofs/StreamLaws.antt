@@ -20,12 +20,12 @@ pub stream_of_push : (size : ℕ) (es : List Entry) (e : Entry) → stream_of si
 stream_of_push size es e = stream_from_push size 0 es e
 
 -- records take up their rooms
-pub length-stream_from : (size prev : ℕ) (es : List Entry) → length (stream_from size prev es) ≡ rooms_of es
+pub length-stream_from : (size prev : ℕ) (es : List Entry) → length (stream_from size prev es) ≡ rooms_of size es
 length-stream_from size prev [] = refl
 length-stream_from size prev (e ∷ es) =
     let first = filled (assembled e.value) prev in
     let start = address_of size e.start in
-    omega (arith, length-append first (stream_from size start es), length-filled (assembled e.value) prev, length-stream_from size start es, rooms_of_cons e es)
+    omega (arith, length-append first (stream_from size start es), length-filled (assembled e.value) prev, length-stream_from size start es, rooms_of_cons size e es)
 
-pub length-stream_of : (size : ℕ) (es : List Entry) → length (stream_of size es) ≡ rooms_of es
+pub length-stream_of : (size : ℕ) (es : List Entry) → length (stream_of size es) ≡ rooms_of size es
 length-stream_of size es = length-stream_from size 0 es

@@ -19,11 +19,11 @@ abbrev pub stream_of : ℕ → List Entry → List ℕ
 stream_of size es = stream_from size 0 es
 
 -- the entry in whose room a byte position lies
-abbrev pub owner_of : List Entry → ℕ → Option Entry
-owner_of [] position = None
-owner_of (e ∷ es) position =
-    if nat_le e.start position && nat_lt position (position_behind e) then Some e
-    else owner_of es position
+abbrev pub owner_of : ℕ → List Entry → ℕ → Option Entry
+owner_of size [] position = None
+owner_of size (e ∷ es) position =
+    if nat_le e.start position && nat_lt position (position_behind size e) then Some e
+    else owner_of size es position
 
 -- how many bytes of an entry's record are still to come at a byte position behind its start; 0 at
 -- its start
@@ -44,7 +44,7 @@ abbrev pub log_byte : ℕ → ℕ → List Entry → ℕ → ℕ
 log_byte size sysid es address =
     let position = position_of size address in
     if is_in_header size address
-    then header_byte size sysid address position (owner_of es position)
+    then header_byte size sysid address position (owner_of size es position)
     else (if nat_lt position (first_position size) then 0
     else slice_index (stream_of size es) (position - first_position size))
 
@@ -56,4 +56,4 @@ log_word size sysid es address =
 
 -- the entry whose word it is; a header's is the entry of the page's first other word
 abbrev pub owner_at : ℕ → List Entry → ℕ → Option Entry
-owner_at size es address = owner_of es (position_of size address)
+owner_at size es address = owner_of size es (position_of size address)

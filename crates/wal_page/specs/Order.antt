@@ -1,37 +1,50 @@
 -- The order of the log's records (PostgreSQL's xlog.c, ReserveXLogInsertLocation). Everywhere
 -- `size` is the size of a segment in bytes.
-use Rattle.std.specs.Prelude.{◌≡◌, ℕ, ◌+◌, List, [], ◌∷◌, sum_by, nat_lt, if◌then◌else◌}
+use Rattle.std.specs.Prelude.{◌≡◌, ℕ, ◌+◌, List, [], ◌∷◌, Option, sum_by, nat_lt, if◌then◌else◌}
 use Rattle.byte_position.specs.Position.{address_of, end_address_of, first_position}
 use Rattle.wal_types.specs.declared.record.Record.{Record}
-use Rattle.record_spelling.specs.Spelling.{room_of, IsWritable}
+use Rattle.record_spelling.specs.Spelling.{Assembled, assembled, assembled_room, IsWritable}
 
--- an entry of the log: the pass that reserved it, its record, and the byte position at which it
--- starts
+-- an entry of the log: the pass that reserved it (none where a restart found it), its record, and
+-- the byte position at which it starts
 pub record Entry : Type 0 where
-  pub pass : ℕ
+  pub pass : Option ℕ
   pub value : Record
   pub start : ℕ
 
+-- how many bytes of the log a record takes up that starts at a byte position: its room, wherever it
+-- starts; all that follows asks for it by the start, so that a record may take the rest of its
+-- segment
+abbrev pub assembled_room_at : ℕ → ℕ → Assembled → ℕ
+assembled_room_at size start a = assembled_room a
+
+abbrev pub room_at : ℕ → ℕ → Record → ℕ
+room_at size start value = assembled_room_at size start (assembled value)
+
 -- the byte position behind an entry
-abbrev pub position_behind : Entry → ℕ
-position_behind e = e.start + room_of e.value
+abbrev pub position_behind : ℕ → Entry → ℕ
+position_behind size e = e.start + room_at size e.start e.value
 
 -- entries follow each other without a gap from a byte position on
-abbrev pub FollowsFrom : ℕ → List Entry → Type 0
-FollowsFrom position [] = Unit {0}
-FollowsFrom position (e ∷ es) = (e.start ≡ position) × IsWritable e.value
-    × FollowsFrom (position_behind e) es
+abbrev pub FollowsFrom : ℕ → ℕ → List Entry → Type 0
+FollowsFrom size position [] = Unit {0}
+FollowsFrom size position (e ∷ es) = (e.start ≡ position) × IsWritable e.value
+    × FollowsFrom size (position_behind size e) es
 
 -- entries follow each other from the log's first byte position on
 abbrev pub IsChained : ℕ → List Entry → Type 0
-IsChained size es = FollowsFrom (first_position size) es
+IsChained size es = FollowsFrom size (first_position size) es
 
 -- how many bytes entries take up together, and the byte position at which an order ends
-abbrev pub rooms_of : List Entry → ℕ
-rooms_of es = sum_by (λ e. room_of e.value) es
+abbrev pub rooms_of : ℕ → List Entry → ℕ
+rooms_of size es = sum_by (λ e. room_at size e.start e.value) es
 
 abbrev pub end_position : ℕ → List Entry → ℕ
-end_position size es = first_position size + rooms_of es
+end_position size es = first_position size + rooms_of size es
+
+-- how many bytes of the log a record takes up that follows an order
+abbrev pub room_behind : ℕ → List Entry → Record → ℕ
+room_behind size es value = room_at size (end_position size es) value
 
 -- the address at which the last of some entries starts, and `prev` where there is none: what the
 -- next record names as the one before
@@ -53,4 +66,4 @@ abbrev pub start_of : ℕ → Entry → ℕ
 start_of size e = address_of size e.start
 
 abbrev pub finish_of : ℕ → Entry → ℕ
-finish_of size e = end_address_of size (position_behind e)
+finish_of size e = end_address_of size (position_behind size e)

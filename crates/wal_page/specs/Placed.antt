@@ -4,8 +4,8 @@
 use Rattle.std.specs.Prelude.{◌≡◌, ℕ, ◌+◌, ◌-◌, ◌*◌, ◌/◌, ◌%◌, ◌^◌, ◌<◌, ◌≤◌, false, List, slice_index, nat_lt, if◌then◌else◌, ◌∷◌, ◌++◌, Some}
 use Rattle.byte_position.specs.Geometry.{IsSegmentSize}
 use Rattle.byte_position.specs.Position.{is_in_header, position_of, end_address_of}
-use Rattle.record_spelling.specs.Spelling.{Assembled, assembled, assembled_size, assembled_room, filled, word_at}
-use Rattle.wal_page.specs.Order.{Entry, IsChained, prev_in}
+use Rattle.record_spelling.specs.Spelling.{Assembled, assembled, assembled_size, filled, word_at}
+use Rattle.wal_page.specs.Order.{Entry, IsChained, prev_in, assembled_room_at}
 use Rattle.wal_page.specs.Page.{page_header}
 use Rattle.wal_page.specs.Log.{log_word, owner_at}
 
@@ -13,7 +13,7 @@ use Rattle.wal_page.specs.Log.{log_word, owner_at}
 -- bytes have the position of the page's first other byte, and so the same owner
 abbrev pub Owns : ℕ → Assembled → ℕ → ℕ → Type 0
 Owns size a start address = (start ≤ position_of size address)
-    × (position_of size address < start + assembled_room a)
+    × (position_of size address < start + assembled_room_at size start a)
 
 -- how many of the record's bytes are still to come at a byte position behind its start; 0 at its
 -- start
@@ -51,7 +51,7 @@ abbrev pub placed_word : PlacedState → ℕ → ℕ
 placed_word p address = entry_word p.size p.sysid p.body p.start p.prev address
 
 abbrev pub placed_end : PlacedState → ℕ
-placed_end p = end_address_of p.size (p.start + assembled_room p.body)
+placed_end p = end_address_of p.size (p.start + assembled_room_at p.size p.start p.body)
 
 -- these are the first `count` of the words that it gives from its next one on
 abbrev pub HasWordsFrom : PlacedState → ℕ → List ℕ → Type 0
@@ -78,8 +78,8 @@ pub record LieTogether (p : PlacedState) (count : ℕ) : Type 0 where
 pub record StandsAt (size : ℕ) (a : Assembled) (start next passed : ℕ) : Type 0 where
   pub valid : IsSegmentSize size
   pub whole_start : start % 8 ≡ 0
-  pub within : start + assembled_room a < 2 ^ 60
+  pub within : start + assembled_room_at size start a < 2 ^ 60
   pub whole_next : next % 8 ≡ 0
   pub position : position_of size next ≡ start + passed
-  pub passed_within : passed ≤ assembled_room a
-  pub next_within : next ≤ end_address_of size (start + assembled_room a)
+  pub passed_within : passed ≤ assembled_room_at size start a
+  pub next_within : next ≤ end_address_of size (start + assembled_room_at size start a)

@@ -4,8 +4,8 @@ ghost use Rattle.std.specs.Prelude.{◌≡◌, ℕ, ◌+◌, ◌*◌, ◌%◌, �
 ghost use Rattle.std.specs.Int.{w64, to_le_bytes};
 ghost use Rattle.byte_position.specs.Geometry.{IsSegmentSize};
 ghost use Rattle.byte_position.specs.Position.{address_of, end_address_of};
-ghost use Rattle.record_spelling.specs.Spelling.{Assembled, assembled, assembled_room, filled, room_of, word_at, IsWritable};
-ghost use Rattle.wal_page.specs.Order.{Entry, FollowsFrom, end_position, IsChained, position_behind, prev_in, prev_of, rooms_of};
+ghost use Rattle.record_spelling.specs.Spelling.{Assembled, assembled, filled, word_at, IsWritable};
+ghost use Rattle.wal_page.specs.Order.{Entry, FollowsFrom, end_position, IsChained, position_behind, prev_in, prev_of, rooms_of, room_at, assembled_room_at};
 ghost use Rattle.wal_page.specs.EntryWords.{address_of_word, words_owned};
 ghost use Rattle.wal_page.specs.Page.{header_size};
 ghost use Rattle.wal_page.specs.Log.{log_byte, log_word, owner_at, stream_of};
@@ -15,8 +15,8 @@ ghost use Rattle.wal_page.specs.Placed.{Owns, entry_word, header_word};
 /// What an entry adds to the order that it follows: its room, its start as the next record's one
 /// before, its bytes.
 pub fn orders_grow_entry_by_entry()
-    ensures rooms { (es : List Entry) (e : Entry)
-        → rooms_of (es ++ e ∷ []) ≡ rooms_of es + room_of e.value }
+    ensures rooms { (size : ℕ) (es : List Entry) (e : Entry)
+        → rooms_of size (es ++ e ∷ []) ≡ rooms_of size es + room_at size e.start e.value }
     ensures prev { (size prev : ℕ) (es : List Entry) (e : Entry)
         → prev_of size prev (es ++ e ∷ []) ≡ address_of size e.start }
     ensures named_before { (size : ℕ) (front back : List Entry) (e : Entry)
@@ -32,19 +32,20 @@ pub fn orders_grow_entry_by_entry()
 
 /// Where the entries of an order stand: each behind those before it, so that no two overlap.
 pub fn entries_start_behind_those_before()
-    ensures start { (position : ℕ) (es : List Entry) → FollowsFrom position es → (k : ℕ) (d : Entry)
-        → k < length es → (slice_index_or es k d).start ≡ position + rooms_of (take k es) }
-    ensures apart { (position : ℕ) (es : List Entry) → FollowsFrom position es
+    ensures start { (size position : ℕ) (es : List Entry) → FollowsFrom size position es
+        → (k : ℕ) (d : Entry) → k < length es
+        → (slice_index_or es k d).start ≡ position + rooms_of size (take k es) }
+    ensures apart { (size position : ℕ) (es : List Entry) → FollowsFrom size position es
         → (i j : ℕ) (d : Entry) → i < j → j < length es
-        → position_behind (slice_index_or es i d) ≤ (slice_index_or es j d).start }
-    ensures rise { (position : ℕ) (es : List Entry) → FollowsFrom position es
+        → position_behind size (slice_index_or es i d) ≤ (slice_index_or es j d).start }
+    ensures rise { (size position : ℕ) (es : List Entry) → FollowsFrom size position es
         → (i j : ℕ) (d : Entry) → i < j → j < length es
         → (slice_index_or es i d).start < (slice_index_or es j d).start }
 {}
 
 /// Records take up just their rooms.
 pub fn records_take_up_their_rooms()
-    ensures { (size : ℕ) (es : List Entry) → length (stream_of size es) ≡ rooms_of es }
+    ensures { (size : ℕ) (es : List Entry) → length (stream_of size es) ≡ rooms_of size es }
 {}
 
 /// Who owns an address: each entry those from its start's end form up to its finish, and so all
@@ -56,7 +57,7 @@ pub fn entries_own_stretches()
         ↔ Owns size (assembled e.value) e.start address }
     ensures owned { (size : ℕ) (a : Assembled) (start address : ℕ) → IsSegmentSize size
         → Owns size a start address ↔ ((end_address_of size start ≤ address)
-        × (address < end_address_of size (start + assembled_room a))) }
+        × (address < end_address_of size (start + assembled_room_at size start a))) }
     ensures together { (size : ℕ) (es : List Entry) (address : ℕ) → IsSegmentSize size
         → IsChained size es
         → IsSome (owner_at size es address) ↔ ((size ≤ address)

@@ -9,6 +9,7 @@
 ghost use Rattle.std.specs.Prelude.{◌≡◌, ◌+◌, ◌-◌, ◌*◌, ◌%◌, ◌^◌, ◌<◌, ◌≤◌, ◌==◌, IfSome, IfNone, length, if◌then◌else◌};
 ghost use Rattle.byte_position.specs.Position.{end_address_of};
 ghost use Rattle.record_spelling.specs.Spelling.{assembled_room, assembled_size};
+ghost use Rattle.wal_page.specs.Order.{assembled_room_at};
 ghost use Rattle.wal_page.specs.Page.{header_size};
 ghost use Rattle.wal_page.specs.Placed.{HasWordsFrom, IsWordOfLog, LieTogether, Owns, header_word, placed_end, placed_word};
 
@@ -62,7 +63,7 @@ impl<'a> Placed<'a> {
     /// none).
     pub fn new(geometry: Geometry, sysid: u64, body: &'a Body, start: u64, prev: Lsn) -> Placed<'a>
         requires whole { start % 8 ≡ 0 }
-        requires within { start + assembled_room body.now < 2 ^ 60 }
+        requires within { start + assembled_room_at geometry start body.now < 2 ^ 60 }
         ensures { result ≡ record {
           size = geometry;
           sysid = sysid;
@@ -94,10 +95,11 @@ impl<'a> Placed<'a> {
         next: Lsn,
     ) -> Placed<'a>
         requires whole { start % 8 ≡ 0 }
-        requires within { start + assembled_room body.now < 2 ^ 60 }
+        requires within { start + assembled_room_at geometry start body.now < 2 ^ 60 }
         requires at_word { next.0 % 8 ≡ 0 }
         requires begun { end_address_of geometry start ≤ next.0 }
-        requires owned { next.0 ≤ end_address_of geometry (start + assembled_room body.now) }
+        requires owned { next.0
+            ≤ end_address_of geometry (start + assembled_room_at geometry start body.now) }
         ensures { result ≡ record {
           size = geometry;
           sysid = sysid;

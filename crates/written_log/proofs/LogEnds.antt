@@ -9,7 +9,7 @@ use Rattle.byte_position.specs.Position.{position_of, address_of, end_address_of
 use Rattle.byte_position.proofs.PositionLaws.{position_of-address_of, is_in_header-address_of}
 use Rattle.byte_position.proofs.HeaderSizes.{header_size_bounds}
 use Rattle.byte_position.proofs.PagesTimes.{address_of-page_start_times}
-use Rattle.wal_page.specs.Order.{Entry, IsChained, rooms_of}
+use Rattle.wal_page.specs.Order.{Entry, IsChained, rooms_of, end_position}
 use Rattle.wal_page.specs.Page.{is_continued}
 use Rattle.wal_page.specs.LogPage.{IsLogPage}
 use Rattle.wal_page.specs.Log.{stream_of, log_byte}
@@ -18,7 +18,7 @@ use Rattle.wal_page.proofs.LogByteLaws.{log_byte-stream}
 use Rattle.wal_page.proofs.StreamLaws.{length-stream_of}
 use Rattle.wal_reader.specs.Pages.{Pages, byte_in_page, bytes_from}
 use Rattle.wal_reader.specs.Decodes.{read_at, is_zero_word, opens_page, ended}
-use Rattle.written_log.specs.WrittenLog.{HavePagesOfLog, last_position}
+use Rattle.written_log.specs.WrittenLog.{HavePagesOfLog}
 use Rattle.wal_reader.proofs.PagesLaws.{take-bytes_from}
 use Rattle.written_log.proofs.RecordRows.{IsIn, zero_word_ends, no_page_ends, zero_page_ends}
 use Rattle.written_log.proofs.LogPositions.{page_begins, page_from_first, page_of-start}
@@ -42,7 +42,7 @@ module _ (size sysid : ℕ) (pages : Pages) (es : List Entry) (holds : HavePages
       (is_log_page (address / 8192) bytes from there).each (address % 8192) (omega arith) ∙ ap (log_byte size sysid es) at
 
   -- what is told of a whole log tells of what is below its end
-  pub holds_below_end : IsSegmentSize size → 0 < sysid → sysid < 2 ^ 64 → IsChained size es → end_address_of size (last_position size es) ≤ 2 ^ 60 → IsWritten size sysid pages es
+  pub holds_below_end : IsSegmentSize size → 0 < sysid → sysid < 2 ^ 64 → IsChained size es → end_address_of size (end_position size es) ≤ 2 ^ 60 → IsWritten size sysid pages es
   holds_below_end valid known narrow chained bounded = record {
     valid = valid;
     known = known;
@@ -58,7 +58,7 @@ module _ (size sysid : ℕ) (pages : Pages) (es : List Entry) (holds : HavePages
   }
 
   module _ (w : IsWritten size sysid pages es) where
-    byte_behind_on : (p : ℕ) → last_position size es ≤ p → (here : Option (List ℕ)) → pages (address_of size p / 8192) ≡ here → byte_in_page here (address_of size p % 8192) ≡ 0
+    byte_behind_on : (p : ℕ) → end_position size es ≤ p → (here : Option (List ℕ)) → pages (address_of size p / 8192) ≡ here → byte_in_page here (address_of size p % 8192) ≡ 0
     byte_behind_on p behind None there = refl
     byte_behind_on p behind (Some bytes) there =
         let a = address_of size p in
@@ -67,24 +67,24 @@ module _ (size sysid : ℕ) (pages : Pages) (es : List Entry) (holds : HavePages
         ∙ get_or_past (stream_of size es) (position_of size a - first_position size) 0 (omega (arith, position, length-stream_of size es))
 
     -- zeros follow the last record
-    bytes_from-behind : (n p : ℕ) → last_position size es ≤ p → bytes_from size pages n p ≡ replicate n 0
+    bytes_from-behind : (n p : ℕ) → end_position size es ≤ p → bytes_from size pages n p ≡ replicate n 0
     unfolding bytes_from
     bytes_from-behind zero p behind = refl
     bytes_from-behind (suc n) p behind = rw (byte_behind_on p behind (pages (address_of size p / 8192)) refl, bytes_from-behind n (p + 1) (omega arith)) refl
 
     -- and they fill a page that begins there
-    pub page_begins_with_zeros : (page : ℕ) (bytes : List ℕ) → pages_of size ≤ page → pages page ≡ Some bytes → last_position size es ≤ position_of size (page * 8192) → is_zero_word bytes ≡ true
+    pub page_begins_with_zeros : (page : ℕ) (bytes : List ℕ) → pages_of size ≤ page → pages page ≡ Some bytes → end_position size es ≤ position_of size (page * 8192) → is_zero_word bytes ≡ true
     page_begins_with_zeros page bytes from there behind =
         let bounds = header_size_bounds size w.valid page in
         zero_word bytes (λ k lt.
-        (is_log_page page bytes from there).each k (omega arith) ∙ log_byte-page_header size sysid es page k None w.valid (omega arith) (owner_of-none_behind (first_position size) es w.chained (position_of size (page * 8192)) behind))
+        (is_log_page page bytes from there).each k (omega arith) ∙ log_byte-page_header size sysid es page k None w.valid (omega arith) (owner_of-none_behind size (first_position size) es w.chained (position_of size (page * 8192)) behind))
 
-    log_ends_on : (before : Option ℕ) (here : Option (List ℕ)) → pages (address_of size (last_position size es) / 8192) ≡ here → read_at size pages None (log_place size (rooms_of es) before) ≡ Err (ended size (last_position size es))
-    log_ends_on before None there = no_page_ends size pages (log_place size (rooms_of es) before) there
+    log_ends_on : (before : Option ℕ) (here : Option (List ℕ)) → pages (address_of size (end_position size es) / 8192) ≡ here → read_at size pages None (log_place size (rooms_of size es) before) ≡ Err (ended size (end_position size es))
+    log_ends_on before None there = no_page_ends size pages (log_place size (rooms_of size es) before) there
     log_ends_on before (Some bytes) there =
-        let p = last_position size es in
+        let p = end_position size es in
         let page = address_of size p / 8192 in
-        let place = log_place size (rooms_of es) before in
+        let place = log_place size (rooms_of size es) before in
         let from = page_from_first size w.valid p (omega arith) in
         let begins = page_begins size w.valid p in
         elim (cases_lt (position_of size (page * 8192)) p) [
@@ -108,5 +108,5 @@ module _ (size sysid : ℕ) (pages : Pages) (es : List Entry) (holds : HavePages
               zero_page_ends size pages place bytes there opens zeros)
         ]
 
-    pub log_ends : (before : Option ℕ) → read_at size pages None (log_place size (rooms_of es) before) ≡ Err (ended size (last_position size es))
-    log_ends before = log_ends_on before (pages (address_of size (last_position size es) / 8192)) refl
+    pub log_ends : (before : Option ℕ) → read_at size pages None (log_place size (rooms_of size es) before) ≡ Err (ended size (end_position size es))
+    log_ends before = log_ends_on before (pages (address_of size (end_position size es) / 8192)) refl

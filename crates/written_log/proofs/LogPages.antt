@@ -9,7 +9,7 @@ use Rattle.byte_position.proofs.SegmentSizes.{segment_size_in_pages}
 use Rattle.byte_position.proofs.PositionLaws.{position_of-address_of, is_in_header-address_of}
 use Rattle.byte_position.proofs.HeaderSizes.{header_size_bounds}
 use Rattle.byte_position.proofs.PagesTimes.{is_in_header-page_header_times, position_of-page_header_times, address_of-page_start_times}
-use Rattle.wal_page.specs.Order.{Entry, IsChained, rooms_of}
+use Rattle.wal_page.specs.Order.{Entry, IsChained, rooms_of, end_position}
 use Rattle.wal_page.specs.Page.{page_header, header_size}
 use Rattle.wal_page.specs.Log.{stream_of, owner_of, remaining_at, header_byte, log_byte}
 use Rattle.wal_page.proofs.OwnerLaws.{owner_of-some}
@@ -18,7 +18,6 @@ use Rattle.wal_page.proofs.PageLaws.{length-page_header}
 use Rattle.wal_page.proofs.StreamLaws.{length-stream_of}
 use Rattle.wal_reader.specs.Pages.{Pages, byte_at, bytes_from}
 use Rattle.wal_reader.specs.Decodes.{opens_page, timeline_or}
-use Rattle.written_log.specs.WrittenLog.{last_position}
 use Rattle.written_log.proofs.LogHeader.{IsSound, log_header_is_sound}
 use Rattle.written_log.proofs.LogPositions.{address_of-below_end, opening_position, page_of-start, position_of-log_page, start-le-address_of}
 
@@ -28,12 +27,12 @@ pub record IsWritten (size sysid : ℕ) (pages : Pages) (es : List Entry) : Type
   pub known : 0 < sysid
   pub narrow : sysid < 2 ^ 64
   pub chained : IsChained size es
-  pub bounded : end_address_of size (last_position size es) ≤ 2 ^ 60
-  pub there : (page : ℕ) → pages_of size ≤ page → page * 8192 < end_address_of size (last_position size es) → (bytes : List ℕ) × (pages page ≡ Some bytes) × (length bytes ≡ 8192)
-  pub each : (address : ℕ) → size ≤ address → address < end_address_of size (last_position size es) → byte_at pages address ≡ log_byte size sysid es address
+  pub bounded : end_address_of size (end_position size es) ≤ 2 ^ 60
+  pub there : (page : ℕ) → pages_of size ≤ page → page * 8192 < end_address_of size (end_position size es) → (bytes : List ℕ) × (pages page ≡ Some bytes) × (length bytes ≡ 8192)
+  pub each : (address : ℕ) → size ≤ address → address < end_address_of size (end_position size es) → byte_at pages address ≡ log_byte size sysid es address
 
 -- a header's bytes are those that the owner of the page's first position gives it
-pub log_byte-page_header : (size sysid : ℕ) (es : List Entry) (page k : ℕ) (owner : Option Entry) → IsSegmentSize size → k < header_size size page → owner_of es (position_of size (page * 8192)) ≡ owner
+pub log_byte-page_header : (size sysid : ℕ) (es : List Entry) (page k : ℕ) (owner : Option Entry) → IsSegmentSize size → k < header_size size page → owner_of size es (position_of size (page * 8192)) ≡ owner
     → log_byte size sysid es (page * 8192 + k) ≡ header_byte size sysid (page * 8192 + k) (position_of size (page * 8192)) owner
 log_byte-page_header size sysid es page k owner valid within owns =
     log_byte-header size sysid es (page * 8192 + k) (is_in_header-page_header_times size valid page k within) ∙ rw (position_of-page_header_times size valid page k (omega arith), owns) refl
@@ -54,12 +53,12 @@ some_is (Some x) h = (x, refl)
 
 module _ (size sysid : ℕ) (pages : Pages) (es : List Entry) (w : IsWritten size sysid pages es) where
   -- a page of which the first position is below the end
-  module _ (page : ℕ) (from : pages_of size ≤ page) (below : position_of size (page * 8192) < last_position size es) where
-    pub header_below_end : page * 8192 + header_size size page < end_address_of size (last_position size es)
-    header_below_end = omega (arith, address_of-below_end size w.valid (position_of size (page * 8192)) (last_position size es) below, address_of-page_start_times size w.valid page)
+  module _ (page : ℕ) (from : pages_of size ≤ page) (below : position_of size (page * 8192) < end_position size es) where
+    pub header_below_end : page * 8192 + header_size size page < end_address_of size (end_position size es)
+    header_below_end = omega (arith, address_of-below_end size w.valid (position_of size (page * 8192)) (end_position size es) below, address_of-page_start_times size w.valid page)
 
     -- it is there, with the header that the owner of its first position gives it
-    pub page_is_owned : (e : Entry) → owner_of es (position_of size (page * 8192)) ≡ Some e → (rest : List ℕ) × (pages page ≡ Some (page_header size sysid page (remaining_at e (position_of size (page * 8192))) ++ rest))
+    pub page_is_owned : (e : Entry) → owner_of size es (position_of size (page * 8192)) ≡ Some e → (rest : List ℕ) × (pages page ≡ Some (page_header size sysid page (remaining_at e (position_of size (page * 8192))) ++ rest))
     page_is_owned e owns =
         let h = header_size size page in
         let remaining = remaining_at e (position_of size (page * 8192)) in
@@ -76,7 +75,7 @@ module _ (size sysid : ℕ) (pages : Pages) (es : List Entry) (w : IsWritten siz
         (drop h bytes, here.1 ∙ ap (λ (l : List ℕ). Some l) (sym (take-append-drop h bytes) ∙ ap (λ (l : List ℕ). l ++ drop h bytes) front))
 
   -- it is sound
-  pub page_is_sound : (page : ℕ) (e : Entry) → pages_of size ≤ page → position_of size (page * 8192) < last_position size es → owner_of es (position_of size (page * 8192)) ≡ Some e
+  pub page_is_sound : (page : ℕ) (e : Entry) → pages_of size ≤ page → position_of size (page * 8192) < end_position size es → owner_of size es (position_of size (page * 8192)) ≡ Some e
       → (bytes : List ℕ) × (pages page ≡ Some bytes) × IsSound size page (remaining_at e (position_of size (page * 8192))) bytes
   page_is_sound page e from below owns =
       let remaining = remaining_at e (position_of size (page * 8192)) in
@@ -85,10 +84,10 @@ module _ (size sysid : ℕ) (pages : Pages) (es : List Entry) (w : IsWritten siz
       let end = header_below_end page from below in
       (page_header size sysid page remaining ++ owned.0, owned.1, log_header_is_sound size sysid remaining owned.0 page (omega (arith, whole)) w.known w.narrow (omega (arith, end, w.bounded)))
 
-  pub owner_here : (page : ℕ) → pages_of size ≤ page → position_of size (page * 8192) < last_position size es → (e : Entry) × (owner_of es (position_of size (page * 8192)) ≡ Some e)
-  owner_here page from below = some_is (owner_of es (position_of size (page * 8192))) (owner_of-some (first_position size) es w.chained (position_of size (page * 8192)) (position_of-log_page size w.valid page from) below)
+  pub owner_here : (page : ℕ) → pages_of size ≤ page → position_of size (page * 8192) < end_position size es → (e : Entry) × (owner_of size es (position_of size (page * 8192)) ≡ Some e)
+  owner_here page from below = some_is (owner_of size es (position_of size (page * 8192))) (owner_of-some size (first_position size) es w.chained (position_of size (page * 8192)) (position_of-log_page size w.valid page from) below)
 
-  pub timeline_is : (page : ℕ) → pages_of size ≤ page → position_of size (page * 8192) < last_position size es → timeline_or (pages page) 1 ≡ 1
+  pub timeline_is : (page : ℕ) → pages_of size ≤ page → position_of size (page * 8192) < end_position size es → timeline_or (pages page) 1 ≡ 1
   timeline_is page from below =
       let owner = owner_here page from below in
       let here = page_is_sound page owner.0 from below owner.1 in
@@ -104,17 +103,17 @@ module _ (size sysid : ℕ) (pages : Pages) (es : List Entry) (w : IsWritten siz
 
   -- ---- the bytes of the records
 
-  byte_at-log : (k : ℕ) → k < rooms_of es → byte_at pages (address_of size (first_position size + k)) ≡ get_or (stream_of size es) k 0
+  byte_at-log : (k : ℕ) → k < rooms_of size es → byte_at pages (address_of size (first_position size + k)) ≡ get_or (stream_of size es) k 0
   byte_at-log k below =
       let p = first_position size + k in
       let a = address_of size p in
       let position = position_of-address_of size w.valid p in
       let back : position_of size a - first_position size ≡ k = omega (arith, position) in
-      w.each a (start-le-address_of size w.valid p (omega arith)) (address_of-below_end size w.valid p (last_position size es) (omega arith))
+      w.each a (start-le-address_of size w.valid p (omega arith)) (address_of-below_end size w.valid p (end_position size es) (omega arith))
       ∙ log_byte-stream size sysid es a (is_in_header-address_of size w.valid p) (omega (arith, position)) ∙ ap (λ (i : ℕ). get_or (stream_of size es) i 0) back
 
   -- bytes of the records stand in the pages as they do in the stream
-  pub bytes_from-log : (n k : ℕ) → k + n ≤ rooms_of es → bytes_from size pages n (first_position size + k) ≡ take n (drop k (stream_of size es))
+  pub bytes_from-log : (n k : ℕ) → k + n ≤ rooms_of size es → bytes_from size pages n (first_position size + k) ≡ take n (drop k (stream_of size es))
   unfolding bytes_from
   bytes_from-log zero k within = refl
   bytes_from-log (suc n) k within =

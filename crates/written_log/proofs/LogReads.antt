@@ -7,10 +7,10 @@ use Rattle.byte_position.specs.Geometry.{pages_of}
 use Rattle.byte_position.specs.Position.{position_of, address_of, first_position}
 use Rattle.byte_position.proofs.Rising.{position_of-mono, lt-position_of}
 use Rattle.record_spelling.specs.Record.{is_free_manager}
-use Rattle.record_spelling.specs.Spelling.{IsWritable, assembled, size_of, room_of}
+use Rattle.record_spelling.specs.Spelling.{IsWritable, assembled, size_of}
 use Rattle.wal_record.proofs.SpellingReads.{spelling_reads}
 use Rattle.record_spelling.proofs.SpellingLaws.{ready, crc_below}
-use Rattle.wal_page.specs.Order.{Entry, FollowsFrom, IsChained, position_behind, rooms_of}
+use Rattle.wal_page.specs.Order.{Entry, FollowsFrom, IsChained, position_behind, rooms_of, end_position, room_at}
 use Rattle.wal_page.specs.Page.{is_continued}
 use Rattle.wal_page.specs.Log.{stream_of, stream_from, owner_of, remaining_at}
 use Rattle.wal_page.proofs.OrderLaws.{rooms_of_cons}
@@ -20,7 +20,6 @@ use Rattle.wal_reader.specs.declared.found.FoundRecord.{FoundRecord}
 use Rattle.wal_reader.specs.Pages.{Pages}
 use Rattle.wal_reader.specs.Decodes.{Place, ReadsRecords, read_at, place_behind, is_right_prev, opens_page, continuation_rows, continuation_rows_of, rows_of_pages, found_or}
 use Rattle.written_log.specs.Written.{found_entry, found_from}
-use Rattle.written_log.specs.WrittenLog.{last_position}
 use Rattle.written_log.proofs.Tables.{NoneHolds, NoneHolds-append}
 use Rattle.written_log.proofs.Tables.NoneHolds.{none, past}
 use Rattle.written_log.proofs.RecordBytes.{drop-filled}
@@ -45,9 +44,9 @@ last_start size before (e ∷ es) = last_start size (Some (address_of size e.sta
 
 -- the last entries of an order, which stand from k bytes behind the log's first on, behind a record that starts at `prev`
 pub record StandFrom (size : ℕ) (es : List Entry) (k prev : ℕ) (rest : List Entry) : Type 0 where
-  pub rooms : k + rooms_of rest ≡ rooms_of es
+  pub rooms : k + rooms_of size rest ≡ rooms_of size es
   pub bytes : drop k (stream_of size es) ≡ stream_from size prev rest
-  pub follows : FollowsFrom (first_position size + k) rest
+  pub follows : FollowsFrom size (first_position size + k) rest
   pub front : List Entry
   pub parts : es ≡ front ++ rest
   pub prev_fits : prev < 2 ^ 64
@@ -62,13 +61,13 @@ module _ (size sysid : ℕ) (pages : Pages) (es : List Entry) (w : IsWritten siz
     writable : IsWritable e.value
     writable = stand.follows.1
 
-    within : k + room_of e.value + rooms_of others ≡ rooms_of es
-    within = omega (arith, rooms_of_cons e others, stand.rooms)
+    within : k + room_at size e.start e.value + rooms_of size others ≡ rooms_of size es
+    within = omega (arith, rooms_of_cons size e others, stand.rooms)
 
-    owns : (p : ℕ) → e.start ≤ p → p < position_behind e → owner_of es p ≡ Some e
+    owns : (p : ℕ) → e.start ≤ p → p < position_behind size e → owner_of size es p ≡ Some e
     owns p from below =
         let chained = subst (λ (l : List Entry). IsChained size l) stand.parts w.chained in
-        ap (λ (l : List Entry). owner_of l p) stand.parts ∙ owner_of-entry (first_position size) stand.front others e chained p from below
+        ap (λ (l : List Entry). owner_of size l p) stand.parts ∙ owner_of-entry size (first_position size) stand.front others e chained p from below
 
     -- the page on which it starts
     entry_is_in : (bytes : List ℕ) × IsIn size pages (log_place size k before) bytes
@@ -77,7 +76,7 @@ module _ (size sysid : ℕ) (pages : Pages) (es : List Entry) (w : IsWritten siz
         let page = address_of size p / 8192 in
         let from = page_from_first size w.valid p (omega arith) in
         let begins = page_begins size w.valid p in
-        let below : position_of size (page * 8192) < last_position size es = omega (arith, within) in
+        let below : position_of size (page * 8192) < end_position size es = omega (arith, within) in
         elim (cases_Bool (opens_page size p)) [
           | inl t ↦
               (let opens_at = opening_position size w.valid p (eqb-true _ _ t) in
@@ -110,7 +109,7 @@ module _ (size sysid : ℕ) (pages : Pages) (es : List Entry) (w : IsWritten siz
         let p = position_of size (page * 8192) in
         let start = address_of size (first_position size + k) in
         let owed = first_position size + k + size_of e.value - p in
-        let below : p < last_position size es = omega (arith, within, start_is) in
+        let below : p < end_position size es = omega (arith, within, start_is) in
         let sound = page_is_sound size sysid pages es w page e (omega arith) below (owns p (omega arith) (omega arith)) in
         let bytes = sound.0 in
         let rises = position_of-mono size ((page - 1) * 8192) (page * 8192) (omega arith) in
@@ -157,34 +156,34 @@ module _ (size sysid : ℕ) (pages : Pages) (es : List Entry) (w : IsWritten siz
         ∙ ap (found_or size (log_place size k before) (size_of e.value) prev) (spelling_reads e.value prev writable stand.prev_fits)
         ∙ ap (λ (p : ℕ). found_or size (record { position = p; prev = before; timeline = 1 }) (size_of e.value) prev (Ok e.value)) (sym start_is)
 
-    place_behind_entry : place_behind size pages (log_place size k before) (found_entry size prev e) ≡ log_place size (k + room_of e.value) (Some (address_of size e.start))
+    place_behind_entry : place_behind size pages (log_place size k before) (found_entry size prev e) ≡ log_place size (k + room_at size e.start e.value) (Some (address_of size e.start))
     place_behind_entry =
         let q = first_position size + k + size_of e.value - 1 in
         let page = address_of size q / 8192 in
         let begins = page_begins size w.valid q in
         let timeline = timeline_is size sysid pages es w page (page_from_first size w.valid q (omega arith)) (omega (arith, within)) in
-        ap (λ (t : ℕ). record { position = first_position size + k + room_of e.value; prev = Some (address_of size e.start); timeline = t }) timeline
-        ∙ ap (λ (p : ℕ). record { position = p; prev = Some (address_of size e.start); timeline = 1 }) (add_assoc (first_position size) k (room_of e.value))
+        ap (λ (t : ℕ). record { position = first_position size + k + room_at size e.start e.value; prev = Some (address_of size e.start); timeline = t }) timeline
+        ∙ ap (λ (p : ℕ). record { position = p; prev = Some (address_of size e.start); timeline = 1 }) (add_assoc (first_position size) k (room_at size e.start e.value))
 
-    others_stand : StandFrom size es (k + room_of e.value) (address_of size e.start) others
+    others_stand : StandFrom size es (k + room_at size e.start e.value) (address_of size e.start) others
     others_stand =
         let behind = stream_from size (address_of size e.start) others in
-        let next : e.start + room_of e.value ≡ first_position size + (k + room_of e.value) = omega (arith, start_is) in
+        let next : e.start + room_at size e.start e.value ≡ first_position size + (k + room_at size e.start e.value) = omega (arith, start_is) in
         record {
           rooms = within;
-          bytes = sym (drop-drop (room_of e.value) k (stream_of size es)) ∙ ap (drop (room_of e.value)) stand.bytes ∙ drop-filled (assembled e.value) prev behind;
-          follows = subst (λ (p : ℕ). FollowsFrom p others) next stand.follows.2;
+          bytes = sym (drop-drop (room_at size e.start e.value) k (stream_of size es)) ∙ ap (drop (room_at size e.start e.value)) stand.bytes ∙ drop-filled (assembled e.value) prev behind;
+          follows = subst (λ (p : ℕ). FollowsFrom size p others) next stand.follows.2;
           front = stand.front ++ e ∷ [];
           parts = stand.parts ∙ sym (append_assoc stand.front (e ∷ []) others);
-          prev_fits = omega (arith, address_of-below_end size w.valid e.start (last_position size es) (omega (arith, start_is, within)), w.bounded);
+          prev_fits = omega (arith, address_of-below_end size w.valid e.start (end_position size es) (omega (arith, start_is, within)), w.bounded);
         }
 
   -- entries are read where they stand, and then what stands behind them
   pub entries_are_read : (rest : List Entry) (k prev : ℕ) (before : Option ℕ) (found : List FoundRecord) (answer : Answer) → StandFrom size es k prev rest → is_right_prev before (address_of size (first_position size + k)) prev ≡ true
-      → ReadsRecords size pages None (log_place size (rooms_of es) (last_start size before rest)) found answer → ReadsRecords size pages None (log_place size k before) (found_from size prev rest ++ found) answer
+      → ReadsRecords size pages None (log_place size (rooms_of size es) (last_start size before rest)) found answer → ReadsRecords size pages None (log_place size k before) (found_from size prev rest ++ found) answer
   entries_are_read [] k prev before found answer stand right behind =
       subst (λ (n : ℕ). ReadsRecords size pages None (log_place size n before) found answer) (omega (arith, stand.rooms)) behind
   entries_are_read (e ∷ others) k prev before found answer stand right behind =
       let next = address_of size e.start in
-      let rest = entries_are_read others (k + room_of e.value) next (Some next) found answer (others_stand e others k prev stand before) (eq-eqb next next refl) behind in
+      let rest = entries_are_read others (k + room_at size e.start e.value) next (Some next) found answer (others_stand e others k prev stand before) (eq-eqb next next refl) behind in
       (entry_is_read e others k prev stand before right, subst (λ (place : Place). ReadsRecords size pages None place (found_from size next others ++ found) answer) (sym (place_behind_entry e others k prev stand before)) rest)

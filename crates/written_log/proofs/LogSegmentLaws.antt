@@ -7,13 +7,13 @@ use Rattle.byte_position.specs.Geometry.{IsSegmentSize, pages_of}
 use Rattle.byte_position.specs.Position.{end_address_of}
 use Rattle.byte_position.proofs.SegmentSizes.{segment_size_in_pages}
 use Rattle.segment_disk.specs.DiskImage.{DiskImage, ImageSegment}
-use Rattle.wal_page.specs.Order.{Entry}
+use Rattle.wal_page.specs.Order.{Entry, end_position}
 use Rattle.wal_page.specs.LogPage.{IsLogPage}
 use Rattle.wal_reader.specs.Pages.{page_of_image, pages_in}
-use Rattle.written_log.specs.WrittenLog.{HavePagesOfLog, last_position}
+use Rattle.written_log.specs.WrittenLog.{HavePagesOfLog}
 use Rattle.written_log.specs.LogSegments.{IsLogSegment, HoldsSegments, SegmentsHoldLog}
 
-module _ (size sysid : ℕ) (image : DiskImage) (es : List Entry) (valid : IsSegmentSize size) (bounded : end_address_of size (last_position size es) ≤ 2 ^ 60) (holds : HoldsSegments size sysid image es) where
+module _ (size sysid : ℕ) (image : DiskImage) (es : List Entry) (valid : IsSegmentSize size) (bounded : end_address_of size (end_position size es) ≤ 2 ^ 60) (holds : HoldsSegments size sysid image es) where
   module _ (page : ℕ) (from : pages_of size ≤ page) where
     -- the segment of the page, and its number there
     abbrev segment : ℕ
@@ -70,7 +70,7 @@ module _ (size sysid : ℕ) (image : DiskImage) (es : List Entry) (valid : IsSeg
           | inr high ↦ subst (λ (o : Option (List ℕ)). IfSome o (IsLogPage size sysid es page)) (sym (cond-false _ here None high)) tt
         ]
 
-    page_is_in : page * 8192 < end_address_of size (last_position size es) → IsSome (pages_in size image page)
+    page_is_in : page * 8192 < end_address_of size (end_position size es) → IsSome (pages_in size image page)
     page_is_in below =
         let here = page_of_image (image segment) number in
         let low : leb ((page + 1) * 8192) (2 ^ 60) ≡ true = le-leb ((page + 1) * 8192) (2 ^ 60) (omega arith) in

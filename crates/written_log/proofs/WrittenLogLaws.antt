@@ -7,10 +7,10 @@ use Rattle.std.proofs.lemmas.Bool.{lt-ltb, le-ltb, le-leb, cond-true, cond-false
 use Rattle.byte_position.specs.Geometry.{IsSegmentSize, pages_of}
 use Rattle.byte_position.specs.Position.{position_of, address_of, first_position}
 use Rattle.byte_position.proofs.SegmentSizes.{segment_size_in_pages}
-use Rattle.wal_page.specs.Order.{Entry, FollowsFrom, position_behind, rooms_of}
+use Rattle.wal_page.specs.Order.{Entry, FollowsFrom, position_behind, rooms_of, end_position}
 use Rattle.wal_page.specs.LogPage.{IsLogPage}
 use Rattle.wal_page.specs.Log.{remaining_at, log_byte}
-use Rattle.wal_page.proofs.OrderLaws.{rooms_of_cons, room_of-pos}
+use Rattle.wal_page.proofs.OrderLaws.{rooms_of_cons, room_at-pos}
 use Rattle.wal_page.proofs.OwnerLaws.{owner_of-entry}
 use Rattle.wal_reader.specs.declared.found.FoundRecord.{FoundRecord}
 use Rattle.wal_reader.specs.declared.found.Answer.{Answer}
@@ -18,7 +18,7 @@ use Rattle.wal_reader.specs.declared.found.Answer.TheVariants.{End}
 use Rattle.wal_reader.specs.Pages.{Pages}
 use Rattle.wal_reader.specs.Decodes.{Place, Decodes, ReadsRecords, ReadsFrom, beginning, ended}
 use Rattle.written_log.specs.Written.{found_entry, found_from, found_of}
-use Rattle.written_log.specs.WrittenLog.{HavePagesOfLog, last_position, OwnPagesHoldLog, WrittenLogDecodes}
+use Rattle.written_log.specs.WrittenLog.{HavePagesOfLog, OwnPagesHoldLog, WrittenLogDecodes}
 use Rattle.wal_reader.proofs.PagesLaws.{end_address_of-first_position}
 use Rattle.written_log.proofs.BeginLaws.{begins_nowhere, begins_empty, begins_behind_header}
 use Rattle.written_log.proofs.Tables.{first_fault-none}
@@ -28,12 +28,12 @@ use Rattle.written_log.proofs.LogReads.{StandFrom, log_place, last_start, entrie
 use Rattle.written_log.proofs.LogEnds.{holds_below_end, page_begins_with_zeros, log_ends}
 
 -- no record starts below the log's own start
-none_below : (size prev position : ℕ) (es : List Entry) → IsSegmentSize size → FollowsFrom position es → first_position size ≤ position → found_from size prev es ≡ filter (λ f. nat_le size f.start.0) (found_from size prev es)
+none_below : (size prev position : ℕ) (es : List Entry) → IsSegmentSize size → FollowsFrom size position es → first_position size ≤ position → found_from size prev es ≡ filter (λ f. nat_le size f.start.0) (found_from size prev es)
 none_below size prev position [] valid follows from = refl
 none_below size prev position (e ∷ es) valid follows from =
     let start = address_of size e.start in
     let above = start-le-address_of size valid e.start (omega (arith, follows.0)) in
-    let rest = none_below size start (position_behind e) es valid follows.2 (omega (arith, follows.0)) in
+    let rest = none_below size start (position_behind size e) es valid follows.2 (omega (arith, follows.0)) in
     let found = found_entry size prev e in
     let others = found_from size start es in
     ap (λ (found_behind : List FoundRecord). found ∷ found_behind) rest
@@ -51,7 +51,7 @@ module _ (size sysid : ℕ) (pages : Pages) (holds : HavePagesOfLog size sysid p
   begins_nothing None there = begins_nowhere size pages w.valid there
   begins_nothing (Some bytes) there = begins_empty size pages w.valid bytes there (page_begins_with_zeros size sysid pages [] holds w (pages_of size) bytes (omega arith) there (omega (arith, first_page_position size w.valid)))
 
-  nothing_decodes : Decodes size pages size None [] (ended size (last_position size []))
+  nothing_decodes : Decodes size pages size None [] (ended size (end_position size []))
   nothing_decodes =
       let end : ended size (first_position size + 0) ≡ End (record { 0 = size }) = ap (ended size) (add-zero (first_position size)) ∙ ap (λ (a : ℕ). End (record { 0 = a })) (end_address_of-first_position size w.valid) in
       let begins = begins_nothing (pages (pages_of size)) refl in
@@ -69,22 +69,22 @@ module _ (size sysid : ℕ) (pages : Pages) (e : Entry) (es : List Entry) (w : I
       let first = first_page_position size w.valid in
       let p = position_of size (pages_of size * 8192) in
       let start_is : e.start ≡ first_position size = w.chained.0 in
-      let owns = owner_of-entry (first_position size) [] es e w.chained p (omega (arith, first, start_is)) (omega (arith, first, start_is, room_of-pos e)) in
-      let sound = page_is_sound size sysid pages (e ∷ es) w (pages_of size) e (omega arith) (omega (arith, first, rooms_of_cons e es, room_of-pos e)) owns in
+      let owns = owner_of-entry size (first_position size) [] es e w.chained p (omega (arith, first, start_is)) (omega (arith, first, start_is, room_at-pos size e)) in
+      let sound = page_is_sound size sysid pages (e ∷ es) w (pages_of size) e (omega arith) (omega (arith, first, rooms_of_cons size e es, room_at-pos size e)) owns in
       let nothing : remaining_at e p ≡ 0 = cond-false _ _ _ (le-ltb e.start p (omega (arith, first, start_is))) in
       begins_behind_header size pages w.valid sound.0 sound.1 sound.2.no_zero_word (first_fault-none (sound.2.passes 0 (omega arith))) (sound.2.continued ∙ ap (ltb 0) nothing)
       ∙ ap (λ (t : ℕ). Ok (record { position = first_position size; prev = None; timeline = t })) sound.2.on_timeline
       ∙ ap (λ (p : ℕ). Ok (record { position = p; prev = None; timeline = 1 })) (sym (add-zero (first_position size)))
 
   -- they are read from the log's start on, and then what stands behind them
-  pub entries_are_read_first : (found : List FoundRecord) (answer : Answer) → ReadsRecords size pages None (log_place size (rooms_of (e ∷ es)) (last_start size None (e ∷ es))) found answer
+  pub entries_are_read_first : (found : List FoundRecord) (answer : Answer) → ReadsRecords size pages None (log_place size (rooms_of size (e ∷ es)) (last_start size None (e ∷ es))) found answer
       → ReadsFrom size pages None (beginning size pages size) (found_of size (e ∷ es) ++ found) answer
   entries_are_read_first found answer behind =
       let all = e ∷ es in
       let stand : StandFrom size all 0 0 all = record {
-        rooms = zero-add (rooms_of all);
+        rooms = zero-add (rooms_of size all);
         bytes = refl;
-        follows = subst (λ (p : ℕ). FollowsFrom p all) (sym (add-zero (first_position size))) w.chained;
+        follows = subst (λ (p : ℕ). FollowsFrom size p all) (sym (add-zero (first_position size))) w.chained;
         front = [];
         parts = refl;
         prev_fits = omega arith;
@@ -93,10 +93,10 @@ module _ (size sysid : ℕ) (pages : Pages) (e : Entry) (es : List Entry) (w : I
       let right = lt-ltb 0 (address_of size (first_position size + 0)) (omega (arith, above, segment_size_in_pages size w.valid)) in
       subst (λ (begun : Result Place Answer). ReadsFrom size pages None begun (found_of size all ++ found) answer) (sym begins_at_first) (entries_are_read size sysid pages all w all 0 0 None found answer stand right behind)
 
-  something_decodes : HavePagesOfLog size sysid pages (e ∷ es) → Decodes size pages size None (found_of size (e ∷ es)) (ended size (last_position size (e ∷ es)))
+  something_decodes : HavePagesOfLog size sysid pages (e ∷ es) → Decodes size pages size None (found_of size (e ∷ es)) (ended size (end_position size (e ∷ es)))
   something_decodes holds =
       let all = e ∷ es in
-      let end = ended size (last_position size all) in
+      let end = ended size (end_position size all) in
       let read = entries_are_read_first [] end (log_ends size sysid pages all holds w (last_start size None all)) in
       record {
         read = found_of size all;

@@ -3,10 +3,10 @@ use Rattle.std.specs.Prelude.{◌≡◌, ℕ, ◌+◌, ◌*◌, ◌^◌, ◌<◌
 use Rattle.byte_position.specs.Geometry.{IsSegmentSize, pages_of}
 use Rattle.byte_position.specs.Position.{end_address_of}
 use Rattle.segment_disk.specs.DiskImage.{DiskImage, ImageSegment}
-use Rattle.wal_page.specs.Order.{Entry}
+use Rattle.wal_page.specs.Order.{Entry, end_position}
 use Rattle.wal_page.specs.LogPage.{IsLogPage}
 use Rattle.wal_reader.specs.Pages.{pages_in}
-use Rattle.written_log.specs.WrittenLog.{HavePagesOfLog, last_position}
+use Rattle.written_log.specs.WrittenLog.{HavePagesOfLog}
 
 -- a segment has all its pages, and each is the log's
 abbrev pub IsLogSegment : ℕ → ℕ → List Entry → ℕ → ImageSegment → Type 0
@@ -20,11 +20,11 @@ pub record HoldsSegments (size sysid : ℕ) (image : DiskImage) (es : List Entry
   pub is_log : (segment : ℕ) → 1 ≤ segment
       → IfSome (image segment) (IsLogSegment size sysid es segment)
   pub there : (segment : ℕ) → 1 ≤ segment → segment * size
-      < end_address_of size (last_position size es) → IsSome (image segment)
+      < end_address_of size (end_position size es) → IsSome (image segment)
 
 -- the pages of such an image hold the log
 abbrev pub SegmentsHoldLog : Type 0
 SegmentsHoldLog =
     (size sysid : ℕ) (image : DiskImage) (es : List Entry) → IsSegmentSize size
-    → end_address_of size (last_position size es) ≤ 2 ^ 60
+    → end_address_of size (end_position size es) ≤ 2 ^ 60
     → HoldsSegments size sysid image es → HavePagesOfLog size sysid (pages_in size image) es

@@ -2,17 +2,13 @@
 use Rattle.std.specs.Prelude.{ℕ, ◌+◌, ◌*◌, ◌^◌, ◌<◌, ◌≤◌, List, map, Some, None, IfSome, IsSome}
 use Rattle.std.specs.List.{range_with_len}
 use Rattle.byte_position.specs.Geometry.{IsSegmentSize, pages_of}
-use Rattle.byte_position.specs.Position.{end_address_of, first_position}
-use Rattle.wal_page.specs.Order.{Entry, IsChained, rooms_of}
+use Rattle.byte_position.specs.Position.{end_address_of}
+use Rattle.wal_page.specs.Order.{Entry, IsChained, end_position}
 use Rattle.wal_page.specs.Log.{log_byte}
 use Rattle.wal_page.specs.LogPage.{IsLogPage}
 use Rattle.wal_reader.specs.Pages.{Pages}
 use Rattle.wal_reader.specs.Decodes.{Decodes, ended}
 use Rattle.written_log.specs.Written.{found_of}
-
--- the byte position behind the last entry of an order
-abbrev pub last_position : ℕ → List Entry → ℕ
-last_position size es = first_position size + rooms_of es
 
 -- pages that hold an order's log: each page from the log's first on that is there is the log's, and
 -- each that begins below the log's end is there
@@ -20,7 +16,7 @@ pub record HavePagesOfLog (size sysid : ℕ) (pages : Pages) (es : List Entry) :
   pub is_log : (page : ℕ) → pages_of size ≤ page
       → IfSome (pages page) (IsLogPage size sysid es page)
   pub there : (page : ℕ) → pages_of size ≤ page → page * 8192
-      < end_address_of size (last_position size es) → IsSome (pages page)
+      < end_address_of size (end_position size es) → IsSome (pages page)
 
 -- the log's own pages: each is there, each byte the log's
 abbrev pub log_pages : ℕ → ℕ → List Entry → Pages
@@ -37,6 +33,6 @@ OwnPagesHoldLog =
 abbrev pub WrittenLogDecodes : Type 0
 WrittenLogDecodes =
     (size sysid : ℕ) (pages : Pages) (es : List Entry) → IsSegmentSize size → 0 < sysid → sysid
-    < 2 ^ 64 → IsChained size es → end_address_of size (last_position size es) ≤ 2 ^ 60
+    < 2 ^ 64 → IsChained size es → end_address_of size (end_position size es) ≤ 2 ^ 60
     → HavePagesOfLog size sysid pages es
-    → Decodes size pages size None (found_of size es) (ended size (last_position size es))
+    → Decodes size pages size None (found_of size es) (ended size (end_position size es))

@@ -1,14 +1,12 @@
 -- The words are the record's own, so their positions rise with their addresses.
 use Rattle.std.proofs.Common.{◌≡◌, ◌+◌, ◌*◌, ◌≤◌, ℕ, length, subst, sym, ◌∙◌, arith}
-use Rattle.byte_position.specs.Position.{end_address_of}
-use Rattle.record_spelling.specs.Spelling.{assembled_room}
-use Rattle.wal_page.specs.Placed.{PlacedState, LieTogether}
+use Rattle.wal_page.specs.Placed.{PlacedState, LieTogether, placed_end}
 use Rattle.wal_page.proofs.PlacedSteps.{next-bound}
 use Rattle.wal_page.proofs.RunSteps.{own_words_next, run_within, stands_over_run}
 use Rattle.wal_page.proofs.placed.Placed.put_together.Goals as goal
 
 abbrev IsOwned : ℕ → PlacedState → Type 0
-IsOwned count s = s.next + 8 * count ≤ end_address_of s.size (s.start + assembled_room s.body)
+IsOwned count s = s.next + 8 * count ≤ placed_end s
 
 pub put_words-requires-clause-behind_header : goal.put_words-requires-clause-behind_header
 put_words-requires-clause-behind_header c =

@@ -1,9 +1,7 @@
 -- The words go on where the last ones ended.
 use Rattle.std.proofs.Common.{◌≡◌, ◌+◌, ◌-◌, ◌*◌, ◌<◌, ◌≤◌, ℕ, ◌++◌, length, take, drop, subst, ap, sym, ◌∙◌, arith}
 use Rattle.std.proofs.lemmas.List.{length-append, length-drop, length-take}
-use Rattle.byte_position.specs.Position.{end_address_of}
-use Rattle.record_spelling.specs.Spelling.{assembled_room}
-use Rattle.wal_page.specs.Placed.{PlacedState}
+use Rattle.wal_page.specs.Placed.{PlacedState, placed_end}
 use Rattle.wal_page.proofs.RunSteps.{words_further, placed_further}
 use Rattle.wal_page.proofs.placed.Placed.put_words.Goals as goal
 
@@ -15,7 +13,7 @@ put_some-put-requires-clause-owned c =
     let put = c.loop-put.put in
     let words = c.loop-put.words in
     let left = length (take (length words - put) (drop put words)) in
-    subst (λ (s : PlacedState). s.next + 8 * left ≤ end_address_of s.size (s.start + assembled_room s.body)) (sym c.loop-put.invariant.placed)
+    subst (λ (s : PlacedState). s.next + 8 * left ≤ placed_end s) (sym c.loop-put.invariant.placed)
     (omega (arith, length-take (length words - put) (drop put words), length-drop put words, c.requires))
 
 pub loop-put-preserved : goal.loop-put-preserved
