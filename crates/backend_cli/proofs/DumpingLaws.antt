@@ -1,7 +1,7 @@
 -- A listing ends as what it answers says.
 use Rattle.std.proofs.Common.{◌≡◌, ℕ, List, [], Option, Some, None, Result, Ok, Err}
 use Rattle.std.specs.Prelude.{IfSome}
-use Rattle.segment_disk.specs.Tape.{Tape}
+use Rattle.segment_disk.specs.Tape.{IsNotMade, Tape}
 use Rattle.wal_reader.specs.declared.standing.ReadErr.TheVariants.{Memory, Disk, Stopped}
 use Rattle.waldump_text.specs.declared.dumping.DumpErr.{DumpErr}
 use Rattle.waldump_text.specs.declared.dumping.DumpErr.TheVariants.{Read, Sink}
@@ -32,13 +32,12 @@ ends_as outside (Err (Sink fault)) cause = by_sink cause.2 cause.0
 pub listing_holds : (outside : Outside) (size : ℕ) (result : Result (Unit {0}) DumpErr) (outcome : Outcome) (lists : List (List Told)) → outcome ≡ outcome_of result
     → IfSome outside.tape_before (IsDump size outside.taken_before outside.taken_after result)
     → HasDumpCause outside.disk_before outside.disk_after outside.sink_before outside.sink_after result
-    → outside.tape_after ≡ outside.tape_before → outside.moment_after ≡ outside.moment_before
+    → IsNotMade outside.tape_before outside.tape_after outside.moment_before outside.moment_after
     → outside.source_after ≡ outside.source_before → lists ≡ [] → DumpHolds outside size outcome lists
-listing_holds outside size result outcome lists is puts cause tape moment unread none = rw is (record {
+listing_holds outside size result outcome lists is puts cause uncalled unread none = rw is (record {
   listed = lists_as size outside result outside.tape_before puts;
   ends = ends_as outside result cause;
-  tape = tape;
-  moment = moment;
+  uncalled = uncalled;
   unread = unread;
   nothing_told = none;
 })

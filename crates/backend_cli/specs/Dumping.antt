@@ -1,6 +1,6 @@
 -- What a listing promises.
 use Rattle.std.specs.Prelude.{◌≡◌, ℕ, List, [], IfSome, Result, Ok, Err}
-use Rattle.segment_disk.specs.Tape.{Tape}
+use Rattle.segment_disk.specs.Tape.{IsNotMade, Tape}
 use Rattle.wal_types.specs.declared.lsn.Lsn.{Lsn}
 use Rattle.wal_reader.specs.declared.found.Answer.TheVariants as answers
 use Rattle.wal_reader.specs.declared.found.Stopped.{Stopped as LogStop}
@@ -57,7 +57,7 @@ pub record DumpHolds (outside : Outside) (size : ℕ) (outcome : Outcome)
     (lists : List (List Told)) : Type 0 where
   pub listed : IfSome outside.tape_before (Listed size outside outcome)
   pub ends : ListingEnds outside outcome
-  pub tape : outside.tape_after ≡ outside.tape_before
-  pub moment : outside.moment_after ≡ outside.moment_before
+  pub uncalled :
+      IsNotMade outside.tape_before outside.tape_after outside.moment_before outside.moment_after
   pub unread : outside.source_after ≡ outside.source_before
   pub nothing_told : lists ≡ []

@@ -12,7 +12,7 @@ use Rattle.wal_reader.specs.declared.found.Answer.TheVariants as answers
 use Rattle.wal_reader.specs.declared.beginning.Front.{Front}
 use Rattle.wal_reader.specs.Beginning.{goes_on, skipped_in}
 use Rattle.wal_reader.specs.Pages.{Pages}
-use Rattle.wal_reader.specs.Decodes.{Place, is_zero_word, page_answers, begin_in, begin_at, ended}
+use Rattle.wal_reader.specs.Decodes.{RecordPlace, is_zero_word, page_answers, begin_in, begin_at, ended}
 
 -- the log ends where a page would start
 pub ended_at_page : (size page : ℕ) → IsSegmentSize size → ended size (position_of size (page * 8192)) ≡ answers.End (record { 0 = page * 8192 })
@@ -38,7 +38,7 @@ skipped_in-aligned bytes = elim (is_continued bytes) as (λ b. cond b ((remainin
 pub header_size-le : (size page : ℕ) → header_size size page ≤ 40
 header_size-le size page = elim (is_first_page size page) as (λ b. cond b 40 24 ≤ 40) [ true ↦ omega arith | false ↦ omega arith ]
 
-module _ (next : ℕ → ℕ → Result Place Answer) (size page : ℕ) (bytes : List ℕ) (timeline : ℕ) where
+module _ (next : ℕ → ℕ → Result RecordPlace Answer) (size page : ℕ) (bytes : List ℕ) (timeline : ℕ) where
   pub begin_in-empty : is_zero_word bytes ≡ true → begin_in next size page timeline (Some bytes) ≡ Err (ended size (position_of size (page * 8192)))
   begin_in-empty empty = rw empty refl
 
@@ -96,8 +96,8 @@ unfolding begin_at
 begin_at-some turns size pages page timeline bytes some = ap (begin_in (begin_at turns size pages) size page timeline) some
 
 -- one turn: a page that is there says where reading begins, or leaves it to the next page
-module _ (size : ℕ) (pages : Pages) (page timeline all : ℕ) (begun : Result Place Answer) (turns_left : (turns : ℕ) → turns + page ≡ all → begun ≡ begin_at turns size pages page timeline) where
-  pub begins_by_front : (bytes : List ℕ) (said : Result Front Answer) → pages page ≡ Some bytes → ((next : ℕ → ℕ → Result Place Answer) → begin_in next size page timeline (Some bytes) ≡ goes_on next page said) → (turns : ℕ) → turns + (page + 1) ≡ all → begun ≡ goes_on (begin_at turns size pages) page said
+module _ (size : ℕ) (pages : Pages) (page timeline all : ℕ) (begun : Result RecordPlace Answer) (turns_left : (turns : ℕ) → turns + page ≡ all → begun ≡ begin_at turns size pages page timeline) where
+  pub begins_by_front : (bytes : List ℕ) (said : Result Front Answer) → pages page ≡ Some bytes → ((next : ℕ → ℕ → Result RecordPlace Answer) → begin_in next size page timeline (Some bytes) ≡ goes_on next page said) → (turns : ℕ) → turns + (page + 1) ≡ all → begun ≡ goes_on (begin_at turns size pages) page said
   begins_by_front bytes said there front turns left = turns_left (suc turns) (omega arith) ∙ begin_at-some turns size pages page timeline bytes there ∙ front (begin_at turns size pages)
 
   pub begins_nowhere_more : pages page ≡ None → page ≤ all → begun ≡ Err (ended size (position_of size (page * 8192)))

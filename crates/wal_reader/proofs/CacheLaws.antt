@@ -4,7 +4,7 @@ use Rattle.std.proofs.Math.Nat.{div-mul-le_self, le-div_iff_mul-le}
 use Rattle.segment_disk.specs.Tape.{Tape}
 use Rattle.wal_reader.specs.declared.page_cache.PageCache.{PageCache}
 use Rattle.wal_reader.specs.Pages.{Pages}
-use Rattle.wal_reader.specs.Cursor.{Sees}
+use Rattle.wal_reader.specs.PageCursor.{Sees}
 
 -- the segment of a page below address 2 ^ 60 has a number that addresses can reach
 pub segment_of_page_fits : (size pages page : ℕ) → 8192 * pages ≡ size → 128 ≤ pages → pages ≤ 131072 → page < 140737488355328 → page / pages < 18446744073709551616 / size

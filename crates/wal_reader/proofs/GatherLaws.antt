@@ -10,14 +10,14 @@ use Rattle.byte_position.proofs.Pages.{position_of-next_page, address_of-page}
 use Rattle.byte_position.proofs.Rising.{address_of-mono}
 use Rattle.wal_page.specs.Page.{header_size, first_fault, timeline_of}
 use Rattle.wal_reader.specs.declared.found.Answer.{Answer}
-use Rattle.wal_reader.specs.declared.cursor.Cursor.{Cursor}
+use Rattle.wal_reader.specs.declared.page_cursor.PageCursor.{PageCursor}
 use Rattle.wal_reader.specs.Pages.{Pages, byte_at, bytes_from}
-use Rattle.wal_reader.specs.Decodes.{Place, continuation_rows, continuation_rows_of, page_of_byte, rows_of_pages, timeline_or}
-use Rattle.wal_reader.specs.declared.stop.Stop.{Stop}
-use Rattle.wal_reader.specs.Cursor.{Crosses, HasGathered, HoldsPassed, StandsIn}
-use Rattle.wal_reader.specs.Stops.{IsTold, Settles}
+use Rattle.wal_reader.specs.Decodes.{RecordPlace, continuation_rows, continuation_rows_of, page_of_byte, rows_of_pages, timeline_or}
+use Rattle.wal_reader.specs.declared.read_failure.ReadFailure.{ReadFailure}
+use Rattle.wal_reader.specs.PageCursor.{Crosses, HasGathered, HoldsPassed, StandsIn}
+use Rattle.wal_reader.specs.ReadFailures.{IsTold, Settles}
 use Rattle.wal_reader.proofs.PagesLaws.{rows_of_pages-none}
-use Rattle.wal_reader.proofs.StopLaws.{IsTold-weaker}
+use Rattle.wal_reader.proofs.FailureLaws.{IsTold-weaker}
 use Rattle.wal_reader.proofs.RowLaws.{first_of, first_fault-append}
 
 -- ---- the rows of further pages
@@ -33,7 +33,7 @@ range_with_len-append a (suc m) n =
     rw (e, f) (ap (λ xs. a ∷ xs) (range_with_len-append (a + 1) m n))
 
 -- the pages up to one and those behind it
-pub rows_of_pages-split : (size : ℕ) (pages : Pages) (place : Place) (total from mid upto : ℕ) → from ≤ mid → mid ≤ upto → rows_of_pages size pages place total from upto ≡ rows_of_pages size pages place total from mid ++ rows_of_pages size pages place total mid upto
+pub rows_of_pages-split : (size : ℕ) (pages : Pages) (place : RecordPlace) (total from mid upto : ℕ) → from ≤ mid → mid ≤ upto → rows_of_pages size pages place total from upto ≡ rows_of_pages size pages place total from mid ++ rows_of_pages size pages place total mid upto
 rows_of_pages-split size pages place total from mid upto low high =
     let rows = continuation_rows size pages place total in
     let e : upto - from ≡ (mid - from) + (upto - mid) = omega arith in
@@ -43,20 +43,20 @@ rows_of_pages-split size pages place total from mid upto low high =
     ∙ flat_map-append rows (range_with_len (from + 1) (mid - from)) (range_with_len (from + 1 + (mid - from)) (upto - mid))
     ∙ ap (λ (a : ℕ). rows_of_pages size pages place total from mid ++ flat_map rows (range_with_len a (upto - mid))) f
 
-pub rows_of_pages-one : (size : ℕ) (pages : Pages) (place : Place) (total page : ℕ) → rows_of_pages size pages place total page (page + 1) ≡ continuation_rows size pages place total (page + 1)
+pub rows_of_pages-one : (size : ℕ) (pages : Pages) (place : RecordPlace) (total page : ℕ) → rows_of_pages size pages place total page (page + 1) ≡ continuation_rows size pages place total (page + 1)
 rows_of_pages-one size pages place total page =
     let e : page + 1 - page ≡ 1 = omega arith in
     ap (λ (n : ℕ). flat_map (continuation_rows size pages place total) (range_with_len (page + 1) n)) e ∙ append-nil _
 
 -- pages that pass are passed over
-pub rows_behind : (size : ℕ) (pages : Pages) (place : Place) (total from mid upto : ℕ) → Crosses size pages place total from mid → mid ≤ upto → first_fault (rows_of_pages size pages place total from upto) ≡ first_fault (rows_of_pages size pages place total mid upto)
+pub rows_behind : (size : ℕ) (pages : Pages) (place : RecordPlace) (total from mid upto : ℕ) → Crosses size pages place total from mid → mid ≤ upto → first_fault (rows_of_pages size pages place total from upto) ≡ first_fault (rows_of_pages size pages place total mid upto)
 rows_behind size pages place total from mid upto crosses high =
     ap first_fault (rows_of_pages-split size pages place total from mid upto crosses.rises high)
     ∙ first_fault-append (rows_of_pages size pages place total from mid) (rows_of_pages size pages place total mid upto)
     ∙ ap (λ (o : Option Answer). first_of o (first_fault (rows_of_pages size pages place total mid upto))) crosses.passes
 
 -- what the next page tells
-pub next_page_tells : (size : ℕ) (pages : Pages) (place : Place) (total page upto : ℕ) (answer : Answer) → page + 1 ≤ upto → first_fault (continuation_rows size pages place total (page + 1)) ≡ Some answer → first_fault (rows_of_pages size pages place total page upto) ≡ Some answer
+pub next_page_tells : (size : ℕ) (pages : Pages) (place : RecordPlace) (total page upto : ℕ) (answer : Answer) → page + 1 ≤ upto → first_fault (continuation_rows size pages place total (page + 1)) ≡ Some answer → first_fault (rows_of_pages size pages place total page upto) ≡ Some answer
 next_page_tells size pages place total page upto answer further told =
     let next = rows_of_pages size pages place total (page + 1) upto in
     ap first_fault (rows_of_pages-split size pages place total page (page + 1) upto (omega arith) further)
@@ -64,16 +64,16 @@ next_page_tells size pages place total page upto answer further told =
     ∙ ap (λ (rows : List (Bool × Answer)). first_of (first_fault rows) (first_fault next)) (rows_of_pages-one size pages place total page)
     ∙ ap (λ (o : Option Answer). first_of o (first_fault next)) told
 
-pub crosses_none : (size : ℕ) (pages : Pages) (place : Place) (total page : ℕ) → Crosses size pages place total page page
+pub crosses_none : (size : ℕ) (pages : Pages) (place : RecordPlace) (total page : ℕ) → Crosses size pages place total page page
 crosses_none size pages place total page = record { rises = omega arith; passes = ap first_fault (rows_of_pages-none size pages place total page) }
 
-pub crosses_further : (size : ℕ) (pages : Pages) (place : Place) (total from mid upto : ℕ) → Crosses size pages place total from mid → Crosses size pages place total mid upto → Crosses size pages place total from upto
+pub crosses_further : (size : ℕ) (pages : Pages) (place : RecordPlace) (total from mid upto : ℕ) → Crosses size pages place total from mid → Crosses size pages place total mid upto → Crosses size pages place total from upto
 crosses_further size pages place total from mid upto a b = record { rises = omega (arith, a.rises, b.rises); passes = rows_behind size pages place total from mid upto a b.rises ∙ b.passes }
 
 -- ---- where a cursor stands
 
 -- the byte position of a page's end is the next page's first
-module _ (size position : ℕ) (cursor : Cursor) (stands : StandsIn size position cursor) where
+module _ (size position : ℕ) (cursor : PageCursor) (stands : StandsIn size position cursor) where
   -- a byte that the page has from the cursor on
   address_from : (k : ℕ) → cursor.offset + k < 8192 → address_of size (position + k) ≡ 8192 * cursor.page + (cursor.offset + k)
   address_from k within =
@@ -103,7 +103,7 @@ module _ (size position : ℕ) (cursor : Cursor) (stands : StandsIn size positio
   }
 
   -- at the next page's first byte
-  pub stands_next : (next : Cursor) → cursor.offset ≡ 8192 → next.page ≡ cursor.page + 1 → next.offset ≡ header_size size (cursor.page + 1) → next.page < 2 ^ 47 → StandsIn size position next
+  pub stands_next : (next : PageCursor) → cursor.offset ≡ 8192 → next.page ≡ cursor.page + 1 → next.offset ≡ header_size size (cursor.page + 1) → next.page < 2 ^ 47 → StandsIn size position next
   stands_next next full same first reach =
       let behind = position_of-next_page size stands.valid (cursor.page + 1) in
       let swap : (cursor.page + 1) * 8192 ≡ 8192 * (cursor.page + 1) = omega arith in
@@ -166,7 +166,7 @@ bytes_from-append size pages (suc n) k position =
 
 -- ---- the checks of the page behind a page's end
 
-pub continuation_at_end : (size : ℕ) (pages : Pages) (place : Place) (total n : ℕ) (cursor : Cursor) (bytes : List ℕ) → StandsIn size (place.position + n) cursor → cursor.offset ≡ 8192 → pages cursor.page ≡ Some bytes → timeline_of bytes ≡ cursor.timeline
+pub continuation_at_end : (size : ℕ) (pages : Pages) (place : RecordPlace) (total n : ℕ) (cursor : PageCursor) (bytes : List ℕ) → StandsIn size (place.position + n) cursor → cursor.offset ≡ 8192 → pages cursor.page ≡ Some bytes → timeline_of bytes ≡ cursor.timeline
     → continuation_rows size pages place total (cursor.page + 1) ≡ continuation_rows_of size (cursor.page + 1) cursor.timeline (address_of size place.position) (total - n) (pages (cursor.page + 1))
 continuation_at_end size pages place total n cursor bytes stands full here timeline =
     let back : cursor.page + 1 - 1 ≡ cursor.page = omega arith in
@@ -176,7 +176,7 @@ continuation_at_end size pages place total n cursor bytes stands full here timel
     rw (told, owed) refl
 
 -- what turning a page answers, of a record that goes on behind the page's end
-module _ (size : ℕ) (pages : Pages) (place : Place) (total n : ℕ) (cursor : Cursor) (bytes : List ℕ) (stands : StandsIn size (place.position + n) cursor) (full : cursor.offset ≡ 8192) (here : pages cursor.page ≡ Some bytes) (timeline : timeline_of bytes ≡ cursor.timeline) where
+module _ (size : ℕ) (pages : Pages) (place : RecordPlace) (total n : ℕ) (cursor : PageCursor) (bytes : List ℕ) (stands : StandsIn size (place.position + n) cursor) (full : cursor.offset ≡ 8192) (here : pages cursor.page ≡ Some bytes) (timeline : timeline_of bytes ≡ cursor.timeline) where
   abbrev fault : Option Answer
   fault = first_fault (continuation_rows_of size (cursor.page + 1) cursor.timeline (address_of size place.position) (total - n) (pages (cursor.page + 1)))
 
@@ -188,21 +188,21 @@ module _ (size : ℕ) (pages : Pages) (place : Place) (total n : ℕ) (cursor : 
       let further = page_behind size (place.position + n) cursor stands (place.position + upto - 1) full (omega arith) in
       next_page_tells size pages place total cursor.page (page_of_byte size place.position upto) answer further (same_fault ∙ e)
 
-  pub page_turned : (result : Result Cursor Stop) → IfOk result (λ next. next.page ≡ cursor.page + 1) → Settles fault result
+  pub page_turned : (result : Result PageCursor ReadFailure) → IfOk result (λ next. next.page ≡ cursor.page + 1) → Settles fault result
       → MatchResult result (λ next. Crosses size pages place total cursor.page next.page) (λ stop. (upto : ℕ) → n < upto → IsTold (first_fault (rows_of_pages size pages place total cursor.page (page_of_byte size place.position upto))) stop)
   page_turned (Ok next) same passes =
       subst (λ (page : ℕ). Crosses size pages place total cursor.page page) (sym same) (record { rises = omega arith; passes = ap first_fault (rows_of_pages-one size pages place total cursor.page) ∙ same_fault ∙ passes })
   page_turned (Err stop) same told = λ upto more. IsTold-weaker fault _ (λ answer. told_by_next upto answer more) stop told
 
 -- bytes that were gathered, and those that the page has behind them
-room_grows : (size position n : ℕ) (cursor : Cursor) → StandsIn size (position + n) cursor → (pages : Pages) (bytes : List ℕ) → pages cursor.page ≡ Some bytes → length bytes ≡ 8192 → (count : ℕ) → cursor.offset + count ≤ 8192
+room_grows : (size position n : ℕ) (cursor : PageCursor) → StandsIn size (position + n) cursor → (pages : Pages) (bytes : List ℕ) → pages cursor.page ≡ Some bytes → length bytes ≡ 8192 → (count : ℕ) → cursor.offset + count ≤ 8192
     → (room : List ℕ) → room ≡ bytes_from size pages n position → room ++ take count (drop cursor.offset bytes) ≡ bytes_from size pages (n + count) position
 room_grows size position n cursor stands pages bytes here whole count within room had =
     let more = bytes_in_page size (position + n) cursor stands pages bytes here whole count within in
     rw (had, ← more) (sym (bytes_from-append size pages n count position))
 
 -- the same of a room to which they were appended
-pub room_grown : (size position n m : ℕ) (cursor : Cursor) → StandsIn size (position + n) cursor → (pages : Pages) (bytes page : List ℕ) → pages cursor.page ≡ Some bytes → page ≡ bytes → length page ≡ 8192 → (count : ℕ) → cursor.offset + count ≤ 8192 → m ≡ n + count
+pub room_grown : (size position n m : ℕ) (cursor : PageCursor) → StandsIn size (position + n) cursor → (pages : Pages) (bytes page : List ℕ) → pages cursor.page ≡ Some bytes → page ≡ bytes → length page ≡ 8192 → (count : ℕ) → cursor.offset + count ≤ 8192 → m ≡ n + count
     → (room new : List ℕ) → room ≡ bytes_from size pages n position → new ≡ room ++ take count (drop cursor.offset page) → new ≡ bytes_from size pages m position
 room_grown size position n m cursor stands pages bytes page here same whole count within sum room new had added =
     added
@@ -210,18 +210,18 @@ room_grown size position n m cursor stands pages bytes page here same whole coun
     ∙ room_grows size position n cursor stands pages bytes here (ap length (sym same) ∙ whole) count within room had
     ∙ ap (λ (k : ℕ). bytes_from size pages k position) (sym sum)
 
-pub gathers_further : (size position n : ℕ) (cursor : Cursor) → StandsIn size (position + n) cursor → (count m : ℕ) → 0 < count → cursor.offset + count ≤ 8192 → m ≡ n + count → HasGathered size position m (record cursor { offset = cursor.offset + count })
+pub gathers_further : (size position n : ℕ) (cursor : PageCursor) → StandsIn size (position + n) cursor → (count m : ℕ) → 0 < count → cursor.offset + count ≤ 8192 → m ≡ n + count → HasGathered size position m (record cursor { offset = cursor.offset + count })
 gathers_further size position n cursor stands count m some within sum = record {
   stands = (let e : position + n + count ≡ position + m = omega arith in subst (λ (p : ℕ). StandsIn size p (record cursor { offset = cursor.offset + count })) e (stands_further size (position + n) cursor stands count within));
   last = λ _. (let e : position + n + (count - 1) ≡ position + m - 1 = omega arith in sym (page_from size (position + n) cursor stands (count - 1) (omega arith)) ∙ ap (λ (p : ℕ). address_of size p / 8192) e);
 }
 
 -- a stop on the way from one page is one on the way from a page before it
-pub told_behind : (size : ℕ) (pages : Pages) (place : Place) (total from mid upto : ℕ) → Crosses size pages place total from mid → mid ≤ upto → (stop : Stop) → IsTold (first_fault (rows_of_pages size pages place total mid upto)) stop → IsTold (first_fault (rows_of_pages size pages place total from upto)) stop
+pub told_behind : (size : ℕ) (pages : Pages) (place : RecordPlace) (total from mid upto : ℕ) → Crosses size pages place total from mid → mid ≤ upto → (stop : ReadFailure) → IsTold (first_fault (rows_of_pages size pages place total mid upto)) stop → IsTold (first_fault (rows_of_pages size pages place total from upto)) stop
 told_behind size pages place total from mid upto crosses further stop told = subst (λ (o : Option Answer). IsTold o stop) (sym (rows_behind size pages place total from mid upto crosses further)) told
 
 -- the page of a byte further on is not before that of the cursor
-pub page_rises : (size position n upto : ℕ) (cursor : Cursor) → HasGathered size position n cursor → n < upto → cursor.page ≤ page_of_byte size position upto
+pub page_rises : (size position n upto : ℕ) (cursor : PageCursor) → HasGathered size position n cursor → n < upto → cursor.page ≤ page_of_byte size position upto
 page_rises size position n upto cursor gathered more =
     let stands = gathered.stands in
     let last = position + upto - 1 in
@@ -237,7 +237,7 @@ page_rises size position n upto cursor gathered more =
     ]
 
 -- what a room holds from a page on it holds from a page before it
-pub holds_behind : (size : ℕ) (pages : Pages) (place : Place) (total from mid : ℕ) (room : List ℕ) → Crosses size pages place total from mid → HoldsPassed size pages place total mid room → HoldsPassed size pages place total from room
+pub holds_behind : (size : ℕ) (pages : Pages) (place : RecordPlace) (total from mid : ℕ) (room : List ℕ) → Crosses size pages place total from mid → HoldsPassed size pages place total mid room → HoldsPassed size pages place total from room
 holds_behind size pages place total from mid room crossed holds = record {
   count = holds.count;
   page = holds.page;

@@ -4,24 +4,24 @@ use Rattle.std.proofs.lemmas.Bool.{cond-true, cond-false, le-leb, lt-leb}
 use Rattle.wal_reader.specs.declared.found.FoundRecord.{FoundRecord}
 use Rattle.wal_reader.specs.declared.found.Answer.{Answer}
 use Rattle.wal_reader.specs.Pages.{Pages}
-use Rattle.wal_reader.specs.Decodes.{Place, ReadsFrom, Decodes, beginning, place_behind, read_at}
+use Rattle.wal_reader.specs.Decodes.{RecordPlace, ReadsFrom, Decodes, beginning, place_behind, read_at}
 use Rattle.wal_reader.specs.RecordRead.{IsRead}
-use Rattle.wal_reader.specs.Standpoint.{place_of}
+use Rattle.wal_reader.specs.ReadingPoint.{place_of}
 use Rattle.wal_reader.specs.Steps.{GivesFrom, ComesNext}
-use Rattle.wal_reader.specs.declared.standpoint.Standpoint.{Standpoint}
-use Rattle.wal_reader.specs.declared.stop.Stop.{Stop}
-use Rattle.wal_reader.specs.declared.stop.Stop.TheVariants.{Told, Memory, Disk}
+use Rattle.wal_reader.specs.declared.reading_point.ReadingPoint.{ReadingPoint}
+use Rattle.wal_reader.specs.declared.read_failure.ReadFailure.{ReadFailure}
+use Rattle.wal_reader.specs.declared.read_failure.ReadFailure.TheVariants.{Told, Memory, Disk}
 
 module _ (size : ℕ) (pages : Pages) (start : ℕ) (end : Option ℕ) where
   abbrev given : List FoundRecord → List FoundRecord
   given read = filter (λ f. leb start f.start.0) read
 
-  module _ (place : Place) where
+  module _ (place : RecordPlace) where
     -- nothing stands at a place
     pub GivesFrom-stop : (answer : Answer) → read_at size pages end place ≡ Err answer → GivesFrom size pages start end place [] answer
     GivesFrom-stop answer stops = record { read = []; reads = stops; given = refl }
 
-    module _ (found : FoundRecord) (next : Place) (reads : read_at size pages end place ≡ Ok found) (behind : next ≡ place_behind size pages place found) (others : List FoundRecord) (answer : Answer) (rest : GivesFrom size pages start end next others answer) where
+    module _ (found : FoundRecord) (next : RecordPlace) (reads : read_at size pages end place ≡ Ok found) (behind : next ≡ place_behind size pages place found) (others : List FoundRecord) (answer : Answer) (rest : GivesFrom size pages start end next others answer) where
       -- a record before the start is passed over
       pub GivesFrom-passed : found.start.0 < start → GivesFrom size pages start end place others answer
       GivesFrom-passed before = record {
@@ -39,21 +39,21 @@ module _ (size : ℕ) (pages : Pages) (start : ℕ) (end : Option ℕ) where
       }
 
   -- pages decode to what comes from where reading begins
-  pub Decodes-begun : (place : Place) (found : List FoundRecord) (answer : Answer) → beginning size pages start ≡ Ok place → GivesFrom size pages start end place found answer → Decodes size pages start end found answer
+  pub Decodes-begun : (place : RecordPlace) (found : List FoundRecord) (answer : Answer) → beginning size pages start ≡ Ok place → GivesFrom size pages start end place found answer → Decodes size pages start end found answer
   Decodes-begun place found answer begins gives = record {
     read = gives.read;
-    reads = subst (λ (begun : Result Place Answer). ReadsFrom size pages end begun gives.read answer) (sym begins) gives.reads;
+    reads = subst (λ (begun : Result RecordPlace Answer). ReadsFrom size pages end begun gives.read answer) (sym begins) gives.reads;
     given = gives.given;
   }
 
--- where what comes from one standpoint comes from another, a stop at the first is one at the other
-pub ComesNext-stopped : (size : ℕ) (pages : Pages) (start : ℕ) (end : Option ℕ) (from at : Standpoint) (stop : Stop) → ((others : List FoundRecord) (answer : Answer) → GivesFrom size pages start end (place_of at) others answer → GivesFrom size pages start end (place_of from) others answer) → IsRead size pages (place_of at) (read_at size pages end (place_of at)) (Err stop) → ComesNext size pages start end (Some from) (Err stop)
+-- where what comes from one point comes from another, a stop at the first is one at the other
+pub ComesNext-stopped : (size : ℕ) (pages : Pages) (start : ℕ) (end : Option ℕ) (from at : ReadingPoint) (stop : ReadFailure) → ((others : List FoundRecord) (answer : Answer) → GivesFrom size pages start end (place_of at) others answer → GivesFrom size pages start end (place_of from) others answer) → IsRead size pages (place_of at) (read_at size pages end (place_of at)) (Err stop) → ComesNext size pages start end (Some from) (Err stop)
 ComesNext-stopped size pages start end from at (Told answer) comes reads = comes [] answer (GivesFrom-stop size pages start end (place_of at) answer reads)
 ComesNext-stopped size pages start end from at Memory comes reads = tt
 ComesNext-stopped size pages start end from at Disk comes reads = tt
 
 -- what comes next from where reading begins comes next of all
-pub ComesNext-begun : (size : ℕ) (pages : Pages) (start : ℕ) (end : Option ℕ) (at : Standpoint) (result : Result (FoundRecord × Standpoint) Stop) → beginning size pages start ≡ Ok (place_of at) → ComesNext size pages start end (Some at) result → ComesNext size pages start end None result
+pub ComesNext-begun : (size : ℕ) (pages : Pages) (start : ℕ) (end : Option ℕ) (at : ReadingPoint) (result : Result (FoundRecord × ReadingPoint) ReadFailure) → beginning size pages start ≡ Ok (place_of at) → ComesNext size pages start end (Some at) result → ComesNext size pages start end None result
 ComesNext-begun size pages start end at (Ok (found, next)) begins comes = λ others answer rest. Decodes-begun size pages start end (place_of at) (found ∷ others) answer begins (comes others answer rest)
 ComesNext-begun size pages start end at (Err (Told answer)) begins comes = Decodes-begun size pages start end (place_of at) [] answer begins comes
 ComesNext-begun size pages start end at (Err Memory) begins comes = tt

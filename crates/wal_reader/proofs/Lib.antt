@@ -10,6 +10,6 @@ pub mod RecordReads
 pub mod RecordStages
 pub mod RowLaws
 pub mod SettledLaws
-pub mod StopLaws
+pub mod FailureLaws
 pub mod RunLaws
 pub mod ReachLaws

@@ -7,10 +7,10 @@ use Rattle.byte_position.proofs.SegmentSizes.{segment_size_in_pages}
 use Rattle.byte_position.proofs.Headers.{in_none}
 use Rattle.byte_position.proofs.PositionLaws.{end_address_of-next, position_of-outside, address_of-position_of}
 use Rattle.wal_reader.specs.Pages.{Pages, byte_at, bytes_from}
-use Rattle.wal_reader.specs.Decodes.{Place, rows_of_pages}
+use Rattle.wal_reader.specs.Decodes.{RecordPlace, rows_of_pages}
 
 -- no page is needed behind the one in which the bytes end
-pub rows_of_pages-none : (size : ℕ) (pages : Pages) (place : Place) (total page : ℕ) → rows_of_pages size pages place total page page ≡ []
+pub rows_of_pages-none : (size : ℕ) (pages : Pages) (place : RecordPlace) (total page : ℕ) → rows_of_pages size pages place total page page ≡ []
 rows_of_pages-none size pages place total page =
     let none : page - page ≡ 0 = omega arith in
     rw none refl

@@ -6,10 +6,10 @@ use Rattle.byte_position.specs.Position.{address_of}
 use Rattle.segment_disk.specs.DiskImage.{image_as_read}
 use Rattle.segment_disk.specs.Tape.{Tape, state_now}
 use Rattle.wal_reader.specs.declared.page_cache.PageCache.{PageCache}
-use Rattle.wal_reader.specs.Cursor.{Sees}
-use Rattle.wal_reader.specs.Decodes.{Place, ended, is_at_end, read_at, read_in}
+use Rattle.wal_reader.specs.PageCursor.{Sees}
+use Rattle.wal_reader.specs.Decodes.{RecordPlace, ended, is_at_end, read_at, read_in}
 use Rattle.wal_reader.specs.Pages.{Pages}
-use Rattle.wal_reader.specs.Standpoint.{IsOutOfReach}
+use Rattle.wal_reader.specs.ReadingPoint.{IsOutOfReach}
 use Rattle.wal_reader.proofs.RecordAt.{read_at-before, read_at-end}
 use Rattle.wal_reader.proofs.SettledLaws.{pages_in-bounded}
 
@@ -19,7 +19,7 @@ no_page_above None cache pages sees page high = absurd sees.log
 no_page_above (Some t) cache pages sees page high =
     ap (λ (p : Pages). p page) sees.log ∙ pages_in-bounded cache.geometry (image_as_read (state_now t)) page high
 
-pub read_at-out_of_reach : (size : ℕ) (pages : Pages) (end : Option ℕ) (place : Place) → IsOutOfReach size end place.position
+pub read_at-out_of_reach : (size : ℕ) (pages : Pages) (end : Option ℕ) (place : RecordPlace) → IsOutOfReach size end place.position
     → ((page : ℕ) → 2 ^ 47 ≤ page → pages page ≡ None) → read_at size pages end place ≡ Err (ended size place.position)
 read_at-out_of_reach size pages end place out none =
     elim out [

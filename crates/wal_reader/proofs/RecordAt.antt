@@ -7,16 +7,16 @@ use Rattle.record_spelling.specs.Numbers.{number_at}
 use Rattle.record_decode.specs.Reading.{reading_of}
 use Rattle.wal_page.specs.Page.{first_fault}
 use Rattle.wal_reader.specs.declared.found.Answer.{Answer}
-use Rattle.wal_reader.specs.declared.cursor.Cursor.{Cursor}
+use Rattle.wal_reader.specs.declared.page_cursor.PageCursor.{PageCursor}
 use Rattle.wal_reader.specs.Pages.{Pages, bytes_from}
-use Rattle.wal_reader.specs.Cursor.{HasGathered, StandsIn}
-use Rattle.wal_reader.specs.Decodes.{Place, ended, found_or, is_at_end, is_zero_word, record_rows, answer_or, read_in, read_at, opening_of, opening_rows, size_rows, rest_rows}
+use Rattle.wal_reader.specs.PageCursor.{HasGathered, StandsIn}
+use Rattle.wal_reader.specs.Decodes.{RecordPlace, ended, found_or, is_at_end, is_zero_word, record_rows, answer_or, read_in, read_at, opening_of, opening_rows, size_rows, rest_rows}
 use Rattle.wal_reader.specs.RecordRead.{said_of}
 use Rattle.wal_reader.proofs.GatherLaws.{bytes_in_page}
 use Rattle.wal_reader.proofs.PagesLaws.{take-bytes_from}
 use Rattle.wal_reader.proofs.RowLaws.{first_of, first_fault-append, number_at-take}
 
-module _ (size : ℕ) (pages : Pages) (end : Option ℕ) (place : Place) where
+module _ (size : ℕ) (pages : Pages) (end : Option ℕ) (place : RecordPlace) where
   abbrev start : ℕ
   start = address_of size place.position
 
@@ -55,7 +55,7 @@ module _ (size : ℕ) (pages : Pages) (end : Option ℕ) (place : Place) where
       read_at-opened : read_at size pages end place ≡ answer_or size pages place (first_fault (record_rows size pages end place page))
       read_at-opened = read_at-before ∙ ap (read_in size pages end place) here
 
-      module _ (cursor : Cursor) (first : cursor.page ≡ address_of size place.position / 8192) (gathered : HasGathered size place.position 0 cursor) (whole : length page ≡ 8192) (within : cursor.offset + 8 ≤ 8192) where
+      module _ (cursor : PageCursor) (first : cursor.page ≡ address_of size place.position / 8192) (gathered : HasGathered size place.position 0 cursor) (whole : length page ≡ 8192) (within : cursor.offset + 8 ≤ 8192) where
         word_bytes : bytes_from size pages 8 place.position ≡ take 8 (drop cursor.offset page)
         word_bytes =
             let e : place.position + 0 ≡ place.position = omega arith in

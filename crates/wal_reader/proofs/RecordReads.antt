@@ -15,19 +15,19 @@ use Rattle.record_decode.specs.declared.fault.RecErr.TheVariants.{Memory, Malfor
 use Rattle.record_spelling.specs.Numbers.{number_at}
 use Rattle.record_decode.specs.Reading.{reading_of}
 use Rattle.wal_page.specs.Page.{first_fault, header_size, timeline_of}
-use Rattle.wal_reader.specs.declared.cursor.Cursor.{Cursor}
-use Rattle.wal_reader.specs.declared.cursor.Extent.{Extent}
+use Rattle.wal_reader.specs.declared.page_cursor.PageCursor.{PageCursor}
+use Rattle.wal_reader.specs.declared.record_extent.RecordExtent.{RecordExtent}
 use Rattle.wal_reader.specs.declared.found.Answer.{Answer}
 use Rattle.wal_reader.specs.declared.found.FoundRecord.{FoundRecord}
-use Rattle.wal_reader.specs.declared.standpoint.Standpoint.{Standpoint}
-use Rattle.wal_reader.specs.declared.stop.Stop.{Stop}
-use Rattle.wal_reader.specs.declared.stop.Stop.TheVariants as stops
+use Rattle.wal_reader.specs.declared.reading_point.ReadingPoint.{ReadingPoint}
+use Rattle.wal_reader.specs.declared.read_failure.ReadFailure.{ReadFailure}
+use Rattle.wal_reader.specs.declared.read_failure.ReadFailure.TheVariants as failures
 use Rattle.wal_reader.specs.Pages.{Pages, bytes_from}
-use Rattle.wal_reader.specs.Cursor.{Crosses, HasGathered, HoldsPassed, StandsIn}
-use Rattle.wal_reader.specs.Decodes.{Place, found_or, page_of_byte, place_behind, rows_of_pages, crc_rows, header_rows, rest_rows}
+use Rattle.wal_reader.specs.PageCursor.{Crosses, HasGathered, HoldsPassed, StandsIn}
+use Rattle.wal_reader.specs.Decodes.{RecordPlace, found_or, page_of_byte, place_behind, rows_of_pages, crc_rows, header_rows, rest_rows}
 use Rattle.wal_reader.specs.RecordRead.{GoesOn, IsRead, said_of}
-use Rattle.wal_reader.specs.Standpoint.{IsReachable, place_of}
-use Rattle.wal_reader.specs.Stops.{IsTold}
+use Rattle.wal_reader.specs.ReadingPoint.{IsReachable, place_of}
+use Rattle.wal_reader.specs.ReadFailures.{IsTold}
 use Rattle.wal_reader.proofs.GatherLaws.{bytes_in_page, crosses_none, gathers_further, page_from}
 use Rattle.wal_reader.proofs.RowLaws.{first_of, first_fault-append, number_at-take}
 
@@ -56,28 +56,28 @@ module _ (r1 r2 r3 r4 : List (Bool × Answer)) where
   told_by_none b c d e = four ∙ rw (b, c, d, e) refl
 
 -- a stop that tells the first check that fails tells what is read
-pub stop_tells : (size : ℕ) (pages : Pages) (place : Place) (here : Result FoundRecord Answer) (fault : Option Answer) → ((answer : Answer) → fault ≡ Some answer → here ≡ Err answer) → (stop : Stop) → IsTold fault stop → IsRead size pages place here (Err stop)
-stop_tells size pages place here fault goes (stops.Told answer) told = goes answer told
-stop_tells size pages place here fault goes stops.Memory told = told
-stop_tells size pages place here fault goes stops.Disk told = told
+pub stop_tells : (size : ℕ) (pages : Pages) (place : RecordPlace) (here : Result FoundRecord Answer) (fault : Option Answer) → ((answer : Answer) → fault ≡ Some answer → here ≡ Err answer) → (stop : ReadFailure) → IsTold fault stop → IsRead size pages place here (Err stop)
+stop_tells size pages place here fault goes (failures.Told answer) told = goes answer told
+stop_tells size pages place here fault goes failures.Memory told = told
+stop_tells size pages place here fault goes failures.Disk told = told
 
--- what is read by an extent is read at its standpoint
-pub read_as : (size : ℕ) (pages : Pages) (at : Standpoint) (extent : Extent) (here : Result FoundRecord Answer) (result : Result (FoundRecord × Standpoint) Stop) → extent.at ≡ at → here ≡ said_of size pages (place_of at) extent.total (first_fault (rest_rows size pages (place_of at) extent.total))
+-- what is read by an extent is read at its point
+pub read_as : (size : ℕ) (pages : Pages) (at : ReadingPoint) (extent : RecordExtent) (here : Result FoundRecord Answer) (result : Result (FoundRecord × ReadingPoint) ReadFailure) → extent.at ≡ at → here ≡ said_of size pages (place_of at) extent.total (first_fault (rest_rows size pages (place_of at) extent.total))
     → IsRead size pages (place_of extent.at) (said_of size pages (place_of extent.at) extent.total (first_fault (rest_rows size pages (place_of extent.at) extent.total))) result → IsRead size pages (place_of at) here result
 read_as size pages at extent here result same said read =
-    let at_own : Standpoint → Type 0 = λ a. IsRead size pages (place_of a) (said_of size pages (place_of a) extent.total (first_fault (rest_rows size pages (place_of a) extent.total))) result in
+    let at_own : ReadingPoint → Type 0 = λ a. IsRead size pages (place_of a) (said_of size pages (place_of a) extent.total (first_fault (rest_rows size pages (place_of a) extent.total))) result in
     subst (λ (h : Result FoundRecord Answer). IsRead size pages (place_of at) h result) (sym said) (subst at_own same read)
 
--- what a room holds by an extent it holds by its standpoint
-pub room_as : (size : ℕ) (pages : Pages) (at : Standpoint) (extent : Extent) (n : ℕ) (room : List ℕ) → extent.at ≡ at → extent.total ≡ n → HoldsPassed size pages (place_of extent.at) extent.total (address_of size extent.at.position / 8192) room → HoldsPassed size pages (place_of at) n (address_of size at.position / 8192) room
+-- what a room holds by an extent it holds by its point
+pub room_as : (size : ℕ) (pages : Pages) (at : ReadingPoint) (extent : RecordExtent) (n : ℕ) (room : List ℕ) → extent.at ≡ at → extent.total ≡ n → HoldsPassed size pages (place_of extent.at) extent.total (address_of size extent.at.position / 8192) room → HoldsPassed size pages (place_of at) n (address_of size at.position / 8192) room
 room_as size pages at extent n room same sized holds =
-    let at_own : Standpoint → Type 0 = λ a. HoldsPassed size pages (place_of a) n (address_of size a.position / 8192) room in
+    let at_own : ReadingPoint → Type 0 = λ a. HoldsPassed size pages (place_of a) n (address_of size a.position / 8192) room in
     let sized_own : ℕ → Type 0 = λ total. HoldsPassed size pages (place_of extent.at) total (address_of size extent.at.position / 8192) room in
     subst at_own same (subst sized_own sized holds)
 
 -- ---- the same of a record's groups, by the pages that were crossed
 
-module _ (size : ℕ) (pages : Pages) (place : Place) (total : ℕ) (p0 p1 p2 : ℕ) (e0 : p0 ≡ address_of size place.position / 8192) (e1 : p1 ≡ page_of_byte size place.position 24) (e2 : p2 ≡ page_of_byte size place.position total) where
+module _ (size : ℕ) (pages : Pages) (place : RecordPlace) (total : ℕ) (p0 p1 p2 : ℕ) (e0 : p0 ≡ address_of size place.position / 8192) (e1 : p1 ≡ page_of_byte size place.position 24) (e2 : p2 ≡ page_of_byte size place.position total) where
   abbrev start : ℕ
   start = address_of size place.position
 
@@ -102,24 +102,24 @@ module _ (size : ℕ) (pages : Pages) (place : Place) (total : ℕ) (p0 p1 p2 : 
   further_pages_pass : Crosses size pages place total p1 p2 → first_fault rows_of_further_pages ≡ None
   further_pages_pass crosses = rw (← e1, ← e2) crosses.passes
 
-  pub stopped_before_header : (stop : Stop) → IsTold (first_fault (rows_of_pages size pages place total p0 (page_of_byte size place.position 24))) stop → IsRead size pages place said (Err stop)
-  stopped_before_header (stops.Told answer) told =
+  pub stopped_before_header : (stop : ReadFailure) → IsTold (first_fault (rows_of_pages size pages place total p0 (page_of_byte size place.position 24))) stop → IsRead size pages place said (Err stop)
+  stopped_before_header (failures.Told answer) told =
       let first : first_fault rows_of_header_pages ≡ Some answer = rw (← e0) told in
       ap (said_of size pages place total) (told_first rows_of_header_pages (header_rows start place.prev header) rows_of_further_pages (crc_rows start whole) answer first)
-  stopped_before_header stops.Memory told = told
-  stopped_before_header stops.Disk told = told
+  stopped_before_header failures.Memory told = told
+  stopped_before_header failures.Disk told = told
 
   module _ (crossed : Crosses size pages place total p0 p1) where
     pub header_fails : (answer : Answer) → first_fault (header_rows start place.prev header) ≡ Some answer → said ≡ Err answer
     header_fails answer told = ap (said_of size pages place total) (told_second rows_of_header_pages (header_rows start place.prev header) rows_of_further_pages (crc_rows start whole) answer (header_pages_pass crossed) told)
 
     module _ (sound : first_fault (header_rows start place.prev header) ≡ None) where
-      pub stopped_behind_header : (stop : Stop) → IsTold (first_fault (rows_of_pages size pages place total p1 (page_of_byte size place.position total))) stop → IsRead size pages place said (Err stop)
-      stopped_behind_header (stops.Told answer) told =
+      pub stopped_behind_header : (stop : ReadFailure) → IsTold (first_fault (rows_of_pages size pages place total p1 (page_of_byte size place.position total))) stop → IsRead size pages place said (Err stop)
+      stopped_behind_header (failures.Told answer) told =
           let third : first_fault rows_of_further_pages ≡ Some answer = rw (← e1) told in
           ap (said_of size pages place total) (told_third rows_of_header_pages (header_rows start place.prev header) rows_of_further_pages (crc_rows start whole) answer (header_pages_pass crossed) sound third)
-      stopped_behind_header stops.Memory told = told
-      stopped_behind_header stops.Disk told = told
+      stopped_behind_header failures.Memory told = told
+      stopped_behind_header failures.Disk told = told
 
       module _ (crossed_further : Crosses size pages place total p1 p2) where
         pub crc_fails : (answer : Answer) → first_fault (crc_rows start whole) ≡ Some answer → said ≡ Err answer
@@ -146,14 +146,14 @@ total_found (Ok found) = found.total
 total_found (Err answer) = 0
 
 -- a record that is found starts where it was looked for, and has the size that it claims
-found_fields : (size : ℕ) (place : Place) (total prev : ℕ) (reading : Result Record RecErr) (found : FoundRecord) → found_or size place total prev reading ≡ Ok found → (found.start.0 ≡ address_of size place.position) × (found.total ≡ total)
+found_fields : (size : ℕ) (place : RecordPlace) (total prev : ℕ) (reading : Result Record RecErr) (found : FoundRecord) → found_or size place total prev reading ≡ Ok found → (found.start.0 ≡ address_of size place.position) × (found.total ≡ total)
 unfolding start_found total_found
 found_fields size place total prev (Ok value) found e = (ap start_found (sym e), ap total_found (sym e))
 found_fields size place total prev (Err Memory) found e = absurd (cc)
 found_fields size place total prev (Err (Malformed at kind)) found e = absurd (cc)
 found_fields size place total prev (Err (Compressed block)) found e = absurd (cc)
 
-pub found_behind : (size : ℕ) (pages : Pages) (at : Standpoint) (start : Lsn) (total prev : ℕ) (reading : Result Record RecErr) (found : FoundRecord) (cursor : Cursor) (bytes : List ℕ) → found_or size (place_of at) total prev reading ≡ Ok found
+pub found_behind : (size : ℕ) (pages : Pages) (at : ReadingPoint) (start : Lsn) (total prev : ℕ) (reading : Result Record RecErr) (found : FoundRecord) (cursor : PageCursor) (bytes : List ℕ) → found_or size (place_of at) total prev reading ≡ Ok found
     → start.0 ≡ address_of size at.position → cursor.page ≡ page_of_byte size at.position total → pages cursor.page ≡ Some bytes → timeline_of bytes ≡ cursor.timeline
     → place_of (record { position = at.position + (total + 7) / 8 * 8; prev = Some start; timeline = cursor.timeline }) ≡ place_behind size pages (place_of at) found
 found_behind size pages at start total prev reading found cursor bytes e starts last here timeline =
@@ -161,14 +161,14 @@ found_behind size pages at start total prev reading found cursor bytes e starts 
     rw (fields.0, fields.1, ← last, here, ← timeline, starts) refl
 
 -- what was found of bytes, by whatever names
-pub found_as : (size own : ℕ) (place : Place) (total : ℕ) (bytes own_bytes : List ℕ) (found answer : Result FoundRecord Answer) → own ≡ size → own_bytes ≡ bytes → found ≡ found_or own place total (number_at w64 own_bytes 8) (reading_of own_bytes) → found ≡ answer → found_or size place total (number_at w64 bytes 8) (reading_of bytes) ≡ answer
+pub found_as : (size own : ℕ) (place : RecordPlace) (total : ℕ) (bytes own_bytes : List ℕ) (found answer : Result FoundRecord Answer) → own ≡ size → own_bytes ≡ bytes → found ≡ found_or own place total (number_at w64 own_bytes 8) (reading_of own_bytes) → found ≡ answer → found_or size place total (number_at w64 bytes 8) (reading_of bytes) ≡ answer
 found_as size own place total bytes own_bytes found answer sized same e f =
     let by_size : ℕ → Type 0 = λ n. found_or n place total (number_at w64 bytes 8) (reading_of bytes) ≡ answer in
     let by_bytes : List ℕ → Type 0 = λ bs. found_or own place total (number_at w64 bs 8) (reading_of bs) ≡ answer in
     subst by_size sized (subst by_bytes same (sym e ∙ f))
 
 -- a record's end is in reach
-pub end_in_reach : (size position total : ℕ) (cursor : Cursor) → HasGathered size position total cursor → position % 8 ≡ 0 → position + (total + 7) / 8 * 8 < 2 ^ 60
+pub end_in_reach : (size position total : ℕ) (cursor : PageCursor) → HasGathered size position total cursor → position % 8 ≡ 0 → position + (total + 7) / 8 * 8 < 2 ^ 60
 end_in_reach size position total cursor gathered aligned =
     let stands = gathered.stands in
     let words : (cursor.page + 1) * 8192 ≡ 8 * ((cursor.page + 1) * 1024) = omega arith in
@@ -182,18 +182,18 @@ end_in_reach size position total cursor gathered aligned =
     let small : border < 2 ^ 60 = omega (arith, stands.reach) in
     omega arith
 
-pub end_in_page : (size position total : ℕ) (cursor : Cursor) → HasGathered size position 0 cursor → cursor.offset + total ≤ 8192 → 24 ≤ total → position % 8 ≡ 0 → position + (total + 7) / 8 * 8 < 2 ^ 60
+pub end_in_page : (size position total : ℕ) (cursor : PageCursor) → HasGathered size position 0 cursor → cursor.offset + total ≤ 8192 → 24 ≤ total → position % 8 ≡ 0 → position + (total + 7) / 8 * 8 < 2 ^ 60
 end_in_page size position total cursor gathered within large aligned =
     end_in_reach size position total (record cursor { offset = cursor.offset + total }) (gathers_further size position 0 cursor gathered.stands total total (omega arith) within (omega arith)) aligned
 
-pub goes_on_behind : (at next : Standpoint) (total : ℕ) → IsReachable at → 24 ≤ total → at.position + (total + 7) / 8 * 8 < 2 ^ 60 → next.position ≡ at.position + (total + 7) / 8 * 8 → GoesOn at next
+pub goes_on_behind : (at next : ReadingPoint) (total : ℕ) → IsReachable at → 24 ≤ total → at.position + (total + 7) / 8 * 8 < 2 ^ 60 → next.position ≡ at.position + (total + 7) / 8 * 8 → GoesOn at next
 goes_on_behind at next total reachable large bound e = (omega arith, record { aligned = omega (arith, reachable.aligned); bounded = omega arith })
 
 -- ---- a record that its first page has whole
 
-module _ (size : ℕ) (pages : Pages) (at : Standpoint) (start : Lsn) (total : ℕ) (cursor : Cursor) (page bytes : List ℕ) (starts : start.0 ≡ address_of size at.position) (first : cursor.page ≡ address_of size at.position / 8192) (gathered : HasGathered size at.position 0 cursor)
+module _ (size : ℕ) (pages : Pages) (at : ReadingPoint) (start : Lsn) (total : ℕ) (cursor : PageCursor) (page bytes : List ℕ) (starts : start.0 ≡ address_of size at.position) (first : cursor.page ≡ address_of size at.position / 8192) (gathered : HasGathered size at.position 0 cursor)
     (here : pages cursor.page ≡ Some page) (whole_page : length page ≡ 8192) (large : 24 ≤ total) (within : cursor.offset + total ≤ 8192) (own : bytes ≡ take total (drop cursor.offset page)) where
-  abbrev place : Place
+  abbrev place : RecordPlace
   place = place_of at
 
   abbrev said_here : Result FoundRecord Answer
@@ -248,7 +248,7 @@ pub bytes_from-none : (size : ℕ) (pages : Pages) (position n : ℕ) → n ≡ 
 unfolding bytes_from
 bytes_from-none size pages position n none = rw none refl
 
-module _ (size : ℕ) (pages : Pages) (at : Standpoint) (start : Lsn) (total : ℕ) (starts : start.0 ≡ address_of size at.position) (p0 p1 p2 : ℕ) (e0 : p0 ≡ address_of size at.position / 8192) (e1 : p1 ≡ page_of_byte size at.position 24) (e2 : p2 ≡ page_of_byte size at.position total) (crossed : Crosses size pages (place_of at) total p0 p1) (header : List ℕ) (header_is : header ≡ bytes_from size pages 24 at.position) where
+module _ (size : ℕ) (pages : Pages) (at : ReadingPoint) (start : Lsn) (total : ℕ) (starts : start.0 ≡ address_of size at.position) (p0 p1 p2 : ℕ) (e0 : p0 ≡ address_of size at.position / 8192) (e1 : p1 ≡ page_of_byte size at.position 24) (e2 : p2 ≡ page_of_byte size at.position total) (crossed : Crosses size pages (place_of at) total p0 p1) (header : List ℕ) (header_is : header ≡ bytes_from size pages 24 at.position) where
   abbrev told_over : Result FoundRecord Answer
   told_over = said_of size pages (place_of at) total (first_fault (rest_rows size pages (place_of at) total))
 
@@ -259,7 +259,7 @@ module _ (size : ℕ) (pages : Pages) (at : Standpoint) (start : Lsn) (total : �
   header_fails_over answer told = header_fails size pages (place_of at) total p0 p1 p2 e0 e1 e2 crossed answer (ap first_fault header_rows_over ∙ told)
 
   module _ (sound : first_fault (header_rows start.0 (place_of at).prev header) ≡ None) where
-    pub stopped_over : (stop : Stop) → IsTold (first_fault (rows_of_pages size pages (place_of at) total p1 (page_of_byte size at.position total))) stop → IsRead size pages (place_of at) told_over (Err stop)
+    pub stopped_over : (stop : ReadFailure) → IsTold (first_fault (rows_of_pages size pages (place_of at) total p1 (page_of_byte size at.position total))) stop → IsRead size pages (place_of at) told_over (Err stop)
     stopped_over stop told = stopped_behind_header size pages (place_of at) total p0 p1 p2 e0 e1 e2 crossed (ap first_fault header_rows_over ∙ sound) stop told
 
     module _ (crossed_further : Crosses size pages (place_of at) total p1 p2) (bytes : List ℕ) (bytes_are : bytes ≡ bytes_from size pages total at.position) where

@@ -7,14 +7,14 @@ use Rattle.byte_position.proofs.Pages.{header_below_position, position_by_page, 
 use Rattle.wal_page.specs.Page.{header_size, first_fault, is_continued}
 use Rattle.wal_reader.specs.declared.found.Answer.{Answer}
 use Rattle.wal_reader.specs.declared.found.DamageKind.TheVariants as kinds
-use Rattle.wal_reader.specs.declared.cursor.Cursor.{Cursor}
-use Rattle.wal_reader.specs.Cursor.{HasGathered}
-use Rattle.wal_reader.specs.Decodes.{Place, damaged, is_zero_word, opens_page, page_answers, opening_of}
+use Rattle.wal_reader.specs.declared.page_cursor.PageCursor.{PageCursor}
+use Rattle.wal_reader.specs.PageCursor.{HasGathered}
+use Rattle.wal_reader.specs.Decodes.{RecordPlace, damaged, is_zero_word, opens_page, page_answers, opening_of}
 use Rattle.wal_reader.proofs.RowLaws.{first_of, first_fault-append}
 
 -- ---- the page in which a record starts
 
-module _ (size : ℕ) (place : Place) (here : Option (List ℕ)) (bytes : List ℕ) (there : here ≡ Some bytes) (marked : (opens_page size place.position && is_zero_word bytes) ≡ false) where
+module _ (size : ℕ) (place : RecordPlace) (here : Option (List ℕ)) (bytes : List ℕ) (there : here ≡ Some bytes) (marked : (opens_page size place.position && is_zero_word bytes) ≡ false) where
   abbrev start_page : ℕ
   start_page = address_of size place.position / 8192
 
@@ -31,7 +31,7 @@ module _ (size : ℕ) (place : Place) (here : Option (List ℕ)) (bytes : List �
   opening_claims e f g = opening_parts ∙ ap (λ (o : Option Answer). first_of o (first_fault (last_row ∷ []))) e ∙ rw (f, g) refl
 
 -- the cursor at a byte position, before any byte is gathered
-pub gathers_none : (size position : ℕ) (cursor : Cursor) → IsSegmentSize size → cursor.page ≡ address_of size position / 8192 → cursor.offset ≡ address_of size position % 8192 → cursor.page < 2 ^ 47 → HasGathered size position 0 cursor
+pub gathers_none : (size position : ℕ) (cursor : PageCursor) → IsSegmentSize size → cursor.page ≡ address_of size position / 8192 → cursor.offset ≡ address_of size position % 8192 → cursor.page < 2 ^ 47 → HasGathered size position 0 cursor
 gathers_none size position cursor valid page offset reach =
     let a = address_of size position in
     let low : header_size size cursor.page ≤ cursor.offset = rw (page, offset) (header_below_position size valid position) in

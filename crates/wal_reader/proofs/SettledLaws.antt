@@ -16,15 +16,15 @@ use Rattle.wal_reader.specs.declared.found.FoundRecord.{FoundRecord}
 use Rattle.wal_reader.specs.declared.found.Answer.{Answer}
 use Rattle.wal_reader.specs.declared.found.Answer.TheVariants as answers
 use Rattle.wal_reader.specs.declared.found.DamageKind.TheVariants as damages
-use Rattle.wal_reader.specs.Decodes.{Place, ReadsRecords, ReadsFrom, answer_or, beginning, damaged, ended, found_or, is_at_end, is_zero_word, opening_rows, place_behind, read_at, read_in, record_rows, size_rows, rest_rows}
+use Rattle.wal_reader.specs.Decodes.{RecordPlace, ReadsRecords, ReadsFrom, answer_or, beginning, damaged, ended, found_or, is_at_end, is_zero_word, opening_rows, place_behind, read_at, read_in, record_rows, size_rows, rest_rows}
 use Rattle.wal_reader.specs.LogReader.{ReaderState, GivesRecords, GivesAt, IsNext}
 use Rattle.wal_reader.specs.declared.standing.Standing.{Standing}
 use Rattle.wal_reader.specs.declared.standing.Standing.TheVariants.{NotBegun, At, Stopped}
-use Rattle.wal_reader.specs.Standpoint.{place_of}
+use Rattle.wal_reader.specs.ReadingPoint.{place_of}
 use Rattle.wal_reader.specs.Pages.{Pages, bytes_from, pages_in}
 use Rattle.wal_reader.specs.Settled.{DecodingIsSettled, IsBounded, IsSettled, StepsTellDecoding, Tells, stop, step}
 use Rattle.wal_reader.specs.Standings.{told}
-use Rattle.wal_reader.specs.Standpoint.{place_of}
+use Rattle.wal_reader.specs.ReadingPoint.{place_of}
 use Rattle.wal_reader.proofs.PagesLaws.{take-bytes_from}
 use Rattle.wal_reader.proofs.RowLaws.{first_of, first_fault-append, number_at-take}
 
@@ -40,7 +40,7 @@ same_read found other e = cc
 
 -- ---- there is one reading
 
-Reads-same : (size : ℕ) (pages : Pages) (end : Option ℕ) (place : Place) (found others : List FoundRecord) (answer other : Answer) → ReadsRecords size pages end place found answer → ReadsRecords size pages end place others other → (found ≡ others) × (answer ≡ other)
+Reads-same : (size : ℕ) (pages : Pages) (end : Option ℕ) (place : RecordPlace) (found others : List FoundRecord) (answer other : Answer) → ReadsRecords size pages end place found answer → ReadsRecords size pages end place others other → (found ≡ others) × (answer ≡ other)
 Reads-same size pages end place [] [] answer other a b = (refl, cc)
 Reads-same size pages end place [] (g ∷ others) answer other a b = absurd (cc (a, b.0))
 Reads-same size pages end place (f ∷ found) [] answer other a b = absurd (cc (a.0, b))
@@ -50,7 +50,7 @@ Reads-same size pages end place (f ∷ found) (g ∷ others) answer other a b =
     let behind = Reads-same size pages end (place_behind size pages place g) found others answer other left b.1 in
     (ap (λ (h : FoundRecord). h ∷ found) same ∙ ap (λ (hs : List FoundRecord). g ∷ hs) behind.0, behind.1)
 
-ReadsFrom-same : (size : ℕ) (pages : Pages) (end : Option ℕ) (place : Result Place Answer) (found others : List FoundRecord) (answer other : Answer) → ReadsFrom size pages end place found answer → ReadsFrom size pages end place others other → (found ≡ others) × (answer ≡ other)
+ReadsFrom-same : (size : ℕ) (pages : Pages) (end : Option ℕ) (place : Result RecordPlace Answer) (found others : List FoundRecord) (answer other : Answer) → ReadsFrom size pages end place found answer → ReadsFrom size pages end place others other → (found ≡ others) × (answer ≡ other)
 ReadsFrom-same size pages end (Ok place) found others answer other a b = Reads-same size pages end place found others answer other a b
 ReadsFrom-same size pages end (Err stopped) found others answer other a b = (a.0 ∙ sym b.0, a.1 ∙ sym b.1)
 
@@ -67,7 +67,7 @@ pub passes_row : {K : Type 0} (holds : Bool) (told : K) (others : Option K) → 
 passes_row true told others e = absurd cc
 passes_row false told others e = (refl, e)
 
-module _ (size : ℕ) (pages : Pages) (end : Option ℕ) (place : Place) where
+module _ (size : ℕ) (pages : Pages) (end : Option ℕ) (place : RecordPlace) where
   -- the size that a record's first word gives
   abbrev first_size : ℕ
   first_size = number_at w32 (bytes_from size pages 8 place.position) 0
@@ -122,7 +122,7 @@ module _ (size : ℕ) (pages : Pages) (end : Option ℕ) (place : Place) where
 
 module _ (size : ℕ) (valid : IsSegmentSize size) (pages : Pages) (bounded : IsBounded pages) (end : Option ℕ) where
   -- a record that is read starts below address 2 ^ 60
-  starts_below : (place : Place) (found : FoundRecord) → read_at size pages end place ≡ Ok found → place.position < 2 ^ 60
+  starts_below : (place : RecordPlace) (found : FoundRecord) → read_at size pages end place ≡ Ok found → place.position < 2 ^ 60
   starts_below place found e =
       elim (cases_lt place.position (2 ^ 60)) [
         | inl below ↦ below
@@ -132,7 +132,7 @@ module _ (size : ℕ) (valid : IsSegmentSize size) (pages : Pages) (bounded : Is
             absurd ((record_read size pages end place found e).1 (bounded (address_of size place.position / 8192) page)))
       ]
 
-  reading_from : (turns : ℕ) (place : Place) → 2 ^ 60 ≤ place.position + turns → (found : List FoundRecord) × (answer : Answer) × ReadsRecords size pages end place found answer
+  reading_from : (turns : ℕ) (place : RecordPlace) → 2 ^ 60 ≤ place.position + turns → (found : List FoundRecord) × (answer : Answer) × ReadsRecords size pages end place found answer
   reading_from zero place near =
       elim (cases_Result (read_at size pages end place)) [
         | inl (f, e) ↦ (let below = starts_below place f e in
@@ -148,7 +148,7 @@ module _ (size : ℕ) (valid : IsSegmentSize size) (pages : Pages) (bounded : Is
         | inr (answer, e) ↦ ([], answer, e)
       ]
 
-  reading_begun : (begun : Result Place Answer) → (found : List FoundRecord) × (answer : Answer) × ReadsFrom size pages end begun found answer
+  reading_begun : (begun : Result RecordPlace Answer) → (found : List FoundRecord) × (answer : Answer) × ReadsFrom size pages end begun found answer
   reading_begun (Ok place) = reading_from (2 ^ 60) place (omega arith)
   reading_begun (Err stopped) = ([], stopped, (refl, refl))
 
@@ -192,8 +192,8 @@ steps_tell_decoding size pages start end found answer tells = Tells-gives pages 
 gives_at : (size : ℕ) (valid : IsSegmentSize size) (pages : Pages) (bounded : IsBounded pages) (start : ℕ) (end : Option ℕ) (standing : Standing)
     → (found : List FoundRecord) × (answer : Answer) × GivesAt pages (record { size = size; start = start; end = end; standing = standing }) standing found answer
 gives_at size valid pages bounded start end NotBegun = let all = settled size valid pages bounded end start in (all.0, all.1, all.2)
-gives_at size valid pages bounded start end (At standpoint) =
-    let reading = reading_begun size valid pages bounded end (Ok (place_of standpoint)) in
+gives_at size valid pages bounded start end (At point) =
+    let reading = reading_begun size valid pages bounded end (Ok (place_of point)) in
     (filter (λ f. leb start f.start.0) reading.0, reading.1, record { read = reading.0; reads = reading.2; given = refl })
 gives_at size valid pages bounded start end (Stopped reason) = ([], answers.Stopped reason, (refl, refl))
 

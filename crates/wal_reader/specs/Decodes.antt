@@ -22,7 +22,7 @@ use Rattle.wal_reader.specs.Pages.{Pages, bytes_from}
 
 -- where a reader stands: the byte position of the next record, the start of the one before (None
 -- before the first is read), and the timeline of the page read last
-pub record Place : Type 0 where
+pub record RecordPlace : Type 0 where
   pub position : ℕ
   pub prev : Option ℕ
   pub timeline : ℕ
@@ -68,7 +68,7 @@ continuation_rows_of size page timeline start owed (Some bytes) =
     ∷ (not (is_continued bytes), damaged start kinds.NoContinuation)
     ∷ (not (remaining_of bytes == owed), damaged start (kinds.RemLen (remaining_of bytes))) ∷ []
 
-abbrev pub continuation_rows : ℕ → Pages → Place → ℕ → ℕ → List (Bool × Answer)
+abbrev pub continuation_rows : ℕ → Pages → RecordPlace → ℕ → ℕ → List (Bool × Answer)
 continuation_rows size pages place total page =
     continuation_rows_of size page (timeline_or (pages (page - 1)) place.timeline)
     (address_of size place.position) (place.position + total - position_of size (page * 8192))
@@ -79,7 +79,7 @@ abbrev pub page_of_byte : ℕ → ℕ → ℕ → ℕ
 page_of_byte size position n = address_of size (position + n - 1) / 8192
 
 -- the rows of the pages behind one up to another
-abbrev pub rows_of_pages : ℕ → Pages → Place → ℕ → ℕ → ℕ → List (Bool × Answer)
+abbrev pub rows_of_pages : ℕ → Pages → RecordPlace → ℕ → ℕ → ℕ → List (Bool × Answer)
 rows_of_pages size pages place total from upto =
     flat_map (continuation_rows size pages place total) (range_with_len (from + 1) (upto - from))
 
@@ -97,7 +97,7 @@ is_at_end (Some end) address = nat_le end address
 -- ---- the checks of a record and of the pages that it needs, in their order
 
 -- of the page in which it starts, whose bytes these are
-abbrev pub opening_rows : ℕ → Place → List ℕ → List (Bool × Answer)
+abbrev pub opening_rows : ℕ → RecordPlace → List ℕ → List (Bool × Answer)
 opening_rows size place bytes =
     ((opens_page size place.position && is_zero_word bytes, ended size place.position) ∷ [])
     ++ page_answers size (address_of size place.position / 8192) bytes place.timeline
@@ -107,7 +107,7 @@ opening_rows size place bytes =
           (address_of size place.position) kinds.Claims,
     ) ∷ []
 
-abbrev pub opening_of : ℕ → Place → Option (List ℕ) → Option Answer
+abbrev pub opening_of : ℕ → RecordPlace → Option (List ℕ) → Option Answer
 opening_of size place None = Some (ended size place.position)
 opening_of size place (Some bytes) = first_fault (opening_rows size place bytes)
 
@@ -139,7 +139,7 @@ crc_rows start whole = (
 
 -- of the pages that its header needs, of its header, of the further pages that it needs, and of all
 -- its bytes
-abbrev pub rest_rows : ℕ → Pages → Place → ℕ → List (Bool × Answer)
+abbrev pub rest_rows : ℕ → Pages → RecordPlace → ℕ → List (Bool × Answer)
 rest_rows size pages place total =
     let start = address_of size place.position in
     let header_page = page_of_byte size place.position 24 in
@@ -149,7 +149,7 @@ rest_rows size pages place total =
     ++ crc_rows start (bytes_from size pages total place.position)
 
 -- all of them; `bytes` are those of the page in which it starts
-abbrev pub record_rows : ℕ → Pages → Option ℕ → Place → List ℕ → List (Bool × Answer)
+abbrev pub record_rows : ℕ → Pages → Option ℕ → RecordPlace → List ℕ → List (Bool × Answer)
 record_rows size pages end place bytes =
     let total = number_at w32 (bytes_from size pages 8 place.position) 0 in
     let no_record = is_zero_word (bytes_from size pages 24 place.position) in
@@ -157,7 +157,7 @@ record_rows size pages end place bytes =
     ++ (size_rows size end place.position no_record total ++ rest_rows size pages place total)
 
 -- what a record's bytes say: the record, or that it is malformed or has a compressed image
-abbrev pub found_or : ℕ → Place → ℕ → ℕ → Result Record RecErr → Result FoundRecord Answer
+abbrev pub found_or : ℕ → RecordPlace → ℕ → ℕ → Result Record RecErr → Result FoundRecord Answer
 found_or size place total prev (Ok value) =
     Ok (record {
       start = record { 0 = address_of size place.position };
@@ -174,7 +174,7 @@ found_or size place total prev (Err (Compressed block)) =
     Err (compressed (address_of size place.position))
 
 -- the first row that holds, or else what the record's bytes say
-abbrev pub answer_or : ℕ → Pages → Place → Option Answer → Result FoundRecord Answer
+abbrev pub answer_or : ℕ → Pages → RecordPlace → Option Answer → Result FoundRecord Answer
 answer_or size pages place (Some answer) = Err answer
 answer_or size pages place None =
     let header = bytes_from size pages 24 place.position in
@@ -182,19 +182,19 @@ answer_or size pages place None =
     found_or size place total (number_at w64 header 8)
     (reading_of (bytes_from size pages total place.position))
 
-abbrev pub read_in : ℕ → Pages → Option ℕ → Place → Option (List ℕ) → Result FoundRecord Answer
+abbrev pub read_in : ℕ → Pages → Option ℕ → RecordPlace → Option (List ℕ) → Result FoundRecord Answer
 read_in size pages end place None = Err (ended size place.position)
 read_in size pages end place (Some bytes) =
     answer_or size pages place (first_fault (record_rows size pages end place bytes))
 
 -- the record at a place, or what stands there instead; at an end that was given nothing is read
-unfoldable pub read_at : ℕ → Pages → Option ℕ → Place → Result FoundRecord Answer
+unfoldable pub read_at : ℕ → Pages → Option ℕ → RecordPlace → Result FoundRecord Answer
 read_at size pages end place =
     if is_at_end end (address_of size place.position) then Err (ended size place.position)
     else read_in size pages end place (pages (address_of size place.position / 8192))
 
 -- the place behind a record
-abbrev pub place_behind : ℕ → Pages → Place → FoundRecord → Place
+abbrev pub place_behind : ℕ → Pages → RecordPlace → FoundRecord → RecordPlace
 place_behind size pages place found = record {
   position = place.position + (found.total + 7) / 8 * 8;
   prev = Some found.start.0;
@@ -202,21 +202,21 @@ place_behind size pages place found = record {
 }
 
 -- from a place on these records are read, one behind another, and then this answer comes
-abbrev pub ReadsRecords : ℕ → Pages → Option ℕ → Place → List FoundRecord → Answer → Type 0
+abbrev pub ReadsRecords : ℕ → Pages → Option ℕ → RecordPlace → List FoundRecord → Answer → Type 0
 ReadsRecords size pages end place [] answer = read_at size pages end place ≡ Err answer
 ReadsRecords size pages end place (found ∷ others) answer =
     (read_at size pages end place ≡ Ok found)
     × ReadsRecords size pages end (place_behind size pages place found) others answer
 
 -- a place before any record is read
-abbrev pub first_place : ℕ → ℕ → Result Place Answer
+abbrev pub first_place : ℕ → ℕ → Result RecordPlace Answer
 first_place position timeline =
     Ok (record { position = position; prev = None; timeline = timeline })
 
 -- the first place of a page that a record may start at: behind what is continued there, which may
 -- reach over whole pages; `turns` bounds how many
-abbrev pub begin_in : (ℕ → ℕ → Result Place Answer) → ℕ → ℕ → ℕ → Option (List ℕ)
-    → Result Place Answer
+abbrev pub begin_in : (ℕ → ℕ → Result RecordPlace Answer) → ℕ → ℕ → ℕ → Option (List ℕ)
+    → Result RecordPlace Answer
 begin_in next size page timeline None = Err (ended size (position_of size (page * 8192)))
 begin_in next size page timeline (Some bytes) =
     let first = position_of size (page * 8192) in
@@ -228,21 +228,21 @@ begin_in next size page timeline (Some bytes) =
     else begun (first_fault (page_answers size page bytes timeline))
     (if is_continued bytes then behind_continued else first_place first (timeline_of bytes))
   where
-    begun : Option Answer → Result Place Answer → Result Place Answer
+    begun : Option Answer → Result RecordPlace Answer → Result RecordPlace Answer
     begun (Some answer) place = Err answer
     begun None place = place
 
-unfoldable pub begin_at : ℕ → ℕ → Pages → ℕ → ℕ → Result Place Answer
+unfoldable pub begin_at : ℕ → ℕ → Pages → ℕ → ℕ → Result RecordPlace Answer
 begin_at zero size pages page timeline = Err (ended size (position_of size (page * 8192)))
 begin_at (suc turns) size pages page timeline =
     begin_in (begin_at turns size pages) size page timeline (pages page)
 
 -- where reading begins: on the page that holds the start
-abbrev pub beginning : ℕ → Pages → ℕ → Result Place Answer
+abbrev pub beginning : ℕ → Pages → ℕ → Result RecordPlace Answer
 beginning size pages start = begin_at (2 ^ 47) size pages (start / 8192) 0
 
 -- from where reading begins these records are read, and then this answer comes
-abbrev pub ReadsFrom : ℕ → Pages → Option ℕ → Result Place Answer → List FoundRecord → Answer
+abbrev pub ReadsFrom : ℕ → Pages → Option ℕ → Result RecordPlace Answer → List FoundRecord → Answer
     → Type 0
 ReadsFrom size pages end (Err told) found answer = (found ≡ []) × (answer ≡ told)
 ReadsFrom size pages end (Ok place) found answer = ReadsRecords size pages end place found answer

@@ -3,9 +3,10 @@ pub mod Decodes
 pub mod Names
 pub mod Spelled
 pub mod Cache
-pub mod Standpoint
-pub mod Stops
-pub mod Cursor
+pub mod ReadingPoint
+pub mod ReadFailures
+pub mod PageCursor
+pub mod PagesPassed
 pub mod RecordRead
 pub mod Beginning
 pub mod Steps

@@ -6,16 +6,16 @@ use Rattle.record_spelling.specs.Numbers.{number_at}
 use Rattle.record_decode.specs.Reading.{reading_of}
 use Rattle.wal_reader.specs.declared.found.Answer.{Answer}
 use Rattle.wal_reader.specs.declared.found.FoundRecord.{FoundRecord}
-use Rattle.wal_reader.specs.declared.standpoint.Standpoint.{Standpoint}
-use Rattle.wal_reader.specs.declared.stop.Stop.{Stop}
-use Rattle.wal_reader.specs.declared.stop.Stop.TheVariants as stops
+use Rattle.wal_reader.specs.declared.reading_point.ReadingPoint.{ReadingPoint}
+use Rattle.wal_reader.specs.declared.read_failure.ReadFailure.{ReadFailure}
+use Rattle.wal_reader.specs.declared.read_failure.ReadFailure.TheVariants as failures
 use Rattle.wal_reader.specs.Pages.{Pages, bytes_from}
-use Rattle.wal_reader.specs.Cursor.{HoldsPassed}
-use Rattle.wal_reader.specs.Standpoint.{IsReachable, place_of}
-use Rattle.wal_reader.specs.Decodes.{Place, found_or, place_behind}
+use Rattle.wal_reader.specs.PageCursor.{HoldsPassed}
+use Rattle.wal_reader.specs.ReadingPoint.{IsReachable, place_of}
+use Rattle.wal_reader.specs.Decodes.{RecordPlace, found_or, place_behind}
 
 -- the first check that fails, or else what a record's bytes say
-abbrev pub said_of : ℕ → Pages → Place → ℕ → Option Answer → Result FoundRecord Answer
+abbrev pub said_of : ℕ → Pages → RecordPlace → ℕ → Option Answer → Result FoundRecord Answer
 said_of size pages place total (Some answer) = Err answer
 said_of size pages place total None =
     let whole = bytes_from size pages total place.position in
@@ -23,29 +23,29 @@ said_of size pages place total None =
 
 -- the record that was found, and the place behind it; or what stands in its place; a trouble says
 -- nothing
-abbrev pub IsRead : ℕ → Pages → Place → Result FoundRecord Answer
-    → Result (FoundRecord × Standpoint) Stop → Type 0
+abbrev pub IsRead : ℕ → Pages → RecordPlace → Result FoundRecord Answer
+    → Result (FoundRecord × ReadingPoint) ReadFailure → Type 0
 IsRead size pages place here (Ok read) =
     (here ≡ Ok read.0) × (place_of read.1 ≡ place_behind size pages place read.0)
 IsRead size pages place here (Err stop) = IsStopped here stop
   where
-    IsStopped : Result FoundRecord Answer → Stop → Type 0
-    IsStopped here (stops.Told answer) = here ≡ Err answer
-    IsStopped here stops.Memory = Unit {0}
-    IsStopped here stops.Disk = Unit {0}
+    IsStopped : Result FoundRecord Answer → ReadFailure → Type 0
+    IsStopped here (failures.Told answer) = here ≡ Err answer
+    IsStopped here failures.Memory = Unit {0}
+    IsStopped here failures.Disk = Unit {0}
 
 -- the next place is further on, and one that can be reached
-abbrev pub GoesOn : Standpoint → Standpoint → Type 0
+abbrev pub GoesOn : ReadingPoint → ReadingPoint → Type 0
 GoesOn at next = (at.position < next.position) × IsReachable next
 
--- a standpoint just behind a record, which it has as the one before
-abbrev pub IsBehind : ℕ → FoundRecord → Standpoint → Type 0
+-- a point just behind a record, which it has as the one before
+abbrev pub IsBehind : ℕ → FoundRecord → ReadingPoint → Type 0
 IsBehind size found at =
     (end_address_of size at.position ≡ found.end.0) × (at.prev ≡ Some found.start)
 
 -- a room after reading: as it was, or it holds nothing of the record but what pages had that passed
 -- their checks
-abbrev pub IsRoomAfter : ℕ → Pages → Place → List ℕ → List ℕ → Type 0
+abbrev pub IsRoomAfter : ℕ → Pages → RecordPlace → List ℕ → List ℕ → Type 0
 IsRoomAfter size pages place old new =
     let total = number_at w32 (bytes_from size pages 8 place.position) 0 in
     (new ≡ old) ⊎ HoldsPassed size pages place total (address_of size place.position / 8192) new

@@ -2,22 +2,22 @@
 
 ghost use Rattle.std.specs.Prelude.{◌≡◌, ℕ, ◌+◌, ◌-◌, ◌*◌, ◌/◌, ◌%◌, ◌<◌, ◌≤◌, ◌^◌, ◌==◌, if◌then◌else◌, Some, IfOk, IfSome, Result};
 ghost use Rattle.byte_position.specs.Position.{position_of};
-ghost use Rattle.wal_reader.specs.Cursor.{Sees};
-ghost use Rattle.wal_reader.specs.Decodes.{Place, begin_in, beginning, ended};
+ghost use Rattle.segment_disk.specs.Tape.{IsUncalled};
+ghost use Rattle.wal_reader.specs.PageCursor.{Sees};
+ghost use Rattle.wal_reader.specs.Decodes.{RecordPlace, begin_in, beginning, ended};
 ghost use Rattle.wal_reader.specs.declared.found.Answer.{Answer};
 ghost use Rattle.wal_reader.specs.Beginning.{IsBegun, IsReachableFront, goes_on};
 ghost use Rattle.wal_reader.specs.Pages.{Pages};
-ghost use Rattle.wal_reader.specs.Standpoint.{IsReachable};
-ghost use Rattle.wal_reader.specs.Stops.{HasStopCause};
+ghost use Rattle.wal_reader.specs.ReadingPoint.{IsReachable};
+ghost use Rattle.wal_reader.specs.ReadFailures.{HasFailureCause};
 
 use crate::found::Answer;
-use crate::layout::PAGE_ADDRESSES;
 use crate::page_cache::PageCache;
 use crate::page_checks::{check_held, header_len};
+use crate::read_failure::ReadFailure;
+use crate::reading_point::ReadingPoint;
 use crate::record_start::is_zero_word;
-use crate::standpoint::Standpoint;
-use crate::stop::Stop;
-use byte_position::Geometry;
+use byte_position::{Geometry, PAGE_SIZE};
 use segment_disk::Disk;
 use wal_page::PageInfo;
 use wal_types::Lsn;
@@ -26,7 +26,7 @@ use wal_types::Lsn;
 #[derive(Clone, Copy, Debug)]
 pub(crate) enum Front {
     /// The first record may start here.
-    Here(Standpoint),
+    Here(ReadingPoint),
     /// The record that continues into the page fills it, so that the next one is to be looked at.
     Filled { timeline: u32 },
 }
@@ -37,28 +37,27 @@ pub(crate) fn find_beginning<D: Disk>(
     cache: &mut PageCache,
     disk: &mut D,
     start: Lsn,
-) -> Result<Standpoint, Stop>
+) -> Result<ReadingPoint, ReadFailure>
     ensures geometry { cache.new.geometry ≡ cache.old.geometry }
     ensures reachable { IfOk result IsReachable }
     ensures begins { (pages : Pages) → Sees (D.tape disk.old) cache.old pages
         → Sees (D.tape disk.new) cache.new pages
         × IsBegun (beginning cache.old.geometry pages start.0) result }
 
-    ensures tape { D.tape disk.new ≡ D.tape disk.old }
-    ensures moment { D.moment disk.new ≡ D.moment disk.old }
-    ensures cause { HasStopCause (D.faults disk.old) (D.faults disk.new) result }
+    ensures uncalled { IsUncalled D.tape D.moment disk.old disk.new }
+    ensures cause { HasFailureCause (D.faults disk.old) (D.faults disk.new) result }
 {
-    let mut page = start.0 / PAGE_ADDRESSES;
+    let mut page = start.0 / PAGE_SIZE;
     let mut timeline = 0;
     'pages: while cache.load(disk, page)? {
         match front_of(cache, page, timeline) {
-            Ok(Front::Here(standpoint)) => return Ok(standpoint),
+            Ok(Front::Here(point)) => return Ok(point),
             Ok(Front::Filled { timeline: told }) => timeline = told,
-            Err(answer) => return Err(Stop::Told(answer)),
+            Err(answer) => return Err(ReadFailure::Told(answer)),
         }
         page += 1;
     }
-    Err(Stop::Told(page_end(cache.geometry, page)))
+    Err(ReadFailure::Told(page_end(cache.geometry, page)))
 }
 
 // The log ends where a page would start.
@@ -69,14 +68,14 @@ fn page_end(geometry: Geometry, page: u64) -> Answer
     // That its first byte position has this end form rests on a valid size.
     let _size = geometry.segment_size();
     Answer::End {
-        at: Lsn(page * PAGE_ADDRESSES),
+        at: Lsn(page * PAGE_SIZE),
     }
 }
 
 // Where reading begins on the page that is held; `timeline` is that of the page before.
 fn front_of(cache: &PageCache, page: u64, timeline: u32) -> Result<Front, Answer>
     requires { page < 2 ^ 47 }
-    ensures begins { (next : ℕ → ℕ → Result Place Answer)
+    ensures begins { (next : ℕ → ℕ → Result RecordPlace Answer)
         → begin_in next cache.now.geometry page timeline (Some cache.now.bytes.value)
         ≡ goes_on next page result }
     ensures reachable { IfOk result IsReachableFront }
@@ -86,12 +85,12 @@ fn front_of(cache: &PageCache, page: u64, timeline: u32) -> Result<Front, Answer
     }
     let info = check_held(cache, page, timeline)?;
     let skipped = skipped_bytes(&info);
-    if skipped >= PAGE_ADDRESSES - u64::from(header_len(cache.geometry, page)) {
+    if skipped >= PAGE_SIZE - u64::from(header_len(cache.geometry, page)) {
         return Ok(Front::Filled {
             timeline: info.timeline,
         });
     }
-    Ok(Front::Here(Standpoint {
+    Ok(Front::Here(ReadingPoint {
         position: first_position(cache.geometry, page) + skipped,
         prev: None,
         timeline: info.timeline,
@@ -115,7 +114,7 @@ fn first_position(geometry: Geometry, page: u64) -> u64
     ensures { result ≡ position_of geometry (page * 8192) }
 {
     // A page's start stands for its first byte behind the header.
-    match geometry.of_lsn(Lsn(page * PAGE_ADDRESSES)) {
+    match geometry.of_lsn(Lsn(page * PAGE_SIZE)) {
         Some(position) => position,
         None => unreachable!(),
     }

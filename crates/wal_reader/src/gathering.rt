@@ -2,19 +2,21 @@
 //! xlogreader.c).
 
 ghost use Rattle.std.specs.Prelude.{◌≡◌, ℕ, ◌+◌, ◌-◌, ◌*◌, ◌/◌, ◌<◌, ◌≤◌, ◌^◌, ◌++◌, length, take, drop, min, vec_len, Some, None, IfOk, OnErr, OnOk, MatchResult};
-ghost use Rattle.byte_position.specs.Position.{address_of};
 ghost use Rattle.wal_page.specs.Page.{first_fault};
-ghost use Rattle.wal_reader.specs.Cursor.{Crosses, HasGathered, HoldsPassed, IsOn, Sees, StandsIn};
+ghost use Rattle.segment_disk.specs.Tape.{IsUncalled};
+ghost use Rattle.wal_reader.specs.PageCursor.{Crosses, HasGathered, HoldsPassed, IsOn, Sees, StandsIn};
 ghost use Rattle.wal_reader.specs.Decodes.{page_of_byte, rows_of_pages};
 ghost use Rattle.wal_reader.specs.Pages.{Pages, bytes_from};
-ghost use Rattle.wal_reader.specs.Standpoint.{place_of};
-ghost use Rattle.wal_reader.specs.Stops.{HasStopCause, IsTold};
+ghost use Rattle.wal_reader.specs.PagesPassed.{PassesPages};
+ghost use Rattle.wal_reader.specs.ReadingPoint.{IsReachable, place_of};
+ghost use Rattle.wal_reader.specs.ReadFailures.{HasFailureCause, IsTold};
 
-use crate::cursor::{Cursor, Extent};
-use crate::layout::PAGE_SIZE;
+use crate::layout::PAGE_LEN;
 use crate::page_cache::PageCache;
 use crate::page_checks::turn_page;
-use crate::stop::Stop;
+use crate::page_cursor::PageCursor;
+use crate::read_failure::ReadFailure;
+use crate::record_extent::RecordExtent;
 use segment_disk::Disk;
 use std::alloc::AllocError;
 
@@ -24,11 +26,11 @@ pub(crate) fn gather<D: Disk>(
     cache: &mut PageCache,
     room: &mut Vec<u8>,
     disk: &mut D,
-    extent: Extent,
-    cursor: Cursor,
+    extent: RecordExtent,
+    cursor: PageCursor,
     upto: u32,
-) -> Result<Cursor, Stop>
-    requires start { extent.start.0 ≡ address_of cache.old.geometry extent.at.position }
+) -> Result<PageCursor, ReadFailure>
+    requires reachable { IsReachable extent.at }
     requires upto { upto ≤ extent.total }
     requires len { vec_len room.old ≤ upto }
     requires on { IsOn cache.old cursor }
@@ -49,15 +51,11 @@ pub(crate) fn gather<D: Disk>(
         → HoldsPassed cache.old.geometry pages
         (place_of extent.at) extent.total cursor.page room.new.items }
     ensures checks { (pages : Pages) → Sees (D.tape disk.old) cache.old pages
-        → MatchResult result (λ now. Crosses cache.old.geometry pages
-        (place_of extent.at) extent.total cursor.page now.page)
-        (IsTold (first_fault (rows_of_pages cache.old.geometry pages
-        (place_of extent.at) extent.total cursor.page
-        (page_of_byte cache.old.geometry extent.at.position upto)))) }
+        → PassesPages cache.old.geometry pages
+        (place_of extent.at) extent.total cursor.page upto result }
 
-    ensures tape { D.tape disk.new ≡ D.tape disk.old }
-    ensures moment { D.moment disk.new ≡ D.moment disk.old }
-    ensures cause { HasStopCause (D.faults disk.old) (D.faults disk.new) result }
+    ensures uncalled { IsUncalled D.tape D.moment disk.old disk.new }
+    ensures cause { HasFailureCause (D.faults disk.old) (D.faults disk.new) result }
 {
     let mut cursor = cursor;
     'pages: while room.len() < upto as usize {
@@ -71,11 +69,11 @@ fn gather_more<D: Disk>(
     cache: &mut PageCache,
     room: &mut Vec<u8>,
     disk: &mut D,
-    extent: Extent,
-    cursor: Cursor,
+    extent: RecordExtent,
+    cursor: PageCursor,
     upto: u32,
-) -> Result<Cursor, Stop>
-    requires start { extent.start.0 ≡ address_of cache.old.geometry extent.at.position }
+) -> Result<PageCursor, ReadFailure>
+    requires reachable { IsReachable extent.at }
     requires upto { upto ≤ extent.total }
     requires more { vec_len room.old < upto }
     requires on { IsOn cache.old cursor }
@@ -92,20 +90,16 @@ fn gather_more<D: Disk>(
         → OnOk result (room.new.items ≡ bytes_from cache.old.geometry pages
         (vec_len room.new) extent.at.position) }
     ensures checks { (pages : Pages) → Sees (D.tape disk.old) cache.old pages
-        → MatchResult result (λ now. Crosses cache.old.geometry pages
-        (place_of extent.at) extent.total cursor.page now.page)
-        (IsTold (first_fault (rows_of_pages cache.old.geometry pages
-        (place_of extent.at) extent.total cursor.page
-        (page_of_byte cache.old.geometry extent.at.position upto)))) }
+        → PassesPages cache.old.geometry pages
+        (place_of extent.at) extent.total cursor.page upto result }
 
-    ensures tape { D.tape disk.new ≡ D.tape disk.old }
-    ensures moment { D.moment disk.new ≡ D.moment disk.old }
-    ensures cause { HasStopCause (D.faults disk.old) (D.faults disk.new) result }
+    ensures uncalled { IsUncalled D.tape D.moment disk.old disk.new }
+    ensures cause { HasFailureCause (D.faults disk.old) (D.faults disk.new) result }
 {
     let cursor = pass_border(cache, disk, extent, cursor, room.len() as u32)?;
     let most = upto - room.len() as u32;
     let count = append(room, &cache.bytes, cursor.offset, most)?;
-    Ok(Cursor {
+    Ok(PageCursor {
         offset: cursor.offset + count,
         ..cursor
     })
@@ -116,11 +110,11 @@ fn gather_more<D: Disk>(
 fn pass_border<D: Disk>(
     cache: &mut PageCache,
     disk: &mut D,
-    extent: Extent,
-    cursor: Cursor,
+    extent: RecordExtent,
+    cursor: PageCursor,
     gathered: u32,
-) -> Result<Cursor, Stop>
-    requires start { extent.start.0 ≡ address_of cache.old.geometry extent.at.position }
+) -> Result<PageCursor, ReadFailure>
+    requires reachable { IsReachable extent.at }
     requires more { gathered < extent.total }
     requires on { IsOn cache.old cursor }
     requires stands { StandsIn cache.old.geometry (extent.at.position + gathered) cursor }
@@ -137,14 +131,14 @@ fn pass_border<D: Disk>(
         (place_of extent.at) extent.total cursor.page
         (page_of_byte cache.old.geometry extent.at.position upto))) stop) }
 
-    ensures tape { D.tape disk.new ≡ D.tape disk.old }
-    ensures moment { D.moment disk.new ≡ D.moment disk.old }
-    ensures cause { HasStopCause (D.faults disk.old) (D.faults disk.new) result }
+    ensures uncalled { IsUncalled D.tape D.moment disk.old disk.new }
+    ensures cause { HasFailureCause (D.faults disk.old) (D.faults disk.new) result }
 {
-    if cursor.offset < PAGE_SIZE {
+    if cursor.offset < PAGE_LEN {
         return Ok(cursor);
     }
-    turn_page(cache, disk, cursor, extent.start, extent.total - gathered)
+    let start = extent.start(cache.geometry);
+    turn_page(cache, disk, cursor, start, extent.total - gathered)
 }
 
 // Appends what a page has from an offset on, `most` bytes if it has so many, and answers how many.
@@ -157,7 +151,7 @@ fn append(room: &mut Vec<u8>, page: &[u8; 8192], offset: u32, most: u32) -> Resu
     ensures kept { OnErr result (room.new.items ≡ room.old.items) }
     ensures whole { length page.now ≡ 8192 }
 {
-    let count = (PAGE_SIZE - offset).min(most);
+    let count = (PAGE_LEN - offset).min(most);
     room.extend_from_slice(&page[offset as usize..(offset + count) as usize])?;
     Ok(count)
 }

@@ -1,25 +1,26 @@
 //! The next record that a reader gives.
 
 ghost use Rattle.std.specs.Prelude.{◌≡◌, ◌<◌, option_map, Some, IfOk, IfSome};
-ghost use Rattle.wal_reader.specs.Cursor.{Sees};
+ghost use Rattle.segment_disk.specs.Tape.{IsUncalled};
+ghost use Rattle.wal_reader.specs.PageCursor.{Sees};
 ghost use Rattle.wal_reader.specs.Pages.{Pages};
 ghost use Rattle.wal_reader.specs.RecordRead.{GoesOn, IsBehind};
 ghost use Rattle.wal_reader.specs.Spelled.{IsSpelled};
-ghost use Rattle.wal_reader.specs.Standpoint.{IsOutOfReach, IsReachable};
+ghost use Rattle.wal_reader.specs.ReadingPoint.{IsOutOfReach, IsReachable};
 ghost use Rattle.wal_reader.specs.Steps.{ComesNext, IsFurther};
-ghost use Rattle.wal_reader.specs.Stops.{HasStopCause};
+ghost use Rattle.wal_reader.specs.ReadFailures.{HasFailureCause};
 
 use crate::beginning::find_beginning;
 use crate::buffers::Buffers;
 use crate::found::FoundRecord;
+use crate::read_failure::ReadFailure;
+use crate::reading_point::ReadingPoint;
 use crate::record_reading::read_record;
-use crate::standpoint::Standpoint;
-use crate::stop::Stop;
 use segment_disk::Disk;
 use std::alloc::Global;
 use wal_types::Lsn;
 
-/// The next record at or behind `start`, and where the one behind it stands: from a standpoint, or
+/// The next record at or behind `start`, and where the one behind it stands: from a point, or
 /// where reading has not begun from where it begins. `end` is where reading ends, if it is given.
 pub(crate) fn next_given<D: Disk>(
     alloc: Global,
@@ -27,8 +28,8 @@ pub(crate) fn next_given<D: Disk>(
     disk: &mut D,
     start: Lsn,
     end: Option<Lsn>,
-    from: Option<Standpoint>,
-) -> Result<(FoundRecord, Standpoint), Stop>
+    from: Option<ReadingPoint>,
+) -> Result<(FoundRecord, ReadingPoint), ReadFailure>
     requires { IfSome from IsReachable }
     ensures geometry { buffers.new.cache.geometry ≡ buffers.old.cache.geometry }
     ensures further { IfOk result (λ r. IsFurther from r.1) }
@@ -41,9 +42,8 @@ pub(crate) fn next_given<D: Disk>(
         × ComesNext buffers.old.cache.geometry pages start.0
         (option_map (λ e. e.0) end) from result }
 
-    ensures tape { D.tape disk.new ≡ D.tape disk.old }
-    ensures moment { D.moment disk.new ≡ D.moment disk.old }
-    ensures cause { HasStopCause (D.faults disk.old) (D.faults disk.new) result }
+    ensures uncalled { IsUncalled D.tape D.moment disk.old disk.new }
+    ensures cause { HasFailureCause (D.faults disk.old) (D.faults disk.new) result }
 {
     let at = match from {
         Some(at) => at,
@@ -59,8 +59,8 @@ fn read_given<D: Disk>(
     disk: &mut D,
     start: Lsn,
     end: Option<Lsn>,
-    from: Standpoint,
-) -> Result<(FoundRecord, Standpoint), Stop>
+    from: ReadingPoint,
+) -> Result<(FoundRecord, ReadingPoint), ReadFailure>
     requires { IsReachable from }
     ensures geometry { buffers.new.cache.geometry ≡ buffers.old.cache.geometry }
     ensures further { IfOk result (λ r. GoesOn from r.1) }
@@ -73,9 +73,8 @@ fn read_given<D: Disk>(
         × ComesNext buffers.old.cache.geometry pages start.0 (option_map (λ e. e.0) end)
         (Some from) result }
 
-    ensures tape { D.tape disk.new ≡ D.tape disk.old }
-    ensures moment { D.moment disk.new ≡ D.moment disk.old }
-    ensures cause { HasStopCause (D.faults disk.old) (D.faults disk.new) result }
+    ensures uncalled { IsUncalled D.tape D.moment disk.old disk.new }
+    ensures cause { HasFailureCause (D.faults disk.old) (D.faults disk.new) result }
 {
     let mut at = from;
     'records: loop {

@@ -4,7 +4,6 @@
 mod answers;
 mod beginning;
 mod buffers;
-mod cursor;
 mod found;
 mod gathering;
 mod given;
@@ -14,12 +13,14 @@ mod log_reader;
 mod numbers;
 mod page_cache;
 mod page_checks;
+mod page_cursor;
+mod read_failure;
+mod reading_point;
 mod record_checks;
+mod record_extent;
 mod record_reading;
 mod record_start;
 mod standing;
-mod standpoint;
-mod stop;
 
 pub use found::{Answer, DamageKind, FoundRecord, Stopped};
 pub use laws::{decoding_is_settled, runs_give_fronts};

@@ -5,8 +5,8 @@ ghost use Rattle.wal_reader.specs.Standings.{IsOnWay, IsOnWay-prop};
 
 use crate::buffers::{Buffers, set_up};
 use crate::given::next_given;
+use crate::read_failure::ReadFailure;
 use crate::standing::{ReadErr, Standing, Step, told};
-use crate::stop::Stop;
 use byte_position::Geometry;
 use segment_disk::Disk;
 use std::alloc::Global;
@@ -26,9 +26,10 @@ pub struct Reader {
 
 impl Reader {
     ghost use Rattle.std.specs.Prelude.{IfOk, option_map};
+    ghost use Rattle.segment_disk.specs.Tape.{IsUncalled};
     ghost use Rattle.wal_reader.specs.declared.standing.Standing.TheVariants.{NotBegun};
     ghost use Rattle.wal_reader.specs.Pages.{Pages};
-    ghost use Rattle.wal_reader.specs.Cursor.{IsLogOf};
+    ghost use Rattle.wal_reader.specs.PageCursor.{IsLogOf};
     ghost use Rattle.wal_reader.specs.LogReader.{HoldsNoPage, IsNext, Knows, LeavesReader, NeedsNoPage, OnEnd, StandsAfter, reader_state};
     ghost use Rattle.wal_reader.specs.Spelled.{GivesSpelled};
     ghost use Rattle.wal_reader.specs.Standings.{HasReadCause, IsToldAgain};
@@ -72,8 +73,7 @@ impl Reader {
         ensures spelled { IfOk result GivesSpelled }
         ensures stopped { IsToldAgain (reader_state self.old).standing result disk.old disk.new }
 
-        ensures tape { D.tape disk.new ≡ D.tape disk.old }
-        ensures moment { D.moment disk.new ≡ D.moment disk.old }
+        ensures uncalled { IsUncalled D.tape D.moment disk.old disk.new }
         ensures cause { HasReadCause (D.faults disk.old) (D.faults disk.new) result }
     {
         let from = match self.standing {
@@ -96,14 +96,14 @@ impl Reader {
                     value: found.value,
                 })
             }
-            Err(Stop::Told(answer)) => {
+            Err(ReadFailure::Told(answer)) => {
                 // What is written behind an end later stands in this page too.
                 buffers.forget_page();
                 self.standing = self.standing.after(answer);
                 told(answer)
             }
-            Err(Stop::Memory) => Err(ReadErr::Memory),
-            Err(Stop::Disk) => Err(ReadErr::Disk {
+            Err(ReadFailure::Memory) => Err(ReadErr::Memory),
+            Err(ReadFailure::Disk) => Err(ReadErr::Disk {
                 faults: disk.faults(),
             }),
         }

@@ -2,8 +2,9 @@
 
 ghost use Rattle.std.specs.Prelude.{◌≡◌, ◌+◌, ◌*◌, ◌/◌, ◌%◌, ◌<◌, ◌≤◌, ◌^◌, Some, None, IfOk, OnErr, IfSome, IsTrue};
 ghost use Rattle.segment_disk.specs.Cause.{HasCause};
+ghost use Rattle.segment_disk.specs.Tape.{IsUncalled};
 ghost use Rattle.wal_reader.specs.Cache.{Caches, IsLoaded, log_of};
-ghost use Rattle.wal_reader.specs.Cursor.{Sees};
+ghost use Rattle.wal_reader.specs.PageCursor.{Sees};
 ghost use Rattle.wal_reader.specs.Pages.{Pages};
 
 use byte_position::Geometry;
@@ -52,8 +53,7 @@ impl PageCache {
             → Sees (D.tape disk.new) self.new pages
             × IfOk result (λ there. IsLoaded (pages page) page there self.new) }
 
-        ensures tape { D.tape disk.new ≡ D.tape disk.old }
-        ensures moment { D.moment disk.new ≡ D.moment disk.old }
+        ensures uncalled { IsUncalled D.tape D.moment disk.old disk.new }
         ensures cause { HasCause (D.faults disk.old) (D.faults disk.new) result }
     {
         if page >= PAGES_READ {

@@ -4,19 +4,19 @@ ghost use Rattle.std.specs.Prelude.{◌≡◌, ◌+◌, ◌-◌, ◌*◌, ◌/�
 ghost use Rattle.byte_position.specs.Geometry.{IsSegmentSize};
 ghost use Rattle.byte_position.specs.Position.{address_of};
 ghost use Rattle.wal_page.specs.Page.{first_fault, header_size, is_continued, is_overwritten, remaining_of, timeline_of};
-ghost use Rattle.wal_reader.specs.Cursor.{IsOn, Sees};
+ghost use Rattle.segment_disk.specs.Tape.{IsUncalled};
+ghost use Rattle.wal_reader.specs.PageCursor.{IsOn, Sees};
 ghost use Rattle.wal_reader.specs.Decodes.{continuation_rows_of, page_answers};
 ghost use Rattle.wal_reader.specs.Pages.{Pages};
-ghost use Rattle.wal_reader.specs.Standpoint.{place_of};
-ghost use Rattle.wal_reader.specs.Stops.{HasStopCause, Passes, Settles};
+ghost use Rattle.wal_reader.specs.ReadingPoint.{place_of};
+ghost use Rattle.wal_reader.specs.ReadFailures.{HasFailureCause, Passes, Settles};
 
 use crate::answers::damaged;
-use crate::cursor::Cursor;
 use crate::found::{Answer, DamageKind, Stopped};
-use crate::layout::{FIRST_PAGE_HEADER_LEN, OTHER_PAGE_HEADER_LEN, PAGE_ADDRESSES};
 use crate::page_cache::PageCache;
-use crate::stop::Stop;
-use byte_position::Geometry;
+use crate::page_cursor::PageCursor;
+use crate::read_failure::ReadFailure;
+use byte_position::{Geometry, LONG_HEADER_LEN, PAGE_SIZE, SHORT_HEADER_LEN};
 use segment_disk::Disk;
 use wal_page::{PageInfo, check_page};
 use wal_types::Lsn;
@@ -26,10 +26,10 @@ pub(crate) fn header_len(geometry: Geometry, page: u64) -> u32
     ensures value { result ≡ header_size geometry page }
     ensures valid { IsSegmentSize geometry }
 {
-    if page % (geometry.segment_size() / PAGE_ADDRESSES) == 0 {
-        FIRST_PAGE_HEADER_LEN
+    if page % (geometry.segment_size() / PAGE_SIZE) == 0 {
+        LONG_HEADER_LEN as u32
     } else {
-        OTHER_PAGE_HEADER_LEN
+        SHORT_HEADER_LEN as u32
     }
 }
 
@@ -47,7 +47,7 @@ pub(crate) fn check_held(cache: &PageCache, page: u64, timeline: u32) -> Result<
 {
     match check_page(cache.geometry, page, &cache.bytes, timeline) {
         Ok(info) => Ok(info),
-        Err(fault) => Err(damaged(Lsn(page * PAGE_ADDRESSES), DamageKind::Page(fault))),
+        Err(fault) => Err(damaged(Lsn(page * PAGE_SIZE), DamageKind::Page(fault))),
     }
 }
 
@@ -55,10 +55,10 @@ pub(crate) fn check_held(cache: &PageCache, page: u64, timeline: u32) -> Result<
 pub(crate) fn turn_page<D: Disk>(
     cache: &mut PageCache,
     disk: &mut D,
-    cursor: Cursor,
+    cursor: PageCursor,
     start: Lsn,
     owed: u32,
-) -> Result<Cursor, Stop>
+) -> Result<PageCursor, ReadFailure>
     requires { cursor.page < 2 ^ 47 }
     ensures geometry { cache.new.geometry ≡ cache.old.geometry }
     ensures next { IfOk result (λ next. (next.page ≡ cursor.page + 1) × (next.offset
@@ -70,27 +70,26 @@ pub(crate) fn turn_page<D: Disk>(
         → Settles (first_fault (continuation_rows_of cache.old.geometry
         (cursor.page + 1) cursor.timeline start.0 owed (pages (cursor.page + 1)))) result }
 
-    ensures tape { D.tape disk.new ≡ D.tape disk.old }
-    ensures moment { D.moment disk.new ≡ D.moment disk.old }
-    ensures cause { HasStopCause (D.faults disk.old) (D.faults disk.new) result }
+    ensures uncalled { IsUncalled D.tape D.moment disk.old disk.new }
+    ensures cause { HasFailureCause (D.faults disk.old) (D.faults disk.new) result }
 {
     let page = cursor.page + 1;
     if !cache.load(disk, page)? {
-        return Err(Stop::Told(damaged(start, DamageKind::Missing)));
+        return Err(ReadFailure::Told(damaged(start, DamageKind::Missing)));
     }
     let info = check_held(cache, page, cursor.timeline)?;
     if info.is_overwritten() {
         let overwritten = Stopped::Overwritten { at: start };
-        return Err(Stop::Told(Answer::Stopped(overwritten)));
+        return Err(ReadFailure::Told(Answer::Stopped(overwritten)));
     }
     if !info.is_continued() {
-        return Err(Stop::Told(damaged(start, DamageKind::NoContinuation)));
+        return Err(ReadFailure::Told(damaged(start, DamageKind::NoContinuation)));
     }
     if info.rem_len != owed {
         let found = info.rem_len;
-        return Err(Stop::Told(damaged(start, DamageKind::RemLen { found })));
+        return Err(ReadFailure::Told(damaged(start, DamageKind::RemLen { found })));
     }
-    Ok(Cursor {
+    Ok(PageCursor {
         page,
         offset: header_len(cache.geometry, page),
         timeline: info.timeline,

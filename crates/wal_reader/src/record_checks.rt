@@ -5,53 +5,54 @@ ghost use Rattle.std.specs.Int.{w64};
 ghost use Rattle.byte_position.specs.Position.{address_of, end_address_of};
 ghost use Rattle.wal_crc32c.specs.Crc32c.{crc32c};
 ghost use Rattle.wal_page.specs.Page.{first_fault};
-ghost use Rattle.record_spelling.specs.Record.{is_free_manager};
 ghost use Rattle.record_spelling.specs.Numbers.{number_at};
 ghost use Rattle.record_decode.specs.Reading.{reading_of};
 ghost use Rattle.wal_reader.specs.Decodes.{found_or, crc_rows, header_rows};
 ghost use Rattle.wal_reader.specs.Spelled.{IsSpelled};
-ghost use Rattle.wal_reader.specs.Standpoint.{place_of};
-ghost use Rattle.wal_reader.specs.Stops.{Passes};
+ghost use Rattle.wal_reader.specs.ReadingPoint.{place_of};
+ghost use Rattle.wal_reader.specs.ReadFailures.{Passes};
 
 use crate::answers::damaged;
-use crate::cursor::Extent;
 use crate::found::{Answer, DamageKind, FoundRecord, Stopped};
-use crate::layout::*;
+use crate::layout::{CRC_AT, PREV_AT};
 use crate::numbers::{u32_at, u64_at};
+use crate::record_extent::RecordExtent;
 use byte_position::Geometry;
 use record_decode::{RecErr, decode};
+use record_spelling::is_free_manager;
+use record_spelling::layout::{HEADER_LEN, RMID_AT};
 use std::alloc::{AllocError, Global};
 use wal_crc32c::Crc;
 use wal_types::Lsn;
 
 /// Whether a header has a manager that there is, and names the right record before it (PostgreSQL's
 /// ValidXLogRecordHeader of xlogreader.c).
-pub(crate) fn check_header(extent: Extent, header: &[u8]) -> Result<(), Answer>
+pub(crate) fn check_header(start: Lsn, before: Option<Lsn>, header: &[u8]) -> Result<(), Answer>
     requires { 24 ≤ length header.now }
-    ensures { Passes (first_fault (header_rows extent.start.0
-        (option_map (λ start. start.0) extent.at.prev) header.now)) result }
+    ensures { Passes (first_fault (header_rows start.0
+        (option_map (λ start. start.0) before) header.now)) result }
 {
     if is_free_manager(header[RMID_AT]) {
-        return Err(damaged(extent.start, DamageKind::Rmgr));
+        return Err(damaged(start, DamageKind::Rmgr));
     }
     let found = Lsn(u64_at(header, PREV_AT));
-    let is_right = match extent.at.prev {
+    let is_right = match before {
         Some(before) => found.0 == before.0,
-        None => found.0 < extent.start.0,
+        None => found.0 < start.0,
     };
     if !is_right {
-        return Err(damaged(extent.start, DamageKind::Prev { found }));
+        return Err(damaged(start, DamageKind::Prev { found }));
     }
     Ok(())
 }
 
 /// Whether a record's CRC is that of its bytes (PostgreSQL's ValidXLogRecord of xlogreader.c).
-pub(crate) fn check_crc(extent: Extent, bytes: &[u8]) -> Result<(), Answer>
+pub(crate) fn check_crc(start: Lsn, bytes: &[u8]) -> Result<(), Answer>
     requires { 24 ≤ length bytes.now }
-    ensures { Passes (first_fault (crc_rows extent.start.0 bytes.now)) result }
+    ensures { Passes (first_fault (crc_rows start.0 bytes.now)) result }
 {
     if crc_of(bytes) != u32_at(bytes, CRC_AT) {
-        return Err(damaged(extent.start, DamageKind::Crc));
+        return Err(damaged(start, DamageKind::Crc));
     }
     Ok(())
 }
@@ -61,31 +62,32 @@ pub(crate) fn check_crc(extent: Extent, bytes: &[u8]) -> Result<(), Answer>
 pub(crate) fn found(
     alloc: Global,
     geometry: Geometry,
-    extent: Extent,
+    start: Lsn,
+    extent: RecordExtent,
     bytes: &[u8],
 ) -> Result<Result<FoundRecord, Answer>, AllocError>
-    requires start { extent.start.0 ≡ address_of geometry extent.at.position }
+    requires start { start.0 ≡ address_of geometry extent.at.position }
     requires len { (24 ≤ length bytes.now) × (length bytes.now ≡ extent.total) }
     requires end { extent.at.position + (extent.total + 7) / 8 * 8 < 2 ^ 60 }
     ensures read { IfOk result (λ found. found ≡ found_or geometry (place_of extent.at) extent.total
         (number_at w64 bytes.now 8) (reading_of bytes.now)) }
     ensures spelled { IfOk result (λ found. IfOk found IsSpelled) }
-    ensures start { IfOk result (λ found. IfOk found (λ f. f.start ≡ extent.start)) }
+    ensures start { IfOk result (λ found. IfOk found (λ f. f.start ≡ start)) }
     ensures end { IfOk result (λ found. IfOk found (λ f. f.end.0
         ≡ end_address_of geometry (extent.at.position + (extent.total + 7) / 8 * 8))) }
 {
     match decode(alloc, bytes) {
         Ok(value) => Ok(Ok(FoundRecord {
-            start: extent.start,
+            start,
             end: geometry.to_end_lsn(extent.end()),
             prev: Lsn(u64_at(bytes, PREV_AT)),
             total: extent.total,
             value,
         })),
         Err(RecErr::Memory) => Err(AllocError),
-        Err(RecErr::Malformed { .. }) => Ok(Err(damaged(extent.start, DamageKind::Malformed))),
+        Err(RecErr::Malformed { .. }) => Ok(Err(damaged(start, DamageKind::Malformed))),
         Err(RecErr::Compressed { .. }) => {
-            let compressed = Stopped::Compressed { at: extent.start };
+            let compressed = Stopped::Compressed { at: start };
             Ok(Err(Answer::Stopped(compressed)))
         }
     }
@@ -100,11 +102,4 @@ fn crc_of(bytes: &[u8]) -> u32
     crc.update(&bytes[HEADER_LEN..]);
     crc.update(&bytes[..CRC_AT]);
     crc.value()
-}
-
-// PostgreSQL leaves these numbers free.
-fn is_free_manager(manager: u8) -> bool
-    ensures { result ≡ is_free_manager manager }
-{
-    (22..=127).contains(&manager)
 }

@@ -12,29 +12,32 @@
 ghost use Rattle.std.specs.Prelude.{◌≡◌, ℕ, ◌+◌, ◌*◌, ◌/◌, ◌^◌, ◌<◌, ◌≤◌, Some, length, take, drop, option_map, false, IfOk, IfErr, IfSome, MatchResult, OnOk};
 ghost use Rattle.byte_position.specs.Position.{address_of};
 ghost use Rattle.wal_page.specs.Page.{first_fault};
-ghost use Rattle.wal_reader.specs.Cursor.{HasGathered, HoldsPassed, IsOn, Sees};
-ghost use Rattle.wal_reader.specs.Decodes.{is_at_end, read_at, rest_rows};
+ghost use Rattle.segment_disk.specs.Tape.{IsUncalled};
+ghost use Rattle.wal_reader.specs.PageCursor.{HasGathered, HoldsPassed, IsOn, Sees};
+ghost use Rattle.wal_reader.specs.Decodes.{read_at, rest_rows};
 ghost use Rattle.wal_reader.specs.Pages.{Pages};
 ghost use Rattle.wal_reader.specs.RecordRead.{GoesOn, IsBehind, IsRead, IsRoomAfter, said_of};
 ghost use Rattle.wal_reader.specs.Spelled.{IsSpelled};
-ghost use Rattle.wal_reader.specs.Standpoint.{IsOutOfReach, IsReachable, place_of};
-ghost use Rattle.wal_reader.specs.Stops.{HasStopCause, IsNoDiskFault};
+ghost use Rattle.wal_reader.specs.ReadingPoint.{IsOutOfReach, IsReachable, place_of};
+ghost use Rattle.wal_reader.specs.ReadFailures.{HasFailureCause, IsNoDiskFault};
 
 use crate::answers::{end_of_log, is_out_of_reach};
-use crate::cursor::{Cursor, Extent};
 use crate::found::FoundRecord;
 use crate::gathering::gather;
-use crate::layout::{HEADER_LEN, PAGE_SIZE};
+use crate::layout::PAGE_LEN;
 use crate::page_cache::PageCache;
+use crate::page_cursor::PageCursor;
+use crate::read_failure::ReadFailure;
+use crate::reading_point::ReadingPoint;
 use crate::record_checks::{check_crc, check_header, found};
+use crate::record_extent::RecordExtent;
 use crate::record_start::{claimed, open_page};
-use crate::standpoint::Standpoint;
-use crate::stop::Stop;
+use record_spelling::layout::HEADER_LEN;
 use segment_disk::Disk;
 use std::alloc::Global;
 use wal_types::Lsn;
 
-/// Reads the record at a standpoint, and answers it with the standpoint behind it, or what stands
+/// Reads the record at a point, and answers it with the point behind it, or what stands
 /// in its place. Where an end was given, nothing at or above it is read. Whatever size a record
 /// claims, the room takes no more of it than what pages have that passed their checks.
 pub(crate) fn read_record<D: Disk>(
@@ -43,8 +46,8 @@ pub(crate) fn read_record<D: Disk>(
     room: &mut Vec<u8>,
     disk: &mut D,
     end: Option<Lsn>,
-    at: Standpoint,
-) -> Result<(FoundRecord, Standpoint), Stop>
+    at: ReadingPoint,
+) -> Result<(FoundRecord, ReadingPoint), ReadFailure>
     requires { IsReachable at }
     ensures geometry { cache.new.geometry ≡ cache.old.geometry }
     ensures goes_on { IfOk result (λ r. GoesOn at r.1) }
@@ -60,48 +63,15 @@ pub(crate) fn read_record<D: Disk>(
         → IsRead cache.old.geometry pages (place_of at)
         (read_at cache.old.geometry pages (option_map (λ end. end.0) end) (place_of at)) result }
 
-    ensures tape { D.tape disk.new ≡ D.tape disk.old }
-    ensures moment { D.moment disk.new ≡ D.moment disk.old }
-    ensures cause { HasStopCause (D.faults disk.old) (D.faults disk.new) result }
+    ensures uncalled { IsUncalled D.tape D.moment disk.old disk.new }
+    ensures cause { HasFailureCause (D.faults disk.old) (D.faults disk.new) result }
 {
     if is_out_of_reach(cache.geometry, at.position, end) {
-        return Err(Stop::Told(end_of_log(cache.geometry, at.position)));
+        return Err(ReadFailure::Told(end_of_log(cache.geometry, at.position)));
     }
-    read_in_reach(alloc, cache, room, disk, end, at)
-}
-
-// Reads the record at a standpoint that is before a given end.
-fn read_in_reach<D: Disk>(
-    alloc: Global,
-    cache: &mut PageCache,
-    room: &mut Vec<u8>,
-    disk: &mut D,
-    end: Option<Lsn>,
-    at: Standpoint,
-) -> Result<(FoundRecord, Standpoint), Stop>
-    requires reachable { IsReachable at }
-    requires before { is_at_end (option_map (λ end. end.0) end)
-        (address_of cache.old.geometry at.position) ≡ false }
-    ensures geometry { cache.new.geometry ≡ cache.old.geometry }
-    ensures goes_on { IfOk result (λ r. GoesOn at r.1) }
-    ensures behind { IfOk result (λ r. IsBehind cache.old.geometry r.0 r.1) }
-    ensures spelled { IfOk result (λ r. IsSpelled r.0) }
-    ensures sees { (pages : Pages) → Sees (D.tape disk.old) cache.old pages
-        → Sees (D.tape disk.new) cache.new pages }
-    ensures room { (pages : Pages) → Sees (D.tape disk.old) cache.old pages
-        → IsRoomAfter cache.old.geometry pages (place_of at) room.old.items room.new.items }
-    ensures reads { (pages : Pages) → Sees (D.tape disk.old) cache.old pages
-        → IsRead cache.old.geometry pages (place_of at)
-        (read_at cache.old.geometry pages (option_map (λ end. end.0) end) (place_of at)) result }
-
-    ensures tape { D.tape disk.new ≡ D.tape disk.old }
-    ensures moment { D.moment disk.new ≡ D.moment disk.old }
-    ensures cause { HasStopCause (D.faults disk.old) (D.faults disk.new) result }
-{
-    let start = cache.geometry.to_lsn(at.position);
-    let cursor = open_page(cache, disk, at, start)?;
-    let extent = claimed(cache, cursor, at, start, end)?;
-    if extent.total <= PAGE_SIZE - cursor.offset {
+    let cursor = open_page(cache, disk, at)?;
+    let extent = claimed(cache, cursor, at, end)?;
+    if extent.total <= PAGE_LEN - cursor.offset {
         read_in_page(alloc, cache, extent, cursor)
     } else {
         read_over_pages(alloc, cache, room, disk, extent, cursor)
@@ -112,10 +82,9 @@ fn read_in_reach<D: Disk>(
 fn read_in_page(
     alloc: Global,
     cache: &PageCache,
-    extent: Extent,
-    cursor: Cursor,
-) -> Result<(FoundRecord, Standpoint), Stop>
-    requires start { extent.start.0 ≡ address_of cache.now.geometry extent.at.position }
+    extent: RecordExtent,
+    cursor: PageCursor,
+) -> Result<(FoundRecord, ReadingPoint), ReadFailure>
     requires reachable { IsReachable extent.at }
     requires large { 24 ≤ extent.total }
     requires on { IsOn cache.now cursor }
@@ -133,10 +102,11 @@ fn read_in_page(
     ensures no_disk { IfErr result IsNoDiskFault }
 {
     let bytes = part_of_page(&cache.bytes, cursor.offset, extent.total);
-    check_header(extent, bytes)?;
-    check_crc(extent, bytes)?;
-    let found = found(alloc, cache.geometry, extent, bytes)??;
-    Ok((found, extent.behind(cursor.timeline)))
+    let start = extent.start(cache.geometry);
+    check_header(start, extent.at.prev, bytes)?;
+    check_crc(start, bytes)?;
+    let found = found(alloc, cache.geometry, start, extent, bytes)??;
+    Ok((found, extent.behind(start, cursor.timeline)))
 }
 
 fn part_of_page(page: &[u8; 8192], offset: u32, count: u32) -> &[u8]
@@ -154,10 +124,9 @@ fn read_over_pages<D: Disk>(
     cache: &mut PageCache,
     room: &mut Vec<u8>,
     disk: &mut D,
-    extent: Extent,
-    cursor: Cursor,
-) -> Result<(FoundRecord, Standpoint), Stop>
-    requires start { extent.start.0 ≡ address_of cache.old.geometry extent.at.position }
+    extent: RecordExtent,
+    cursor: PageCursor,
+) -> Result<(FoundRecord, ReadingPoint), ReadFailure>
     requires reachable { IsReachable extent.at }
     requires large { 24 ≤ extent.total }
     requires on { IsOn cache.old cursor }
@@ -178,15 +147,15 @@ fn read_over_pages<D: Disk>(
         (first_fault (rest_rows cache.old.geometry pages
         (place_of extent.at) extent.total))) result }
 
-    ensures tape { D.tape disk.new ≡ D.tape disk.old }
-    ensures moment { D.moment disk.new ≡ D.moment disk.old }
-    ensures cause { HasStopCause (D.faults disk.old) (D.faults disk.new) result }
+    ensures uncalled { IsUncalled D.tape D.moment disk.old disk.new }
+    ensures cause { HasFailureCause (D.faults disk.old) (D.faults disk.new) result }
 {
+    let start = extent.start(cache.geometry);
     room.clear();
     let cursor = gather(cache, room, disk, extent, cursor, HEADER_LEN as u32)?;
-    check_header(extent, room)?;
+    check_header(start, extent.at.prev, room)?;
     let cursor = gather(cache, room, disk, extent, cursor, extent.total)?;
-    check_crc(extent, room)?;
-    let found = found(alloc, cache.geometry, extent, room)??;
-    Ok((found, extent.behind(cursor.timeline)))
+    check_crc(start, room)?;
+    let found = found(alloc, cache.geometry, start, extent, room)??;
+    Ok((found, extent.behind(start, cursor.timeline)))
 }

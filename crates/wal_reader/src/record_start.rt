@@ -6,21 +6,24 @@ ghost use Rattle.std.specs.Int.{w32, w64};
 ghost use Rattle.byte_position.specs.Position.{address_of};
 ghost use Rattle.wal_page.specs.Page.{first_fault};
 ghost use Rattle.record_spelling.specs.Numbers.{number_at};
-ghost use Rattle.wal_reader.specs.Cursor.{HasGathered, IsOn, Sees};
+ghost use Rattle.segment_disk.specs.Tape.{IsUncalled};
+ghost use Rattle.wal_reader.specs.PageCursor.{HasGathered, IsOn, Sees};
 ghost use Rattle.wal_reader.specs.Pages.{Pages};
 ghost use Rattle.wal_reader.specs.Decodes.{opening_of, size_rows};
-ghost use Rattle.wal_reader.specs.Standpoint.{IsReachable, place_of};
-ghost use Rattle.wal_reader.specs.Stops.{HasStopCause, Passes, Settles};
+ghost use Rattle.wal_reader.specs.ReadingPoint.{IsReachable, place_of};
+ghost use Rattle.wal_reader.specs.ReadFailures.{HasFailureCause, Passes, Settles};
 
 use crate::answers::{damaged, end_of_log, reaches_end};
-use crate::cursor::{Cursor, Extent};
 use crate::found::{Answer, DamageKind};
-use crate::layout::{HEADER_LEN, LEN_AT, PAGE_ADDRESSES};
 use crate::numbers::{u32_at, u64_at};
 use crate::page_cache::PageCache;
 use crate::page_checks::{check_held, header_len};
-use crate::standpoint::Standpoint;
-use crate::stop::Stop;
+use crate::page_cursor::PageCursor;
+use crate::read_failure::ReadFailure;
+use crate::reading_point::ReadingPoint;
+use crate::record_extent::RecordExtent;
+use byte_position::PAGE_SIZE;
+use record_spelling::layout::{HEADER_LEN, LEN_AT};
 use segment_disk::Disk;
 use wal_types::Lsn;
 
@@ -29,10 +32,8 @@ use wal_types::Lsn;
 pub(crate) fn open_page<D: Disk>(
     cache: &mut PageCache,
     disk: &mut D,
-    at: Standpoint,
-    start: Lsn,
-) -> Result<Cursor, Stop>
-    requires start { start.0 ≡ address_of cache.old.geometry at.position }
+    at: ReadingPoint,
+) -> Result<PageCursor, ReadFailure>
     requires reachable { IsReachable at }
     ensures geometry { cache.new.geometry ≡ cache.old.geometry }
     ensures cursor { IfOk result (λ cursor. IsOn cache.new cursor
@@ -45,24 +46,24 @@ pub(crate) fn open_page<D: Disk>(
         → Settles (opening_of cache.old.geometry (place_of at)
         (pages (address_of cache.old.geometry at.position / 8192))) result }
 
-    ensures tape { D.tape disk.new ≡ D.tape disk.old }
-    ensures moment { D.moment disk.new ≡ D.moment disk.old }
-    ensures cause { HasStopCause (D.faults disk.old) (D.faults disk.new) result }
+    ensures uncalled { IsUncalled D.tape D.moment disk.old disk.new }
+    ensures cause { HasFailureCause (D.faults disk.old) (D.faults disk.new) result }
 {
-    let page = start.0 / PAGE_ADDRESSES;
-    let offset = (start.0 % PAGE_ADDRESSES) as u32;
+    let start = cache.geometry.to_lsn(at.position);
+    let page = start.0 / PAGE_SIZE;
+    let offset = (start.0 % PAGE_SIZE) as u32;
     if !cache.load(disk, page)? {
-        return Err(Stop::Told(end_of_log(cache.geometry, at.position)));
+        return Err(ReadFailure::Told(end_of_log(cache.geometry, at.position)));
     }
     let opens = offset == header_len(cache.geometry, page);
     if opens && is_zero_word(cache, 0) {
-        return Err(Stop::Told(end_of_log(cache.geometry, at.position)));
+        return Err(ReadFailure::Told(end_of_log(cache.geometry, at.position)));
     }
     let info = check_held(cache, page, at.timeline)?;
     if opens && info.is_continued() {
-        return Err(Stop::Told(damaged(start, DamageKind::Claims)));
+        return Err(ReadFailure::Told(damaged(start, DamageKind::Claims)));
     }
-    Ok(Cursor {
+    Ok(PageCursor {
         page,
         offset,
         timeline: info.timeline,
@@ -73,16 +74,14 @@ pub(crate) fn open_page<D: Disk>(
 /// below it.
 pub(crate) fn claimed(
     cache: &PageCache,
-    cursor: Cursor,
-    at: Standpoint,
-    start: Lsn,
+    cursor: PageCursor,
+    at: ReadingPoint,
     end: Option<Lsn>,
-) -> Result<Extent, Answer>
-    requires start { start.0 ≡ address_of cache.now.geometry at.position }
+) -> Result<RecordExtent, Answer>
     requires reachable { IsReachable at }
     requires within { cursor.offset + 8 ≤ 8192 }
     ensures extent { let total = number_at w32 cache.now.bytes.value cursor.offset in
-        IfOk result (λ extent. (extent ≡ record { at = at; start = start; total = total })
+        IfOk result (λ extent. (extent ≡ record { at = at; total = total })
         × (24 ≤ extent.total)) }
     ensures whole { length cache.now.bytes.value ≡ 8192 }
     ensures checks { Passes
@@ -95,12 +94,13 @@ pub(crate) fn claimed(
     }
     let total = u32_at(&*cache.bytes, cursor.offset as usize + LEN_AT);
     if (total as usize) < HEADER_LEN {
+        let start = cache.geometry.to_lsn(at.position);
         return Err(damaged(start, DamageKind::Length));
     }
     if reaches_end(cache.geometry, at.position + u64::from(total) - 1, end) {
         return Err(end_of_log(cache.geometry, at.position));
     }
-    Ok(Extent { at, start, total })
+    Ok(RecordExtent { at, total })
 }
 
 /// Whether the eight bytes at an offset of the page that is held are zero.

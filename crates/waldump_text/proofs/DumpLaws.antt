@@ -7,7 +7,7 @@ use Rattle.segment_disk.specs.Stream.{with_behind}
 use Rattle.segment_disk.specs.Tape.{Tape, state_now}
 use Rattle.wal_types.specs.declared.lsn.Lsn.{Lsn}
 use Rattle.wal_reader.specs.Cache.{log_of}
-use Rattle.wal_reader.specs.Cursor.{IsLogOf}
+use Rattle.wal_reader.specs.PageCursor.{IsLogOf}
 use Rattle.wal_reader.specs.LogReader.{ReaderState, GivesRecords, IsNext, Knows, reader_state}
 use Rattle.wal_reader.specs.Pages.{Pages}
 use Rattle.wal_reader.specs.declared.found.Answer.{Answer}

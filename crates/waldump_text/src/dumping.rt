@@ -1,4 +1,5 @@
 ghost use Rattle.std.specs.Prelude.{◌≡◌, IfSome};
+ghost use Rattle.segment_disk.specs.Tape.{IsUncalled};
 ghost use Rattle.waldump_text.specs.Dump.{HasDumpCause, IsDump};
 
 use crate::line_buffer::LineBuffer;
@@ -53,8 +54,7 @@ pub fn dump<D: Disk, O: Sink>(
 ) -> Result<(), DumpErr>
     ensures listed { IfSome (D.tape disk.old)
         (IsDump geometry (O.taken out.old) (O.taken out.new) result) }
-    ensures tape { D.tape disk.new ≡ D.tape disk.old }
-    ensures moment { D.moment disk.new ≡ D.moment disk.old }
+    ensures uncalled { IsUncalled D.tape D.moment disk.old disk.new }
     ensures cause { HasDumpCause (D.faults disk.old) (D.faults disk.new) (O.faults out.old)
         (O.faults out.new) result }
 {

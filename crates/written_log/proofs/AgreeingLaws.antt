@@ -15,7 +15,7 @@ use Rattle.wal_reader.specs.declared.found.FoundRecord.{FoundRecord}
 use Rattle.wal_reader.specs.declared.found.Answer.{Answer}
 use Rattle.wal_reader.specs.declared.found.DamageKind.TheVariants as damages
 use Rattle.written_log.specs.Agreeing.{AreWhole, AgreeBelow, AgreeingLogsDecodeAlike}
-use Rattle.wal_reader.specs.Decodes.{Place, ReadsFrom, ReadsRecords, answer_or, begin_at, begin_in, beginning, continuation_rows, continuation_rows_of, crc_rows, damaged, ended, header_rows, is_at_end, is_zero_word, opening_rows, overwritten, page_answers, page_of_byte, place_behind, read_at, read_in, record_rows, rest_rows, rows_of_pages, size_rows, timeline_or}
+use Rattle.wal_reader.specs.Decodes.{RecordPlace, ReadsFrom, ReadsRecords, answer_or, begin_at, begin_in, beginning, continuation_rows, continuation_rows_of, crc_rows, damaged, ended, header_rows, is_at_end, is_zero_word, opening_rows, overwritten, page_answers, page_of_byte, place_behind, read_at, read_in, record_rows, rest_rows, rows_of_pages, size_rows, timeline_or}
 use Rattle.wal_reader.specs.Pages.{Pages, byte_at, byte_in_page, bytes_from}
 use Rattle.wal_reader.proofs.SettledLaws.{passes_both, passes_row, same_read, size-passed, size_in_header, total_of}
 
@@ -34,10 +34,10 @@ cases_Option : {A : Type 0} (o : Option A) → (o ≡ None) ⊎ ((x : A) × (o �
 cases_Option None = inl refl
 cases_Option (Some x) = inr (x, refl)
 
-abbrev placed : Place → Result Place Answer
+abbrev placed : RecordPlace → Result RecordPlace Answer
 placed place = Ok place
 
-same_place : (p q : Place) → placed p ≡ placed q → p ≡ q
+same_place : (p q : RecordPlace) → placed p ≡ placed q → p ≡ q
 same_place p q e = cc
 
 is_true : (b : Bool) → not b ≡ false → b ≡ true
@@ -92,7 +92,7 @@ module _ (one other : Pages) (whole : AreWhole one) (also : AreWhole other) (sam
   continued size timeline start owed page (Some bytes) there passes =
       there ∙ sym (same_page page bytes there (magic_of size page bytes timeline (passes_both (page_answers size page bytes timeline) (continued_rows start owed bytes) passes).0))
 
-  module _ (size : ℕ) (place : Place) (total : ℕ) where
+  module _ (size : ℕ) (place : RecordPlace) (total : ℕ) where
     abbrev rows : Pages → ℕ → ℕ → List (Bool × Answer)
     rows pages from n = flat_map (continuation_rows size pages place total) (range_with_len (from + 1) n)
 
@@ -113,7 +113,7 @@ module _ (one other : Pages) (whole : AreWhole one) (also : AreWhole other) (sam
           subst (λ (page : ℕ). one page ≡ other page) last more.1,
         )
 
-  module _ (size : ℕ) (valid : IsSegmentSize size) (end : Option ℕ) (place : Place) (found : FoundRecord) where
+  module _ (size : ℕ) (valid : IsSegmentSize size) (end : Option ℕ) (place : RecordPlace) (found : FoundRecord) where
     abbrev Alike : Type 0
     Alike = (read_at size other end place ≡ Ok found) × (place_behind size one place found ≡ place_behind size other place found)
 
@@ -179,7 +179,7 @@ module _ (one other : Pages) (whole : AreWhole one) (also : AreWhole other) (sam
         ]
 
   -- where reading begins
-  begins_page : (turns size page timeline : ℕ) (place : Place) → ((p t : ℕ) (at : Place) → begin_at turns size one p t ≡ Ok at → begin_at turns size other p t ≡ Ok at) → (here : Option (List ℕ)) → one page ≡ here
+  begins_page : (turns size page timeline : ℕ) (place : RecordPlace) → ((p t : ℕ) (at : RecordPlace) → begin_at turns size one p t ≡ Ok at → begin_at turns size other p t ≡ Ok at) → (here : Option (List ℕ)) → one page ≡ here
       → begin_in (begin_at turns size one) size page timeline here ≡ Ok place → begin_in (begin_at turns size other) size page timeline (other page) ≡ Ok place
   begins_page turns size page timeline place next None there e = absurd cc
   begins_page turns size page timeline place next (Some bytes) there e =
@@ -205,13 +205,13 @@ module _ (one other : Pages) (whole : AreWhole one) (also : AreWhole other) (sam
             ])
       ]
 
-  begins_alike : (turns size page timeline : ℕ) (place : Place) → begin_at turns size one page timeline ≡ Ok place → begin_at turns size other page timeline ≡ Ok place
+  begins_alike : (turns size page timeline : ℕ) (place : RecordPlace) → begin_at turns size one page timeline ≡ Ok place → begin_at turns size other page timeline ≡ Ok place
   unfolding begin_at
   begins_alike zero size page timeline place e = absurd cc
   begins_alike (suc turns) size page timeline place e = begins_page turns size page timeline place (λ p t at begins. begins_alike turns size p t at begins) (one page) refl e
 
 module _ (one other : Pages) (whole : AreWhole one) (also : AreWhole other) (same : (address : ℕ) → byte_at one address ≡ byte_at other address) (size : ℕ) (valid : IsSegmentSize size) (end : Option ℕ) where
-  reads_alike : (place : Place) (found others : List FoundRecord) (answer told : Answer) → ReadsRecords size one end place found answer → ReadsRecords size other end place others told → found ≡ others
+  reads_alike : (place : RecordPlace) (found others : List FoundRecord) (answer told : Answer) → ReadsRecords size one end place found answer → ReadsRecords size other end place others told → found ≡ others
   reads_alike place [] [] answer told a b = refl
   reads_alike place [] (g ∷ others) answer told a b =
       absurd (cc (a, (read_alike other one also whole (λ address. sym (same address)) size valid end place g b.0).0))
@@ -219,16 +219,16 @@ module _ (one other : Pages) (whole : AreWhole one) (also : AreWhole other) (sam
   reads_alike place (f ∷ found) (g ∷ others) answer told a b =
       let here = read_alike one other whole also same size valid end place f a.0 in
       let fg = same_read f g (sym here.0 ∙ b.0) in
-      let left = subst (λ (p : Place). ReadsRecords size one end p found answer) here.1 a.1 in
+      let left = subst (λ (p : RecordPlace). ReadsRecords size one end p found answer) here.1 a.1 in
       let right = subst (λ (h : FoundRecord). ReadsRecords size other end (place_behind size other place h) others told) (sym fg) b.1 in
       let rest = reads_alike (place_behind size other place f) found others answer told left right in
       ap (λ (h : FoundRecord). h ∷ found) fg ∙ ap (λ (hs : List FoundRecord). g ∷ hs) rest
 
-  starts_alike : (first second : Result Place Answer) → ((p : Place) → first ≡ Ok p → second ≡ Ok p) → ((p : Place) → second ≡ Ok p → first ≡ Ok p) → (found others : List FoundRecord) (answer told : Answer)
+  starts_alike : (first second : Result RecordPlace Answer) → ((p : RecordPlace) → first ≡ Ok p → second ≡ Ok p) → ((p : RecordPlace) → second ≡ Ok p → first ≡ Ok p) → (found others : List FoundRecord) (answer told : Answer)
       → ReadsFrom size one end first found answer → ReadsFrom size other end second others told → found ≡ others
   starts_alike (Ok p) (Ok q) there back found others answer told a b =
       let pq : p ≡ q = same_place p q (sym (there p refl)) in
-      reads_alike q found others answer told (subst (λ (at : Place). ReadsRecords size one end at found answer) pq a) b
+      reads_alike q found others answer told (subst (λ (at : RecordPlace). ReadsRecords size one end at found answer) pq a) b
   starts_alike (Ok p) (Err e) there back found others answer told a b = absurd (cc (there p refl))
   starts_alike (Err e) (Ok q) there back found others answer told a b = absurd (cc (back q refl))
   starts_alike (Err e) (Err f) there back found others answer told a b = a.0 ∙ sym b.0

@@ -18,7 +18,7 @@ use Rattle.wal_page.proofs.OwnerLaws.{owner_of-entry}
 use Rattle.wal_reader.specs.declared.found.Answer.{Answer}
 use Rattle.wal_reader.specs.declared.found.FoundRecord.{FoundRecord}
 use Rattle.wal_reader.specs.Pages.{Pages}
-use Rattle.wal_reader.specs.Decodes.{Place, ReadsRecords, read_at, place_behind, is_right_prev, opens_page, continuation_rows, continuation_rows_of, rows_of_pages, found_or}
+use Rattle.wal_reader.specs.Decodes.{RecordPlace, ReadsRecords, read_at, place_behind, is_right_prev, opens_page, continuation_rows, continuation_rows_of, rows_of_pages, found_or}
 use Rattle.written_log.specs.Written.{found_entry, found_from}
 use Rattle.written_log.proofs.Tables.{NoneHolds, NoneHolds-append}
 use Rattle.written_log.proofs.Tables.NoneHolds.{none, past}
@@ -34,7 +34,7 @@ NoneHolds-run rows a zero h = none
 NoneHolds-run rows a (suc n) h = NoneHolds-append (h a (omega arith) (omega arith)) (NoneHolds-run rows (a + 1) n (λ i low high. h i (omega arith) (omega arith)))
 
 -- the place k bytes behind the log's first
-abbrev pub log_place : ℕ → ℕ → Option ℕ → Place
+abbrev pub log_place : ℕ → ℕ → Option ℕ → RecordPlace
 log_place size k prev = record { position = first_position size + k; prev = prev; timeline = 1 }
 
 -- the start of the last one of some entries, and `before` where there is none
@@ -186,4 +186,4 @@ module _ (size sysid : ℕ) (pages : Pages) (es : List Entry) (w : IsWritten siz
   entries_are_read (e ∷ others) k prev before found answer stand right behind =
       let next = address_of size e.start in
       let rest = entries_are_read others (k + room_at size e.start e.value) next (Some next) found answer (others_stand e others k prev stand before) (eq-eqb next next refl) behind in
-      (entry_is_read e others k prev stand before right, subst (λ (place : Place). ReadsRecords size pages None place (found_from size next others ++ found) answer) (sym (place_behind_entry e others k prev stand before)) rest)
+      (entry_is_read e others k prev stand before right, subst (λ (place : RecordPlace). ReadsRecords size pages None place (found_from size next others ++ found) answer) (sym (place_behind_entry e others k prev stand before)) rest)

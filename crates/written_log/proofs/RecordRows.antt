@@ -11,21 +11,21 @@ use Rattle.record_spelling.specs.Numbers.{number_at}
 use Rattle.record_decode.specs.Reading.{reading_of}
 use Rattle.wal_page.specs.Page.{is_continued, first_fault}
 use Rattle.wal_reader.specs.Pages.{Pages, bytes_from}
-use Rattle.wal_reader.specs.Decodes.{Place, is_zero_word, opens_page, page_answers, rows_of_pages, page_of_byte, is_right_prev, opening_rows, record_rows, found_or, answer_or, read_in, read_at, ended}
+use Rattle.wal_reader.specs.Decodes.{RecordPlace, is_zero_word, opens_page, page_answers, rows_of_pages, page_of_byte, is_right_prev, opening_rows, record_rows, found_or, answer_or, read_in, read_at, ended}
 use Rattle.written_log.proofs.Tables.{NoneHolds, NoneHolds-append, Tells, Tells-append, first_fault-none, first_fault-told}
 use Rattle.written_log.proofs.Tables.NoneHolds.{none, past}
 use Rattle.written_log.proofs.Tables.Tells.{at_once}
 use Rattle.written_log.proofs.RecordBytes.{size_in_word, size_in_header, header_is_no_zero_word, prev_in_header, take-filled, crc_in_spelled}
 
 -- a place in a page that is there and passes its own checks, and no record continues into it where the place is its first
-pub record IsIn (size : ℕ) (pages : Pages) (place : Place) (page : List ℕ) : Type 0 where
+pub record IsIn (size : ℕ) (pages : Pages) (place : RecordPlace) (page : List ℕ) : Type 0 where
   pub here : pages (address_of size place.position / 8192) ≡ Some page
   pub no_zero_word : is_zero_word page ≡ false
   pub not_claimed : (opens_page size place.position && is_continued page) ≡ false
   pub passes : NoneHolds (page_answers size (address_of size place.position / 8192) page place.timeline)
 
 -- a record stands at a place, whole, and the further pages that it needs are there and pass their checks
-pub record StandsAt (size : ℕ) (pages : Pages) (place : Place) (a : Assembled) (prev : ℕ) : Type 0 where
+pub record StandsAt (size : ℕ) (pages : Pages) (place : RecordPlace) (a : Assembled) (prev : ℕ) : Type 0 where
   pub rest : List ℕ
   pub bytes : (n : ℕ) → n ≤ assembled_room a → bytes_from size pages n place.position ≡ take n (filled a prev ++ rest)
   pub header_pages : NoneHolds (rows_of_pages size pages place (assembled_size a) (address_of size place.position / 8192) (page_of_byte size place.position 24))
@@ -37,15 +37,15 @@ pub record StandsAt (size : ℕ) (pages : Pages) (place : Place) (a : Assembled)
   pub crc_fits : crc_of a prev < 2 ^ 32
 
 -- its page's checks pass
-opening_passes : (size : ℕ) (pages : Pages) (place : Place) (page : List ℕ) → IsIn size pages place page → NoneHolds (opening_rows size place page)
+opening_passes : (size : ℕ) (pages : Pages) (place : RecordPlace) (page : List ℕ) → IsIn size pages place page → NoneHolds (opening_rows size place page)
 opening_passes size pages place page in_page =
     past (and_right (opens_page size place.position) _ in_page.no_zero_word) (NoneHolds-append in_page.passes (past in_page.not_claimed none))
 
-read_at-page : (size : ℕ) (pages : Pages) (place : Place) (page : List ℕ) → pages (address_of size place.position / 8192) ≡ Some page → read_at size pages None place ≡ answer_or size pages place (first_fault (record_rows size pages None place page))
+read_at-page : (size : ℕ) (pages : Pages) (place : RecordPlace) (page : List ℕ) → pages (address_of size place.position / 8192) ≡ Some page → read_at size pages None place ≡ answer_or size pages place (first_fault (record_rows size pages None place page))
 unfolding read_at
 read_at-page size pages place page here = ap (read_in size pages None place) here
 
-module _ (size : ℕ) (pages : Pages) (place : Place) (page : List ℕ) (a : Assembled) (prev : ℕ) (in_page : IsIn size pages place page) (stands : StandsAt size pages place a prev) where
+module _ (size : ℕ) (pages : Pages) (place : RecordPlace) (page : List ℕ) (a : Assembled) (prev : ℕ) (in_page : IsIn size pages place page) (stands : StandsAt size pages place a prev) where
   read_header : bytes_from size pages 24 place.position ≡ take 24 (filled a prev ++ stands.rest)
   read_header = stands.bytes 24 (omega arith)
 
@@ -90,18 +90,18 @@ module _ (size : ℕ) (pages : Pages) (place : Place) (page : List ℕ) (a : Ass
       ∙ ap (λ (bytes : List ℕ). found_or size place (assembled_size a) prev (reading_of bytes)) (stands.bytes (assembled_size a) (omega arith) ∙ take-filled a prev stands.rest)
 
 -- where a zero word stands in a page, the log ends
-pub zero_word_ends : (size : ℕ) (pages : Pages) (place : Place) (page : List ℕ) → IsIn size pages place page → is_zero_word (bytes_from size pages 24 place.position) ≡ true → read_at size pages None place ≡ Err (ended size place.position)
+pub zero_word_ends : (size : ℕ) (pages : Pages) (place : RecordPlace) (page : List ℕ) → IsIn size pages place page → is_zero_word (bytes_from size pages 24 place.position) ≡ true → read_at size pages None place ≡ Err (ended size place.position)
 zero_word_ends size pages place page in_page zero =
     let told : Tells (record_rows size pages None place page) (ended size place.position) =
     Tells-append (opening_passes size pages place page in_page) (at_once zero) in
     read_at-page size pages place page in_page.here ∙ ap (answer_or size pages place) (first_fault-told told)
 
 -- a page of zeros where a record would start ends the log, and so does one that is not there
-pub no_page_ends : (size : ℕ) (pages : Pages) (place : Place) → pages (address_of size place.position / 8192) ≡ None → read_at size pages None place ≡ Err (ended size place.position)
+pub no_page_ends : (size : ℕ) (pages : Pages) (place : RecordPlace) → pages (address_of size place.position / 8192) ≡ None → read_at size pages None place ≡ Err (ended size place.position)
 unfolding read_at
 no_page_ends size pages place none_there = ap (read_in size pages None place) none_there
 
-pub zero_page_ends : (size : ℕ) (pages : Pages) (place : Place) (page : List ℕ) → pages (address_of size place.position / 8192) ≡ Some page → opens_page size place.position ≡ true → is_zero_word page ≡ true → read_at size pages None place ≡ Err (ended size place.position)
+pub zero_page_ends : (size : ℕ) (pages : Pages) (place : RecordPlace) (page : List ℕ) → pages (address_of size place.position / 8192) ≡ Some page → opens_page size place.position ≡ true → is_zero_word page ≡ true → read_at size pages None place ≡ Err (ended size place.position)
 zero_page_ends size pages place page there opens zero =
     let told : Tells (record_rows size pages None place page) (ended size place.position) = at_once (and_from (opens_page size place.position) (is_zero_word page) opens zero) in
     read_at-page size pages place page there ∙ ap (answer_or size pages place) (first_fault-told told)

@@ -16,7 +16,7 @@ use Rattle.wal_reader.specs.declared.found.FoundRecord.{FoundRecord}
 use Rattle.wal_reader.specs.declared.found.Answer.{Answer}
 use Rattle.wal_reader.specs.declared.found.Answer.TheVariants.{End}
 use Rattle.wal_reader.specs.Pages.{Pages}
-use Rattle.wal_reader.specs.Decodes.{Place, Decodes, ReadsRecords, ReadsFrom, beginning, ended}
+use Rattle.wal_reader.specs.Decodes.{RecordPlace, Decodes, ReadsRecords, ReadsFrom, beginning, ended}
 use Rattle.written_log.specs.Written.{found_entry, found_from, found_of}
 use Rattle.written_log.specs.WrittenLog.{HavePagesOfLog, OwnPagesHoldLog, WrittenLogDecodes}
 use Rattle.wal_reader.proofs.PagesLaws.{end_address_of-first_position}
@@ -57,7 +57,7 @@ module _ (size sysid : ℕ) (pages : Pages) (holds : HavePagesOfLog size sysid p
       let begins = begins_nothing (pages (pages_of size)) refl in
       record {
         read = [];
-        reads = subst (λ (begun : Result Place Answer). ReadsFrom size pages None begun [] (ended size (first_position size + 0))) (sym begins) (refl, end);
+        reads = subst (λ (begun : Result RecordPlace Answer). ReadsFrom size pages None begun [] (ended size (first_position size + 0))) (sym begins) (refl, end);
         given = refl;
       }
 
@@ -91,7 +91,7 @@ module _ (size sysid : ℕ) (pages : Pages) (e : Entry) (es : List Entry) (w : I
       } in
       let above = start-le-address_of size w.valid (first_position size + 0) (omega arith) in
       let right = lt-ltb 0 (address_of size (first_position size + 0)) (omega (arith, above, segment_size_in_pages size w.valid)) in
-      subst (λ (begun : Result Place Answer). ReadsFrom size pages None begun (found_of size all ++ found) answer) (sym begins_at_first) (entries_are_read size sysid pages all w all 0 0 None found answer stand right behind)
+      subst (λ (begun : Result RecordPlace Answer). ReadsFrom size pages None begun (found_of size all ++ found) answer) (sym begins_at_first) (entries_are_read size sysid pages all w all 0 0 None found answer stand right behind)
 
   something_decodes : HavePagesOfLog size sysid pages (e ∷ es) → Decodes size pages size None (found_of size (e ∷ es)) (ended size (end_position size (e ∷ es)))
   something_decodes holds =

@@ -1,7 +1,7 @@
 use Rattle.std.proofs.Common.{◌≡◌, ℕ, ◌+◌, ◌-◌, ◌*◌, ◌/◌, ◌<◌, ◌^◌, Bool, true, Some, None, Ok, Err, subst, sym, ap, ◌∙◌, arith}
 use Rattle.wal_reader.specs.Beginning.{goes_on}
 use Rattle.wal_reader.specs.Cache.{IsLoaded}
-use Rattle.wal_reader.specs.Cursor.{Sees}
+use Rattle.wal_reader.specs.PageCursor.{Sees}
 use Rattle.wal_reader.specs.Decodes.{begin_in, begin_at, beginning, ended}
 use Rattle.wal_reader.specs.Pages.{Pages}
 use Rattle.wal_reader.specs.declared.beginning.Front.{Front}
@@ -46,7 +46,7 @@ sees_still g c pages sees = (c.in_ok-load.ensures.sees pages (c.pages.invariant.
 pub returns-in-Ok-Here-clause-begins : goal.returns-in-Ok-Here-clause-begins
 returns-in-Ok-Here-clause-begins g c pages sees =
     let before = (goal.at.returns-in-Ok-Here-clause-begins g c).After-front_of in
-    let said : Result Front Answer = Ok (Here c.in-Ok-Here.standpoint) in
+    let said : Result Front Answer = Ok (Here c.in-Ok-Here.point) in
     (sees_still g before pages sees, (settled g before said (c.in-Ok-Here.is ∙ ap Ok c.in-Ok-Here.field-0-is) pages sees).1)
 
 pub returns-in-Err-clause-begins : goal.returns-in-Err-clause-begins
@@ -63,8 +63,8 @@ pages-preserved g c =
     let next = c.in-Ok-Filled.is ∙ ap Ok c.in-Ok-Filled.field-0-is in
     record {
       geometry = c.in_ok-load.ensures.geometry ∙ c.pages.invariant.geometry;
-      tape = c.in_ok-load.ensures.tape ∙ c.pages.invariant.tape;
-      moment = c.in_ok-load.ensures.moment ∙ c.pages.invariant.moment;
+      tape = c.in_ok-load.ensures.uncalled.same_tape ∙ c.pages.invariant.tape;
+      moment = c.in_ok-load.ensures.uncalled.same_moment ∙ c.pages.invariant.moment;
       faults = c.in_ok-load.ensures.cause ∙ c.pages.invariant.faults;
       below = omega arith;
       near = omega arith;

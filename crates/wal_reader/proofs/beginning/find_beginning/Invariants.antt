@@ -1,5 +1,5 @@
 use Rattle.std.proofs.Common.{◌≡◌, ℕ, ◌+◌, ◌-◌, ◌^◌, ◌<◌, ◌≤◌, ◌/◌}
-use Rattle.wal_reader.specs.Cursor.{Sees}
+use Rattle.wal_reader.specs.PageCursor.{Sees}
 use Rattle.wal_reader.specs.Decodes.{begin_at, beginning}
 use Rattle.wal_reader.specs.Pages.{Pages}
 use Rattle.wal_reader.proofs.beginning.find_beginning.Given as goal

@@ -1,6 +1,6 @@
 use Rattle.std.proofs.Common.{◌<◌, vec_len, ◌∙◌, arith}
 use Rattle.std.proofs.lemmas.Result.{err_from_is_err_and}
-use Rattle.wal_reader.specs.Standpoint.{place_of}
+use Rattle.wal_reader.specs.ReadingPoint.{place_of}
 use Rattle.wal_reader.proofs.GatherLaws.{crosses_further, page_rises, told_behind}
 use Rattle.wal_reader.proofs.gathering.gather.Goals as goal
 
@@ -26,7 +26,7 @@ pages-preserved g c =
       sees = λ pages sees. e.sees pages (inv.sees pages sees);
       bytes = λ pages sees had. (rw inv.geometry at (e.bytes pages (inv.sees pages sees))) (inv.bytes pages sees had);
       crosses = λ pages sees. crosses_further _ pages _ _ _ _ _ (inv.crosses pages sees) (rw inv.geometry at (e.checks pages (inv.sees pages sees)));
-      tape = e.tape ∙ inv.tape;
-      moment = e.moment ∙ inv.moment;
+      tape = e.uncalled.same_tape ∙ inv.tape;
+      moment = e.uncalled.same_moment ∙ inv.moment;
       faults = e.cause ∙ inv.faults;
     }

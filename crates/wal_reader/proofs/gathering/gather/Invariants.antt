@@ -1,7 +1,7 @@
 use Rattle.std.proofs.Common.{◌≡◌, ◌-◌, ◌≤◌, vec_len}
-use Rattle.wal_reader.specs.Cursor.{Crosses, HasGathered, IsOn, Sees}
+use Rattle.wal_reader.specs.PageCursor.{Crosses, HasGathered, IsOn, Sees}
 use Rattle.wal_reader.specs.Pages.{Pages, bytes_from}
-use Rattle.wal_reader.specs.Standpoint.{place_of}
+use Rattle.wal_reader.specs.ReadingPoint.{place_of}
 use Rattle.wal_reader.proofs.gathering.gather.Given as goal
 
 abbrev pub invariant-pages : goal.invariant-pages

@@ -1,9 +1,9 @@
 use Rattle.std.proofs.Common.{◌≡◌, ◌+◌, ◌^◌, ◌<◌, arith}
 use Rattle.std.proofs.lemmas.Result.{IfOk-weaker}
 use Rattle.wal_page.specs.Page.{header_size}
-use Rattle.wal_reader.specs.declared.cursor.Cursor.{Cursor}
-use Rattle.wal_reader.specs.Cursor.{IsOn, StandsIn}
-use Rattle.wal_reader.specs.Standpoint.{place_of}
+use Rattle.wal_reader.specs.declared.page_cursor.PageCursor.{PageCursor}
+use Rattle.wal_reader.specs.PageCursor.{IsOn, StandsIn}
+use Rattle.wal_reader.specs.ReadingPoint.{place_of}
 use Rattle.wal_reader.proofs.CacheLaws.{held_page}
 use Rattle.byte_position.proofs.HeaderSizes.{header_size_bounds}
 use Rattle.wal_reader.proofs.GatherLaws.{page_turned, stands_next}
@@ -18,8 +18,8 @@ returns-clause-cursor g c =
     let size = c.args.cache.now.geometry in
     let position = c.args.extent.at.position + c.args.gathered in
     let full : c.args.cursor.offset ≡ 8192 = omega (arith, stands.high) in
-    let said : Cursor → Type 0 = λ next. (next.page ≡ c.args.cursor.page + 1) × (next.offset ≡ header_size size (c.args.cursor.page + 1)) × (next.page < 2 ^ 47) × IsOn c.turn_page.new.cache next in
-    let wanted : Cursor → Type 0 = λ next. IsOn c.turn_page.new.cache next × StandsIn size position next × (next.offset < 8192) in
+    let said : PageCursor → Type 0 = λ next. (next.page ≡ c.args.cursor.page + 1) × (next.offset ≡ header_size size (c.args.cursor.page + 1)) × (next.page < 2 ^ 47) × IsOn c.turn_page.new.cache next in
+    let wanted : PageCursor → Type 0 = λ next. IsOn c.turn_page.new.cache next × StandsIn size position next × (next.offset < 8192) in
     IfOk-weaker c.turn_page.result said wanted (λ next h. (h.3, stands_next size position c.args.cursor stands next full h.0 h.1 h.2, omega (arith, h.1, header_size_bounds size stands.valid (c.args.cursor.page + 1)))) c.turn_page.ensures.next
 
 pub returns-clause-checks : goal.returns-clause-checks
@@ -29,7 +29,7 @@ returns-clause-checks g c = λ pages sees.
     let stands = c.requires.stands in
     let full : cursor.offset ≡ 8192 = omega (arith, stands.high) in
     let here = held_page (g.D.Disk.tape c.args.disk.now) c.args.cache.now pages cursor.page sees c.requires.on.0 in
-    let said : Cursor → Type 0 = λ next. (next.page ≡ cursor.page + 1) × (next.offset ≡ header_size size (cursor.page + 1)) × (next.page < 2 ^ 47) × IsOn c.turn_page.new.cache next in
+    let said : PageCursor → Type 0 = λ next. (next.page ≡ cursor.page + 1) × (next.offset ≡ header_size size (cursor.page + 1)) × (next.page < 2 ^ 47) × IsOn c.turn_page.new.cache next in
     let same = IfOk-weaker c.turn_page.result said (λ next. next.page ≡ cursor.page + 1) (λ next h. h.0) c.turn_page.ensures.next in
     let checks = c.turn_page.ensures.checks pages sees in
-    page_turned size pages (place_of c.args.extent.at) c.args.extent.total c.args.gathered cursor _ stands full here c.requires.on.1 c.turn_page.result same (rw c.requires.start at checks)
+    page_turned size pages (place_of c.args.extent.at) c.args.extent.total c.args.gathered cursor _ stands full here c.requires.on.1 c.turn_page.result same (rw c.start-start.ensures at checks)

@@ -1,8 +1,8 @@
 use Rattle.std.proofs.Common.{◌≡◌, ℕ, Some, None, Ok, option_map, subst, ◌∙◌}
 use Rattle.wal_types.specs.declared.lsn.Lsn.{Lsn}
-use Rattle.wal_reader.specs.Cursor.{Sees}
+use Rattle.wal_reader.specs.PageCursor.{Sees}
 use Rattle.wal_reader.specs.Decodes.{beginning}
-use Rattle.wal_reader.specs.Standpoint.{place_of}
+use Rattle.wal_reader.specs.ReadingPoint.{place_of}
 use Rattle.wal_reader.specs.Steps.{ComesNext}
 use Rattle.wal_reader.proofs.GivesLaws.{ComesNext-begun}
 use Rattle.wal_reader.proofs.given.next_given.Goals as goal

@@ -2,21 +2,21 @@ use Rattle.std.proofs.Common.{◌≡◌, ℕ, ◌∷◌, Option, Result, Ok, Err
 use Rattle.std.proofs.lemmas.Result.{err_from_is_err_and}
 use Rattle.wal_types.specs.declared.lsn.Lsn.{Lsn}
 use Rattle.wal_reader.specs.declared.found.FoundRecord.{FoundRecord}
-use Rattle.wal_reader.specs.declared.standpoint.Standpoint.{Standpoint}
-use Rattle.wal_reader.specs.declared.stop.Stop.{Stop}
-use Rattle.wal_reader.specs.Decodes.{Place, read_at}
+use Rattle.wal_reader.specs.declared.reading_point.ReadingPoint.{ReadingPoint}
+use Rattle.wal_reader.specs.declared.read_failure.ReadFailure.{ReadFailure}
+use Rattle.wal_reader.specs.Decodes.{RecordPlace, read_at}
 use Rattle.wal_reader.specs.Pages.{Pages}
 use Rattle.wal_reader.specs.RecordRead.{IsRead}
-use Rattle.wal_reader.specs.Standpoint.{IsOutOfReach, place_of}
+use Rattle.wal_reader.specs.ReadingPoint.{IsOutOfReach, place_of}
 use Rattle.wal_reader.proofs.GivesLaws.{GivesFrom-given, GivesFrom-passed, ComesNext-stopped}
 use Rattle.wal_reader.proofs.given.read_given.Goals as goal
 
 -- what was read, of the log that the buffers was for
-read_of : (size other : ℕ) (pages : Pages) (end : Option ℕ) (place : Place) (result : Result (FoundRecord × Standpoint) Stop) → size ≡ other → IsRead size pages place (read_at size pages end place) result → IsRead other pages place (read_at other pages end place) result
+read_of : (size other : ℕ) (pages : Pages) (end : Option ℕ) (place : RecordPlace) (result : Result (FoundRecord × ReadingPoint) ReadFailure) → size ≡ other → IsRead size pages place (read_at size pages end place) result → IsRead other pages place (read_at other pages end place) result
 read_of size other pages end place result same read = subst (λ (n : ℕ). IsRead n pages place (read_at n pages end place) result) same read
 
 -- the place from which nothing is read is that of the first turn
-out_here : (size other : ℕ) (end : Option ℕ) (at from : Standpoint) → size ≡ other → at ≡ from → IsOutOfReach other end from.position → IsOutOfReach size end at.position
+out_here : (size other : ℕ) (end : Option ℕ) (at from : ReadingPoint) → size ≡ other → at ≡ from → IsOutOfReach other end from.position → IsOutOfReach size end at.position
 out_here size other end at from same here out = rw (same, here) out
 
 pub returns-in_err-found-clause-unread : goal.returns-in_err-found-clause-unread
@@ -55,8 +55,8 @@ returns-then-found-start-clause-next g c pages sees =
 pub records-preserved : goal.records-preserved
 records-preserved g c = record {
   geometry = c.in_ok-found.ensures.geometry ∙ c.records.invariant.geometry;
-  tape = c.in_ok-found.ensures.tape ∙ c.records.invariant.tape;
-  moment = c.in_ok-found.ensures.moment ∙ c.records.invariant.moment;
+  tape = c.in_ok-found.ensures.uncalled.same_tape ∙ c.records.invariant.tape;
+  moment = c.in_ok-found.ensures.uncalled.same_moment ∙ c.records.invariant.moment;
   faults = c.in_ok-found.ensures.cause ∙ c.records.invariant.faults;
   reachable = c.in_ok-found.ensures.goes_on.1;
   further = (let further = c.in_ok-found.ensures.goes_on.0 in

@@ -1,10 +1,10 @@
 use Rattle.std.proofs.Common.{◌≡◌, ◌-◌, ◌^◌, ◌≤◌, List, option_map}
-use Rattle.wal_reader.specs.Cursor.{Sees}
+use Rattle.wal_reader.specs.PageCursor.{Sees}
 use Rattle.wal_reader.specs.declared.found.FoundRecord.{FoundRecord}
 use Rattle.wal_reader.specs.declared.found.Answer.{Answer}
 use Rattle.wal_types.specs.declared.lsn.Lsn.{Lsn}
 use Rattle.wal_reader.specs.Pages.{Pages}
-use Rattle.wal_reader.specs.Standpoint.{IsOutOfReach, IsReachable, place_of}
+use Rattle.wal_reader.specs.ReadingPoint.{IsOutOfReach, IsReachable, place_of}
 use Rattle.wal_reader.specs.Steps.{GivesFrom}
 use Rattle.wal_reader.proofs.given.read_given.Given as goal
 

@@ -3,7 +3,7 @@ use Rattle.std.proofs.lemmas.Bool.{eq-eqb, ne_eqb}
 use Rattle.std.proofs.lemmas.Result.{err_from_is_err_and}
 use Rattle.wal_page.specs.Page.{is_continued, is_overwritten, remaining_of}
 use Rattle.wal_reader.specs.Pages.{Pages}
-use Rattle.wal_reader.specs.Cursor.{Sees}
+use Rattle.wal_reader.specs.PageCursor.{Sees}
 use Rattle.wal_reader.proofs.PageCheckLaws.{page_fails, is_given_up, is_not_continued, is_continued_otherwise, continues}
 use Rattle.wal_reader.proofs.page_checks.turn_page.Goals as goal
 use Rattle.wal_reader.proofs.page_checks.turn_page.Goals.{After-check_held}

@@ -4,13 +4,13 @@ use Rattle.std.proofs.lemmas.Result.{err_from_is_err_and}
 use Rattle.byte_position.specs.Position.{address_of}
 use Rattle.byte_position.proofs.Words.{address_of-mod_word}
 use Rattle.wal_page.specs.Page.{first_fault, is_continued}
-use Rattle.wal_reader.specs.declared.cursor.Cursor.{Cursor}
+use Rattle.wal_reader.specs.declared.page_cursor.PageCursor.{PageCursor}
 use Rattle.wal_reader.specs.declared.found.Answer.{Answer}
 use Rattle.wal_reader.specs.declared.found.DamageKind.TheVariants as kinds
 use Rattle.wal_reader.specs.Decodes.{opening_of, damaged, is_zero_word, opens_page, page_answers}
 use Rattle.wal_reader.specs.Pages.{Pages}
-use Rattle.wal_reader.specs.Cursor.{Sees}
-use Rattle.wal_reader.specs.Standpoint.{place_of}
+use Rattle.wal_reader.specs.PageCursor.{Sees}
+use Rattle.wal_reader.specs.ReadingPoint.{place_of}
 use Rattle.wal_reader.proofs.RecordStages.{opening_page_fails, opening_claims, gathers_none, opens_at}
 use Rattle.wal_reader.proofs.record_start.open_page.Goals as goal
 use Rattle.wal_reader.proofs.record_start.open_page.Goals.{After-check_held, else-opens-via-then-opens+else-is_zero_word, else-opens-via-else-opens}
@@ -19,10 +19,10 @@ use Rattle.wal_reader.proofs.record_start.open_page.Goals.{After-check_held, els
 there : (g : _) (c : After-check_held g) (pages : Pages) → Sees (g.D.Disk.tape c.args.disk.now) c.args.cache.now pages → pages (address_of c.load.new.self.geometry c.args.at.position / 8192) ≡ Some c.load.new.self.bytes.value
 there g c pages sees =
     let loaded = (rw c.if-not-branch.false at (c.in_ok-load.ensures.sees pages sees).1).1 in
-    rw (c.in_ok-load.ensures.geometry, ← c.requires.start) loaded
+    rw (c.in_ok-load.ensures.geometry, ← c.to_lsn-start.ensures) loaded
 
-opens : (g : _) (c : After-check_held g) → opens_page c.load.new.self.geometry c.args.at.position ≡ eqb (c.args.start.0 % 8192) c.header_len.result
-opens g c = opens_at c.load.new.self.geometry c.args.at.position c.args.start.0 c.header_len.result (c.requires.start ∙ ap (λ size. address_of size c.args.at.position) (sym c.in_ok-load.ensures.geometry)) c.header_len.ensures.value
+opens : (g : _) (c : After-check_held g) → opens_page c.load.new.self.geometry c.args.at.position ≡ eqb (c.to_lsn-start.result.0 % 8192) c.header_len.result
+opens g c = opens_at c.load.new.self.geometry c.args.at.position c.to_lsn-start.result.0 c.header_len.result (c.to_lsn-start.ensures ∙ ap (λ size. address_of size c.args.at.position) (sym c.in_ok-load.ensures.geometry)) c.header_len.ensures.value
 
 -- the page does not begin with zeros where the record would start there
 marked : (g : _) (c : After-check_held g) → (opens_page c.load.new.self.geometry c.args.at.position && is_zero_word c.load.new.self.bytes.value) ≡ false
@@ -33,14 +33,14 @@ marked g c =
     ]
 
 -- the page's number
-numbered : (g : _) (c : After-check_held g) → c.args.start.0 / 8192 ≡ address_of c.load.new.self.geometry c.args.at.position / 8192
-numbered g c = ap (λ (a : ℕ). a / 8192) (c.requires.start ∙ ap (λ size. address_of size c.args.at.position) (sym c.in_ok-load.ensures.geometry))
+numbered : (g : _) (c : After-check_held g) → c.to_lsn-start.result.0 / 8192 ≡ address_of c.load.new.self.geometry c.args.at.position / 8192
+numbered g c = ap (λ (a : ℕ). a / 8192) (c.to_lsn-start.ensures ∙ ap (λ size. address_of size c.args.at.position) (sym c.in_ok-load.ensures.geometry))
 
 -- its checks, by that number
 checks_of : (g : _) (c : After-check_held g) → Option Answer → Type 0
 checks_of g c told = first_fault (page_answers c.load.new.self.geometry (address_of c.load.new.self.geometry c.args.at.position / 8192) c.load.new.self.bytes.value c.args.at.timeline) ≡ told
 
-checks_at : (g : _) (c : After-check_held g) (told : Option Answer) → first_fault (page_answers c.load.new.self.geometry (c.args.start.0 / 8192) c.load.new.self.bytes.value c.args.at.timeline) ≡ told → checks_of g c told
+checks_at : (g : _) (c : After-check_held g) (told : Option Answer) → first_fault (page_answers c.load.new.self.geometry (c.to_lsn-start.result.0 / 8192) c.load.new.self.bytes.value c.args.at.timeline) ≡ told → checks_of g c told
 unfolding checks_of
 checks_at g c told e = subst (λ (page : ℕ). first_fault (page_answers c.load.new.self.geometry page c.load.new.self.bytes.value c.args.at.timeline) ≡ told) (numbered g c) e
 
@@ -55,9 +55,9 @@ returns-in_err-info-clause-checks g c = λ pages sees.
     rw (stop.1, stop.2) (fails g before pages sees c.in_err-info.field-0.0 (checks_at g before (Some c.in_err-info.field-0.0) c.in_err-info.ensures.checks))
 
 claims : (g : _) (c : After-check_held g) (pages : Pages) → Sees (g.D.Disk.tape c.args.disk.now) c.args.cache.now pages → checks_of g c None → opens_page c.load.new.self.geometry c.args.at.position ≡ true → is_continued c.load.new.self.bytes.value ≡ true
-    → opening_of c.args.cache.now.geometry (place_of c.args.at) (pages (address_of c.args.cache.now.geometry c.args.at.position / 8192)) ≡ Some (damaged c.args.start.0 kinds.Claims)
+    → opening_of c.args.cache.now.geometry (place_of c.args.at) (pages (address_of c.args.cache.now.geometry c.args.at.position / 8192)) ≡ Some (damaged c.to_lsn-start.result.0 kinds.Claims)
 unfolding checks_of
-claims g c pages sees told first continued = rw (c.requires.start, ← c.in_ok-load.ensures.geometry) (opening_claims c.load.new.self.geometry (place_of c.args.at) _ _ (there g c pages sees) (marked g c) told first continued)
+claims g c pages sees told first continued = rw (c.to_lsn-start.ensures, ← c.in_ok-load.ensures.geometry) (opening_claims c.load.new.self.geometry (place_of c.args.at) _ _ (there g c pages sees) (marked g c) told first continued)
 
 pub returns-then-is_continued-clause-checks : goal.returns-then-is_continued-clause-checks
 returns-then-is_continued-clause-checks g c = λ pages sees.
@@ -70,13 +70,13 @@ pub returns-clause-cursor : goal.returns-clause-cursor
 returns-clause-cursor g c =
     let size = c.args.cache.now.geometry in
     let valid = rw c.in_ok-load.ensures.geometry at c.header_len.ensures.valid in
-    let cursor : Cursor = record { page = c.args.start.0 / 8192; offset = c.args.start.0 % 8192; timeline = c.in_ok-info.info.timeline } in
+    let cursor : PageCursor = record { page = c.to_lsn-start.result.0 / 8192; offset = c.to_lsn-start.result.0 % 8192; timeline = c.in_ok-info.info.timeline } in
     let held = rw c.if-not-branch.false at c.in_ok-load.ensures.held in
     let reach = rw c.if-not-branch.false at c.in_ok-load.ensures.reach in
-    ((held refl, sym c.in_ok-info.ensures.info.0), gathers_none size c.args.at.position cursor valid (ap (λ (a : ℕ). a / 8192) c.requires.start) (ap (λ (a : ℕ). a % 8192) c.requires.start) (reach refl))
+    ((held refl, sym c.in_ok-info.ensures.info.0), gathers_none size c.args.at.position cursor valid (ap (λ (a : ℕ). a / 8192) c.to_lsn-start.ensures) (ap (λ (a : ℕ). a % 8192) c.to_lsn-start.ensures) (reach refl))
 
 pub returns-clause-place : goal.returns-clause-place
 returns-clause-place g c =
     let valid = rw c.in_ok-load.ensures.geometry at c.header_len.ensures.valid in
     let word = address_of-mod_word c.args.cache.now.geometry valid c.args.at.position c.requires.reachable.aligned in
-    (ap (λ (a : ℕ). a / 8192) c.requires.start, omega (arith, c.requires.start))
+    (ap (λ (a : ℕ). a / 8192) c.to_lsn-start.ensures, omega (arith, c.to_lsn-start.ensures))

@@ -78,8 +78,8 @@ records-preserved g c =
       sized = sized_on g step;
       lists = ListsLog-more c.args.geometry valid _ c.records.reader before.sized _ _ c.next.new.self (found g step) _ before.lists (steps_on g step) took;
       empty = c.in_ok-put_line-in-Record.ensures.empty;
-      tape = read.tape ∙ before.tape;
-      moment = read.moment ∙ before.moment;
+      tape = read.uncalled.same_tape ∙ before.tape;
+      moment = read.uncalled.same_moment ∙ before.moment;
       disk_faults = read.cause ∙ before.disk_faults;
       sink_faults = put.1 ∙ before.sink_faults;
     }

@@ -4,11 +4,11 @@ use Rattle.byte_position.specs.Geometry.{IsSegmentSize}
 use Rattle.byte_position.specs.Position.{position_of}
 use Rattle.segment_disk.specs.Tape.{Tape}
 use Rattle.wal_page.specs.Page.{header_size, first_fault, timeline_of}
-use Rattle.wal_reader.specs.declared.cursor.Cursor.{Cursor}
+use Rattle.wal_reader.specs.declared.page_cursor.PageCursor.{PageCursor}
 use Rattle.wal_reader.specs.declared.page_cache.PageCache.{PageCache}
 use Rattle.wal_reader.specs.Cache.{Caches, log_of}
 use Rattle.wal_reader.specs.Pages.{Pages, bytes_from}
-use Rattle.wal_reader.specs.Decodes.{Place, page_of_byte, rows_of_pages}
+use Rattle.wal_reader.specs.Decodes.{RecordPlace, page_of_byte, rows_of_pages}
 
 -- pages are those of the log that a disk tells
 abbrev pub IsLogOf : Option Tape → ℕ → Pages → Type 0
@@ -21,12 +21,12 @@ pub record Sees (tape : Option Tape) (cache : PageCache) (pages : Pages) : Type 
   pub held : Caches cache pages
 
 -- the cursor's page is held, and has its timeline
-abbrev pub IsOn : PageCache → Cursor → Type 0
+abbrev pub IsOn : PageCache → PageCursor → Type 0
 IsOn cache cursor =
     (cache.number ≡ Some cursor.page) × (timeline_of cache.bytes.value ≡ cursor.timeline)
 
 -- the byte at a byte position stands at the cursor, or at a page's end it is the next page's first
-pub record StandsIn (size position : ℕ) (cursor : Cursor) : Type 0 where
+pub record StandsIn (size position : ℕ) (cursor : PageCursor) : Type 0 where
   pub valid : IsSegmentSize size
   pub low : header_size size cursor.page ≤ cursor.offset
   pub high : cursor.offset ≤ 8192
@@ -34,18 +34,18 @@ pub record StandsIn (size position : ℕ) (cursor : Cursor) : Type 0 where
   pub reach : cursor.page < 2 ^ 47
 
 -- n bytes of the record at a byte position were gathered, the last of them on the cursor's page
-pub record HasGathered (size position n : ℕ) (cursor : Cursor) : Type 0 where
+pub record HasGathered (size position n : ℕ) (cursor : PageCursor) : Type 0 where
   pub stands : StandsIn size (position + n) cursor
   pub last : 0 < n → cursor.page ≡ page_of_byte size position n
 
 -- no check fails of the pages behind one up to another
-pub record Crosses (size : ℕ) (pages : Pages) (place : Place) (total from upto : ℕ) : Type 0 where
+pub record Crosses (size : ℕ) (pages : Pages) (place : RecordPlace) (total from upto : ℕ) : Type 0 where
   pub rises : from ≤ upto
   pub passes : first_fault (rows_of_pages size pages place total from upto) ≡ None
 
 -- the room holds the first bytes of a record, and no check failed of the pages behind one up to
 -- that of the last of them
-pub record HoldsPassed (size : ℕ) (pages : Pages) (place : Place) (total from : ℕ)
+pub record HoldsPassed (size : ℕ) (pages : Pages) (place : RecordPlace) (total from : ℕ)
     (room : List ℕ) : Type 0 where
   pub count : ℕ
   pub page : ℕ

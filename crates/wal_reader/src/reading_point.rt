@@ -4,7 +4,7 @@ use wal_types::Lsn;
 
 /// Where the next record starts, and what the pages and records before it say of it.
 #[derive(Clone, Copy, Debug)]
-pub(crate) struct Standpoint {
+pub(crate) struct ReadingPoint {
     /// The byte position of the next record: a multiple of 8.
     pub(crate) position: u64,
     /// The start of the record before, once one was read.

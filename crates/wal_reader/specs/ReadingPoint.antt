@@ -1,10 +1,10 @@
--- A standpoint of a reader as a place in a log.
+-- A point of a reader as a place in a log.
 use Rattle.std.specs.Prelude.{◌≡◌, ℕ, true, ◌%◌, ◌^◌, ◌<◌, ◌≤◌, ◌⊎◌, Option, option_map}
 use Rattle.byte_position.specs.Position.{address_of}
-use Rattle.wal_reader.specs.declared.standpoint.Standpoint.{Standpoint}
-use Rattle.wal_reader.specs.Decodes.{Place, is_at_end}
+use Rattle.wal_reader.specs.declared.reading_point.ReadingPoint.{ReadingPoint}
+use Rattle.wal_reader.specs.Decodes.{RecordPlace, is_at_end}
 
-abbrev pub place_of : Standpoint → Place
+abbrev pub place_of : ReadingPoint → RecordPlace
 place_of at =
     record {
       position = at.position;
@@ -13,8 +13,8 @@ place_of at =
       timeline = at.timeline;
     }
 
--- a standpoint that reading comes to: records start at whole words, and below address 2 ^ 60
-pub record IsReachable (at : Standpoint) : Type 0 where
+-- a point that reading comes to: records start at whole words, and below address 2 ^ 60
+pub record IsReachable (at : ReadingPoint) : Type 0 where
   pub aligned : at.position % 8 ≡ 0
   pub bounded : at.position < 2 ^ 60
 

@@ -1,0 +1,12 @@
+//! Where the bytes of a record stand in the page that is held.
+
+/// Where the next byte of a record stands in the page that is held.
+#[derive(Clone, Copy, Debug)]
+pub(crate) struct PageCursor {
+    /// The page, counted from address 0.
+    pub(crate) page: u64,
+    /// In bytes; at the page's end the next byte is the first one behind the next page's header.
+    pub(crate) offset: u32,
+    /// The page's timeline.
+    pub(crate) timeline: u32,
+}

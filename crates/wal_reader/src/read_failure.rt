@@ -1,0 +1,48 @@
+//! Why reading a record does not go on.
+
+use crate::found::Answer;
+use segment_disk::Failed;
+use std::alloc::AllocError;
+
+/// Why a step of reading does not go on.
+#[derive(Clone, Copy, Debug)]
+pub(crate) enum ReadFailure {
+    /// What stands where no record does.
+    Told(Answer),
+    Memory,
+    /// The disk failed.
+    Disk,
+}
+
+impl From<Answer> for ReadFailure {
+    ghost use Rattle.std.specs.Prelude.{◌≡◌};
+    ghost use Rattle.wal_reader.specs.declared.read_failure.ReadFailure.TheVariants as failures;
+
+    ghost from_gives = { λ answer stop. stop ≡ failures.Told answer };
+
+    fn from(answer: Answer) -> ReadFailure {
+        ReadFailure::Told(answer)
+    }
+}
+
+impl From<AllocError> for ReadFailure {
+    ghost use Rattle.std.specs.Prelude.{◌≡◌};
+    ghost use Rattle.wal_reader.specs.declared.read_failure.ReadFailure.TheVariants as failures;
+
+    ghost from_gives = { λ _ stop. stop ≡ failures.Memory };
+
+    fn from(_error: AllocError) -> ReadFailure {
+        ReadFailure::Memory
+    }
+}
+
+impl From<Failed> for ReadFailure {
+    ghost use Rattle.std.specs.Prelude.{◌≡◌};
+    ghost use Rattle.wal_reader.specs.declared.read_failure.ReadFailure.TheVariants as failures;
+
+    ghost from_gives = { λ _ stop. stop ≡ failures.Disk };
+
+    fn from(_failed: Failed) -> ReadFailure {
+        ReadFailure::Disk
+    }
+}
