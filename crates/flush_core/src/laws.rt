@@ -1,8 +1,8 @@
 //! Laws of the definitions, each proved by a function that does nothing.
 
-ghost use Rattle.std.specs.Prelude.{ℕ, Bool, false};
+ghost use Rattle.std.specs.Prelude.{ℕ, false};
 ghost use Rattle.segment_disk.specs.Tape.{DiskState};
-ghost use Rattle.segment_disk.specs.DiskImage.{DiskImage, MayLeave, image_as_read};
+ghost use Rattle.segment_disk.specs.DiskImage.{DiskImage, MayLeave};
 ghost use Rattle.flush_core.specs.Pages.{ArePutUpto, HoldsPages, HoldsPut, PutPages, made_upto};
 
 /// A law: where nothing waits for a sync, every image that a crash leaves holds just the pages that

@@ -5,7 +5,7 @@ ghost use Rattle.flush_core.specs.Pages.{HoldsNothing, PutPages, no_pages, with_
 ghost use Rattle.flush_core.specs.Writer.{HasDone, HoldsOnly, IsKept, IsWriter, TellsFault, calls_to_harden, calls_to_put, disk_of, last_made, writer_fault, is_unsynced, writer_segment_size, written_of};
 
 use crate::store::{place_of, store_page};
-use byte_position::Geometry;
+use byte_position::{Geometry, PAGE_SIZE};
 use segment_disk::Disk;
 use wal_types::Lsn;
 
@@ -98,7 +98,12 @@ impl<D: Disk> Writer<D> {
     /// Writes a page, which is whole up to a position, in place: the page of the written position,
     /// by its number from the log's address 0. It is durable only after `harden`, or where its
     /// segment ends with it.
-    pub fn put_page(&mut self, page: u64, upto: Lsn, bytes: &[u8; 8192]) -> Result<(), DiskFault>
+    pub fn put_page(
+        &mut self,
+        page: u64,
+        upto: Lsn,
+        bytes: &[u8; PAGE_SIZE as usize],
+    ) -> Result<(), DiskFault>
         requires page { page ≡ written_of self.old / 8192 }
         requires rises { written_of self.old ≤ upto.0 }
         requires begun { page * 8192 < upto.0 }

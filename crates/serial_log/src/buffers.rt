@@ -22,7 +22,7 @@ pub(crate) struct Buffers<D> {
     pub(crate) writer: Writer<D>,
     pub(crate) ring: Ring,
     // A page to write from.
-    pub(crate) page: Box<[u8; 8192]>,
+    pub(crate) page: Box<[u8; PAGE_SIZE as usize]>,
 }
 
 // The order of things (PostgreSQL's `CopyXLogRecordToWAL`, `AdvanceXLInsertBuffer` and `XLogWrite`
@@ -35,7 +35,12 @@ pub(crate) struct Buffers<D> {
 // is made any more, and nothing written is touched again.
 impl<D: Disk> Buffers<D> {
     /// The buffers of a log that is opened: its first pages in memory, and nothing written.
-    pub(crate) fn new(disk: D, geometry: Geometry, ring: Ring, page: Box<[u8; 8192]>) -> Buffers<D>
+    pub(crate) fn new(
+        disk: D,
+        geometry: Geometry,
+        ring: Ring,
+        page: Box<[u8; PAGE_SIZE as usize]>,
+    ) -> Buffers<D>
         ensures ring { result.ring ≡ ring }
         ensures disk { disk_of result.writer ≡ disk }
         ensures size { writer_segment_size result.writer ≡ geometry }

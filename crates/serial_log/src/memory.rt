@@ -5,6 +5,7 @@ ghost use Rattle.segment_disk.specs.Tape.{IsUncalled};
 
 use crate::ring::Ring;
 use crate::shape::Shape;
+use byte_position::PAGE_SIZE;
 use segment_disk::{Disk, Failed};
 use std::alloc::{AllocError, Global};
 use std::marker::Model;
@@ -15,7 +16,7 @@ use std::marker::Model;
 pub struct LogMemory {
     pub(crate) shape: Shape,
     pub(crate) ring: Ring,
-    pub(crate) page: Box<[u8; 8192]>,
+    pub(crate) page: Box<[u8; PAGE_SIZE as usize]>,
 }
 
 impl Model for LogMemory {
@@ -37,7 +38,7 @@ impl LogMemory {
         Ok(LogMemory {
             shape,
             ring: Ring::new(alloc, shape.ring_pages, first)?,
-            page: Box::new(alloc, [0; 8192])?,
+            page: Box::new(alloc, [0; PAGE_SIZE as usize])?,
         })
     }
 

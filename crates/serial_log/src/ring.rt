@@ -13,10 +13,10 @@ use std::marker::Model;
 use wal_page::Placed;
 use wal_types::Lsn;
 
-/// How many words of eight bytes a page has.
-const PAGE_WORDS: usize = 1024;
-
+/// The size of a word in bytes.
 const WORD: u64 = 8;
+
+const PAGE_WORDS: usize = (PAGE_SIZE / WORD) as usize;
 
 /// A ring of a log's last pages, as words: a page's place is its number modulo the ring's pages.
 #[derive(Debug, Drop)]
@@ -111,7 +111,7 @@ impl Ring {
     }
 
     /// The bytes of a page.
-    pub(crate) fn put_bytes(&self, page: u64, into: &mut [u8; 8192])
+    pub(crate) fn put_bytes(&self, page: u64, into: &mut [u8; PAGE_SIZE as usize])
         ensures { (n : ℕ) → n < 1024
             → word_of into.new n ≡ to_le_bytes w64 (ring_word self.now page n) }
     {

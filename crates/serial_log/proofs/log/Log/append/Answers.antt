@@ -9,7 +9,7 @@ use Rattle.segment_disk.specs.Tape.{Tape}
 use Rattle.flush_core.specs.Writer.{writer_fault}
 use Rattle.serial_log.specs.LogState.{LogState}
 use Rattle.serial_log.proofs.LogLaws.{IsPlace, appended_ok, appended_err, inserts_at, keeps_appended, placed_next, unwritten}
-use Rattle.serial_log.proofs.log.Log.append.Goals.{After-to_end_lsn-end, in-Ok, in-Err}
+use Rattle.serial_log.proofs.log.Log.append.Goals.{in-Ok, in-Err}
 use Rattle.serial_log.proofs.log.Log.append.Goals as goal
 
 pub returns-clause-inserts : goal.returns-clause-inserts
