@@ -1,5 +1,5 @@
-ghost use Rattle.std.specs.Prelude.{◌≡◌, ℕ, ◌+◌, ◌*◌, ◌/◌, ◌<◌, ◌≤◌, length, min, slice_index};
-ghost use Rattle.wal_page.specs.Placed.{placed_word, placed_end};
+ghost use Rattle.std.specs.Prelude.{◌≡◌, ◌+◌, ◌*◌, ◌/◌, ◌<◌, ◌≤◌, length, min};
+ghost use Rattle.wal_page.specs.Placed.{HasWordsFrom, placed_end};
 
 use byte_position::PAGE_SIZE;
 use wal_page::Placed;
@@ -23,8 +23,7 @@ pub(crate) fn copy_words(placed: &mut Placed, words: &mut [u64])
     requires { placed.old.next + 8 * length words.old ≤ placed_end placed.old }
     ensures placed { placed.new
         ≡ record placed.old { next = placed.old.next + 8 * length words.old } }
-    ensures words { (k : ℕ) → k < length words.old
-        → slice_index words.new k ≡ placed_word placed.old (placed.old.next + 8 * k) }
+    ensures words { HasWordsFrom placed.old (length words.old) words.new }
 {
     placed.put_words(words);
 }
