@@ -8,7 +8,7 @@ ghost use Rattle.wal_reader.specs.PageCursor.{Crosses, HasGathered, HoldsPassed,
 ghost use Rattle.wal_reader.specs.Decodes.{page_of_byte, rows_of_pages};
 ghost use Rattle.wal_reader.specs.Pages.{Pages, bytes_from};
 ghost use Rattle.wal_reader.specs.PagesPassed.{PassesPages};
-ghost use Rattle.wal_reader.specs.ReadingPoint.{IsReachable, place_of};
+ghost use Rattle.wal_reader.specs.RecordPlace.{IsReachable};
 ghost use Rattle.wal_reader.specs.ReadFailures.{HasFailureCause, IsTold};
 
 use crate::layout::PAGE_LEN;
@@ -49,10 +49,10 @@ pub(crate) fn gather<D: Disk>(
     ensures room { (pages : Pages) → Sees (D.tape disk.old) cache.old pages → room.old.items
         ≡ bytes_from cache.old.geometry pages (vec_len room.old) extent.at.position
         → HoldsPassed cache.old.geometry pages
-        (place_of extent.at) extent.total cursor.page room.new.items }
+        extent.at extent.total cursor.page room.new.items }
     ensures checks { (pages : Pages) → Sees (D.tape disk.old) cache.old pages
         → PassesPages cache.old.geometry pages
-        (place_of extent.at) extent.total cursor.page upto result }
+        extent.at extent.total cursor.page upto result }
 
     ensures uncalled { IsUncalled D.tape D.moment disk.old disk.new }
     ensures cause { HasFailureCause (D.faults disk.old) (D.faults disk.new) result }
@@ -91,7 +91,7 @@ fn gather_more<D: Disk>(
         (vec_len room.new) extent.at.position) }
     ensures checks { (pages : Pages) → Sees (D.tape disk.old) cache.old pages
         → PassesPages cache.old.geometry pages
-        (place_of extent.at) extent.total cursor.page upto result }
+        extent.at extent.total cursor.page upto result }
 
     ensures uncalled { IsUncalled D.tape D.moment disk.old disk.new }
     ensures cause { HasFailureCause (D.faults disk.old) (D.faults disk.new) result }
@@ -125,10 +125,10 @@ fn pass_border<D: Disk>(
         → Sees (D.tape disk.new) cache.new pages }
     ensures checks { (pages : Pages) → Sees (D.tape disk.old) cache.old pages
         → MatchResult result (λ now. Crosses cache.old.geometry pages
-        (place_of extent.at) extent.total cursor.page now.page)
+        extent.at extent.total cursor.page now.page)
         (λ stop. (upto : ℕ) → gathered < upto
         → IsTold (first_fault (rows_of_pages cache.old.geometry pages
-        (place_of extent.at) extent.total cursor.page
+        extent.at extent.total cursor.page
         (page_of_byte cache.old.geometry extent.at.position upto))) stop) }
 
     ensures uncalled { IsUncalled D.tape D.moment disk.old disk.new }

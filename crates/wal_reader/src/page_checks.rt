@@ -8,7 +8,6 @@ ghost use Rattle.segment_disk.specs.Tape.{IsUncalled};
 ghost use Rattle.wal_reader.specs.PageCursor.{IsOn, Sees};
 ghost use Rattle.wal_reader.specs.Decodes.{continuation_rows_of, page_answers};
 ghost use Rattle.wal_reader.specs.Pages.{Pages};
-ghost use Rattle.wal_reader.specs.ReadingPoint.{place_of};
 ghost use Rattle.wal_reader.specs.ReadFailures.{HasFailureCause, Passes, Settles};
 
 use crate::answers::damaged;
