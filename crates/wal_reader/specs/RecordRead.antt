@@ -27,12 +27,12 @@ abbrev pub IsRead : ℕ → Pages → RecordPlace → Result FoundRecord Answer
     → Result (FoundRecord × RecordPlace) ReadFailure → Type 0
 IsRead size pages place here (Ok read) =
     (here ≡ Ok read.0) × (read.1 ≡ place_behind size pages place read.0)
-IsRead size pages place here (Err stop) = IsStopped here stop
+IsRead size pages place here (Err failure) = IsFailed here failure
   where
-    IsStopped : Result FoundRecord Answer → ReadFailure → Type 0
-    IsStopped here (failures.Told answer) = here ≡ Err answer
-    IsStopped here failures.Memory = Unit {0}
-    IsStopped here failures.Disk = Unit {0}
+    IsFailed : Result FoundRecord Answer → ReadFailure → Type 0
+    IsFailed here (failures.Told answer) = here ≡ Err answer
+    IsFailed here failures.Memory = Unit {0}
+    IsFailed here failures.Disk = Unit {0}
 
 -- the next place is further on, and one that can be reached
 abbrev pub GoesOn : RecordPlace → RecordPlace → Type 0

@@ -126,10 +126,10 @@ fn pass_border<D: Disk>(
     ensures checks { (pages : Pages) → Sees (D.tape disk.old) cache.old pages
         → MatchResult result (λ now. Crosses cache.old.geometry pages
         extent.at extent.total cursor.page now.page)
-        (λ stop. (upto : ℕ) → gathered < upto
+        (λ failure. (upto : ℕ) → gathered < upto
         → IsTold (first_fault (rows_of_pages cache.old.geometry pages
         extent.at extent.total cursor.page
-        (page_of_byte cache.old.geometry extent.at.position upto))) stop) }
+        (page_of_byte cache.old.geometry extent.at.position upto))) failure) }
 
     ensures uncalled { IsUncalled D.tape D.moment disk.old disk.new }
     ensures cause { HasFailureCause (D.faults disk.old) (D.faults disk.new) result }
