@@ -21,6 +21,11 @@ pub record Sees (tape : Option Tape) (cache : PageCache) (pages : Pages) : Type 
   pub log : IsLogOf tape cache.geometry pages
   pub held : Caches cache pages
 
+-- after a step the page that is held is one of the same pages
+abbrev pub SeesStill : Option Tape → Option Tape → PageCache → PageCache → Type 0
+SeesStill old_tape new_tape old new = (pages : Pages) → Sees old_tape old pages
+    → Sees new_tape new pages
+
 -- the cursor's page is held, and has its timeline
 abbrev pub IsOn : PageCache → PageCursor → Type 0
 IsOn cache cursor =

@@ -13,7 +13,7 @@ ghost use Rattle.std.specs.Prelude.{◌≡◌, ℕ, ◌+◌, ◌*◌, ◌/◌, �
 ghost use Rattle.byte_position.specs.Position.{address_of};
 ghost use Rattle.wal_page.specs.Page.{first_fault};
 ghost use Rattle.segment_disk.specs.Tape.{IsUncalled};
-ghost use Rattle.wal_reader.specs.PageCursor.{HasGathered, HoldsPassed, IsOn, Sees};
+ghost use Rattle.wal_reader.specs.PageCursor.{HasGathered, HoldsPassed, IsOn, Sees, SeesStill};
 ghost use Rattle.wal_reader.specs.Decodes.{read_at, rest_rows};
 ghost use Rattle.wal_reader.specs.Pages.{Pages};
 ghost use Rattle.wal_reader.specs.RecordRead.{GoesOn, IsBehind, IsRead, IsRoomAfter, said_of};
@@ -55,8 +55,7 @@ pub(crate) fn read_record<D: Disk>(
     ensures unread { IsOutOfReach cache.old.geometry (option_map (λ end. end.0) end) at.position
         → (disk.new ≡ disk.old) × OnOk result ⊥ }
     ensures spelled { IfOk result (λ r. IsSpelled r.0) }
-    ensures sees { (pages : Pages) → Sees (D.tape disk.old) cache.old pages
-        → Sees (D.tape disk.new) cache.new pages }
+    ensures sees { SeesStill (D.tape disk.old) (D.tape disk.new) cache.old cache.new }
     ensures room { (pages : Pages) → Sees (D.tape disk.old) cache.old pages
         → IsRoomAfter cache.old.geometry pages at room.old.items room.new.items }
     ensures reads { (pages : Pages) → Sees (D.tape disk.old) cache.old pages
@@ -136,8 +135,7 @@ fn read_over_pages<D: Disk>(
     ensures goes_on { IfOk result (λ r. GoesOn extent.at r.1) }
     ensures behind { IfOk result (λ r. IsBehind cache.old.geometry r.0 r.1) }
     ensures spelled { IfOk result (λ r. IsSpelled r.0) }
-    ensures sees { (pages : Pages) → Sees (D.tape disk.old) cache.old pages
-        → Sees (D.tape disk.new) cache.new pages }
+    ensures sees { SeesStill (D.tape disk.old) (D.tape disk.new) cache.old cache.new }
     ensures room { (pages : Pages) → Sees (D.tape disk.old) cache.old pages
         → HoldsPassed cache.old.geometry pages extent.at extent.total
         (address_of cache.old.geometry extent.at.position / 8192) room.new.items }

@@ -7,7 +7,7 @@ ghost use Rattle.byte_position.specs.Position.{address_of};
 ghost use Rattle.wal_page.specs.Page.{first_fault};
 ghost use Rattle.record_spelling.specs.Numbers.{number_at};
 ghost use Rattle.segment_disk.specs.Tape.{IsUncalled};
-ghost use Rattle.wal_reader.specs.PageCursor.{HasGathered, IsOn, Sees};
+ghost use Rattle.wal_reader.specs.PageCursor.{HasGathered, IsOn, Sees, SeesStill};
 ghost use Rattle.wal_reader.specs.Pages.{Pages};
 ghost use Rattle.wal_reader.specs.Decodes.{opening_of, size_rows};
 ghost use Rattle.wal_reader.specs.RecordPlace.{IsReachable};
@@ -40,8 +40,7 @@ pub(crate) fn open_page<D: Disk>(
         × HasGathered cache.old.geometry at.position 0 cursor) }
     ensures place { IfOk result (λ cursor. (cursor.page
         ≡ address_of cache.old.geometry at.position / 8192) × (cursor.offset + 8 ≤ 8192)) }
-    ensures sees { (pages : Pages) → Sees (D.tape disk.old) cache.old pages
-        → Sees (D.tape disk.new) cache.new pages }
+    ensures sees { SeesStill (D.tape disk.old) (D.tape disk.new) cache.old cache.new }
     ensures checks { (pages : Pages) → Sees (D.tape disk.old) cache.old pages
         → Settles (opening_of cache.old.geometry at
         (pages (address_of cache.old.geometry at.position / 8192))) result }
