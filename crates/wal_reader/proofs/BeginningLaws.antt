@@ -7,12 +7,13 @@ use Rattle.byte_position.proofs.Rising.{position_of-le_self}
 use Rattle.byte_position.proofs.Words.{position_of-mod_word}
 use Rattle.byte_position.proofs.EndAddresses.{end_address_of-page_start}
 use Rattle.wal_page.specs.Page.{header_size, is_continued, is_first_page, remaining_of, timeline_of, first_fault}
+use Rattle.wal_reader.specs.declared.record_place.RecordPlace.{RecordPlace}
 use Rattle.wal_reader.specs.declared.found.Answer.{Answer}
 use Rattle.wal_reader.specs.declared.found.Answer.TheVariants as answers
 use Rattle.wal_reader.specs.declared.beginning.Front.{Front}
 use Rattle.wal_reader.specs.Beginning.{goes_on, skipped_in}
 use Rattle.wal_reader.specs.Pages.{Pages}
-use Rattle.wal_reader.specs.Decodes.{RecordPlace, is_zero_word, page_answers, begin_in, begin_at, ended}
+use Rattle.wal_reader.specs.Decodes.{is_zero_word, page_answers, begin_in, begin_at, ended}
 
 -- the log ends where a page would start
 pub ended_at_page : (size page : ℕ) → IsSegmentSize size → ended size (position_of size (page * 8192)) ≡ answers.End (record { 0 = page * 8192 })

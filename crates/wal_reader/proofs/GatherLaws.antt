@@ -9,10 +9,11 @@ use Rattle.byte_position.proofs.HeaderSizes.{header_size_bounds}
 use Rattle.byte_position.proofs.Pages.{position_of-next_page, address_of-page}
 use Rattle.byte_position.proofs.Rising.{address_of-mono}
 use Rattle.wal_page.specs.Page.{header_size, first_fault, timeline_of}
+use Rattle.wal_reader.specs.declared.record_place.RecordPlace.{RecordPlace}
 use Rattle.wal_reader.specs.declared.found.Answer.{Answer}
 use Rattle.wal_reader.specs.declared.page_cursor.PageCursor.{PageCursor}
 use Rattle.wal_reader.specs.Pages.{Pages, byte_at, bytes_from}
-use Rattle.wal_reader.specs.Decodes.{RecordPlace, continuation_rows, continuation_rows_of, page_of_byte, rows_of_pages, timeline_or}
+use Rattle.wal_reader.specs.Decodes.{continuation_rows, continuation_rows_of, page_of_byte, rows_of_pages, timeline_or}
 use Rattle.wal_reader.specs.declared.read_failure.ReadFailure.{ReadFailure}
 use Rattle.wal_reader.specs.PageCursor.{Crosses, HasGathered, HoldsPassed, StandsIn}
 use Rattle.wal_reader.specs.ReadFailures.{IsTold, Settles}

@@ -4,11 +4,10 @@ use Rattle.std.proofs.lemmas.Bool.{cond-true, cond-false, le-leb, lt-leb}
 use Rattle.wal_reader.specs.declared.found.FoundRecord.{FoundRecord}
 use Rattle.wal_reader.specs.declared.found.Answer.{Answer}
 use Rattle.wal_reader.specs.Pages.{Pages}
-use Rattle.wal_reader.specs.Decodes.{RecordPlace, ReadsFrom, Decodes, beginning, place_behind, read_at}
+use Rattle.wal_reader.specs.Decodes.{ReadsFrom, Decodes, beginning, place_behind, read_at}
 use Rattle.wal_reader.specs.RecordRead.{IsRead}
-use Rattle.wal_reader.specs.ReadingPoint.{place_of}
 use Rattle.wal_reader.specs.Steps.{GivesFrom, ComesNext}
-use Rattle.wal_reader.specs.declared.reading_point.ReadingPoint.{ReadingPoint}
+use Rattle.wal_reader.specs.declared.record_place.RecordPlace.{RecordPlace}
 use Rattle.wal_reader.specs.declared.read_failure.ReadFailure.{ReadFailure}
 use Rattle.wal_reader.specs.declared.read_failure.ReadFailure.TheVariants.{Told, Memory, Disk}
 
@@ -46,15 +45,15 @@ module _ (size : ℕ) (pages : Pages) (start : ℕ) (end : Option ℕ) where
     given = gives.given;
   }
 
--- where what comes from one point comes from another, a stop at the first is one at the other
-pub ComesNext-stopped : (size : ℕ) (pages : Pages) (start : ℕ) (end : Option ℕ) (from at : ReadingPoint) (stop : ReadFailure) → ((others : List FoundRecord) (answer : Answer) → GivesFrom size pages start end (place_of at) others answer → GivesFrom size pages start end (place_of from) others answer) → IsRead size pages (place_of at) (read_at size pages end (place_of at)) (Err stop) → ComesNext size pages start end (Some from) (Err stop)
-ComesNext-stopped size pages start end from at (Told answer) comes reads = comes [] answer (GivesFrom-stop size pages start end (place_of at) answer reads)
+-- where what comes from one place comes from another, a stop at the first is one at the other
+pub ComesNext-stopped : (size : ℕ) (pages : Pages) (start : ℕ) (end : Option ℕ) (from at : RecordPlace) (stop : ReadFailure) → ((others : List FoundRecord) (answer : Answer) → GivesFrom size pages start end at others answer → GivesFrom size pages start end from others answer) → IsRead size pages at (read_at size pages end at) (Err stop) → ComesNext size pages start end (Some from) (Err stop)
+ComesNext-stopped size pages start end from at (Told answer) comes reads = comes [] answer (GivesFrom-stop size pages start end at answer reads)
 ComesNext-stopped size pages start end from at Memory comes reads = tt
 ComesNext-stopped size pages start end from at Disk comes reads = tt
 
 -- what comes next from where reading begins comes next of all
-pub ComesNext-begun : (size : ℕ) (pages : Pages) (start : ℕ) (end : Option ℕ) (at : ReadingPoint) (result : Result (FoundRecord × ReadingPoint) ReadFailure) → beginning size pages start ≡ Ok (place_of at) → ComesNext size pages start end (Some at) result → ComesNext size pages start end None result
-ComesNext-begun size pages start end at (Ok (found, next)) begins comes = λ others answer rest. Decodes-begun size pages start end (place_of at) (found ∷ others) answer begins (comes others answer rest)
-ComesNext-begun size pages start end at (Err (Told answer)) begins comes = Decodes-begun size pages start end (place_of at) [] answer begins comes
+pub ComesNext-begun : (size : ℕ) (pages : Pages) (start : ℕ) (end : Option ℕ) (at : RecordPlace) (result : Result (FoundRecord × RecordPlace) ReadFailure) → beginning size pages start ≡ Ok at → ComesNext size pages start end (Some at) result → ComesNext size pages start end None result
+ComesNext-begun size pages start end at (Ok (found, next)) begins comes = λ others answer rest. Decodes-begun size pages start end at (found ∷ others) answer begins (comes others answer rest)
+ComesNext-begun size pages start end at (Err (Told answer)) begins comes = Decodes-begun size pages start end at [] answer begins comes
 ComesNext-begun size pages start end at (Err Memory) begins comes = tt
 ComesNext-begun size pages start end at (Err Disk) begins comes = tt

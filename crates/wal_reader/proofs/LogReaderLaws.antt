@@ -5,23 +5,23 @@ use Rattle.wal_reader.specs.declared.found.Answer.{Answer}
 use Rattle.wal_reader.specs.declared.found.Answer.TheVariants.{End, Stopped}
 use Rattle.wal_reader.specs.declared.standing.Standing.{Standing}
 use Rattle.wal_reader.specs.declared.standing.Standing.TheVariants.{NotBegun, At}
-use Rattle.wal_reader.specs.declared.reading_point.ReadingPoint.{ReadingPoint}
+use Rattle.wal_reader.specs.declared.record_place.RecordPlace.{RecordPlace}
 use Rattle.wal_reader.specs.LogReader.{ReaderState, GivesRecords, GivesAt, IsNext, LeavesReader, OnEnd, StandsAfter}
 use Rattle.wal_reader.specs.Pages.{Pages}
 use Rattle.wal_reader.specs.Standings.{standing_after, told}
 use Rattle.wal_reader.specs.Steps.{Comes}
 
 -- the standing of a reader that has not stopped
-abbrev pub standing_from : Option ReadingPoint → Standing
+abbrev pub standing_from : Option RecordPlace → Standing
 standing_from None = NotBegun
 standing_from (Some at) = At at
 
-comes_at : (pages : Pages) (state : ReaderState) (from : Option ReadingPoint) (found : List FoundRecord) (answer : Answer) → Comes state.size pages state.start state.end from found answer → GivesAt pages state (standing_from from) found answer
+comes_at : (pages : Pages) (state : ReaderState) (from : Option RecordPlace) (found : List FoundRecord) (answer : Answer) → Comes state.size pages state.start state.end from found answer → GivesAt pages state (standing_from from) found answer
 comes_at pages state None found answer comes = comes
 comes_at pages state (Some at) found answer comes = comes
 
 -- a reader gives what comes from where it stands
-pub Gives-comes : (pages : Pages) (state : ReaderState) (from : Option ReadingPoint) (found : List FoundRecord) (answer : Answer) → state.standing ≡ standing_from from → Comes state.size pages state.start state.end from found answer → GivesRecords pages state found answer
+pub Gives-comes : (pages : Pages) (state : ReaderState) (from : Option RecordPlace) (found : List FoundRecord) (answer : Answer) → state.standing ≡ standing_from from → Comes state.size pages state.start state.end from found answer → GivesRecords pages state found answer
 Gives-comes pages state from found answer same comes = subst (λ (s : Standing). GivesAt pages state s found answer) (sym same) (comes_at pages state from found answer comes)
 
 -- an answer that is told is the next

@@ -6,8 +6,9 @@ use Rattle.byte_position.specs.Position.{position_of, address_of, end_address_of
 use Rattle.byte_position.proofs.SegmentSizes.{segment_size_in_pages}
 use Rattle.byte_position.proofs.Headers.{in_none}
 use Rattle.byte_position.proofs.PositionLaws.{end_address_of-next, position_of-outside, address_of-position_of}
+use Rattle.wal_reader.specs.declared.record_place.RecordPlace.{RecordPlace}
 use Rattle.wal_reader.specs.Pages.{Pages, byte_at, bytes_from}
-use Rattle.wal_reader.specs.Decodes.{RecordPlace, rows_of_pages}
+use Rattle.wal_reader.specs.Decodes.{rows_of_pages}
 
 -- no page is needed behind the one in which the bytes end
 pub rows_of_pages-none : (size : ℕ) (pages : Pages) (place : RecordPlace) (total page : ℕ) → rows_of_pages size pages place total page page ≡ []

@@ -6,11 +6,12 @@ use Rattle.byte_position.specs.Position.{address_of}
 use Rattle.record_spelling.specs.Numbers.{number_at}
 use Rattle.record_decode.specs.Reading.{reading_of}
 use Rattle.wal_page.specs.Page.{first_fault}
+use Rattle.wal_reader.specs.declared.record_place.RecordPlace.{RecordPlace}
 use Rattle.wal_reader.specs.declared.found.Answer.{Answer}
 use Rattle.wal_reader.specs.declared.page_cursor.PageCursor.{PageCursor}
 use Rattle.wal_reader.specs.Pages.{Pages, bytes_from}
 use Rattle.wal_reader.specs.PageCursor.{HasGathered, StandsIn}
-use Rattle.wal_reader.specs.Decodes.{RecordPlace, ended, found_or, is_at_end, is_zero_word, record_rows, answer_or, read_in, read_at, opening_of, opening_rows, size_rows, rest_rows}
+use Rattle.wal_reader.specs.Decodes.{ended, found_or, is_at_end, is_zero_word, record_rows, answer_or, read_in, read_at, opening_of, opening_rows, size_rows, rest_rows}
 use Rattle.wal_reader.specs.RecordRead.{said_of}
 use Rattle.wal_reader.proofs.GatherLaws.{bytes_in_page}
 use Rattle.wal_reader.proofs.PagesLaws.{take-bytes_from}

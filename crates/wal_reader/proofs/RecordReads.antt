@@ -19,14 +19,14 @@ use Rattle.wal_reader.specs.declared.page_cursor.PageCursor.{PageCursor}
 use Rattle.wal_reader.specs.declared.record_extent.RecordExtent.{RecordExtent}
 use Rattle.wal_reader.specs.declared.found.Answer.{Answer}
 use Rattle.wal_reader.specs.declared.found.FoundRecord.{FoundRecord}
-use Rattle.wal_reader.specs.declared.reading_point.ReadingPoint.{ReadingPoint}
+use Rattle.wal_reader.specs.declared.record_place.RecordPlace.{RecordPlace}
 use Rattle.wal_reader.specs.declared.read_failure.ReadFailure.{ReadFailure}
 use Rattle.wal_reader.specs.declared.read_failure.ReadFailure.TheVariants as failures
 use Rattle.wal_reader.specs.Pages.{Pages, bytes_from}
 use Rattle.wal_reader.specs.PageCursor.{Crosses, HasGathered, HoldsPassed, StandsIn}
-use Rattle.wal_reader.specs.Decodes.{RecordPlace, found_or, page_of_byte, place_behind, rows_of_pages, crc_rows, header_rows, rest_rows}
+use Rattle.wal_reader.specs.Decodes.{found_or, page_of_byte, place_behind, rows_of_pages, crc_rows, header_rows, rest_rows}
 use Rattle.wal_reader.specs.RecordRead.{GoesOn, IsRead, said_of}
-use Rattle.wal_reader.specs.ReadingPoint.{IsReachable, place_of}
+use Rattle.wal_reader.specs.RecordPlace.{IsReachable}
 use Rattle.wal_reader.specs.ReadFailures.{IsTold}
 use Rattle.wal_reader.proofs.GatherLaws.{bytes_in_page, crosses_none, gathers_further, page_from}
 use Rattle.wal_reader.proofs.RowLaws.{first_of, first_fault-append, number_at-take}
@@ -61,18 +61,18 @@ stop_tells size pages place here fault goes (failures.Told answer) told = goes a
 stop_tells size pages place here fault goes failures.Memory told = told
 stop_tells size pages place here fault goes failures.Disk told = told
 
--- what is read by an extent is read at its point
-pub read_as : (size : ℕ) (pages : Pages) (at : ReadingPoint) (extent : RecordExtent) (here : Result FoundRecord Answer) (result : Result (FoundRecord × ReadingPoint) ReadFailure) → extent.at ≡ at → here ≡ said_of size pages (place_of at) extent.total (first_fault (rest_rows size pages (place_of at) extent.total))
-    → IsRead size pages (place_of extent.at) (said_of size pages (place_of extent.at) extent.total (first_fault (rest_rows size pages (place_of extent.at) extent.total))) result → IsRead size pages (place_of at) here result
+-- what is read by an extent is read at its place
+pub read_as : (size : ℕ) (pages : Pages) (at : RecordPlace) (extent : RecordExtent) (here : Result FoundRecord Answer) (result : Result (FoundRecord × RecordPlace) ReadFailure) → extent.at ≡ at → here ≡ said_of size pages at extent.total (first_fault (rest_rows size pages at extent.total))
+    → IsRead size pages extent.at (said_of size pages extent.at extent.total (first_fault (rest_rows size pages extent.at extent.total))) result → IsRead size pages at here result
 read_as size pages at extent here result same said read =
-    let at_own : ReadingPoint → Type 0 = λ a. IsRead size pages (place_of a) (said_of size pages (place_of a) extent.total (first_fault (rest_rows size pages (place_of a) extent.total))) result in
-    subst (λ (h : Result FoundRecord Answer). IsRead size pages (place_of at) h result) (sym said) (subst at_own same read)
+    let at_own : RecordPlace → Type 0 = λ a. IsRead size pages a (said_of size pages a extent.total (first_fault (rest_rows size pages a extent.total))) result in
+    subst (λ (h : Result FoundRecord Answer). IsRead size pages at h result) (sym said) (subst at_own same read)
 
--- what a room holds by an extent it holds by its point
-pub room_as : (size : ℕ) (pages : Pages) (at : ReadingPoint) (extent : RecordExtent) (n : ℕ) (room : List ℕ) → extent.at ≡ at → extent.total ≡ n → HoldsPassed size pages (place_of extent.at) extent.total (address_of size extent.at.position / 8192) room → HoldsPassed size pages (place_of at) n (address_of size at.position / 8192) room
+-- what a room holds by an extent it holds by its place
+pub room_as : (size : ℕ) (pages : Pages) (at : RecordPlace) (extent : RecordExtent) (n : ℕ) (room : List ℕ) → extent.at ≡ at → extent.total ≡ n → HoldsPassed size pages extent.at extent.total (address_of size extent.at.position / 8192) room → HoldsPassed size pages at n (address_of size at.position / 8192) room
 room_as size pages at extent n room same sized holds =
-    let at_own : ReadingPoint → Type 0 = λ a. HoldsPassed size pages (place_of a) n (address_of size a.position / 8192) room in
-    let sized_own : ℕ → Type 0 = λ total. HoldsPassed size pages (place_of extent.at) total (address_of size extent.at.position / 8192) room in
+    let at_own : RecordPlace → Type 0 = λ a. HoldsPassed size pages a n (address_of size a.position / 8192) room in
+    let sized_own : ℕ → Type 0 = λ total. HoldsPassed size pages extent.at total (address_of size extent.at.position / 8192) room in
     subst at_own same (subst sized_own sized holds)
 
 -- ---- the same of a record's groups, by the pages that were crossed
@@ -129,7 +129,7 @@ module _ (size : ℕ) (pages : Pages) (place : RecordPlace) (total : ℕ) (p0 p1
         all_pass told = ap (said_of size pages place total) (told_by_none rows_of_header_pages (header_rows start place.prev header) rows_of_further_pages (crc_rows start whole) (header_pages_pass crossed) sound (further_pages_pass crossed_further) told)
 
 -- a header's checks look at its own bytes
-pub header_rows-front : (start : ℕ) (prev : Option ℕ) (bytes : List ℕ) → header_rows start prev (take 24 bytes) ≡ header_rows start prev bytes
+pub header_rows-front : (start : ℕ) (prev : Option Lsn) (bytes : List ℕ) → header_rows start prev (take 24 bytes) ≡ header_rows start prev bytes
 header_rows-front start prev bytes =
     let manager : slice_index (take 24 bytes) 17 ≡ slice_index bytes 17 = get_or-take 24 bytes 17 0 (omega arith) in
     let named : number_at w64 (take 24 bytes) 8 ≡ number_at w64 bytes 8 = number_at-take w64 bytes 24 8 (omega arith) in
@@ -153,12 +153,21 @@ found_fields size place total prev (Err Memory) found e = absurd (cc)
 found_fields size place total prev (Err (Malformed at kind)) found e = absurd (cc)
 found_fields size place total prev (Err (Compressed block)) found e = absurd (cc)
 
-pub found_behind : (size : ℕ) (pages : Pages) (at : ReadingPoint) (start : Lsn) (total prev : ℕ) (reading : Result Record RecErr) (found : FoundRecord) (cursor : PageCursor) (bytes : List ℕ) → found_or size (place_of at) total prev reading ≡ Ok found
+abbrev lsn_at : ℕ → Lsn
+lsn_at address = record { 0 = address }
+
+-- the place behind a record that was read
+abbrev pub behind_read : RecordPlace → Lsn → ℕ → ℕ → RecordPlace
+behind_read at start total timeline =
+    record { position = at.position + (total + 7) / 8 * 8; prev = Some start; timeline = timeline }
+
+pub found_behind : (size : ℕ) (pages : Pages) (at : RecordPlace) (start : Lsn) (total prev : ℕ) (reading : Result Record RecErr) (found : FoundRecord) (cursor : PageCursor) (bytes : List ℕ) → found_or size at total prev reading ≡ Ok found
     → start.0 ≡ address_of size at.position → cursor.page ≡ page_of_byte size at.position total → pages cursor.page ≡ Some bytes → timeline_of bytes ≡ cursor.timeline
-    → place_of (record { position = at.position + (total + 7) / 8 * 8; prev = Some start; timeline = cursor.timeline }) ≡ place_behind size pages (place_of at) found
+    → behind_read at start total cursor.timeline ≡ place_behind size pages at found
 found_behind size pages at start total prev reading found cursor bytes e starts last here timeline =
-    let fields = found_fields size (place_of at) total prev reading found e in
-    rw (fields.0, fields.1, ← last, here, ← timeline, starts) refl
+    let fields = found_fields size at total prev reading found e in
+    let same : start ≡ found.start = ap (λ (address : ℕ). lsn_at address) (starts ∙ sym fields.0) in
+    rw (← same, fields.1, ← last, here, ← timeline) refl
 
 -- what was found of bytes, by whatever names
 pub found_as : (size own : ℕ) (place : RecordPlace) (total : ℕ) (bytes own_bytes : List ℕ) (found answer : Result FoundRecord Answer) → own ≡ size → own_bytes ≡ bytes → found ≡ found_or own place total (number_at w64 own_bytes 8) (reading_of own_bytes) → found ≡ answer → found_or size place total (number_at w64 bytes 8) (reading_of bytes) ≡ answer
@@ -186,18 +195,15 @@ pub end_in_page : (size position total : ℕ) (cursor : PageCursor) → HasGathe
 end_in_page size position total cursor gathered within large aligned =
     end_in_reach size position total (record cursor { offset = cursor.offset + total }) (gathers_further size position 0 cursor gathered.stands total total (omega arith) within (omega arith)) aligned
 
-pub goes_on_behind : (at next : ReadingPoint) (total : ℕ) → IsReachable at → 24 ≤ total → at.position + (total + 7) / 8 * 8 < 2 ^ 60 → next.position ≡ at.position + (total + 7) / 8 * 8 → GoesOn at next
+pub goes_on_behind : (at next : RecordPlace) (total : ℕ) → IsReachable at → 24 ≤ total → at.position + (total + 7) / 8 * 8 < 2 ^ 60 → next.position ≡ at.position + (total + 7) / 8 * 8 → GoesOn at next
 goes_on_behind at next total reachable large bound e = (omega arith, record { aligned = omega (arith, reachable.aligned); bounded = omega arith })
 
 -- ---- a record that its first page has whole
 
-module _ (size : ℕ) (pages : Pages) (at : ReadingPoint) (start : Lsn) (total : ℕ) (cursor : PageCursor) (page bytes : List ℕ) (starts : start.0 ≡ address_of size at.position) (first : cursor.page ≡ address_of size at.position / 8192) (gathered : HasGathered size at.position 0 cursor)
+module _ (size : ℕ) (pages : Pages) (at : RecordPlace) (start : Lsn) (total : ℕ) (cursor : PageCursor) (page bytes : List ℕ) (starts : start.0 ≡ address_of size at.position) (first : cursor.page ≡ address_of size at.position / 8192) (gathered : HasGathered size at.position 0 cursor)
     (here : pages cursor.page ≡ Some page) (whole_page : length page ≡ 8192) (large : 24 ≤ total) (within : cursor.offset + total ≤ 8192) (own : bytes ≡ take total (drop cursor.offset page)) where
-  abbrev place : RecordPlace
-  place = place_of at
-
   abbrev said_here : Result FoundRecord Answer
-  said_here = said_of size pages place total (first_fault (rest_rows size pages place total))
+  said_here = said_of size pages at total (first_fault (rest_rows size pages at total))
 
   stands : StandsIn size at.position cursor
   stands = let e : at.position + 0 ≡ at.position = omega arith in subst (λ (p : ℕ). StandsIn size p cursor) e gathered.stands
@@ -214,32 +220,32 @@ module _ (size : ℕ) (pages : Pages) (at : ReadingPoint) (start : Lsn) (total :
   record_bytes : bytes_from size pages total at.position ≡ bytes
   record_bytes = bytes_in_page size at.position cursor stands pages page here whole_page total within ∙ sym own
 
-  abbrev crosses_nothing : Crosses size pages place total cursor.page cursor.page
-  crosses_nothing = crosses_none size pages place total cursor.page
+  abbrev crosses_nothing : Crosses size pages at total cursor.page cursor.page
+  crosses_nothing = crosses_none size pages at total cursor.page
 
-  pub header_fails_here : (answer : Answer) → first_fault (header_rows start.0 place.prev bytes) ≡ Some answer → said_here ≡ Err answer
+  pub header_fails_here : (answer : Answer) → first_fault (header_rows start.0 at.prev bytes) ≡ Some answer → said_here ≡ Err answer
   header_fails_here answer told =
-      let rows : header_rows (address_of size at.position) place.prev (bytes_from size pages 24 at.position) ≡ header_rows start.0 place.prev bytes = ap (header_rows (address_of size at.position) place.prev) (in_page 24 large) ∙ header_rows-front (address_of size at.position) place.prev bytes ∙ ap (λ (a : ℕ). header_rows a place.prev bytes) (sym starts) in
-      header_fails size pages place total cursor.page cursor.page cursor.page first (page_has 24 (omega arith) large) (page_has total (omega arith) (omega arith)) crosses_nothing answer (ap first_fault rows ∙ told)
+      let rows : header_rows (address_of size at.position) at.prev (bytes_from size pages 24 at.position) ≡ header_rows start.0 at.prev bytes = ap (header_rows (address_of size at.position) at.prev) (in_page 24 large) ∙ header_rows-front (address_of size at.position) at.prev bytes ∙ ap (λ (a : ℕ). header_rows a at.prev bytes) (sym starts) in
+      header_fails size pages at total cursor.page cursor.page cursor.page first (page_has 24 (omega arith) large) (page_has total (omega arith) (omega arith)) crosses_nothing answer (ap first_fault rows ∙ told)
 
-  header_passes_here : first_fault (header_rows start.0 place.prev bytes) ≡ None → first_fault (header_rows (address_of size at.position) place.prev (bytes_from size pages 24 at.position)) ≡ None
+  header_passes_here : first_fault (header_rows start.0 at.prev bytes) ≡ None → first_fault (header_rows (address_of size at.position) at.prev (bytes_from size pages 24 at.position)) ≡ None
   header_passes_here told =
-      let rows : header_rows (address_of size at.position) place.prev (bytes_from size pages 24 at.position) ≡ header_rows start.0 place.prev bytes = ap (header_rows (address_of size at.position) place.prev) (in_page 24 large) ∙ header_rows-front (address_of size at.position) place.prev bytes ∙ ap (λ (a : ℕ). header_rows a place.prev bytes) (sym starts) in
+      let rows : header_rows (address_of size at.position) at.prev (bytes_from size pages 24 at.position) ≡ header_rows start.0 at.prev bytes = ap (header_rows (address_of size at.position) at.prev) (in_page 24 large) ∙ header_rows-front (address_of size at.position) at.prev bytes ∙ ap (λ (a : ℕ). header_rows a at.prev bytes) (sym starts) in
       ap first_fault rows ∙ told
 
   crc_rows_here : crc_rows (address_of size at.position) (bytes_from size pages total at.position) ≡ crc_rows start.0 bytes
   crc_rows_here = ap (crc_rows (address_of size at.position)) record_bytes ∙ ap (λ (a : ℕ). crc_rows a bytes) (sym starts)
 
-  pub crc_fails_here : first_fault (header_rows start.0 place.prev bytes) ≡ None → (answer : Answer) → first_fault (crc_rows start.0 bytes) ≡ Some answer → said_here ≡ Err answer
+  pub crc_fails_here : first_fault (header_rows start.0 at.prev bytes) ≡ None → (answer : Answer) → first_fault (crc_rows start.0 bytes) ≡ Some answer → said_here ≡ Err answer
   crc_fails_here sound answer told =
-      crc_fails size pages place total cursor.page cursor.page cursor.page first (page_has 24 (omega arith) large) (page_has total (omega arith) (omega arith)) crosses_nothing (header_passes_here sound) crosses_nothing answer (ap first_fault crc_rows_here ∙ told)
+      crc_fails size pages at total cursor.page cursor.page cursor.page first (page_has 24 (omega arith) large) (page_has total (omega arith) (omega arith)) crosses_nothing (header_passes_here sound) crosses_nothing answer (ap first_fault crc_rows_here ∙ told)
 
-  pub read_here : first_fault (header_rows start.0 place.prev bytes) ≡ None → first_fault (crc_rows start.0 bytes) ≡ None → said_here ≡ found_or size place total (number_at w64 bytes 8) (reading_of bytes)
+  pub read_here : first_fault (header_rows start.0 at.prev bytes) ≡ None → first_fault (crc_rows start.0 bytes) ≡ None → said_here ≡ found_or size at total (number_at w64 bytes 8) (reading_of bytes)
   read_here sound intact =
-      all_pass size pages place total cursor.page cursor.page cursor.page first (page_has 24 (omega arith) large) (page_has total (omega arith) (omega arith)) crosses_nothing (header_passes_here sound) crosses_nothing (ap first_fault crc_rows_here ∙ intact)
-      ∙ ap (λ (bs : List ℕ). found_or size place total (number_at w64 bs 8) (reading_of bs)) record_bytes
+      all_pass size pages at total cursor.page cursor.page cursor.page first (page_has 24 (omega arith) large) (page_has total (omega arith) (omega arith)) crosses_nothing (header_passes_here sound) crosses_nothing (ap first_fault crc_rows_here ∙ intact)
+      ∙ ap (λ (bs : List ℕ). found_or size at total (number_at w64 bs 8) (reading_of bs)) record_bytes
 
-  pub found_here : (found : FoundRecord) → timeline_of page ≡ cursor.timeline → found_or size place total (number_at w64 bytes 8) (reading_of bytes) ≡ Ok found → place_of (record { position = at.position + (total + 7) / 8 * 8; prev = Some start; timeline = cursor.timeline }) ≡ place_behind size pages place found
+  pub found_here : (found : FoundRecord) → timeline_of page ≡ cursor.timeline → found_or size at total (number_at w64 bytes 8) (reading_of bytes) ≡ Ok found → behind_read at start total cursor.timeline ≡ place_behind size pages at found
   found_here found timeline e = found_behind size pages at start total (number_at w64 bytes 8) (reading_of bytes) found cursor page e starts (page_has total (omega arith) (omega arith)) here timeline
 
 -- ---- a record that was gathered over pages
@@ -248,28 +254,28 @@ pub bytes_from-none : (size : ℕ) (pages : Pages) (position n : ℕ) → n ≡ 
 unfolding bytes_from
 bytes_from-none size pages position n none = rw none refl
 
-module _ (size : ℕ) (pages : Pages) (at : ReadingPoint) (start : Lsn) (total : ℕ) (starts : start.0 ≡ address_of size at.position) (p0 p1 p2 : ℕ) (e0 : p0 ≡ address_of size at.position / 8192) (e1 : p1 ≡ page_of_byte size at.position 24) (e2 : p2 ≡ page_of_byte size at.position total) (crossed : Crosses size pages (place_of at) total p0 p1) (header : List ℕ) (header_is : header ≡ bytes_from size pages 24 at.position) where
+module _ (size : ℕ) (pages : Pages) (at : RecordPlace) (start : Lsn) (total : ℕ) (starts : start.0 ≡ address_of size at.position) (p0 p1 p2 : ℕ) (e0 : p0 ≡ address_of size at.position / 8192) (e1 : p1 ≡ page_of_byte size at.position 24) (e2 : p2 ≡ page_of_byte size at.position total) (crossed : Crosses size pages at total p0 p1) (header : List ℕ) (header_is : header ≡ bytes_from size pages 24 at.position) where
   abbrev told_over : Result FoundRecord Answer
-  told_over = said_of size pages (place_of at) total (first_fault (rest_rows size pages (place_of at) total))
+  told_over = said_of size pages at total (first_fault (rest_rows size pages at total))
 
-  header_rows_over : header_rows (address_of size at.position) (place_of at).prev (bytes_from size pages 24 at.position) ≡ header_rows start.0 (place_of at).prev header
+  header_rows_over : header_rows (address_of size at.position) at.prev (bytes_from size pages 24 at.position) ≡ header_rows start.0 at.prev header
   header_rows_over = rw (header_is, starts) refl
 
-  pub header_fails_over : (answer : Answer) → first_fault (header_rows start.0 (place_of at).prev header) ≡ Some answer → told_over ≡ Err answer
-  header_fails_over answer told = header_fails size pages (place_of at) total p0 p1 p2 e0 e1 e2 crossed answer (ap first_fault header_rows_over ∙ told)
+  pub header_fails_over : (answer : Answer) → first_fault (header_rows start.0 at.prev header) ≡ Some answer → told_over ≡ Err answer
+  header_fails_over answer told = header_fails size pages at total p0 p1 p2 e0 e1 e2 crossed answer (ap first_fault header_rows_over ∙ told)
 
-  module _ (sound : first_fault (header_rows start.0 (place_of at).prev header) ≡ None) where
-    pub stopped_over : (stop : ReadFailure) → IsTold (first_fault (rows_of_pages size pages (place_of at) total p1 (page_of_byte size at.position total))) stop → IsRead size pages (place_of at) told_over (Err stop)
-    stopped_over stop told = stopped_behind_header size pages (place_of at) total p0 p1 p2 e0 e1 e2 crossed (ap first_fault header_rows_over ∙ sound) stop told
+  module _ (sound : first_fault (header_rows start.0 at.prev header) ≡ None) where
+    pub stopped_over : (stop : ReadFailure) → IsTold (first_fault (rows_of_pages size pages at total p1 (page_of_byte size at.position total))) stop → IsRead size pages at told_over (Err stop)
+    stopped_over stop told = stopped_behind_header size pages at total p0 p1 p2 e0 e1 e2 crossed (ap first_fault header_rows_over ∙ sound) stop told
 
-    module _ (crossed_further : Crosses size pages (place_of at) total p1 p2) (bytes : List ℕ) (bytes_are : bytes ≡ bytes_from size pages total at.position) where
+    module _ (crossed_further : Crosses size pages at total p1 p2) (bytes : List ℕ) (bytes_are : bytes ≡ bytes_from size pages total at.position) where
       crc_rows_over : crc_rows (address_of size at.position) (bytes_from size pages total at.position) ≡ crc_rows start.0 bytes
       crc_rows_over = rw (bytes_are, starts) refl
 
       pub crc_fails_over : (answer : Answer) → first_fault (crc_rows start.0 bytes) ≡ Some answer → told_over ≡ Err answer
-      crc_fails_over answer told = crc_fails size pages (place_of at) total p0 p1 p2 e0 e1 e2 crossed (ap first_fault header_rows_over ∙ sound) crossed_further answer (ap first_fault crc_rows_over ∙ told)
+      crc_fails_over answer told = crc_fails size pages at total p0 p1 p2 e0 e1 e2 crossed (ap first_fault header_rows_over ∙ sound) crossed_further answer (ap first_fault crc_rows_over ∙ told)
 
-      pub read_over : first_fault (crc_rows start.0 bytes) ≡ None → told_over ≡ found_or size (place_of at) total (number_at w64 bytes 8) (reading_of bytes)
+      pub read_over : first_fault (crc_rows start.0 bytes) ≡ None → told_over ≡ found_or size at total (number_at w64 bytes 8) (reading_of bytes)
       read_over intact =
-          all_pass size pages (place_of at) total p0 p1 p2 e0 e1 e2 crossed (ap first_fault header_rows_over ∙ sound) crossed_further (ap first_fault crc_rows_over ∙ intact)
-          ∙ ap (λ (bs : List ℕ). found_or size (place_of at) total (number_at w64 bs 8) (reading_of bs)) (sym bytes_are)
+          all_pass size pages at total p0 p1 p2 e0 e1 e2 crossed (ap first_fault header_rows_over ∙ sound) crossed_further (ap first_fault crc_rows_over ∙ intact)
+          ∙ ap (λ (bs : List ℕ). found_or size at total (number_at w64 bs 8) (reading_of bs)) (sym bytes_are)

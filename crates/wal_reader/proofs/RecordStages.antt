@@ -5,11 +5,12 @@ use Rattle.byte_position.specs.Geometry.{IsSegmentSize}
 use Rattle.byte_position.specs.Position.{position_of, address_of}
 use Rattle.byte_position.proofs.Pages.{header_below_position, position_by_page, position_of-next_page}
 use Rattle.wal_page.specs.Page.{header_size, first_fault, is_continued}
+use Rattle.wal_reader.specs.declared.record_place.RecordPlace.{RecordPlace}
 use Rattle.wal_reader.specs.declared.found.Answer.{Answer}
 use Rattle.wal_reader.specs.declared.found.DamageKind.TheVariants as kinds
 use Rattle.wal_reader.specs.declared.page_cursor.PageCursor.{PageCursor}
 use Rattle.wal_reader.specs.PageCursor.{HasGathered}
-use Rattle.wal_reader.specs.Decodes.{RecordPlace, damaged, is_zero_word, opens_page, page_answers, opening_of}
+use Rattle.wal_reader.specs.Decodes.{damaged, is_zero_word, opens_page, page_answers, opening_of}
 use Rattle.wal_reader.proofs.RowLaws.{first_of, first_fault-append}
 
 -- ---- the page in which a record starts

@@ -1,5 +1,5 @@
 -- What pages decode to is settled by them, and the steps of a reader tell it.
-use Rattle.std.proofs.Common.{◌≡◌, ◌⊎◌, ℕ, zero, suc, ◌+◌, ◌-◌, ◌*◌, ◌/◌, ◌^◌, ◌<◌, ◌≤◌, Bool, true, false, cond, ltb, leb, List, [], ◌∷◌, ◌++◌, filter, Option, Some, None, Result, Ok, Err, inl, inr, refl, sym, ap, subst, ◌∙◌, arith}
+use Rattle.std.proofs.Common.{◌≡◌, ◌⊎◌, ℕ, zero, suc, ◌+◌, ◌*◌, ◌/◌, ◌^◌, ◌<◌, ◌≤◌, Bool, true, false, cond, ltb, leb, List, [], ◌∷◌, ◌++◌, filter, Option, Some, None, Result, Ok, Err, inl, inr, refl, sym, ap, subst, ◌∙◌, arith}
 use Rattle.std.specs.Int.{w32, w64}
 use Rattle.std.proofs.lemmas.Bool.{cases_Bool, cases_lt, cond-true, cond-false, ltb-false, lt-leb}
 use Rattle.byte_position.specs.Geometry.{IsSegmentSize}
@@ -12,19 +12,18 @@ use Rattle.record_decode.specs.declared.fault.RecErr.{RecErr}
 use Rattle.record_decode.specs.declared.fault.RecErr.TheVariants.{Memory, Malformed, Compressed}
 use Rattle.wal_types.specs.declared.record.Record.{Record}
 use Rattle.wal_page.specs.Page.{first_fault}
+use Rattle.wal_reader.specs.declared.record_place.RecordPlace.{RecordPlace}
 use Rattle.wal_reader.specs.declared.found.FoundRecord.{FoundRecord}
 use Rattle.wal_reader.specs.declared.found.Answer.{Answer}
 use Rattle.wal_reader.specs.declared.found.Answer.TheVariants as answers
 use Rattle.wal_reader.specs.declared.found.DamageKind.TheVariants as damages
-use Rattle.wal_reader.specs.Decodes.{RecordPlace, ReadsRecords, ReadsFrom, answer_or, beginning, damaged, ended, found_or, is_at_end, is_zero_word, opening_rows, place_behind, read_at, read_in, record_rows, size_rows, rest_rows}
+use Rattle.wal_reader.specs.Decodes.{ReadsRecords, ReadsFrom, answer_or, beginning, damaged, ended, found_or, is_at_end, is_zero_word, opening_rows, place_behind, read_at, read_in, record_rows, size_rows, rest_rows}
 use Rattle.wal_reader.specs.LogReader.{ReaderState, GivesRecords, GivesAt, IsNext}
 use Rattle.wal_reader.specs.declared.standing.Standing.{Standing}
 use Rattle.wal_reader.specs.declared.standing.Standing.TheVariants.{NotBegun, At, Stopped}
-use Rattle.wal_reader.specs.ReadingPoint.{place_of}
 use Rattle.wal_reader.specs.Pages.{Pages, bytes_from, pages_in}
 use Rattle.wal_reader.specs.Settled.{DecodingIsSettled, IsBounded, IsSettled, StepsTellDecoding, Tells, stop, step}
 use Rattle.wal_reader.specs.Standings.{told}
-use Rattle.wal_reader.specs.ReadingPoint.{place_of}
 use Rattle.wal_reader.proofs.PagesLaws.{take-bytes_from}
 use Rattle.wal_reader.proofs.RowLaws.{first_of, first_fault-append, number_at-take}
 
@@ -192,8 +191,8 @@ steps_tell_decoding size pages start end found answer tells = Tells-gives pages 
 gives_at : (size : ℕ) (valid : IsSegmentSize size) (pages : Pages) (bounded : IsBounded pages) (start : ℕ) (end : Option ℕ) (standing : Standing)
     → (found : List FoundRecord) × (answer : Answer) × GivesAt pages (record { size = size; start = start; end = end; standing = standing }) standing found answer
 gives_at size valid pages bounded start end NotBegun = let all = settled size valid pages bounded end start in (all.0, all.1, all.2)
-gives_at size valid pages bounded start end (At point) =
-    let reading = reading_begun size valid pages bounded end (Ok (place_of point)) in
+gives_at size valid pages bounded start end (At place) =
+    let reading = reading_begun size valid pages bounded end (Ok place) in
     (filter (λ f. leb start f.start.0) reading.0, reading.1, record { read = reading.0; reads = reading.2; given = refl })
 gives_at size valid pages bounded start end (Stopped reason) = ([], answers.Stopped reason, (refl, refl))
 

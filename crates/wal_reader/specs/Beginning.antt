@@ -4,19 +4,19 @@ use Rattle.wal_page.specs.Page.{is_continued, remaining_of}
 use Rattle.wal_reader.specs.declared.found.Answer.{Answer}
 use Rattle.wal_reader.specs.declared.beginning.Front.{Front}
 use Rattle.wal_reader.specs.declared.beginning.Front.TheVariants.{Here, Filled}
-use Rattle.wal_reader.specs.declared.reading_point.ReadingPoint.{ReadingPoint}
+use Rattle.wal_reader.specs.declared.record_place.RecordPlace.{RecordPlace}
 use Rattle.wal_reader.specs.declared.read_failure.ReadFailure.{ReadFailure}
 use Rattle.wal_reader.specs.declared.read_failure.ReadFailure.TheVariants as failures
-use Rattle.wal_reader.specs.Decodes.{RecordPlace}
-use Rattle.wal_reader.specs.ReadingPoint.{IsReachable, place_of}
+use Rattle.wal_reader.specs.RecordPlace.{IsReachable}
 
 -- how many bytes a record that continues into a page takes up there, if it ends on that page
 abbrev pub skipped_in : List ℕ → ℕ
 skipped_in bytes = if is_continued bytes then (remaining_of bytes + 7) / 8 * 8 else 0
 
 -- where reading begins, by what comes of the page behind a page that is filled
-abbrev pub goes_on : (ℕ → ℕ → Result RecordPlace Answer) → ℕ → Result Front Answer → Result RecordPlace Answer
-goes_on next page (Ok (Here at)) = Ok (place_of at)
+abbrev pub goes_on : (ℕ → ℕ → Result RecordPlace Answer) → ℕ → Result Front Answer
+    → Result RecordPlace Answer
+goes_on next page (Ok (Here at)) = Ok at
 goes_on next page (Ok (Filled timeline)) = next (page + 1) timeline
 goes_on next page (Err answer) = Err answer
 
@@ -24,9 +24,9 @@ abbrev pub IsReachableFront : Front → Type 0
 IsReachableFront (Here at) = IsReachable at
 IsReachableFront (Filled timeline) = Unit {0}
 
--- reading begins at a point, or this stands in its place
-abbrev pub IsBegun : Result RecordPlace Answer → Result ReadingPoint ReadFailure → Type 0
-IsBegun begun (Ok at) = begun ≡ Ok (place_of at)
+-- reading begins at a place, or an answer comes instead
+abbrev pub IsBegun : Result RecordPlace Answer → Result RecordPlace ReadFailure → Type 0
+IsBegun begun (Ok at) = begun ≡ Ok at
 IsBegun begun (Err (failures.Told answer)) = begun ≡ Err answer
 IsBegun begun (Err failures.Memory) = Unit {0}
 IsBegun begun (Err failures.Disk) = Unit {0}

@@ -4,6 +4,7 @@ use Rattle.std.specs.Prelude.{◌≡◌, ℕ, zero, suc, ◌+◌, ◌-◌, ◌*�
 use Rattle.std.specs.List.{flat_map, range_with_len}
 use Rattle.std.specs.Int.{w32, w64}
 use Rattle.byte_position.specs.Position.{position_of, address_of, end_address_of}
+use Rattle.wal_types.specs.declared.lsn.Lsn.{Lsn}
 use Rattle.wal_types.specs.declared.record.Record.{Record}
 use Rattle.wal_crc32c.specs.Crc32c.{crc32c}
 use Rattle.record_spelling.specs.Record.{is_free_manager}
@@ -18,14 +19,8 @@ use Rattle.wal_reader.specs.declared.found.Answer.TheVariants as answers
 use Rattle.wal_reader.specs.declared.found.Stopped.TheVariants as stopped
 use Rattle.wal_reader.specs.declared.found.DamageKind.{DamageKind}
 use Rattle.wal_reader.specs.declared.found.DamageKind.TheVariants as kinds
+use Rattle.wal_reader.specs.declared.record_place.RecordPlace.{RecordPlace}
 use Rattle.wal_reader.specs.Pages.{Pages, bytes_from}
-
--- where a reader stands: the byte position of the next record, the start of the one before (None
--- before the first is read), and the timeline of the page read last
-pub record RecordPlace : Type 0 where
-  pub position : ℕ
-  pub prev : Option ℕ
-  pub timeline : ℕ
 
 abbrev pub damaged : ℕ → DamageKind → Answer
 damaged at kind = answers.Stopped (stopped.Damaged (record { 0 = at }) kind)
@@ -85,8 +80,8 @@ rows_of_pages size pages place total from upto =
 
 -- whether what a header names as the record before is right: the one read before it, or for the
 -- first one read anything below its own start
-abbrev pub is_right_prev : Option ℕ → ℕ → ℕ → Bool
-is_right_prev (Some before) start prev = prev == before
+abbrev pub is_right_prev : Option Lsn → ℕ → ℕ → Bool
+is_right_prev (Some before) start prev = prev == before.0
 is_right_prev None start prev = nat_lt prev start
 
 -- whether an end was given and an address is not below it
@@ -120,7 +115,7 @@ size_rows size end position no_record total =
     ∷ []
 
 -- of its header
-abbrev pub header_rows : ℕ → Option ℕ → List ℕ → List (Bool × Answer)
+abbrev pub header_rows : ℕ → Option Lsn → List ℕ → List (Bool × Answer)
 header_rows start prev header =
     (is_free_manager (slice_index header 17), damaged start kinds.Rmgr)
     ∷ (
@@ -182,7 +177,8 @@ answer_or size pages place None =
     found_or size place total (number_at w64 header 8)
     (reading_of (bytes_from size pages total place.position))
 
-abbrev pub read_in : ℕ → Pages → Option ℕ → RecordPlace → Option (List ℕ) → Result FoundRecord Answer
+abbrev pub read_in : ℕ → Pages → Option ℕ → RecordPlace → Option (List ℕ)
+    → Result FoundRecord Answer
 read_in size pages end place None = Err (ended size place.position)
 read_in size pages end place (Some bytes) =
     answer_or size pages place (first_fault (record_rows size pages end place bytes))
@@ -197,7 +193,7 @@ read_at size pages end place =
 abbrev pub place_behind : ℕ → Pages → RecordPlace → FoundRecord → RecordPlace
 place_behind size pages place found = record {
   position = place.position + (found.total + 7) / 8 * 8;
-  prev = Some found.start.0;
+  prev = Some found.start;
   timeline = timeline_or (pages (page_of_byte size place.position found.total)) place.timeline;
 }
 

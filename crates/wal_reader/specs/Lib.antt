@@ -3,7 +3,7 @@ pub mod Decodes
 pub mod Names
 pub mod Spelled
 pub mod Cache
-pub mod ReadingPoint
+pub mod RecordPlace
 pub mod ReadFailures
 pub mod PageCursor
 pub mod PagesPassed

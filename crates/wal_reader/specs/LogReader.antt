@@ -15,7 +15,7 @@ use Rattle.wal_reader.specs.Buffers.{HoldsPageOf}
 use Rattle.wal_reader.specs.Pages.{Pages}
 use Rattle.wal_reader.specs.RecordRead.{IsBehind}
 use Rattle.wal_reader.specs.Standings.{found_as, left_at}
-use Rattle.wal_reader.specs.ReadingPoint.{IsOutOfReach, place_of}
+use Rattle.wal_reader.specs.RecordPlace.{IsOutOfReach}
 use Rattle.wal_reader.specs.Steps.{GivesFrom}
 
 -- the segment size of the log, the addresses between which records are given, and where the reader
@@ -43,8 +43,8 @@ Knows reader pages = HoldsPageOf reader.geometry reader.buffers pages
 abbrev pub GivesAt : Pages → ReaderState → Standing → List FoundRecord → Answer → Type 0
 GivesAt pages state NotBegun found answer =
     Decodes state.size pages state.start state.end found answer
-GivesAt pages state (At point) found answer =
-    GivesFrom state.size pages state.start state.end (place_of point) found answer
+GivesAt pages state (At place) found answer =
+    GivesFrom state.size pages state.start state.end place found answer
 GivesAt pages state (Stopped stop) found answer = (found ≡ []) × (answer ≡ answers.Stopped stop)
 
 -- what a reader still gives of these pages: before it has begun all that they decode to, and once

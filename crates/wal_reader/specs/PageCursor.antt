@@ -4,11 +4,12 @@ use Rattle.byte_position.specs.Geometry.{IsSegmentSize}
 use Rattle.byte_position.specs.Position.{position_of}
 use Rattle.segment_disk.specs.Tape.{Tape}
 use Rattle.wal_page.specs.Page.{header_size, first_fault, timeline_of}
+use Rattle.wal_reader.specs.declared.record_place.RecordPlace.{RecordPlace}
 use Rattle.wal_reader.specs.declared.page_cursor.PageCursor.{PageCursor}
 use Rattle.wal_reader.specs.declared.page_cache.PageCache.{PageCache}
 use Rattle.wal_reader.specs.Cache.{Caches, log_of}
 use Rattle.wal_reader.specs.Pages.{Pages, bytes_from}
-use Rattle.wal_reader.specs.Decodes.{RecordPlace, page_of_byte, rows_of_pages}
+use Rattle.wal_reader.specs.Decodes.{page_of_byte, rows_of_pages}
 
 -- pages are those of the log that a disk tells
 abbrev pub IsLogOf : Option Tape → ℕ → Pages → Type 0
@@ -19,6 +20,11 @@ IsLogOf (Some tape) size pages = pages ≡ log_of tape size
 pub record Sees (tape : Option Tape) (cache : PageCache) (pages : Pages) : Type 0 where
   pub log : IsLogOf tape cache.geometry pages
   pub held : Caches cache pages
+
+-- after a step the page that is held is one of the same pages
+abbrev pub SeesStill : Option Tape → Option Tape → PageCache → PageCache → Type 0
+SeesStill old_tape new_tape old new = (pages : Pages) → Sees old_tape old pages
+    → Sees new_tape new pages
 
 -- the cursor's page is held, and has its timeline
 abbrev pub IsOn : PageCache → PageCursor → Type 0
@@ -39,7 +45,8 @@ pub record HasGathered (size position n : ℕ) (cursor : PageCursor) : Type 0 wh
   pub last : 0 < n → cursor.page ≡ page_of_byte size position n
 
 -- no check fails of the pages behind one up to another
-pub record Crosses (size : ℕ) (pages : Pages) (place : RecordPlace) (total from upto : ℕ) : Type 0 where
+pub record Crosses (size : ℕ) (pages : Pages) (place : RecordPlace) (total from upto : ℕ)
+    : Type 0 where
   pub rises : from ≤ upto
   pub passes : first_fault (rows_of_pages size pages place total from upto) ≡ None
 

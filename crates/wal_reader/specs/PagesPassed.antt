@@ -1,9 +1,10 @@
 -- The checks of the pages over which a record's bytes are gathered.
 use Rattle.std.specs.Prelude.{ℕ, Result, MatchResult}
 use Rattle.wal_page.specs.Page.{first_fault}
+use Rattle.wal_reader.specs.declared.record_place.RecordPlace.{RecordPlace}
 use Rattle.wal_reader.specs.declared.page_cursor.PageCursor.{PageCursor}
 use Rattle.wal_reader.specs.declared.read_failure.ReadFailure.{ReadFailure}
-use Rattle.wal_reader.specs.Decodes.{RecordPlace, page_of_byte, rows_of_pages}
+use Rattle.wal_reader.specs.Decodes.{page_of_byte, rows_of_pages}
 use Rattle.wal_reader.specs.PageCursor.{Crosses}
 use Rattle.wal_reader.specs.Pages.{Pages}
 use Rattle.wal_reader.specs.ReadFailures.{IsTold}

@@ -6,13 +6,13 @@ use Rattle.record_spelling.specs.Numbers.{number_at}
 use Rattle.record_decode.specs.Reading.{reading_of}
 use Rattle.wal_reader.specs.declared.found.Answer.{Answer}
 use Rattle.wal_reader.specs.declared.found.FoundRecord.{FoundRecord}
-use Rattle.wal_reader.specs.declared.reading_point.ReadingPoint.{ReadingPoint}
+use Rattle.wal_reader.specs.declared.record_place.RecordPlace.{RecordPlace}
 use Rattle.wal_reader.specs.declared.read_failure.ReadFailure.{ReadFailure}
 use Rattle.wal_reader.specs.declared.read_failure.ReadFailure.TheVariants as failures
 use Rattle.wal_reader.specs.Pages.{Pages, bytes_from}
 use Rattle.wal_reader.specs.PageCursor.{HoldsPassed}
-use Rattle.wal_reader.specs.ReadingPoint.{IsReachable, place_of}
-use Rattle.wal_reader.specs.Decodes.{RecordPlace, found_or, place_behind}
+use Rattle.wal_reader.specs.RecordPlace.{IsReachable}
+use Rattle.wal_reader.specs.Decodes.{found_or, place_behind}
 
 -- the first check that fails, or else what a record's bytes say
 abbrev pub said_of : ℕ → Pages → RecordPlace → ℕ → Option Answer → Result FoundRecord Answer
@@ -24,22 +24,22 @@ said_of size pages place total None =
 -- the record that was found, and the place behind it; or what stands in its place; a trouble says
 -- nothing
 abbrev pub IsRead : ℕ → Pages → RecordPlace → Result FoundRecord Answer
-    → Result (FoundRecord × ReadingPoint) ReadFailure → Type 0
+    → Result (FoundRecord × RecordPlace) ReadFailure → Type 0
 IsRead size pages place here (Ok read) =
-    (here ≡ Ok read.0) × (place_of read.1 ≡ place_behind size pages place read.0)
-IsRead size pages place here (Err stop) = IsStopped here stop
+    (here ≡ Ok read.0) × (read.1 ≡ place_behind size pages place read.0)
+IsRead size pages place here (Err failure) = IsFailed here failure
   where
-    IsStopped : Result FoundRecord Answer → ReadFailure → Type 0
-    IsStopped here (failures.Told answer) = here ≡ Err answer
-    IsStopped here failures.Memory = Unit {0}
-    IsStopped here failures.Disk = Unit {0}
+    IsFailed : Result FoundRecord Answer → ReadFailure → Type 0
+    IsFailed here (failures.Told answer) = here ≡ Err answer
+    IsFailed here failures.Memory = Unit {0}
+    IsFailed here failures.Disk = Unit {0}
 
 -- the next place is further on, and one that can be reached
-abbrev pub GoesOn : ReadingPoint → ReadingPoint → Type 0
+abbrev pub GoesOn : RecordPlace → RecordPlace → Type 0
 GoesOn at next = (at.position < next.position) × IsReachable next
 
--- a point just behind a record, which it has as the one before
-abbrev pub IsBehind : ℕ → FoundRecord → ReadingPoint → Type 0
+-- a place just behind a record, which it has as the one before
+abbrev pub IsBehind : ℕ → FoundRecord → RecordPlace → Type 0
 IsBehind size found at =
     (end_address_of size at.position ≡ found.end.0) × (at.prev ≡ Some found.start)
 

@@ -29,7 +29,7 @@ IsOnWay-prop (Stopped stop) = Unit-prop
 -- how much of the log is still before a reader
 abbrev pub left_at : Standing → ℕ
 left_at NotBegun = 2 ^ 60
-left_at (At point) = 2 ^ 60 - point.position
+left_at (At place) = 2 ^ 60 - place.position
 left_at (Stopped stop) = 0
 
 -- a record as a step gives it
@@ -54,7 +54,7 @@ standing_after standing (answers.Stopped stop) = Stopped stop
 -- a reader that has stopped tells its answer again, and leaves the disk alone
 abbrev pub IsToldAgain : {D : Type 0} → Standing → Result Step ReadErr → D → D → Type 0
 IsToldAgain NotBegun result old new = Unit {0}
-IsToldAgain (At point) result old new = Unit {0}
+IsToldAgain (At place) result old new = Unit {0}
 IsToldAgain (Stopped stop) result old new = (result ≡ Err (reading.Stopped stop)) × (new ≡ old)
 
 -- the disk's count of faults: it rises only where the disk failed, and is told there

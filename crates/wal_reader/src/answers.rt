@@ -3,7 +3,7 @@
 ghost use Rattle.std.specs.Prelude.{◌≡◌, ◌↔◌, ◌^◌, ◌<◌, IsTrue, option_map};
 ghost use Rattle.byte_position.specs.Position.{address_of};
 ghost use Rattle.wal_reader.specs.Decodes.{damaged, ended, is_at_end};
-ghost use Rattle.wal_reader.specs.ReadingPoint.{IsOutOfReach};
+ghost use Rattle.wal_reader.specs.RecordPlace.{IsOutOfReach};
 
 use crate::found::{Answer, DamageKind, Stopped};
 use byte_position::Geometry;

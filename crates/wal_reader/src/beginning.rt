@@ -3,19 +3,20 @@
 ghost use Rattle.std.specs.Prelude.{◌≡◌, ℕ, ◌+◌, ◌-◌, ◌*◌, ◌/◌, ◌%◌, ◌<◌, ◌≤◌, ◌^◌, ◌==◌, if◌then◌else◌, Some, IfOk, IfSome, Result};
 ghost use Rattle.byte_position.specs.Position.{position_of};
 ghost use Rattle.segment_disk.specs.Tape.{IsUncalled};
+ghost use Rattle.wal_reader.specs.declared.record_place.RecordPlace.{RecordPlace};
 ghost use Rattle.wal_reader.specs.PageCursor.{Sees};
-ghost use Rattle.wal_reader.specs.Decodes.{RecordPlace, begin_in, beginning, ended};
+ghost use Rattle.wal_reader.specs.Decodes.{begin_in, beginning, ended};
 ghost use Rattle.wal_reader.specs.declared.found.Answer.{Answer};
 ghost use Rattle.wal_reader.specs.Beginning.{IsBegun, IsReachableFront, goes_on};
 ghost use Rattle.wal_reader.specs.Pages.{Pages};
-ghost use Rattle.wal_reader.specs.ReadingPoint.{IsReachable};
+ghost use Rattle.wal_reader.specs.RecordPlace.{IsReachable};
 ghost use Rattle.wal_reader.specs.ReadFailures.{HasFailureCause};
 
 use crate::found::Answer;
 use crate::page_cache::PageCache;
 use crate::page_checks::{check_held, header_len};
 use crate::read_failure::ReadFailure;
-use crate::reading_point::ReadingPoint;
+use crate::record_place::RecordPlace;
 use crate::record_start::is_zero_word;
 use byte_position::{Geometry, PAGE_SIZE};
 use segment_disk::Disk;
@@ -26,7 +27,7 @@ use wal_types::Lsn;
 #[derive(Clone, Copy, Debug)]
 pub(crate) enum Front {
     /// The first record may start here.
-    Here(ReadingPoint),
+    Here(RecordPlace),
     /// The record that continues into the page fills it, so that the next one is to be looked at.
     Filled { timeline: u32 },
 }
@@ -37,7 +38,7 @@ pub(crate) fn find_beginning<D: Disk>(
     cache: &mut PageCache,
     disk: &mut D,
     start: Lsn,
-) -> Result<ReadingPoint, ReadFailure>
+) -> Result<RecordPlace, ReadFailure>
     ensures geometry { cache.new.geometry ≡ cache.old.geometry }
     ensures reachable { IfOk result IsReachable }
     ensures begins { (pages : Pages) → Sees (D.tape disk.old) cache.old pages
@@ -51,7 +52,7 @@ pub(crate) fn find_beginning<D: Disk>(
     let mut timeline = 0;
     'pages: while cache.load(disk, page)? {
         match front_of(cache, page, timeline) {
-            Ok(Front::Here(point)) => return Ok(point),
+            Ok(Front::Here(place)) => return Ok(place),
             Ok(Front::Filled { timeline: told }) => timeline = told,
             Err(answer) => return Err(ReadFailure::Told(answer)),
         }
@@ -90,7 +91,7 @@ fn front_of(cache: &PageCache, page: u64, timeline: u32) -> Result<Front, Answer
             timeline: info.timeline,
         });
     }
-    Ok(Front::Here(ReadingPoint {
+    Ok(Front::Here(RecordPlace {
         position: first_position(cache.geometry, page) + skipped,
         prev: None,
         timeline: info.timeline,

@@ -4,11 +4,11 @@
 ghost use Rattle.std.specs.Prelude.{◌≡◌, ℕ, ◌+◌, ◌-◌, ◌*◌, ◌/◌, ◌<◌, ◌≤◌, ◌^◌, ◌++◌, length, take, drop, min, vec_len, Some, None, IfOk, OnErr, OnOk, MatchResult};
 ghost use Rattle.wal_page.specs.Page.{first_fault};
 ghost use Rattle.segment_disk.specs.Tape.{IsUncalled};
-ghost use Rattle.wal_reader.specs.PageCursor.{Crosses, HasGathered, HoldsPassed, IsOn, Sees, StandsIn};
+ghost use Rattle.wal_reader.specs.PageCursor.{Crosses, HasGathered, HoldsPassed, IsOn, Sees, SeesStill, StandsIn};
 ghost use Rattle.wal_reader.specs.Decodes.{page_of_byte, rows_of_pages};
 ghost use Rattle.wal_reader.specs.Pages.{Pages, bytes_from};
 ghost use Rattle.wal_reader.specs.PagesPassed.{PassesPages};
-ghost use Rattle.wal_reader.specs.ReadingPoint.{IsReachable, place_of};
+ghost use Rattle.wal_reader.specs.RecordPlace.{IsReachable};
 ghost use Rattle.wal_reader.specs.ReadFailures.{HasFailureCause, IsTold};
 
 use crate::layout::PAGE_LEN;
@@ -40,19 +40,16 @@ pub(crate) fn gather<D: Disk>(
     ensures len { OnOk result (vec_len room.new ≡ upto) }
     ensures cursor { IfOk result (λ now. IsOn cache.new now
         × HasGathered cache.old.geometry extent.at.position upto now) }
-    ensures sees { (pages : Pages) → Sees (D.tape disk.old) cache.old pages
-        → Sees (D.tape disk.new) cache.new pages }
+    ensures sees { SeesStill (D.tape disk.old) (D.tape disk.new) cache.old cache.new }
     ensures bytes { (pages : Pages) → Sees (D.tape disk.old) cache.old pages → room.old.items
         ≡ bytes_from cache.old.geometry pages (vec_len room.old) extent.at.position
         → OnOk result (room.new.items
         ≡ bytes_from cache.old.geometry pages upto extent.at.position) }
     ensures room { (pages : Pages) → Sees (D.tape disk.old) cache.old pages → room.old.items
         ≡ bytes_from cache.old.geometry pages (vec_len room.old) extent.at.position
-        → HoldsPassed cache.old.geometry pages
-        (place_of extent.at) extent.total cursor.page room.new.items }
+        → HoldsPassed cache.old.geometry pages extent.at extent.total cursor.page room.new.items }
     ensures checks { (pages : Pages) → Sees (D.tape disk.old) cache.old pages
-        → PassesPages cache.old.geometry pages
-        (place_of extent.at) extent.total cursor.page upto result }
+        → PassesPages cache.old.geometry pages extent.at extent.total cursor.page upto result }
 
     ensures uncalled { IsUncalled D.tape D.moment disk.old disk.new }
     ensures cause { HasFailureCause (D.faults disk.old) (D.faults disk.new) result }
@@ -83,15 +80,13 @@ fn gather_more<D: Disk>(
     ensures len { OnOk result ((vec_len room.old < vec_len room.new) × (vec_len room.new ≤ upto)) }
     ensures cursor { IfOk result (λ now. IsOn cache.new now
         × HasGathered cache.old.geometry extent.at.position (vec_len room.new) now) }
-    ensures sees { (pages : Pages) → Sees (D.tape disk.old) cache.old pages
-        → Sees (D.tape disk.new) cache.new pages }
+    ensures sees { SeesStill (D.tape disk.old) (D.tape disk.new) cache.old cache.new }
     ensures bytes { (pages : Pages) → Sees (D.tape disk.old) cache.old pages → room.old.items
         ≡ bytes_from cache.old.geometry pages (vec_len room.old) extent.at.position
         → OnOk result (room.new.items ≡ bytes_from cache.old.geometry pages
         (vec_len room.new) extent.at.position) }
     ensures checks { (pages : Pages) → Sees (D.tape disk.old) cache.old pages
-        → PassesPages cache.old.geometry pages
-        (place_of extent.at) extent.total cursor.page upto result }
+        → PassesPages cache.old.geometry pages extent.at extent.total cursor.page upto result }
 
     ensures uncalled { IsUncalled D.tape D.moment disk.old disk.new }
     ensures cause { HasFailureCause (D.faults disk.old) (D.faults disk.new) result }
@@ -121,15 +116,14 @@ fn pass_border<D: Disk>(
     ensures geometry { cache.new.geometry ≡ cache.old.geometry }
     ensures cursor { IfOk result (λ now. IsOn cache.new now × StandsIn cache.old.geometry
         (extent.at.position + gathered) now × (now.offset < 8192)) }
-    ensures sees { (pages : Pages) → Sees (D.tape disk.old) cache.old pages
-        → Sees (D.tape disk.new) cache.new pages }
+    ensures sees { SeesStill (D.tape disk.old) (D.tape disk.new) cache.old cache.new }
     ensures checks { (pages : Pages) → Sees (D.tape disk.old) cache.old pages
         → MatchResult result (λ now. Crosses cache.old.geometry pages
-        (place_of extent.at) extent.total cursor.page now.page)
-        (λ stop. (upto : ℕ) → gathered < upto
+        extent.at extent.total cursor.page now.page)
+        (λ failure. (upto : ℕ) → gathered < upto
         → IsTold (first_fault (rows_of_pages cache.old.geometry pages
-        (place_of extent.at) extent.total cursor.page
-        (page_of_byte cache.old.geometry extent.at.position upto))) stop) }
+        extent.at extent.total cursor.page
+        (page_of_byte cache.old.geometry extent.at.position upto))) failure) }
 
     ensures uncalled { IsUncalled D.tape D.moment disk.old disk.new }
     ensures cause { HasFailureCause (D.faults disk.old) (D.faults disk.new) result }

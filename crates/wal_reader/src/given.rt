@@ -6,7 +6,7 @@ ghost use Rattle.wal_reader.specs.PageCursor.{Sees};
 ghost use Rattle.wal_reader.specs.Pages.{Pages};
 ghost use Rattle.wal_reader.specs.RecordRead.{GoesOn, IsBehind};
 ghost use Rattle.wal_reader.specs.Spelled.{IsSpelled};
-ghost use Rattle.wal_reader.specs.ReadingPoint.{IsOutOfReach, IsReachable};
+ghost use Rattle.wal_reader.specs.RecordPlace.{IsOutOfReach, IsReachable};
 ghost use Rattle.wal_reader.specs.Steps.{ComesNext, IsFurther};
 ghost use Rattle.wal_reader.specs.ReadFailures.{HasFailureCause};
 
@@ -14,13 +14,13 @@ use crate::beginning::find_beginning;
 use crate::buffers::Buffers;
 use crate::found::FoundRecord;
 use crate::read_failure::ReadFailure;
-use crate::reading_point::ReadingPoint;
+use crate::record_place::RecordPlace;
 use crate::record_reading::read_record;
 use segment_disk::Disk;
 use std::alloc::Global;
 use wal_types::Lsn;
 
-/// The next record at or behind `start`, and where the one behind it stands: from a point, or
+/// The next record at or behind `start`, and where the one behind it stands: from a place, or
 /// where reading has not begun from where it begins. `end` is where reading ends, if it is given.
 pub(crate) fn next_given<D: Disk>(
     alloc: Global,
@@ -28,8 +28,8 @@ pub(crate) fn next_given<D: Disk>(
     disk: &mut D,
     start: Lsn,
     end: Option<Lsn>,
-    from: Option<ReadingPoint>,
-) -> Result<(FoundRecord, ReadingPoint), ReadFailure>
+    from: Option<RecordPlace>,
+) -> Result<(FoundRecord, RecordPlace), ReadFailure>
     requires { IfSome from IsReachable }
     ensures geometry { buffers.new.cache.geometry ≡ buffers.old.cache.geometry }
     ensures further { IfOk result (λ r. IsFurther from r.1) }
@@ -59,8 +59,8 @@ fn read_given<D: Disk>(
     disk: &mut D,
     start: Lsn,
     end: Option<Lsn>,
-    from: ReadingPoint,
-) -> Result<(FoundRecord, ReadingPoint), ReadFailure>
+    from: RecordPlace,
+) -> Result<(FoundRecord, RecordPlace), ReadFailure>
     requires { IsReachable from }
     ensures geometry { buffers.new.cache.geometry ≡ buffers.old.cache.geometry }
     ensures further { IfOk result (λ r. GoesOn from r.1) }

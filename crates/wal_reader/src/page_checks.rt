@@ -5,10 +5,9 @@ ghost use Rattle.byte_position.specs.Geometry.{IsSegmentSize};
 ghost use Rattle.byte_position.specs.Position.{address_of};
 ghost use Rattle.wal_page.specs.Page.{first_fault, header_size, is_continued, is_overwritten, remaining_of, timeline_of};
 ghost use Rattle.segment_disk.specs.Tape.{IsUncalled};
-ghost use Rattle.wal_reader.specs.PageCursor.{IsOn, Sees};
+ghost use Rattle.wal_reader.specs.PageCursor.{IsOn, Sees, SeesStill};
 ghost use Rattle.wal_reader.specs.Decodes.{continuation_rows_of, page_answers};
 ghost use Rattle.wal_reader.specs.Pages.{Pages};
-ghost use Rattle.wal_reader.specs.ReadingPoint.{place_of};
 ghost use Rattle.wal_reader.specs.ReadFailures.{HasFailureCause, Passes, Settles};
 
 use crate::answers::damaged;
@@ -64,8 +63,7 @@ pub(crate) fn turn_page<D: Disk>(
     ensures next { IfOk result (λ next. (next.page ≡ cursor.page + 1) × (next.offset
         ≡ header_size cache.old.geometry (cursor.page + 1)) × (next.page < 2 ^ 47)
         × IsOn cache.new next) }
-    ensures sees { (pages : Pages) → Sees (D.tape disk.old) cache.old pages
-        → Sees (D.tape disk.new) cache.new pages }
+    ensures sees { SeesStill (D.tape disk.old) (D.tape disk.new) cache.old cache.new }
     ensures checks { (pages : Pages) → Sees (D.tape disk.old) cache.old pages
         → Settles (first_fault (continuation_rows_of cache.old.geometry
         (cursor.page + 1) cursor.timeline start.0 owed (pages (cursor.page + 1)))) result }

@@ -18,7 +18,7 @@ impl From<Answer> for ReadFailure {
     ghost use Rattle.std.specs.Prelude.{◌≡◌};
     ghost use Rattle.wal_reader.specs.declared.read_failure.ReadFailure.TheVariants as failures;
 
-    ghost from_gives = { λ answer stop. stop ≡ failures.Told answer };
+    ghost from_gives = { λ answer failure. failure ≡ failures.Told answer };
 
     fn from(answer: Answer) -> ReadFailure {
         ReadFailure::Told(answer)
@@ -29,7 +29,7 @@ impl From<AllocError> for ReadFailure {
     ghost use Rattle.std.specs.Prelude.{◌≡◌};
     ghost use Rattle.wal_reader.specs.declared.read_failure.ReadFailure.TheVariants as failures;
 
-    ghost from_gives = { λ _ stop. stop ≡ failures.Memory };
+    ghost from_gives = { λ _ failure. failure ≡ failures.Memory };
 
     fn from(_error: AllocError) -> ReadFailure {
         ReadFailure::Memory
@@ -40,7 +40,7 @@ impl From<Failed> for ReadFailure {
     ghost use Rattle.std.specs.Prelude.{◌≡◌};
     ghost use Rattle.wal_reader.specs.declared.read_failure.ReadFailure.TheVariants as failures;
 
-    ghost from_gives = { λ _ stop. stop ≡ failures.Disk };
+    ghost from_gives = { λ _ failure. failure ≡ failures.Disk };
 
     fn from(_failed: Failed) -> ReadFailure {
         ReadFailure::Disk

@@ -9,7 +9,6 @@ ghost use Rattle.record_spelling.specs.Numbers.{number_at};
 ghost use Rattle.record_decode.specs.Reading.{reading_of};
 ghost use Rattle.wal_reader.specs.Decodes.{found_or, crc_rows, header_rows};
 ghost use Rattle.wal_reader.specs.Spelled.{IsSpelled};
-ghost use Rattle.wal_reader.specs.ReadingPoint.{place_of};
 ghost use Rattle.wal_reader.specs.ReadFailures.{Passes};
 
 use crate::answers::damaged;
@@ -29,8 +28,7 @@ use wal_types::Lsn;
 /// ValidXLogRecordHeader of xlogreader.c).
 pub(crate) fn check_header(start: Lsn, before: Option<Lsn>, header: &[u8]) -> Result<(), Answer>
     requires { 24 ≤ length header.now }
-    ensures { Passes (first_fault (header_rows start.0
-        (option_map (λ start. start.0) before) header.now)) result }
+    ensures { Passes (first_fault (header_rows start.0 before header.now)) result }
 {
     if is_free_manager(header[RMID_AT]) {
         return Err(damaged(start, DamageKind::Rmgr));
@@ -69,7 +67,7 @@ pub(crate) fn found(
     requires start { start.0 ≡ address_of geometry extent.at.position }
     requires len { (24 ≤ length bytes.now) × (length bytes.now ≡ extent.total) }
     requires end { extent.at.position + (extent.total + 7) / 8 * 8 < 2 ^ 60 }
-    ensures read { IfOk result (λ found. found ≡ found_or geometry (place_of extent.at) extent.total
+    ensures read { IfOk result (λ found. found ≡ found_or geometry extent.at extent.total
         (number_at w64 bytes.now 8) (reading_of bytes.now)) }
     ensures spelled { IfOk result (λ found. IfOk found IsSpelled) }
     ensures start { IfOk result (λ found. IfOk found (λ f. f.start ≡ start)) }

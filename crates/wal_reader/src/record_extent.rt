@@ -3,14 +3,14 @@
 ghost use Rattle.std.specs.Prelude.{◌≡◌, ◌+◌, ◌*◌, ◌/◌, ◌^◌, ◌<◌, Some};
 ghost use Rattle.byte_position.specs.Position.{address_of};
 
-use crate::reading_point::ReadingPoint;
+use crate::record_place::RecordPlace;
 use byte_position::Geometry;
 use wal_types::Lsn;
 
 /// Where a record is read, and the size that it claims.
 #[derive(Clone, Copy, Debug)]
 pub(crate) struct RecordExtent {
-    pub(crate) at: ReadingPoint,
+    pub(crate) at: RecordPlace,
     /// Its size in bytes.
     pub(crate) total: u32,
 }
@@ -34,7 +34,7 @@ impl RecordExtent {
 
     /// Where the next record is read: `start` is the address of this one, and `timeline` that of
     /// the page in which it ends.
-    pub(crate) fn behind(self, start: Lsn, timeline: u32) -> ReadingPoint
+    pub(crate) fn behind(self, start: Lsn, timeline: u32) -> RecordPlace
         requires { self.at.position < 2 ^ 60 }
         ensures { result ≡ record {
           position = self.at.position +
@@ -43,7 +43,7 @@ impl RecordExtent {
           timeline = timeline;
         } }
     {
-        ReadingPoint {
+        RecordPlace {
             position: self.end(),
             prev: Some(start),
             timeline,

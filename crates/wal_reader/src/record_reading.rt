@@ -13,12 +13,12 @@ ghost use Rattle.std.specs.Prelude.{◌≡◌, ℕ, ◌+◌, ◌*◌, ◌/◌, �
 ghost use Rattle.byte_position.specs.Position.{address_of};
 ghost use Rattle.wal_page.specs.Page.{first_fault};
 ghost use Rattle.segment_disk.specs.Tape.{IsUncalled};
-ghost use Rattle.wal_reader.specs.PageCursor.{HasGathered, HoldsPassed, IsOn, Sees};
+ghost use Rattle.wal_reader.specs.PageCursor.{HasGathered, HoldsPassed, IsOn, Sees, SeesStill};
 ghost use Rattle.wal_reader.specs.Decodes.{read_at, rest_rows};
 ghost use Rattle.wal_reader.specs.Pages.{Pages};
 ghost use Rattle.wal_reader.specs.RecordRead.{GoesOn, IsBehind, IsRead, IsRoomAfter, said_of};
 ghost use Rattle.wal_reader.specs.Spelled.{IsSpelled};
-ghost use Rattle.wal_reader.specs.ReadingPoint.{IsOutOfReach, IsReachable, place_of};
+ghost use Rattle.wal_reader.specs.RecordPlace.{IsOutOfReach, IsReachable};
 ghost use Rattle.wal_reader.specs.ReadFailures.{HasFailureCause, IsNoDiskFault};
 
 use crate::answers::{end_of_log, is_out_of_reach};
@@ -28,16 +28,16 @@ use crate::layout::PAGE_LEN;
 use crate::page_cache::PageCache;
 use crate::page_cursor::PageCursor;
 use crate::read_failure::ReadFailure;
-use crate::reading_point::ReadingPoint;
 use crate::record_checks::{check_crc, check_header, found};
 use crate::record_extent::RecordExtent;
+use crate::record_place::RecordPlace;
 use crate::record_start::{claimed, open_page};
 use record_spelling::layout::HEADER_LEN;
 use segment_disk::Disk;
 use std::alloc::Global;
 use wal_types::Lsn;
 
-/// Reads the record at a point, and answers it with the point behind it, or what stands
+/// Reads the record at a place, and answers it with the place behind it, or what stands
 /// in its place. Where an end was given, nothing at or above it is read. Whatever size a record
 /// claims, the room takes no more of it than what pages have that passed their checks.
 pub(crate) fn read_record<D: Disk>(
@@ -46,8 +46,8 @@ pub(crate) fn read_record<D: Disk>(
     room: &mut Vec<u8>,
     disk: &mut D,
     end: Option<Lsn>,
-    at: ReadingPoint,
-) -> Result<(FoundRecord, ReadingPoint), ReadFailure>
+    at: RecordPlace,
+) -> Result<(FoundRecord, RecordPlace), ReadFailure>
     requires { IsReachable at }
     ensures geometry { cache.new.geometry ≡ cache.old.geometry }
     ensures goes_on { IfOk result (λ r. GoesOn at r.1) }
@@ -55,13 +55,12 @@ pub(crate) fn read_record<D: Disk>(
     ensures unread { IsOutOfReach cache.old.geometry (option_map (λ end. end.0) end) at.position
         → (disk.new ≡ disk.old) × OnOk result ⊥ }
     ensures spelled { IfOk result (λ r. IsSpelled r.0) }
-    ensures sees { (pages : Pages) → Sees (D.tape disk.old) cache.old pages
-        → Sees (D.tape disk.new) cache.new pages }
+    ensures sees { SeesStill (D.tape disk.old) (D.tape disk.new) cache.old cache.new }
     ensures room { (pages : Pages) → Sees (D.tape disk.old) cache.old pages
-        → IsRoomAfter cache.old.geometry pages (place_of at) room.old.items room.new.items }
+        → IsRoomAfter cache.old.geometry pages at room.old.items room.new.items }
     ensures reads { (pages : Pages) → Sees (D.tape disk.old) cache.old pages
-        → IsRead cache.old.geometry pages (place_of at)
-        (read_at cache.old.geometry pages (option_map (λ end. end.0) end) (place_of at)) result }
+        → IsRead cache.old.geometry pages at
+        (read_at cache.old.geometry pages (option_map (λ end. end.0) end) at) result }
 
     ensures uncalled { IsUncalled D.tape D.moment disk.old disk.new }
     ensures cause { HasFailureCause (D.faults disk.old) (D.faults disk.new) result }
@@ -84,7 +83,7 @@ fn read_in_page(
     cache: &PageCache,
     extent: RecordExtent,
     cursor: PageCursor,
-) -> Result<(FoundRecord, ReadingPoint), ReadFailure>
+) -> Result<(FoundRecord, RecordPlace), ReadFailure>
     requires reachable { IsReachable extent.at }
     requires large { 24 ≤ extent.total }
     requires on { IsOn cache.now cursor }
@@ -95,10 +94,10 @@ fn read_in_page(
     ensures behind { IfOk result (λ r. IsBehind cache.now.geometry r.0 r.1) }
     ensures spelled { IfOk result (λ r. IsSpelled r.0) }
     ensures reads { (pages : Pages) → pages cursor.page ≡ Some cache.now.bytes.value
-        → IsRead cache.now.geometry pages (place_of extent.at)
-        (said_of cache.now.geometry pages (place_of extent.at) extent.total
+        → IsRead cache.now.geometry pages extent.at
+        (said_of cache.now.geometry pages extent.at extent.total
         (first_fault (rest_rows cache.now.geometry pages
-        (place_of extent.at) extent.total))) result }
+        extent.at extent.total))) result }
     ensures no_disk { IfErr result IsNoDiskFault }
 {
     let bytes = part_of_page(&cache.bytes, cursor.offset, extent.total);
@@ -126,7 +125,7 @@ fn read_over_pages<D: Disk>(
     disk: &mut D,
     extent: RecordExtent,
     cursor: PageCursor,
-) -> Result<(FoundRecord, ReadingPoint), ReadFailure>
+) -> Result<(FoundRecord, RecordPlace), ReadFailure>
     requires reachable { IsReachable extent.at }
     requires large { 24 ≤ extent.total }
     requires on { IsOn cache.old cursor }
@@ -136,16 +135,15 @@ fn read_over_pages<D: Disk>(
     ensures goes_on { IfOk result (λ r. GoesOn extent.at r.1) }
     ensures behind { IfOk result (λ r. IsBehind cache.old.geometry r.0 r.1) }
     ensures spelled { IfOk result (λ r. IsSpelled r.0) }
-    ensures sees { (pages : Pages) → Sees (D.tape disk.old) cache.old pages
-        → Sees (D.tape disk.new) cache.new pages }
+    ensures sees { SeesStill (D.tape disk.old) (D.tape disk.new) cache.old cache.new }
     ensures room { (pages : Pages) → Sees (D.tape disk.old) cache.old pages
-        → HoldsPassed cache.old.geometry pages (place_of extent.at) extent.total
+        → HoldsPassed cache.old.geometry pages extent.at extent.total
         (address_of cache.old.geometry extent.at.position / 8192) room.new.items }
     ensures reads { (pages : Pages) → Sees (D.tape disk.old) cache.old pages
-        → IsRead cache.old.geometry pages (place_of extent.at)
-        (said_of cache.old.geometry pages (place_of extent.at) extent.total
+        → IsRead cache.old.geometry pages extent.at
+        (said_of cache.old.geometry pages extent.at extent.total
         (first_fault (rest_rows cache.old.geometry pages
-        (place_of extent.at) extent.total))) result }
+        extent.at extent.total))) result }
 
     ensures uncalled { IsUncalled D.tape D.moment disk.old disk.new }
     ensures cause { HasFailureCause (D.faults disk.old) (D.faults disk.new) result }

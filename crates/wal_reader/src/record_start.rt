@@ -7,10 +7,10 @@ ghost use Rattle.byte_position.specs.Position.{address_of};
 ghost use Rattle.wal_page.specs.Page.{first_fault};
 ghost use Rattle.record_spelling.specs.Numbers.{number_at};
 ghost use Rattle.segment_disk.specs.Tape.{IsUncalled};
-ghost use Rattle.wal_reader.specs.PageCursor.{HasGathered, IsOn, Sees};
+ghost use Rattle.wal_reader.specs.PageCursor.{HasGathered, IsOn, Sees, SeesStill};
 ghost use Rattle.wal_reader.specs.Pages.{Pages};
 ghost use Rattle.wal_reader.specs.Decodes.{opening_of, size_rows};
-ghost use Rattle.wal_reader.specs.ReadingPoint.{IsReachable, place_of};
+ghost use Rattle.wal_reader.specs.RecordPlace.{IsReachable};
 ghost use Rattle.wal_reader.specs.ReadFailures.{HasFailureCause, Passes, Settles};
 
 use crate::answers::{damaged, end_of_log, reaches_end};
@@ -20,8 +20,8 @@ use crate::page_cache::PageCache;
 use crate::page_checks::{check_held, header_len};
 use crate::page_cursor::PageCursor;
 use crate::read_failure::ReadFailure;
-use crate::reading_point::ReadingPoint;
 use crate::record_extent::RecordExtent;
+use crate::record_place::RecordPlace;
 use byte_position::PAGE_SIZE;
 use record_spelling::layout::{HEADER_LEN, LEN_AT};
 use segment_disk::Disk;
@@ -32,7 +32,7 @@ use wal_types::Lsn;
 pub(crate) fn open_page<D: Disk>(
     cache: &mut PageCache,
     disk: &mut D,
-    at: ReadingPoint,
+    at: RecordPlace,
 ) -> Result<PageCursor, ReadFailure>
     requires reachable { IsReachable at }
     ensures geometry { cache.new.geometry ≡ cache.old.geometry }
@@ -40,10 +40,9 @@ pub(crate) fn open_page<D: Disk>(
         × HasGathered cache.old.geometry at.position 0 cursor) }
     ensures place { IfOk result (λ cursor. (cursor.page
         ≡ address_of cache.old.geometry at.position / 8192) × (cursor.offset + 8 ≤ 8192)) }
-    ensures sees { (pages : Pages) → Sees (D.tape disk.old) cache.old pages
-        → Sees (D.tape disk.new) cache.new pages }
+    ensures sees { SeesStill (D.tape disk.old) (D.tape disk.new) cache.old cache.new }
     ensures checks { (pages : Pages) → Sees (D.tape disk.old) cache.old pages
-        → Settles (opening_of cache.old.geometry (place_of at)
+        → Settles (opening_of cache.old.geometry at
         (pages (address_of cache.old.geometry at.position / 8192))) result }
 
     ensures uncalled { IsUncalled D.tape D.moment disk.old disk.new }
@@ -75,7 +74,7 @@ pub(crate) fn open_page<D: Disk>(
 pub(crate) fn claimed(
     cache: &PageCache,
     cursor: PageCursor,
-    at: ReadingPoint,
+    at: RecordPlace,
     end: Option<Lsn>,
 ) -> Result<RecordExtent, Answer>
     requires reachable { IsReachable at }

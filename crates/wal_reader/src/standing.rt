@@ -4,7 +4,7 @@ ghost use Rattle.std.specs.Prelude.{◌≡◌};
 ghost use Rattle.wal_reader.specs.Standings.{standing_after, told};
 
 use crate::found::{Answer, Stopped};
-use crate::reading_point::ReadingPoint;
+use crate::record_place::RecordPlace;
 use std::alloc::AllocError;
 use thiserror::Error;
 use wal_types::{Lsn, Record};
@@ -15,7 +15,7 @@ pub(crate) enum Standing {
     /// Nothing was read yet.
     NotBegun,
     /// Before a record, or where none stands yet.
-    At(ReadingPoint),
+    At(RecordPlace),
     /// This is told from now on.
     Stopped(Stopped),
 }

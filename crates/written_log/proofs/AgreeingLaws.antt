@@ -11,11 +11,12 @@ use Rattle.byte_position.proofs.Rising.{address_of-mono}
 use Rattle.record_spelling.specs.Numbers.{number_at}
 use Rattle.record_decode.specs.Reading.{reading_of}
 use Rattle.wal_page.specs.Page.{first_fault, header_size, is_continued, is_overwritten, remaining_of, timeline_of}
+use Rattle.wal_reader.specs.declared.record_place.RecordPlace.{RecordPlace}
 use Rattle.wal_reader.specs.declared.found.FoundRecord.{FoundRecord}
 use Rattle.wal_reader.specs.declared.found.Answer.{Answer}
 use Rattle.wal_reader.specs.declared.found.DamageKind.TheVariants as damages
 use Rattle.written_log.specs.Agreeing.{AreWhole, AgreeBelow, AgreeingLogsDecodeAlike}
-use Rattle.wal_reader.specs.Decodes.{RecordPlace, ReadsFrom, ReadsRecords, answer_or, begin_at, begin_in, beginning, continuation_rows, continuation_rows_of, crc_rows, damaged, ended, header_rows, is_at_end, is_zero_word, opening_rows, overwritten, page_answers, page_of_byte, place_behind, read_at, read_in, record_rows, rest_rows, rows_of_pages, size_rows, timeline_or}
+use Rattle.wal_reader.specs.Decodes.{ReadsFrom, ReadsRecords, answer_or, begin_at, begin_in, beginning, continuation_rows, continuation_rows_of, crc_rows, damaged, ended, header_rows, is_at_end, is_zero_word, opening_rows, overwritten, page_answers, page_of_byte, place_behind, read_at, read_in, record_rows, rest_rows, rows_of_pages, size_rows, timeline_or}
 use Rattle.wal_reader.specs.Pages.{Pages, byte_at, byte_in_page, bytes_from}
 use Rattle.wal_reader.proofs.SettledLaws.{passes_both, passes_row, same_read, size-passed, size_in_header, total_of}
 

@@ -16,6 +16,7 @@ use Rattle.wal_page.specs.Log.{stream_of, log_byte}
 use Rattle.wal_page.proofs.OwnerLaws.{owner_of-none_behind}
 use Rattle.wal_page.proofs.LogByteLaws.{log_byte-stream}
 use Rattle.wal_page.proofs.StreamLaws.{length-stream_of}
+use Rattle.wal_types.specs.declared.lsn.Lsn.{Lsn}
 use Rattle.wal_reader.specs.Pages.{Pages, byte_in_page, bytes_from}
 use Rattle.wal_reader.specs.Decodes.{read_at, is_zero_word, opens_page, ended}
 use Rattle.written_log.specs.WrittenLog.{HavePagesOfLog}
@@ -79,7 +80,7 @@ module _ (size sysid : ℕ) (pages : Pages) (es : List Entry) (holds : HavePages
         zero_word bytes (λ k lt.
         (is_log_page page bytes from there).each k (omega arith) ∙ log_byte-page_header size sysid es page k None w.valid (omega arith) (owner_of-none_behind size (first_position size) es w.chained (position_of size (page * 8192)) behind))
 
-    log_ends_on : (before : Option ℕ) (here : Option (List ℕ)) → pages (address_of size (end_position size es) / 8192) ≡ here → read_at size pages None (log_place size (rooms_of size es) before) ≡ Err (ended size (end_position size es))
+    log_ends_on : (before : Option Lsn) (here : Option (List ℕ)) → pages (address_of size (end_position size es) / 8192) ≡ here → read_at size pages None (log_place size (rooms_of size es) before) ≡ Err (ended size (end_position size es))
     log_ends_on before None there = no_page_ends size pages (log_place size (rooms_of size es) before) there
     log_ends_on before (Some bytes) there =
         let p = end_position size es in
@@ -108,5 +109,5 @@ module _ (size sysid : ℕ) (pages : Pages) (es : List Entry) (holds : HavePages
               zero_page_ends size pages place bytes there opens zeros)
         ]
 
-    pub log_ends : (before : Option ℕ) → read_at size pages None (log_place size (rooms_of size es) before) ≡ Err (ended size (end_position size es))
+    pub log_ends : (before : Option Lsn) → read_at size pages None (log_place size (rooms_of size es) before) ≡ Err (ended size (end_position size es))
     log_ends before = log_ends_on before (pages (address_of size (end_position size es) / 8192)) refl

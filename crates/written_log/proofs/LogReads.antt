@@ -15,10 +15,12 @@ use Rattle.wal_page.specs.Page.{is_continued}
 use Rattle.wal_page.specs.Log.{stream_of, stream_from, owner_of, remaining_at}
 use Rattle.wal_page.proofs.OrderLaws.{rooms_of_cons}
 use Rattle.wal_page.proofs.OwnerLaws.{owner_of-entry}
+use Rattle.wal_types.specs.declared.lsn.Lsn.{Lsn}
+use Rattle.wal_reader.specs.declared.record_place.RecordPlace.{RecordPlace}
 use Rattle.wal_reader.specs.declared.found.Answer.{Answer}
 use Rattle.wal_reader.specs.declared.found.FoundRecord.{FoundRecord}
 use Rattle.wal_reader.specs.Pages.{Pages}
-use Rattle.wal_reader.specs.Decodes.{RecordPlace, ReadsRecords, read_at, place_behind, is_right_prev, opens_page, continuation_rows, continuation_rows_of, rows_of_pages, found_or}
+use Rattle.wal_reader.specs.Decodes.{ReadsRecords, read_at, place_behind, is_right_prev, opens_page, continuation_rows, continuation_rows_of, rows_of_pages, found_or}
 use Rattle.written_log.specs.Written.{found_entry, found_from}
 use Rattle.written_log.proofs.Tables.{NoneHolds, NoneHolds-append}
 use Rattle.written_log.proofs.Tables.NoneHolds.{none, past}
@@ -34,13 +36,13 @@ NoneHolds-run rows a zero h = none
 NoneHolds-run rows a (suc n) h = NoneHolds-append (h a (omega arith) (omega arith)) (NoneHolds-run rows (a + 1) n (λ i low high. h i (omega arith) (omega arith)))
 
 -- the place k bytes behind the log's first
-abbrev pub log_place : ℕ → ℕ → Option ℕ → RecordPlace
+abbrev pub log_place : ℕ → ℕ → Option Lsn → RecordPlace
 log_place size k prev = record { position = first_position size + k; prev = prev; timeline = 1 }
 
 -- the start of the last one of some entries, and `before` where there is none
-abbrev pub last_start : ℕ → Option ℕ → List Entry → Option ℕ
+abbrev pub last_start : ℕ → Option Lsn → List Entry → Option Lsn
 last_start size before [] = before
-last_start size before (e ∷ es) = last_start size (Some (address_of size e.start)) es
+last_start size before (e ∷ es) = last_start size (Some (record { 0 = address_of size e.start })) es
 
 -- the last entries of an order, which stand from k bytes behind the log's first on, behind a record that starts at `prev`
 pub record StandFrom (size : ℕ) (es : List Entry) (k prev : ℕ) (rest : List Entry) : Type 0 where
@@ -54,7 +56,7 @@ pub record StandFrom (size : ℕ) (es : List Entry) (k prev : ℕ) (rest : List 
 module _ (size sysid : ℕ) (pages : Pages) (es : List Entry) (w : IsWritten size sysid pages es) where
   -- ---- an entry, and others behind it
 
-  module _ (e : Entry) (others : List Entry) (k prev : ℕ) (stand : StandFrom size es k prev (e ∷ others)) (before : Option ℕ) where
+  module _ (e : Entry) (others : List Entry) (k prev : ℕ) (stand : StandFrom size es k prev (e ∷ others)) (before : Option Lsn) where
     start_is : e.start ≡ first_position size + k
     start_is = stand.follows.0
 
@@ -156,14 +158,14 @@ module _ (size sysid : ℕ) (pages : Pages) (es : List Entry) (w : IsWritten siz
         ∙ ap (found_or size (log_place size k before) (size_of e.value) prev) (spelling_reads e.value prev writable stand.prev_fits)
         ∙ ap (λ (p : ℕ). found_or size (record { position = p; prev = before; timeline = 1 }) (size_of e.value) prev (Ok e.value)) (sym start_is)
 
-    place_behind_entry : place_behind size pages (log_place size k before) (found_entry size prev e) ≡ log_place size (k + room_at size e.start e.value) (Some (address_of size e.start))
+    place_behind_entry : place_behind size pages (log_place size k before) (found_entry size prev e) ≡ log_place size (k + room_at size e.start e.value) (Some (record { 0 = address_of size e.start }))
     place_behind_entry =
         let q = first_position size + k + size_of e.value - 1 in
         let page = address_of size q / 8192 in
         let begins = page_begins size w.valid q in
         let timeline = timeline_is size sysid pages es w page (page_from_first size w.valid q (omega arith)) (omega (arith, within)) in
-        ap (λ (t : ℕ). record { position = first_position size + k + room_at size e.start e.value; prev = Some (address_of size e.start); timeline = t }) timeline
-        ∙ ap (λ (p : ℕ). record { position = p; prev = Some (address_of size e.start); timeline = 1 }) (add_assoc (first_position size) k (room_at size e.start e.value))
+        ap (λ (t : ℕ). record { position = first_position size + k + room_at size e.start e.value; prev = Some (record { 0 = address_of size e.start }); timeline = t }) timeline
+        ∙ ap (λ (p : ℕ). record { position = p; prev = Some (record { 0 = address_of size e.start }); timeline = 1 }) (add_assoc (first_position size) k (room_at size e.start e.value))
 
     others_stand : StandFrom size es (k + room_at size e.start e.value) (address_of size e.start) others
     others_stand =
@@ -179,11 +181,11 @@ module _ (size sysid : ℕ) (pages : Pages) (es : List Entry) (w : IsWritten siz
         }
 
   -- entries are read where they stand, and then what stands behind them
-  pub entries_are_read : (rest : List Entry) (k prev : ℕ) (before : Option ℕ) (found : List FoundRecord) (answer : Answer) → StandFrom size es k prev rest → is_right_prev before (address_of size (first_position size + k)) prev ≡ true
+  pub entries_are_read : (rest : List Entry) (k prev : ℕ) (before : Option Lsn) (found : List FoundRecord) (answer : Answer) → StandFrom size es k prev rest → is_right_prev before (address_of size (first_position size + k)) prev ≡ true
       → ReadsRecords size pages None (log_place size (rooms_of size es) (last_start size before rest)) found answer → ReadsRecords size pages None (log_place size k before) (found_from size prev rest ++ found) answer
   entries_are_read [] k prev before found answer stand right behind =
       subst (λ (n : ℕ). ReadsRecords size pages None (log_place size n before) found answer) (omega (arith, stand.rooms)) behind
   entries_are_read (e ∷ others) k prev before found answer stand right behind =
       let next = address_of size e.start in
-      let rest = entries_are_read others (k + room_at size e.start e.value) next (Some next) found answer (others_stand e others k prev stand before) (eq-eqb next next refl) behind in
+      let rest = entries_are_read others (k + room_at size e.start e.value) next (Some (record { 0 = next })) found answer (others_stand e others k prev stand before) (eq-eqb next next refl) behind in
       (entry_is_read e others k prev stand before right, subst (λ (place : RecordPlace). ReadsRecords size pages None place (found_from size next others ++ found) answer) (sym (place_behind_entry e others k prev stand before)) rest)

@@ -12,11 +12,12 @@ use Rattle.wal_page.specs.LogPage.{IsLogPage}
 use Rattle.wal_page.specs.Log.{remaining_at, log_byte}
 use Rattle.wal_page.proofs.OrderLaws.{rooms_of_cons, room_at-pos}
 use Rattle.wal_page.proofs.OwnerLaws.{owner_of-entry}
+use Rattle.wal_reader.specs.declared.record_place.RecordPlace.{RecordPlace}
 use Rattle.wal_reader.specs.declared.found.FoundRecord.{FoundRecord}
 use Rattle.wal_reader.specs.declared.found.Answer.{Answer}
 use Rattle.wal_reader.specs.declared.found.Answer.TheVariants.{End}
 use Rattle.wal_reader.specs.Pages.{Pages}
-use Rattle.wal_reader.specs.Decodes.{RecordPlace, Decodes, ReadsRecords, ReadsFrom, beginning, ended}
+use Rattle.wal_reader.specs.Decodes.{Decodes, ReadsRecords, ReadsFrom, beginning, ended}
 use Rattle.written_log.specs.Written.{found_entry, found_from, found_of}
 use Rattle.written_log.specs.WrittenLog.{HavePagesOfLog, OwnPagesHoldLog, WrittenLogDecodes}
 use Rattle.wal_reader.proofs.PagesLaws.{end_address_of-first_position}

@@ -46,7 +46,7 @@ sees_still g c pages sees = (c.in_ok-load.ensures.sees pages (c.pages.invariant.
 pub returns-in-Ok-Here-clause-begins : goal.returns-in-Ok-Here-clause-begins
 returns-in-Ok-Here-clause-begins g c pages sees =
     let before = (goal.at.returns-in-Ok-Here-clause-begins g c).After-front_of in
-    let said : Result Front Answer = Ok (Here c.in-Ok-Here.point) in
+    let said : Result Front Answer = Ok (Here c.in-Ok-Here.place) in
     (sees_still g before pages sees, (settled g before said (c.in-Ok-Here.is ∙ ap Ok c.in-Ok-Here.field-0-is) pages sees).1)
 
 pub returns-in-Err-clause-begins : goal.returns-in-Err-clause-begins

@@ -1,13 +1,12 @@
 use Rattle.std.proofs.Common.{◌<◌, vec_len, ◌∙◌, arith}
 use Rattle.std.proofs.lemmas.Result.{err_from_is_err_and}
-use Rattle.wal_reader.specs.ReadingPoint.{place_of}
 use Rattle.wal_reader.proofs.GatherLaws.{crosses_further, page_rises, told_behind}
 use Rattle.wal_reader.proofs.gathering.gather.Goals as goal
 
 pub returns-in_err-cursor-clause-checks : goal.returns-in_err-cursor-clause-checks
 returns-in_err-cursor-clause-checks g c = λ pages sees.
     let size = c.args.cache.now.geometry in
-    let place = place_of c.args.extent.at in
+    let place = c.args.extent.at in
     let inv = c.pages.invariant in
     let stop = err_from_is_err_and c.from_residual.result c.from_residual.ensures.1 in
     let told = c.in_err-cursor.ensures.checks pages (inv.sees pages sees) in

@@ -1,7 +1,6 @@
 use Rattle.std.proofs.Common.{◌≡◌, ◌-◌, ◌≤◌, vec_len}
 use Rattle.wal_reader.specs.PageCursor.{Crosses, HasGathered, IsOn, Sees}
 use Rattle.wal_reader.specs.Pages.{Pages, bytes_from}
-use Rattle.wal_reader.specs.ReadingPoint.{place_of}
 use Rattle.wal_reader.proofs.gathering.gather.Given as goal
 
 abbrev pub invariant-pages : goal.invariant-pages
@@ -13,7 +12,7 @@ invariant-pages g l = record {
   sees : (pages : Pages) → Sees (g.D.Disk.tape l.initial.disk) l.initial.cache pages → Sees (g.D.Disk.tape l.disk) l.cache pages;
   bytes : (pages : Pages) → Sees (g.D.Disk.tape l.initial.disk) l.initial.cache pages → l.initial.room.items ≡ bytes_from l.initial.cache.geometry pages (vec_len l.initial.room) l.extent.at.position
       → l.room.items ≡ bytes_from l.initial.cache.geometry pages (vec_len l.room) l.extent.at.position;
-  crosses : (pages : Pages) → Sees (g.D.Disk.tape l.initial.disk) l.initial.cache pages → Crosses l.initial.cache.geometry pages (place_of l.extent.at) l.extent.total l.initial.cursor.page l.cursor.page;
+  crosses : (pages : Pages) → Sees (g.D.Disk.tape l.initial.disk) l.initial.cache pages → Crosses l.initial.cache.geometry pages l.extent.at l.extent.total l.initial.cursor.page l.cursor.page;
   tape : g.D.Disk.tape l.disk ≡ g.D.Disk.tape l.initial.disk;
   moment : g.D.Disk.moment l.disk ≡ g.D.Disk.moment l.initial.disk;
   faults : g.D.Disk.faults l.disk ≡ g.D.Disk.faults l.initial.disk;

@@ -3,7 +3,6 @@ use Rattle.std.proofs.lemmas.Result.{IfOk-weaker}
 use Rattle.wal_page.specs.Page.{header_size}
 use Rattle.wal_reader.specs.declared.page_cursor.PageCursor.{PageCursor}
 use Rattle.wal_reader.specs.PageCursor.{IsOn, StandsIn}
-use Rattle.wal_reader.specs.ReadingPoint.{place_of}
 use Rattle.wal_reader.proofs.CacheLaws.{held_page}
 use Rattle.byte_position.proofs.HeaderSizes.{header_size_bounds}
 use Rattle.wal_reader.proofs.GatherLaws.{page_turned, stands_next}
@@ -32,4 +31,4 @@ returns-clause-checks g c = λ pages sees.
     let said : PageCursor → Type 0 = λ next. (next.page ≡ cursor.page + 1) × (next.offset ≡ header_size size (cursor.page + 1)) × (next.page < 2 ^ 47) × IsOn c.turn_page.new.cache next in
     let same = IfOk-weaker c.turn_page.result said (λ next. next.page ≡ cursor.page + 1) (λ next h. h.0) c.turn_page.ensures.next in
     let checks = c.turn_page.ensures.checks pages sees in
-    page_turned size pages (place_of c.args.extent.at) c.args.extent.total c.args.gathered cursor _ stands full here c.requires.on.1 c.turn_page.result same (rw c.start-start.ensures at checks)
+    page_turned size pages c.args.extent.at c.args.extent.total c.args.gathered cursor _ stands full here c.requires.on.1 c.turn_page.result same (rw c.start-start.ensures at checks)

@@ -2,7 +2,6 @@ use Rattle.std.proofs.Common.{◌≡◌, ℕ, Some, None, Ok, option_map, subst,
 use Rattle.wal_types.specs.declared.lsn.Lsn.{Lsn}
 use Rattle.wal_reader.specs.PageCursor.{Sees}
 use Rattle.wal_reader.specs.Decodes.{beginning}
-use Rattle.wal_reader.specs.ReadingPoint.{place_of}
 use Rattle.wal_reader.specs.Steps.{ComesNext}
 use Rattle.wal_reader.proofs.GivesLaws.{ComesNext-begun}
 use Rattle.wal_reader.proofs.given.next_given.Goals as goal
@@ -23,7 +22,7 @@ returns-clause-next g c pages sees =
           let next = c.read_given.ensures.next pages here in
           let geometry : c.match-from.buffers.cache.geometry ≡ c.args.buffers.now.cache.geometry = rw w.buffers-is w.in_ok-at-in-None.ensures.geometry in
           let same : ComesNext c.args.buffers.now.cache.geometry pages c.args.start.0 end (Some c.match-from.at) c.read_given.result = subst (λ (n : ℕ). ComesNext n pages c.args.start.0 end (Some c.match-from.at) c.read_given.result) geometry next.1 in
-          let begun : beginning c.args.buffers.now.cache.geometry pages c.args.start.0 ≡ Ok (place_of c.match-from.at) = rw w.at-is begins.1 in
+          let begun : beginning c.args.buffers.now.cache.geometry pages c.args.start.0 ≡ Ok c.match-from.at = rw w.at-is begins.1 in
           let all : ComesNext c.args.buffers.now.cache.geometry pages c.args.start.0 end None c.read_given.result = ComesNext-begun c.args.buffers.now.cache.geometry pages c.args.start.0 end c.match-from.at c.read_given.result begun same in
           (next.0, rw w.in-None.is all))
     ]

@@ -2,21 +2,21 @@ use Rattle.std.proofs.Common.{◌≡◌, ℕ, ◌∷◌, Option, Result, Ok, Err
 use Rattle.std.proofs.lemmas.Result.{err_from_is_err_and}
 use Rattle.wal_types.specs.declared.lsn.Lsn.{Lsn}
 use Rattle.wal_reader.specs.declared.found.FoundRecord.{FoundRecord}
-use Rattle.wal_reader.specs.declared.reading_point.ReadingPoint.{ReadingPoint}
+use Rattle.wal_reader.specs.declared.record_place.RecordPlace.{RecordPlace}
 use Rattle.wal_reader.specs.declared.read_failure.ReadFailure.{ReadFailure}
-use Rattle.wal_reader.specs.Decodes.{RecordPlace, read_at}
+use Rattle.wal_reader.specs.Decodes.{read_at}
 use Rattle.wal_reader.specs.Pages.{Pages}
 use Rattle.wal_reader.specs.RecordRead.{IsRead}
-use Rattle.wal_reader.specs.ReadingPoint.{IsOutOfReach, place_of}
+use Rattle.wal_reader.specs.RecordPlace.{IsOutOfReach}
 use Rattle.wal_reader.proofs.GivesLaws.{GivesFrom-given, GivesFrom-passed, ComesNext-stopped}
 use Rattle.wal_reader.proofs.given.read_given.Goals as goal
 
 -- what was read, of the log that the buffers was for
-read_of : (size other : ℕ) (pages : Pages) (end : Option ℕ) (place : RecordPlace) (result : Result (FoundRecord × ReadingPoint) ReadFailure) → size ≡ other → IsRead size pages place (read_at size pages end place) result → IsRead other pages place (read_at other pages end place) result
+read_of : (size other : ℕ) (pages : Pages) (end : Option ℕ) (place : RecordPlace) (result : Result (FoundRecord × RecordPlace) ReadFailure) → size ≡ other → IsRead size pages place (read_at size pages end place) result → IsRead other pages place (read_at other pages end place) result
 read_of size other pages end place result same read = subst (λ (n : ℕ). IsRead n pages place (read_at n pages end place) result) same read
 
 -- the place from which nothing is read is that of the first turn
-out_here : (size other : ℕ) (end : Option ℕ) (at from : ReadingPoint) → size ≡ other → at ≡ from → IsOutOfReach other end from.position → IsOutOfReach size end at.position
+out_here : (size other : ℕ) (end : Option ℕ) (at from : RecordPlace) → size ≡ other → at ≡ from → IsOutOfReach other end from.position → IsOutOfReach size end at.position
 out_here size other end at from same here out = rw (same, here) out
 
 pub returns-in_err-found-clause-unread : goal.returns-in_err-found-clause-unread
@@ -39,7 +39,7 @@ returns-in_err-found-clause-next g c pages sees =
     let now = c.in_err-found.ensures.sees pages before.0 in
     let end = option_map (λ (e : Lsn). e.0) c.args.end in
     let exit = err_from_is_err_and c.from_residual.result c.from_residual.ensures.1 in
-    let read = read_of c.records.buffers.cache.geometry c.args.buffers.now.cache.geometry pages end (place_of c.records.at) (Err c.in_err-found.field-0.0) c.records.invariant.geometry (c.in_err-found.ensures.reads pages before.0) in
+    let read = read_of c.records.buffers.cache.geometry c.args.buffers.now.cache.geometry pages end c.records.at (Err c.in_err-found.field-0.0) c.records.invariant.geometry (c.in_err-found.ensures.reads pages before.0) in
     (now, rw (exit.1, exit.2) (ComesNext-stopped c.args.buffers.now.cache.geometry pages c.args.start.0 end c.args.from c.records.at c.in_err-found.field-0.0 before.1 read))
 
 pub returns-then-found-start-clause-next : goal.returns-then-found-start-clause-next
@@ -49,8 +49,8 @@ returns-then-found-start-clause-next g c pages sees =
     let end = option_map (λ (e : Lsn). e.0) c.args.end in
     let size = c.args.buffers.now.cache.geometry in
     let found = c.in_ok-found.found in
-    let read = read_of c.records.buffers.cache.geometry size pages end (place_of c.records.at) (Ok (found, c.in_ok-found.behind)) c.records.invariant.geometry (c.in_ok-found.ensures.reads pages before.0) in
-    (now, λ others answer rest. before.1 (found ∷ others) answer (GivesFrom-given size pages c.args.start.0 end (place_of c.records.at) found (place_of c.in_ok-found.behind) read.0 read.1 others answer rest c.if-found-start.true))
+    let read = read_of c.records.buffers.cache.geometry size pages end c.records.at (Ok (found, c.in_ok-found.behind)) c.records.invariant.geometry (c.in_ok-found.ensures.reads pages before.0) in
+    (now, λ others answer rest. before.1 (found ∷ others) answer (GivesFrom-given size pages c.args.start.0 end c.records.at found c.in_ok-found.behind read.0 read.1 others answer rest c.if-found-start.true))
 
 pub records-preserved : goal.records-preserved
 records-preserved g c = record {
@@ -70,6 +70,6 @@ records-preserved g c = record {
       let end = option_map (λ (e : Lsn). e.0) c.args.end in
       let size = c.args.buffers.now.cache.geometry in
       let found = c.in_ok-found.found in
-      let read = read_of c.records.buffers.cache.geometry size pages end (place_of c.records.at) (Ok (found, c.in_ok-found.behind)) c.records.invariant.geometry (c.in_ok-found.ensures.reads pages before.0) in
-      (now, λ others answer rest. before.1 others answer (GivesFrom-passed size pages c.args.start.0 end (place_of c.records.at) found (place_of c.in_ok-found.behind) read.0 read.1 others answer rest c.if-found-start.false)));
+      let read = read_of c.records.buffers.cache.geometry size pages end c.records.at (Ok (found, c.in_ok-found.behind)) c.records.invariant.geometry (c.in_ok-found.ensures.reads pages before.0) in
+      (now, λ others answer rest. before.1 others answer (GivesFrom-passed size pages c.args.start.0 end c.records.at found c.in_ok-found.behind read.0 read.1 others answer rest c.if-found-start.false)));
 }

@@ -4,7 +4,7 @@ use Rattle.wal_reader.specs.declared.found.FoundRecord.{FoundRecord}
 use Rattle.wal_reader.specs.declared.found.Answer.{Answer}
 use Rattle.wal_types.specs.declared.lsn.Lsn.{Lsn}
 use Rattle.wal_reader.specs.Pages.{Pages}
-use Rattle.wal_reader.specs.ReadingPoint.{IsOutOfReach, IsReachable, place_of}
+use Rattle.wal_reader.specs.RecordPlace.{IsOutOfReach, IsReachable}
 use Rattle.wal_reader.specs.Steps.{GivesFrom}
 use Rattle.wal_reader.proofs.given.read_given.Given as goal
 
@@ -18,7 +18,7 @@ invariant-records g l = record {
   further : l.fn.from.position ≤ l.at.position;
   unread : IsOutOfReach l.fn.buffers.cache.geometry (option_map (λ (e : Lsn). e.0) l.fn.end) l.fn.from.position → (l.at ≡ l.fn.from) × (l.disk ≡ l.fn.disk);
   comes : (pages : Pages) → Sees (g.D.Disk.tape l.fn.disk) l.fn.buffers.cache pages → Sees (g.D.Disk.tape l.disk) l.buffers.cache pages
-      × ((others : List FoundRecord) (answer : Answer) → GivesFrom l.fn.buffers.cache.geometry pages l.fn.start.0 (option_map (λ (e : Lsn). e.0) l.fn.end) (place_of l.at) others answer → GivesFrom l.fn.buffers.cache.geometry pages l.fn.start.0 (option_map (λ (e : Lsn). e.0) l.fn.end) (place_of l.fn.from) others answer);
+      × ((others : List FoundRecord) (answer : Answer) → GivesFrom l.fn.buffers.cache.geometry pages l.fn.start.0 (option_map (λ (e : Lsn). e.0) l.fn.end) l.at others answer → GivesFrom l.fn.buffers.cache.geometry pages l.fn.start.0 (option_map (λ (e : Lsn). e.0) l.fn.end) l.fn.from others answer);
 }
 
 abbrev pub decreases-records : goal.decreases-records

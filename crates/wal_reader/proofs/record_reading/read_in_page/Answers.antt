@@ -1,7 +1,6 @@
 use Rattle.std.proofs.Common.{◌≡◌, ℕ, List, length, take, drop, sym, ap, ◌∙◌}
 use Rattle.std.proofs.lemmas.Result.{err_from_is_err_and}
-use Rattle.wal_reader.specs.declared.reading_point.ReadingPoint.{ReadingPoint}
-use Rattle.wal_reader.specs.ReadingPoint.{place_of}
+use Rattle.wal_reader.specs.declared.record_place.RecordPlace.{RecordPlace}
 use Rattle.wal_reader.proofs.RecordReads.{header_fails_here, crc_fails_here, read_here, found_here, end_in_page, goes_on_behind}
 use Rattle.wal_reader.proofs.record_reading.read_in_page.Goals as goal
 use Rattle.wal_reader.proofs.record_reading.read_in_page.Goals.{After-part_of_page-bytes}
@@ -41,7 +40,7 @@ returns-in_err-found-2-clause-reads c = λ pages here.
 pub returns-clause-goes_on : goal.returns-clause-goes_on
 returns-clause-goes_on c =
     let bound = end_in_page c.args.cache.now.geometry c.args.extent.at.position c.args.extent.total c.args.cursor c.requires.gathered c.requires.within c.requires.large c.requires.reachable.aligned in
-    goes_on_behind c.args.extent.at c.behind.result c.args.extent.total c.requires.reachable c.requires.large bound (ap (λ (next : ReadingPoint). next.position) c.behind.ensures)
+    goes_on_behind c.args.extent.at c.behind.result c.args.extent.total c.requires.reachable c.requires.large bound (ap (λ (next : RecordPlace). next.position) c.behind.ensures)
 
 pub returns-clause-reads : goal.returns-clause-reads
 returns-clause-reads c = λ pages here.
@@ -51,4 +50,4 @@ returns-clause-reads c = λ pages here.
     let read = read_here size pages c.args.extent.at c.start-start.result c.args.extent.total c.args.cursor _ _ c.start-start.ensures c.requires.page c.requires.gathered here (whole before) c.requires.large c.requires.within (own before) c.in_ok-check_header.ensures c.in_ok-check_crc.ensures in
     let said = sym c.in_ok-found.ensures.read ∙ c.in_ok-found-2.was in
     let behind = found_here size pages c.args.extent.at c.start-start.result c.args.extent.total c.args.cursor _ _ c.start-start.ensures c.requires.page c.requires.gathered here (whole before) c.requires.large c.requires.within (own before) found c.requires.on.1 said in
-    (read ∙ said, ap place_of c.behind.ensures ∙ behind)
+    (read ∙ said, c.behind.ensures ∙ behind)

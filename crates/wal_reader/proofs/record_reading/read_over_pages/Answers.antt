@@ -1,10 +1,9 @@
 use Rattle.std.proofs.Common.{◌≡◌, ℕ, ◌/◌, Ok, Err, refl, vec_len, sym, ap, ◌∙◌, arith}
 use Rattle.std.proofs.lemmas.Result.{err_from_is_err_and}
 use Rattle.byte_position.specs.Position.{address_of}
-use Rattle.wal_reader.specs.declared.reading_point.ReadingPoint.{ReadingPoint}
+use Rattle.wal_reader.specs.declared.record_place.RecordPlace.{RecordPlace}
 use Rattle.wal_reader.specs.PageCursor.{Crosses, HasGathered, HoldsPassed, Sees}
 use Rattle.wal_reader.specs.Pages.{Pages, bytes_from}
-use Rattle.wal_reader.specs.ReadingPoint.{place_of}
 use Rattle.wal_reader.proofs.CacheLaws.{held_page}
 use Rattle.wal_reader.proofs.GatherLaws.{holds_behind}
 use Rattle.wal_reader.proofs.RecordReads.{stopped_before_header, header_fails_over, stopped_over, crc_fails_over, read_over, found_as, found_behind, end_in_reach, goes_on_behind, bytes_from-none}
@@ -14,7 +13,7 @@ use Rattle.wal_reader.proofs.record_reading.read_over_pages.Goals.{After-gather,
 pub returns-in_err-cursor-clause-reads : goal.returns-in_err-cursor-clause-reads
 returns-in_err-cursor-clause-reads g c = λ pages sees.
     let stop = err_from_is_err_and c.from_residual.result c.from_residual.ensures.1 in
-    rw (stop.1, stop.2) (stopped_before_header c.args.cache.now.geometry pages (place_of c.args.extent.at) c.args.extent.total c.args.cursor.page _ _ c.requires.page refl refl _ (c.in_err-cursor.ensures.checks pages sees))
+    rw (stop.1, stop.2) (stopped_before_header c.args.cache.now.geometry pages c.args.extent.at c.args.extent.total c.args.cursor.page _ _ c.requires.page refl refl _ (c.in_err-cursor.ensures.checks pages sees))
 
 -- the header was gathered
 header_items : (g : _) (c : After-check_header g) (pages : Pages) → Sees (g.D.Disk.tape c.args.disk.now) c.args.cache.now pages → c.gather.new.room.items ≡ bytes_from c.args.cache.now.geometry pages 24 c.args.extent.at.position
@@ -46,7 +45,7 @@ record_items g c pages sees header =
     let had = header ∙ ap (λ (n : ℕ). bytes_from c.args.cache.now.geometry pages n c.args.extent.at.position) (sym first.len) in
     (rw first.geometry at (c.in_ok-cursor-2.ensures.bytes pages (first.sees pages sees))) had
 
-crosses_further : (g : _) (c : After-check_crc g) (pages : Pages) → Sees (g.D.Disk.tape c.args.disk.now) c.args.cache.now pages → Crosses c.args.cache.now.geometry pages (place_of c.args.extent.at) c.args.extent.total c.in_ok-cursor.cursor.page c.in_ok-cursor-2.cursor.page
+crosses_further : (g : _) (c : After-check_crc g) (pages : Pages) → Sees (g.D.Disk.tape c.args.disk.now) c.args.cache.now pages → Crosses c.args.cache.now.geometry pages c.args.extent.at c.args.extent.total c.in_ok-cursor.cursor.page c.in_ok-cursor-2.cursor.page
 crosses_further g c pages sees = rw c.in_ok-cursor.ensures.geometry at (c.in_ok-cursor-2.ensures.checks pages (c.in_ok-cursor.ensures.sees pages sees))
 
 gathered_all : (g : _) (c : After-check_crc g) → HasGathered c.args.cache.now.geometry c.args.extent.at.position c.args.extent.total c.in_ok-cursor-2.cursor
@@ -76,14 +75,14 @@ returns-in_err-found-2-clause-reads g c = λ pages sees.
     let read = read_over c.args.cache.now.geometry pages c.args.extent.at c.start-start.result c.args.extent.total c.start-start.ensures c.args.cursor.page c.in_ok-cursor.cursor.page c.in_ok-cursor-2.cursor.page c.requires.page (first.cursor.1.last (omega arith)) ((gathered_all g after).last (omega (arith, c.requires.large))) (first.checks pages sees) _ (header_gathered g before pages sees) c.in_ok-check_header.ensures (crosses_further g after pages sees) _ bytes c.in_ok-check_crc.ensures in
     let size = c.in_ok-cursor-2.ensures.geometry ∙ first.geometry in
     let same = c.deref-3.ensures.value ∙ sym c.deref-2.ensures.value in
-    let said = found_as c.args.cache.now.geometry _ (place_of c.args.extent.at) c.args.extent.total c.deref-2.result.now c.deref-3.result.now c.in_ok-found.field-0 (Err c.in_err-found-2.field-0.0) size same c.in_ok-found.ensures.read c.in_err-found-2.was in
+    let said = found_as c.args.cache.now.geometry _ c.args.extent.at c.args.extent.total c.deref-2.result.now c.deref-3.result.now c.in_ok-found.field-0 (Err c.in_err-found-2.field-0.0) size same c.in_ok-found.ensures.read c.in_err-found-2.was in
     rw (stop.1, stop.2) (read ∙ said)
 
 pub returns-clause-goes_on : goal.returns-clause-goes_on
 returns-clause-goes_on g c =
     let after = (goal.at.returns-clause-goes_on g c).After-check_crc in
     let bound = end_in_reach c.args.cache.now.geometry c.args.extent.at.position c.args.extent.total c.in_ok-cursor-2.cursor (gathered_all g after) c.requires.reachable.aligned in
-    goes_on_behind c.args.extent.at c.behind.result c.args.extent.total c.requires.reachable c.requires.large bound (ap (λ (next : ReadingPoint). next.position) c.behind.ensures)
+    goes_on_behind c.args.extent.at c.behind.result c.args.extent.total c.requires.reachable c.requires.large bound (ap (λ (next : RecordPlace). next.position) c.behind.ensures)
 
 pub returns-clause-sees : goal.returns-clause-sees
 returns-clause-sees g c = λ pages sees. c.in_ok-cursor-2.ensures.sees pages (c.in_ok-cursor.ensures.sees pages sees)
@@ -100,10 +99,10 @@ returns-clause-reads g c = λ pages sees.
     let read = read_over c.args.cache.now.geometry pages c.args.extent.at c.start-start.result c.args.extent.total c.start-start.ensures c.args.cursor.page c.in_ok-cursor.cursor.page last.page c.requires.page (first.cursor.1.last (omega arith)) ends (first.checks pages sees) _ (header_gathered g before pages sees) c.in_ok-check_header.ensures (crosses_further g after pages sees) _ bytes c.in_ok-check_crc.ensures in
     let size = second.geometry ∙ first.geometry in
     let same = c.deref-3.ensures.value ∙ sym c.deref-2.ensures.value in
-    let said = found_as c.args.cache.now.geometry _ (place_of c.args.extent.at) c.args.extent.total c.deref-2.result.now c.deref-3.result.now c.in_ok-found.field-0 (Ok c.in_ok-found-2.found) size same c.in_ok-found.ensures.read c.in_ok-found-2.was in
+    let said = found_as c.args.cache.now.geometry _ c.args.extent.at c.args.extent.total c.deref-2.result.now c.deref-3.result.now c.in_ok-found.field-0 (Ok c.in_ok-found-2.found) size same c.in_ok-found.ensures.read c.in_ok-found-2.was in
     let here = held_page (g.D.Disk.tape c.gather-2.new.disk) c.gather-2.new.cache pages last.page (second.sees pages (first.sees pages sees)) second.cursor.0.0 in
     let behind = found_behind c.args.cache.now.geometry pages c.args.extent.at c.start-start.result c.args.extent.total _ _ c.in_ok-found-2.found last c.gather-2.new.cache.bytes.value said c.start-start.ensures ends here second.cursor.0.1 in
-    (read ∙ said, ap place_of c.behind.ensures ∙ behind)
+    (read ∙ said, c.behind.ensures ∙ behind)
 
 -- ---- what the room holds
 
@@ -124,15 +123,15 @@ returns-in_err-cursor-2-clause-room g c = λ pages sees.
     let first = c.in_ok-cursor.ensures in
     let had = header_items g before pages sees ∙ ap (λ (n : ℕ). bytes_from c.args.cache.now.geometry pages n c.args.extent.at.position) (sym first.len) in
     let holds = (rw first.geometry at (c.in_err-cursor-2.ensures.room pages (first.sees pages sees))) had in
-    rw (← c.requires.page) (holds_behind c.args.cache.now.geometry pages (place_of c.args.extent.at) c.args.extent.total _ _ _ (first.checks pages sees) holds)
+    rw (← c.requires.page) (holds_behind c.args.cache.now.geometry pages c.args.extent.at c.args.extent.total _ _ _ (first.checks pages sees) holds)
 
 -- all of the record
-holds_all : (g : _) (c : After-check_crc g) (pages : Pages) → Sees (g.D.Disk.tape c.args.disk.now) c.args.cache.now pages → c.gather.new.room.items ≡ bytes_from c.args.cache.now.geometry pages 24 c.args.extent.at.position → HoldsPassed c.args.cache.now.geometry pages (place_of c.args.extent.at) c.args.extent.total (address_of c.args.cache.now.geometry c.args.extent.at.position / 8192) c.gather-2.new.room.items
+holds_all : (g : _) (c : After-check_crc g) (pages : Pages) → Sees (g.D.Disk.tape c.args.disk.now) c.args.cache.now pages → c.gather.new.room.items ≡ bytes_from c.args.cache.now.geometry pages 24 c.args.extent.at.position → HoldsPassed c.args.cache.now.geometry pages c.args.extent.at c.args.extent.total (address_of c.args.cache.now.geometry c.args.extent.at.position / 8192) c.gather-2.new.room.items
 holds_all g c pages sees header =
     let first = c.in_ok-cursor.ensures in
     let had = header ∙ ap (λ (n : ℕ). bytes_from c.args.cache.now.geometry pages n c.args.extent.at.position) (sym first.len) in
     let holds = (rw first.geometry at (c.in_ok-cursor-2.ensures.room pages (first.sees pages sees))) had in
-    rw (← c.requires.page) (holds_behind c.args.cache.now.geometry pages (place_of c.args.extent.at) c.args.extent.total _ _ _ (first.checks pages sees) holds)
+    rw (← c.requires.page) (holds_behind c.args.cache.now.geometry pages c.args.extent.at c.args.extent.total _ _ _ (first.checks pages sees) holds)
 
 pub returns-in_err-check_crc-clause-room : goal.returns-in_err-check_crc-clause-room
 returns-in_err-check_crc-clause-room g c = λ pages sees. holds_all g (goal.at.returns-in_err-check_crc-clause-room g c).After-check_crc pages sees (header_items g (goal.at.returns-in_err-check_crc-clause-room g c).After-check_header pages sees)

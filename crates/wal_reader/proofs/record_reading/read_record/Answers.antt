@@ -4,7 +4,6 @@ use Rattle.std.proofs.lemmas.Result.{err_from_is_err_and}
 use Rattle.record_spelling.specs.Numbers.{number_at}
 use Rattle.wal_types.specs.declared.lsn.Lsn.{Lsn}
 use Rattle.wal_reader.specs.declared.record_extent.RecordExtent.{RecordExtent}
-use Rattle.wal_reader.specs.ReadingPoint.{place_of}
 use Rattle.wal_reader.specs.PageCursor.{Sees}
 use Rattle.wal_reader.specs.Pages.{Pages}
 use Rattle.wal_reader.proofs.CacheLaws.{held_page}
@@ -19,13 +18,13 @@ returns-then-is_out_of_reach-clause-reads g c = λ pages sees.
     let end = option_map (λ (l : Lsn). l.0) c.args.end in
     let out = c.is_out_of_reach.ensures.0 c.if-is_out_of_reach.true in
     let none = no_page_above (g.D.Disk.tape c.args.disk.now) c.args.cache.now pages sees in
-    rw c.end_of_log.ensures (read_at-out_of_reach c.args.cache.now.geometry pages end (place_of c.args.at) out none)
+    rw c.end_of_log.ensures (read_at-out_of_reach c.args.cache.now.geometry pages end c.args.at out none)
 
 pub returns-in_err-cursor-clause-reads : goal.returns-in_err-cursor-clause-reads
 returns-in_err-cursor-clause-reads g c = λ pages sees.
     let stop = err_from_is_err_and c.from_residual.result c.from_residual.ensures.1 in
     let before = is_before_end c.args.cache.now.geometry (option_map (λ (l : Lsn). l.0) c.args.end) c.args.at.position c.is_out_of_reach.result c.is_out_of_reach.ensures c.if-is_out_of_reach.false in
-    rw (stop.1, stop.2) (stop_tells c.args.cache.now.geometry pages (place_of c.args.at) _ _ (read_at-not_opened c.args.cache.now.geometry pages (option_map (λ (l : Lsn). l.0) c.args.end) (place_of c.args.at) before) _ (c.in_err-cursor.ensures.checks pages sees))
+    rw (stop.1, stop.2) (stop_tells c.args.cache.now.geometry pages c.args.at _ _ (read_at-not_opened c.args.cache.now.geometry pages (option_map (λ (l : Lsn). l.0) c.args.end) c.args.at before) _ (c.in_err-cursor.ensures.checks pages sees))
 
 -- the page in which the record starts
 here : (g : _) (c : After-claimed g) (pages : Pages) → Sees (g.D.Disk.tape c.args.disk.now) c.args.cache.now pages → pages c.in_ok-cursor.cursor.page ≡ Some c.open_page.new.cache.bytes.value
@@ -39,7 +38,7 @@ returns-in_err-extent-clause-reads g c = λ pages sees.
     let before = is_before_end c.args.cache.now.geometry (option_map (λ (l : Lsn). l.0) c.args.end) c.args.at.position c.is_out_of_reach.result c.is_out_of_reach.ensures c.if-is_out_of_reach.false in
     let there = ap pages (sym opened.place.0) ∙ here g at pages sees in
     let told = rw opened.geometry at c.in_err-extent.ensures.checks in
-    rw (stop.1, stop.2) (read_at-no_size c.args.cache.now.geometry pages (option_map (λ (l : Lsn). l.0) c.args.end) (place_of c.args.at) before _ there (opened.checks pages sees) c.in_ok-cursor.cursor opened.place.0 opened.cursor.1 c.in_err-extent.ensures.whole opened.place.1 _ told)
+    rw (stop.1, stop.2) (read_at-no_size c.args.cache.now.geometry pages (option_map (λ (l : Lsn). l.0) c.args.end) c.args.at before _ there (opened.checks pages sees) c.in_ok-cursor.cursor opened.place.0 opened.cursor.1 c.in_err-extent.ensures.whole opened.place.1 _ told)
 
 pub returns-then-extent-cursor-clause-reads : goal.returns-then-extent-cursor-clause-reads
 returns-then-extent-cursor-clause-reads g c = λ pages sees.
@@ -51,7 +50,7 @@ returns-then-extent-cursor-clause-reads g c = λ pages sees.
     let extent = c.in_ok-extent.ensures.extent in
     let total : c.in_ok-extent.extent.total ≡ number_at w32 c.open_page.new.cache.bytes.value c.in_ok-cursor.cursor.offset = ap (λ (e : RecordExtent). e.total) extent.0 in
     let passes = rw opened.geometry at c.in_ok-extent.ensures.checks in
-    let rest = read_at-rest size pages (option_map (λ (l : Lsn). l.0) c.args.end) (place_of c.args.at) before _ there (opened.checks pages sees) c.in_ok-cursor.cursor opened.place.0 opened.cursor.1 c.in_ok-extent.ensures.whole opened.place.1 c.in_ok-extent.extent.total total extent.1 passes in
+    let rest = read_at-rest size pages (option_map (λ (l : Lsn). l.0) c.args.end) c.args.at before _ there (opened.checks pages sees) c.in_ok-cursor.cursor opened.place.0 opened.cursor.1 c.in_ok-extent.ensures.whole opened.place.1 c.in_ok-extent.extent.total total extent.1 passes in
     read_as size pages c.args.at c.in_ok-extent.extent _ c.read_in_page.result (ap (λ (e : RecordExtent). e.at) extent.0) rest (rw opened.geometry at (c.read_in_page.ensures.reads pages (here g at pages sees)))
 
 pub returns-else-extent-cursor-clause-sees : goal.returns-else-extent-cursor-clause-sees
@@ -67,7 +66,7 @@ returns-else-extent-cursor-clause-reads g c = λ pages sees.
     let extent = c.in_ok-extent.ensures.extent in
     let total : c.in_ok-extent.extent.total ≡ number_at w32 c.open_page.new.cache.bytes.value c.in_ok-cursor.cursor.offset = ap (λ (e : RecordExtent). e.total) extent.0 in
     let passes = rw opened.geometry at c.in_ok-extent.ensures.checks in
-    let rest = read_at-rest size pages (option_map (λ (l : Lsn). l.0) c.args.end) (place_of c.args.at) before _ there (opened.checks pages sees) c.in_ok-cursor.cursor opened.place.0 opened.cursor.1 c.in_ok-extent.ensures.whole opened.place.1 c.in_ok-extent.extent.total total extent.1 passes in
+    let rest = read_at-rest size pages (option_map (λ (l : Lsn). l.0) c.args.end) c.args.at before _ there (opened.checks pages sees) c.in_ok-cursor.cursor opened.place.0 opened.cursor.1 c.in_ok-extent.ensures.whole opened.place.1 c.in_ok-extent.extent.total total extent.1 passes in
     read_as size pages c.args.at c.in_ok-extent.extent _ c.read_over_pages.result (ap (λ (e : RecordExtent). e.at) extent.0) rest (rw opened.geometry at (c.read_over_pages.ensures.reads pages (opened.sees pages sees)))
 
 pub returns-else-extent-cursor-clause-room : goal.returns-else-extent-cursor-clause-room
@@ -78,5 +77,5 @@ returns-else-extent-cursor-clause-room g c = λ pages sees.
     let before = is_before_end c.args.cache.now.geometry (option_map (λ (l : Lsn). l.0) c.args.end) c.args.at.position c.is_out_of_reach.result c.is_out_of_reach.ensures c.if-is_out_of_reach.false in
     let there = ap pages (sym opened.place.0) ∙ here g at pages sees in
     let extent = c.in_ok-extent.ensures.extent in
-    let claimed = size_in_page size pages (option_map (λ (l : Lsn). l.0) c.args.end) (place_of c.args.at) before _ there (opened.checks pages sees) c.in_ok-cursor.cursor opened.place.0 opened.cursor.1 c.in_ok-extent.ensures.whole opened.place.1 in
+    let claimed = size_in_page size pages (option_map (λ (l : Lsn). l.0) c.args.end) c.args.at before _ there (opened.checks pages sees) c.in_ok-cursor.cursor opened.place.0 opened.cursor.1 c.in_ok-extent.ensures.whole opened.place.1 in
     inr (room_as size pages c.args.at c.in_ok-extent.extent _ _ (ap (λ (e : RecordExtent). e.at) extent.0) (ap (λ (e : RecordExtent). e.total) extent.0 ∙ sym claimed) (rw opened.geometry at (c.read_over_pages.ensures.room pages (opened.sees pages sees))))

@@ -10,7 +10,6 @@ use Rattle.wal_reader.specs.declared.found.DamageKind.TheVariants as kinds
 use Rattle.wal_reader.specs.Decodes.{opening_of, damaged, is_zero_word, opens_page, page_answers}
 use Rattle.wal_reader.specs.Pages.{Pages}
 use Rattle.wal_reader.specs.PageCursor.{Sees}
-use Rattle.wal_reader.specs.ReadingPoint.{place_of}
 use Rattle.wal_reader.proofs.RecordStages.{opening_page_fails, opening_claims, gathers_none, opens_at}
 use Rattle.wal_reader.proofs.record_start.open_page.Goals as goal
 use Rattle.wal_reader.proofs.record_start.open_page.Goals.{After-check_held, else-opens-via-then-opens+else-is_zero_word, else-opens-via-else-opens}
@@ -44,9 +43,9 @@ checks_at : (g : _) (c : After-check_held g) (told : Option Answer) → first_fa
 unfolding checks_of
 checks_at g c told e = subst (λ (page : ℕ). first_fault (page_answers c.load.new.self.geometry page c.load.new.self.bytes.value c.args.at.timeline) ≡ told) (numbered g c) e
 
-fails : (g : _) (c : After-check_held g) (pages : Pages) → Sees (g.D.Disk.tape c.args.disk.now) c.args.cache.now pages → (answer : Answer) → checks_of g c (Some answer) → opening_of c.args.cache.now.geometry (place_of c.args.at) (pages (address_of c.args.cache.now.geometry c.args.at.position / 8192)) ≡ Some answer
+fails : (g : _) (c : After-check_held g) (pages : Pages) → Sees (g.D.Disk.tape c.args.disk.now) c.args.cache.now pages → (answer : Answer) → checks_of g c (Some answer) → opening_of c.args.cache.now.geometry c.args.at (pages (address_of c.args.cache.now.geometry c.args.at.position / 8192)) ≡ Some answer
 unfolding checks_of
-fails g c pages sees answer told = rw (← c.in_ok-load.ensures.geometry) (opening_page_fails c.load.new.self.geometry (place_of c.args.at) _ _ (there g c pages sees) (marked g c) answer told)
+fails g c pages sees answer told = rw (← c.in_ok-load.ensures.geometry) (opening_page_fails c.load.new.self.geometry c.args.at _ _ (there g c pages sees) (marked g c) answer told)
 
 pub returns-in_err-info-clause-checks : goal.returns-in_err-info-clause-checks
 returns-in_err-info-clause-checks g c = λ pages sees.
@@ -55,9 +54,9 @@ returns-in_err-info-clause-checks g c = λ pages sees.
     rw (stop.1, stop.2) (fails g before pages sees c.in_err-info.field-0.0 (checks_at g before (Some c.in_err-info.field-0.0) c.in_err-info.ensures.checks))
 
 claims : (g : _) (c : After-check_held g) (pages : Pages) → Sees (g.D.Disk.tape c.args.disk.now) c.args.cache.now pages → checks_of g c None → opens_page c.load.new.self.geometry c.args.at.position ≡ true → is_continued c.load.new.self.bytes.value ≡ true
-    → opening_of c.args.cache.now.geometry (place_of c.args.at) (pages (address_of c.args.cache.now.geometry c.args.at.position / 8192)) ≡ Some (damaged c.to_lsn-start.result.0 kinds.Claims)
+    → opening_of c.args.cache.now.geometry c.args.at (pages (address_of c.args.cache.now.geometry c.args.at.position / 8192)) ≡ Some (damaged c.to_lsn-start.result.0 kinds.Claims)
 unfolding checks_of
-claims g c pages sees told first continued = rw (c.to_lsn-start.ensures, ← c.in_ok-load.ensures.geometry) (opening_claims c.load.new.self.geometry (place_of c.args.at) _ _ (there g c pages sees) (marked g c) told first continued)
+claims g c pages sees told first continued = rw (c.to_lsn-start.ensures, ← c.in_ok-load.ensures.geometry) (opening_claims c.load.new.self.geometry c.args.at _ _ (there g c pages sees) (marked g c) told first continued)
 
 pub returns-then-is_continued-clause-checks : goal.returns-then-is_continued-clause-checks
 returns-then-is_continued-clause-checks g c = λ pages sees.

@@ -5,11 +5,11 @@ use Rattle.wal_reader.specs.Pages.{Pages}
 use Rattle.wal_reader.specs.Buffers.{HoldsPageOf}
 use Rattle.wal_reader.specs.LogReader.{Knows, NeedsNoPage, reader_state}
 use Rattle.wal_reader.specs.RecordRead.{IsBehind}
-use Rattle.wal_reader.specs.ReadingPoint.{IsOutOfReach}
+use Rattle.wal_reader.specs.RecordPlace.{IsOutOfReach}
 use Rattle.wal_reader.specs.Steps.{ComesNext}
 use Rattle.wal_reader.specs.declared.buffers.Buffers.{Buffers}
 use Rattle.wal_reader.specs.declared.found.FoundRecord.{FoundRecord}
-use Rattle.wal_reader.specs.declared.reading_point.ReadingPoint.{ReadingPoint}
+use Rattle.wal_reader.specs.declared.record_place.RecordPlace.{RecordPlace}
 use Rattle.wal_reader.specs.declared.read_failure.ReadFailure.{ReadFailure}
 use Rattle.wal_reader.specs.declared.read_failure.ReadFailure.TheVariants as failures
 use Rattle.wal_reader.proofs.LogReaderLaws.{standing_from, Gives-comes, IsNext-told, Leaves-told, OnEnd-told, StandsAfter-told}
@@ -46,7 +46,7 @@ pub returns-in-Ok-clause-gives : goal.returns-in-Ok-clause-gives
 returns-in-Ok-clause-gives g c pages log knows =
     let before = (goal.at.returns-in-Ok-clause-gives g c).After-next_given in
     let end = option_map (λ (e : Lsn). e.0) c.args.self.now.end in
-    let next : ComesNext c.args.self.now.geometry pages c.args.self.now.start.0 end c.match-self.from (Ok (c.in-Ok.found, c.in-Ok.behind)) = subst (λ (r : Result (FoundRecord × ReadingPoint) ReadFailure). ComesNext c.args.self.now.geometry pages c.args.self.now.start.0 end c.match-self.from r) c.in-Ok.is (comes g before pages log knows) in
+    let next : ComesNext c.args.self.now.geometry pages c.args.self.now.start.0 end c.match-self.from (Ok (c.in-Ok.found, c.in-Ok.behind)) = subst (λ (r : Result (FoundRecord × RecordPlace) ReadFailure). ComesNext c.args.self.now.geometry pages c.args.self.now.start.0 end c.match-self.from r) c.in-Ok.is (comes g before pages log knows) in
     (knows_still g before pages log knows, λ others answer rest. Gives-comes pages (reader_state c.args.self.now) c.match-self.from (c.in-Ok.found ∷ others) answer (stands g before) (next others answer rest))
 
 pub returns-in-Ok-clause-behind : goal.returns-in-Ok-clause-behind
@@ -58,8 +58,8 @@ pub returns-in-Err-Told-clause-gives : goal.returns-in-Err-Told-clause-gives
 returns-in-Err-Told-clause-gives g c pages log knows =
     let before = (goal.at.returns-in-Err-Told-clause-gives g c).After-next_given in
     let end = option_map (λ (e : Lsn). e.0) c.args.self.now.end in
-    let said : Result (FoundRecord × ReadingPoint) ReadFailure = Err (failures.Told c.in-Err-Told.answer) in
-    let next : ComesNext c.args.self.now.geometry pages c.args.self.now.start.0 end c.match-self.from said = subst (λ (r : Result (FoundRecord × ReadingPoint) ReadFailure). ComesNext c.args.self.now.geometry pages c.args.self.now.start.0 end c.match-self.from r) (c.in-Err-Told.is ∙ ap Err c.in-Err-Told.field-0-is) (comes g before pages log knows) in
+    let said : Result (FoundRecord × RecordPlace) ReadFailure = Err (failures.Told c.in-Err-Told.answer) in
+    let next : ComesNext c.args.self.now.geometry pages c.args.self.now.start.0 end c.match-self.from said = subst (λ (r : Result (FoundRecord × RecordPlace) ReadFailure). ComesNext c.args.self.now.geometry pages c.args.self.now.start.0 end c.match-self.from r) (c.in-Err-Told.is ∙ ap Err c.in-Err-Told.field-0-is) (comes g before pages log knows) in
     let gives = Gives-comes pages (reader_state c.args.self.now) c.match-self.from [] c.in-Err-Told.answer (stands g before) next in
     let held = knows_still g before pages log knows in
     (rw c.forget_page.ensures (held.0, tt), rw c.told.ensures (IsNext-told pages (reader_state c.args.self.now) _ c.in-Err-Told.answer gives))

@@ -1,11 +1,12 @@
-//! Where a reader stands in a log.
+//! Where a record is read.
 
 use wal_types::Lsn;
 
-/// Where the next record starts, and what the pages and records before it say of it.
+/// A place in a log at which a record is read: where it would start, and what the pages and records
+/// before it say of it.
 #[derive(Clone, Copy, Debug)]
-pub(crate) struct ReadingPoint {
-    /// The byte position of the next record: a multiple of 8.
+pub(crate) struct RecordPlace {
+    /// The byte position of its first byte: a multiple of 8.
     pub(crate) position: u64,
     /// The start of the record before, once one was read.
     pub(crate) prev: Option<Lsn>,
