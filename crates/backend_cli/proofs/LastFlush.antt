@@ -21,8 +21,8 @@ not_both : (down : Option ℕ) (faults : ℕ) → down ≡ None → down ≡ Som
 not_both None faults none some = cc
 not_both (Some other) faults none some = cc
 
-module _ (size opened : ℕ) (before : LogHistory) (asked : ℕ) (all : asked ≡ end_of size before.entries) where
-  behind_refused : (cause : Cause) (reserved : Option Lsn) (after : LogHistory) → RefusesFlush opened before asked cause reserved after → IsBehindFlush size before after
+module _ (size faults_at_open : ℕ) (before : LogHistory) (asked : ℕ) (all : asked ≡ end_of size before.entries) where
+  behind_refused : (cause : Cause) (reserved : Option Lsn) (after : LogHistory) → RefusesFlush faults_at_open before asked cause reserved after → IsBehindFlush size before after
   behind_refused (Full free) reserved after refuses = absurd refuses
   behind_refused (Disk faults) None after refuses = subst (IsBehindFlush size before) (sym refuses.after_is) (record {
     same = refl;
@@ -39,7 +39,7 @@ module _ (size opened : ℕ) (before : LogHistory) (asked : ℕ) (all : asked �
   })
   behind_refused (Down faults) (Some start) after refuses = absurd refuses
 
-  pub behind_flush : (answer : Result Hard Refused) (after : LogHistory) → Flushes size opened before asked answer after → IsBehindFlush size before after
+  pub behind_flush : (answer : Result Hard Refused) (after : LogHistory) → Flushes size faults_at_open before asked answer after → IsBehindFlush size before after
   behind_flush (Ok done) after flushes = subst (IsBehindFlush size before) (sym flushes.after_is) (record {
     same = refl;
     down = λ faults some. some;

@@ -12,13 +12,13 @@ use Rattle.backend_cli.specs.Steps.{Steps, Plays}
 use Rattle.backend_cli.specs.Tasks.{IsWork, AreTasks}
 
 -- one line more at the end
-pub Plays_push : (size capacity opened : ℕ) (before mid after : LogHistory) (lines : List Line) (told : List Told) (line : Line) (answer : Told) → Plays size capacity opened before lines told mid → Steps size capacity opened mid line.action answer after
-    → Plays size capacity opened before (lines ++ line ∷ []) (told ++ answer ∷ []) after
-Plays_push size capacity opened before mid after [] [] line answer plays step = (after, subst (λ (s : LogHistory). Steps size capacity opened s line.action answer after) plays step, refl)
-Plays_push size capacity opened before mid after [] (t ∷ told) line answer plays step = absurd plays
-Plays_push size capacity opened before mid after (l ∷ lines) [] line answer plays step = absurd plays
-Plays_push size capacity opened before mid after (l ∷ lines) (t ∷ told) line answer plays step =
-    (plays.0, plays.1, Plays_push size capacity opened plays.0 mid after lines told line answer plays.2 step)
+pub Plays_push : (size capacity faults_at_open : ℕ) (before mid after : LogHistory) (lines : List Line) (told : List Told) (line : Line) (answer : Told) → Plays size capacity faults_at_open before lines told mid → Steps size capacity faults_at_open mid line.action answer after
+    → Plays size capacity faults_at_open before (lines ++ line ∷ []) (told ++ answer ∷ []) after
+Plays_push size capacity faults_at_open before mid after [] [] line answer plays step = (after, subst (λ (s : LogHistory). Steps size capacity faults_at_open s line.action answer after) plays step, refl)
+Plays_push size capacity faults_at_open before mid after [] (t ∷ told) line answer plays step = absurd plays
+Plays_push size capacity faults_at_open before mid after (l ∷ lines) [] line answer plays step = absurd plays
+Plays_push size capacity faults_at_open before mid after (l ∷ lines) (t ∷ told) line answer plays step =
+    (plays.0, plays.1, Plays_push size capacity faults_at_open plays.0 mid after lines told line answer plays.2 step)
 
 length-AreTasks : (lines : List Line) (tasks : List Task) → AreTasks lines tasks → length tasks ≡ length lines
 length-AreTasks [] [] are = refl

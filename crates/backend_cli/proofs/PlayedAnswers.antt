@@ -26,8 +26,8 @@ is_down : (down : Option ℕ) (faults : ℕ) → down ≡ Some faults → down �
 is_down None faults some none = cc
 is_down (Some other) faults some none = cc
 
-steps_up : (size capacity opened : ℕ) → HoldsOfSteps size capacity opened StaysUp
-steps_up size capacity opened = record {
+steps_up : (size capacity faults_at_open : ℕ) → HoldsOfSteps size capacity faults_at_open StaysUp
+steps_up size capacity faults_at_open = record {
   wrote = λ s value start end reserves ends up. record { up = up; refuses = λ refused. absurd refused };
   insert_full = λ s value free none left short up. record { up = up; refuses = λ refused. tt };
   insert_failed = λ s value start faults reserves rose up. absurd (let no : ⊥ = cc in no);
@@ -41,23 +41,23 @@ steps_up size capacity opened = record {
   flush_down = λ s faults down up. absurd (is_down s.down faults down up);
 }
 
-pub plays_up : (size capacity opened : ℕ) (lines : List Line) (told : List Told) (before after : LogHistory) → Plays size capacity opened before lines told after → after.down ≡ None → before.down ≡ None
-plays_up size capacity opened [] [] before after plays up = ap (λ (s : LogHistory). s.down) (sym plays) ∙ up
-plays_up size capacity opened [] (answer ∷ told) before after plays up = absurd plays
-plays_up size capacity opened (line ∷ lines) [] before after plays up = absurd plays
-plays_up size capacity opened (line ∷ lines) (answer ∷ told) before after plays up =
-    (fact-Steps size capacity opened StaysUp (steps_up size capacity opened) before line.action answer plays.0 plays.1 (plays_up size capacity opened lines told plays.0 after plays.2 up)).up
+pub plays_up : (size capacity faults_at_open : ℕ) (lines : List Line) (told : List Told) (before after : LogHistory) → Plays size capacity faults_at_open before lines told after → after.down ≡ None → before.down ≡ None
+plays_up size capacity faults_at_open [] [] before after plays up = ap (λ (s : LogHistory). s.down) (sym plays) ∙ up
+plays_up size capacity faults_at_open [] (answer ∷ told) before after plays up = absurd plays
+plays_up size capacity faults_at_open (line ∷ lines) [] before after plays up = absurd plays
+plays_up size capacity faults_at_open (line ∷ lines) (answer ∷ told) before after plays up =
+    (fact-Steps size capacity faults_at_open StaysUp (steps_up size capacity faults_at_open) before line.action answer plays.0 plays.1 (plays_up size capacity faults_at_open lines told plays.0 after plays.2 up)).up
 
-pub plays_refusals : (size capacity opened : ℕ) (lines : List Line) (told : List Told) (before after : LogHistory) → Plays size capacity opened before lines told after → after.down ≡ None → SomeAnswer IsRefused told → SomeAnswer IsFullAnswer told
-plays_refusals size capacity opened [] [] before after plays up refused = absurd refused
-plays_refusals size capacity opened [] (answer ∷ told) before after plays up refused = absurd plays
-plays_refusals size capacity opened (line ∷ lines) [] before after plays up refused = absurd plays
-plays_refusals size capacity opened (line ∷ lines) (answer ∷ told) before after plays up (inl here) =
-    inl ((fact-Steps size capacity opened StaysUp (steps_up size capacity opened) before line.action answer plays.0 plays.1 (plays_up size capacity opened lines told plays.0 after plays.2 up)).refuses here)
-plays_refusals size capacity opened (line ∷ lines) (answer ∷ told) before after plays up (inr later) = inr (plays_refusals size capacity opened lines told plays.0 after plays.2 up later)
+pub plays_refusals : (size capacity faults_at_open : ℕ) (lines : List Line) (told : List Told) (before after : LogHistory) → Plays size capacity faults_at_open before lines told after → after.down ≡ None → SomeAnswer IsRefused told → SomeAnswer IsFullAnswer told
+plays_refusals size capacity faults_at_open [] [] before after plays up refused = absurd refused
+plays_refusals size capacity faults_at_open [] (answer ∷ told) before after plays up refused = absurd plays
+plays_refusals size capacity faults_at_open (line ∷ lines) [] before after plays up refused = absurd plays
+plays_refusals size capacity faults_at_open (line ∷ lines) (answer ∷ told) before after plays up (inl here) =
+    inl ((fact-Steps size capacity faults_at_open StaysUp (steps_up size capacity faults_at_open) before line.action answer plays.0 plays.1 (plays_up size capacity faults_at_open lines told plays.0 after plays.2 up)).refuses here)
+plays_refusals size capacity faults_at_open (line ∷ lines) (answer ∷ told) before after plays up (inr later) = inr (plays_refusals size capacity faults_at_open lines told plays.0 after plays.2 up later)
 
-pub played_refusals : (size capacity opened : ℕ) (lines : List Line) (told : List Told) (after : LogHistory) → Plays size capacity opened (at_opening size) lines told after → after.down ≡ None → SomeAnswer IsRefused told → SomeAnswer IsFullAnswer told
-played_refusals size capacity opened lines told after plays = plays_refusals size capacity opened lines told (at_opening size) after plays
+pub played_refusals : (size capacity faults_at_open : ℕ) (lines : List Line) (told : List Told) (after : LogHistory) → Plays size capacity faults_at_open (at_opening size) lines told after → after.down ≡ None → SomeAnswer IsRefused told → SomeAnswer IsFullAnswer told
+played_refusals size capacity faults_at_open lines told after plays = plays_refusals size capacity faults_at_open lines told (at_opening size) after plays
 
 -- a step takes up no more than its line asks for, and one that finds the log full asks for more than is left
 record AsksFor (capacity : ℕ) (before : LogHistory) (action : Action) (told : Told) (after : LogHistory) : Type 0 where
@@ -70,8 +70,8 @@ TakesRoom capacity before action told after = AsksFor capacity before action tol
 next_rooms : (size : ℕ) (s : LogHistory) (value : Record) → rooms_of (with_entry size s.entries value) ≤ rooms_of s.entries + room_of value
 next_rooms size s value = omega (arith, rooms_of_push s.entries (next_entry size s.entries value))
 
-steps_room : (size capacity opened : ℕ) → HoldsOfSteps size capacity opened (TakesRoom capacity)
-steps_room size capacity opened = record {
+steps_room : (size capacity faults_at_open : ℕ) → HoldsOfSteps size capacity faults_at_open (TakesRoom capacity)
+steps_room size capacity faults_at_open = record {
   wrote = λ s value start end reserves ends. record { taken = next_rooms size s value; full = λ no. absurd no };
   insert_full = λ s value free up left short. record { taken = omega arith; full = λ full. omega arith };
   insert_failed = λ s value start faults reserves rose. record { taken = next_rooms size s value; full = λ no. absurd no };
@@ -85,19 +85,19 @@ steps_room size capacity opened = record {
   flush_down = λ s faults down. record { taken = omega arith; full = λ no. absurd no };
 }
 
-pub plays_full : (size capacity opened : ℕ) (lines : List Line) (told : List Told) (before after : LogHistory) → Plays size capacity opened before lines told after → SomeAnswer IsFullAnswer told → capacity < rooms_of before.entries + rooms_asked lines
-plays_full size capacity opened [] [] before after plays full = absurd full
-plays_full size capacity opened [] (answer ∷ told) before after plays full = absurd plays
-plays_full size capacity opened (line ∷ lines) [] before after plays full = absurd plays
-plays_full size capacity opened (line ∷ lines) (answer ∷ told) before after plays (inl here) =
-    let room = fact-Steps size capacity opened (TakesRoom capacity) (steps_room size capacity opened) before line.action answer plays.0 plays.1 in
+pub plays_full : (size capacity faults_at_open : ℕ) (lines : List Line) (told : List Told) (before after : LogHistory) → Plays size capacity faults_at_open before lines told after → SomeAnswer IsFullAnswer told → capacity < rooms_of before.entries + rooms_asked lines
+plays_full size capacity faults_at_open [] [] before after plays full = absurd full
+plays_full size capacity faults_at_open [] (answer ∷ told) before after plays full = absurd plays
+plays_full size capacity faults_at_open (line ∷ lines) [] before after plays full = absurd plays
+plays_full size capacity faults_at_open (line ∷ lines) (answer ∷ told) before after plays (inl here) =
+    let room = fact-Steps size capacity faults_at_open (TakesRoom capacity) (steps_room size capacity faults_at_open) before line.action answer plays.0 plays.1 in
     omega (arith, room.full here)
-plays_full size capacity opened (line ∷ lines) (answer ∷ told) before after plays (inr later) =
-    let room = fact-Steps size capacity opened (TakesRoom capacity) (steps_room size capacity opened) before line.action answer plays.0 plays.1 in
-    omega (arith, room.taken, plays_full size capacity opened lines told plays.0 after plays.2 later)
+plays_full size capacity faults_at_open (line ∷ lines) (answer ∷ told) before after plays (inr later) =
+    let room = fact-Steps size capacity faults_at_open (TakesRoom capacity) (steps_room size capacity faults_at_open) before line.action answer plays.0 plays.1 in
+    omega (arith, room.taken, plays_full size capacity faults_at_open lines told plays.0 after plays.2 later)
 
-pub played_full : (size capacity opened : ℕ) (lines : List Line) (told : List Told) (after : LogHistory) → Plays size capacity opened (at_opening size) lines told after → SomeAnswer IsFullAnswer told → capacity < rooms_asked lines
-played_full size capacity opened lines told after plays full = omega (arith, plays_full size capacity opened lines told (at_opening size) after plays full)
+pub played_full : (size capacity faults_at_open : ℕ) (lines : List Line) (told : List Told) (after : LogHistory) → Plays size capacity faults_at_open (at_opening size) lines told after → SomeAnswer IsFullAnswer told → capacity < rooms_asked lines
+played_full size capacity faults_at_open lines told after plays full = omega (arith, plays_full size capacity faults_at_open lines told (at_opening size) after plays full)
 
 -- some answer of the one backend
 pub SomeTold-one : (P : Told → Type 0) (told : List Told) → SomeTold P (told ∷ []) → SomeAnswer P told

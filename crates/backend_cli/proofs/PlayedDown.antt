@@ -33,8 +33,8 @@ module _ (down : Option ℕ) where
 same_fault : (down : Option ℕ) (faults other : ℕ) → down ≡ Some faults → down ≡ Some other → Refused (Down faults) None ≡ Refused (Down other) None
 same_fault down faults other is again = let both : Some faults ≡ Some other = sym is ∙ again in ap (λ (n : ℕ). Refused (Down n) None) (let same : faults ≡ other = cc in same)
 
-steps_down : (size capacity opened : ℕ) → HoldsOfSteps size capacity opened KeepsDown
-steps_down size capacity opened = record {
+steps_down : (size capacity faults_at_open : ℕ) → HoldsOfSteps size capacity faults_at_open KeepsDown
+steps_down size capacity faults_at_open = record {
   wrote = λ s value start end reserves ends. record { again = λ faults down. not_down s.down _ faults reserves.reserved.up down; leaves = tt };
   insert_full = λ s value free up left short. record { again = λ faults down. not_down s.down _ faults up down; leaves = tt };
   insert_failed = λ s value start faults reserves rose. record { again = λ others down. not_down s.down _ others reserves.reserved.up down; leaves = refl };
@@ -48,13 +48,13 @@ steps_down size capacity opened = record {
   flush_down = λ s faults is. record { again = λ others down. (same_fault s.down faults others is down, down); leaves = is };
 }
 
-plays_all_down : (size capacity opened faults : ℕ) (lines : List Line) (told : List Told) (before after : LogHistory) → Plays size capacity opened before lines told after → before.down ≡ Some faults → AllDown faults told
-plays_all_down size capacity opened faults [] [] before after plays down = tt
-plays_all_down size capacity opened faults [] (answer ∷ told) before after plays down = absurd plays
-plays_all_down size capacity opened faults (line ∷ lines) [] before after plays down = absurd plays
-plays_all_down size capacity opened faults (line ∷ lines) (answer ∷ told) before after plays down =
-    let step = (fact-Steps size capacity opened KeepsDown (steps_down size capacity opened) before line.action answer plays.0 plays.1).again faults down in
-    (step.0, plays_all_down size capacity opened faults lines told plays.0 after plays.2 step.1)
+plays_all_down : (size capacity faults_at_open faults : ℕ) (lines : List Line) (told : List Told) (before after : LogHistory) → Plays size capacity faults_at_open before lines told after → before.down ≡ Some faults → AllDown faults told
+plays_all_down size capacity faults_at_open faults [] [] before after plays down = tt
+plays_all_down size capacity faults_at_open faults [] (answer ∷ told) before after plays down = absurd plays
+plays_all_down size capacity faults_at_open faults (line ∷ lines) [] before after plays down = absurd plays
+plays_all_down size capacity faults_at_open faults (line ∷ lines) (answer ∷ told) before after plays down =
+    let step = (fact-Steps size capacity faults_at_open KeepsDown (steps_down size capacity faults_at_open) before line.action answer plays.0 plays.1).again faults down in
+    (step.0, plays_all_down size capacity faults_at_open faults lines told plays.0 after plays.2 step.1)
 
 -- one answer more in front
 stays_down_behind : (answer : Told) (others : List Told) (mid : LogHistory) → LeavesDown answer mid → StaysDown others → ((faults : ℕ) → mid.down ≡ Some faults → AllDown faults others) → StaysDown (answer ∷ others)
@@ -65,13 +65,13 @@ stays_down_behind (Refused (Full free) reserved) others mid leaves stays down = 
 stays_down_behind (Refused (Disk faults) reserved) others mid leaves stays down = down faults leaves
 stays_down_behind (Refused (Down faults) reserved) others mid leaves stays down = down faults leaves
 
-plays_stay_down : (size capacity opened : ℕ) (lines : List Line) (told : List Told) (before after : LogHistory) → Plays size capacity opened before lines told after → StaysDown told
-plays_stay_down size capacity opened [] [] before after plays = tt
-plays_stay_down size capacity opened [] (answer ∷ told) before after plays = absurd plays
-plays_stay_down size capacity opened (line ∷ lines) [] before after plays = absurd plays
-plays_stay_down size capacity opened (line ∷ lines) (answer ∷ told) before after plays =
-    let step = fact-Steps size capacity opened KeepsDown (steps_down size capacity opened) before line.action answer plays.0 plays.1 in
-    stays_down_behind answer told plays.0 step.leaves (plays_stay_down size capacity opened lines told plays.0 after plays.2) (λ faults down. plays_all_down size capacity opened faults lines told plays.0 after plays.2 down)
+plays_stay_down : (size capacity faults_at_open : ℕ) (lines : List Line) (told : List Told) (before after : LogHistory) → Plays size capacity faults_at_open before lines told after → StaysDown told
+plays_stay_down size capacity faults_at_open [] [] before after plays = tt
+plays_stay_down size capacity faults_at_open [] (answer ∷ told) before after plays = absurd plays
+plays_stay_down size capacity faults_at_open (line ∷ lines) [] before after plays = absurd plays
+plays_stay_down size capacity faults_at_open (line ∷ lines) (answer ∷ told) before after plays =
+    let step = fact-Steps size capacity faults_at_open KeepsDown (steps_down size capacity faults_at_open) before line.action answer plays.0 plays.1 in
+    stays_down_behind answer told plays.0 step.leaves (plays_stay_down size capacity faults_at_open lines told plays.0 after plays.2) (λ faults down. plays_all_down size capacity faults_at_open faults lines told plays.0 after plays.2 down)
 
-pub played_stays_down : (size capacity opened : ℕ) (lines : List Line) (told : List Told) (after : LogHistory) → Plays size capacity opened (at_opening size) lines told after → StaysDown told
-played_stays_down size capacity opened lines told after plays = plays_stay_down size capacity opened lines told (at_opening size) after plays
+pub played_stays_down : (size capacity faults_at_open : ℕ) (lines : List Line) (told : List Told) (after : LogHistory) → Plays size capacity faults_at_open (at_opening size) lines told after → StaysDown told
+played_stays_down size capacity faults_at_open lines told after plays = plays_stay_down size capacity faults_at_open lines told (at_opening size) after plays

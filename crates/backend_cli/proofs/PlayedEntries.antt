@@ -28,8 +28,8 @@ entry_at_end size valid es value start at =
     let position : position_of size start.0 ≡ first_position size + rooms_of es = ap (position_of size) at ∙ position_of-address_of size valid (first_position size + rooms_of es) in
     ap (λ (n : ℕ). es ++ (record { pass = 0; value = value; start = n }) ∷ []) (sym position)
 
-steps_entries : (size capacity opened : ℕ) → IsSegmentSize size → HoldsOfSteps size capacity opened (AddsEntry size)
-steps_entries size capacity opened valid = record {
+steps_entries : (size capacity faults_at_open : ℕ) → IsSegmentSize size → HoldsOfSteps size capacity faults_at_open (AddsEntry size)
+steps_entries size capacity faults_at_open valid = record {
   wrote = λ s value start end reserves ends. entry_at_end size valid s.entries value start reserves.reserved.start_is;
   insert_full = λ s value free up left short. sym (append-nil s.entries);
   insert_failed = λ s value start faults reserves rose. entry_at_end size valid s.entries value start reserves.reserved.start_is;
@@ -43,20 +43,20 @@ steps_entries size capacity opened valid = record {
   flush_down = λ s faults down. sym (append-nil s.entries);
 }
 
-pub plays_entries : (size capacity opened : ℕ) (lines : List Line) (told : List Told) (before after : LogHistory) → IsSegmentSize size → Plays size capacity opened before lines told after → after.entries ≡ before.entries ++ entries_of size 0 lines told
-plays_entries size capacity opened [] [] before after valid plays = ap (λ (s : LogHistory). s.entries) plays ∙ sym (append-nil before.entries)
-plays_entries size capacity opened [] (answer ∷ told) before after valid plays = absurd plays
-plays_entries size capacity opened (line ∷ lines) [] before after valid plays = absurd plays
-plays_entries size capacity opened (line ∷ lines) (answer ∷ told) before after valid plays =
-    let added = fact-Steps size capacity opened (AddsEntry size) (steps_entries size capacity opened valid) before line.action answer plays.0 plays.1 in
+pub plays_entries : (size capacity faults_at_open : ℕ) (lines : List Line) (told : List Told) (before after : LogHistory) → IsSegmentSize size → Plays size capacity faults_at_open before lines told after → after.entries ≡ before.entries ++ entries_of size 0 lines told
+plays_entries size capacity faults_at_open [] [] before after valid plays = ap (λ (s : LogHistory). s.entries) plays ∙ sym (append-nil before.entries)
+plays_entries size capacity faults_at_open [] (answer ∷ told) before after valid plays = absurd plays
+plays_entries size capacity faults_at_open (line ∷ lines) [] before after valid plays = absurd plays
+plays_entries size capacity faults_at_open (line ∷ lines) (answer ∷ told) before after valid plays =
+    let added = fact-Steps size capacity faults_at_open (AddsEntry size) (steps_entries size capacity faults_at_open valid) before line.action answer plays.0 plays.1 in
     let new = option_to_list (entry_of size 0 line.action answer) in
-    plays_entries size capacity opened lines told plays.0 after valid plays.2
+    plays_entries size capacity faults_at_open lines told plays.0 after valid plays.2
     ∙ ap (λ (es : List Entry). es ++ entries_of size 0 lines told) added
     ∙ append_assoc before.entries new (entries_of size 0 lines told)
 
 -- from the opening on, they are all that were told
-pub played_entries : (size capacity opened : ℕ) (lines : List Line) (told : List Told) (after : LogHistory) → IsSegmentSize size → Plays size capacity opened (at_opening size) lines told after → entries_of size 0 lines told ≡ after.entries
-played_entries size capacity opened lines told after valid plays = sym (plays_entries size capacity opened lines told (at_opening size) after valid plays)
+pub played_entries : (size capacity faults_at_open : ℕ) (lines : List Line) (told : List Told) (after : LogHistory) → IsSegmentSize size → Plays size capacity faults_at_open (at_opening size) lines told after → entries_of size 0 lines told ≡ after.entries
+played_entries size capacity faults_at_open lines told after valid plays = sym (plays_entries size capacity faults_at_open lines told (at_opening size) after valid plays)
 
 -- entries stay chained
 abbrev KeepsChain : ℕ → StepFact
@@ -65,8 +65,8 @@ KeepsChain size before action told after = IsChained size before.entries → IsC
 next_chained : (size capacity : ℕ) (s : LogHistory) (value : Record) (start : ℕ) → Reserves size capacity s value start → IsChained size s.entries → IsChained size (with_entry size s.entries value)
 next_chained size capacity s value start reserves chained = IsChained_push size s.entries (next_entry size s.entries value) chained refl reserves.writable
 
-steps_chained : (size capacity opened : ℕ) → HoldsOfSteps size capacity opened (KeepsChain size)
-steps_chained size capacity opened = record {
+steps_chained : (size capacity faults_at_open : ℕ) → HoldsOfSteps size capacity faults_at_open (KeepsChain size)
+steps_chained size capacity faults_at_open = record {
   wrote = λ s value start end reserves ends chained. next_chained size capacity s value start.0 reserves chained;
   insert_full = λ s value free up left short chained. chained;
   insert_failed = λ s value start faults reserves rose chained. next_chained size capacity s value start.0 reserves chained;
@@ -80,33 +80,33 @@ steps_chained size capacity opened = record {
   flush_down = λ s faults down chained. chained;
 }
 
-pub plays_chained : (size capacity opened : ℕ) (lines : List Line) (told : List Told) (before after : LogHistory) → Plays size capacity opened before lines told after → IsChained size before.entries → IsChained size after.entries
-plays_chained size capacity opened [] [] before after plays chained = subst (λ (s : LogHistory). IsChained size s.entries) (sym plays) chained
-plays_chained size capacity opened [] (answer ∷ told) before after plays chained = absurd plays
-plays_chained size capacity opened (line ∷ lines) [] before after plays chained = absurd plays
-plays_chained size capacity opened (line ∷ lines) (answer ∷ told) before after plays chained =
-    plays_chained size capacity opened lines told plays.0 after plays.2 (fact-Steps size capacity opened (KeepsChain size) (steps_chained size capacity opened) before line.action answer plays.0 plays.1 chained)
+pub plays_chained : (size capacity faults_at_open : ℕ) (lines : List Line) (told : List Told) (before after : LogHistory) → Plays size capacity faults_at_open before lines told after → IsChained size before.entries → IsChained size after.entries
+plays_chained size capacity faults_at_open [] [] before after plays chained = subst (λ (s : LogHistory). IsChained size s.entries) (sym plays) chained
+plays_chained size capacity faults_at_open [] (answer ∷ told) before after plays chained = absurd plays
+plays_chained size capacity faults_at_open (line ∷ lines) [] before after plays chained = absurd plays
+plays_chained size capacity faults_at_open (line ∷ lines) (answer ∷ told) before after plays chained =
+    plays_chained size capacity faults_at_open lines told plays.0 after plays.2 (fact-Steps size capacity faults_at_open (KeepsChain size) (steps_chained size capacity faults_at_open) before line.action answer plays.0 plays.1 chained)
 
-pub played_chained : (size capacity opened : ℕ) (lines : List Line) (told : List Told) (after : LogHistory) → Plays size capacity opened (at_opening size) lines told after → IsChained size after.entries
-played_chained size capacity opened lines told after plays = plays_chained size capacity opened lines told (at_opening size) after plays tt
+pub played_chained : (size capacity faults_at_open : ℕ) (lines : List Line) (told : List Told) (after : LogHistory) → Plays size capacity faults_at_open (at_opening size) lines told after → IsChained size after.entries
+played_chained size capacity faults_at_open lines told after plays = plays_chained size capacity faults_at_open lines told (at_opening size) after plays tt
 
 -- the reserved order is that of the entries
-pub played_order : (size capacity opened : ℕ) (lines : List Line) (told : List Told) (after : LogHistory) → IsSegmentSize size → Plays size capacity opened (at_opening size) lines told after → order_of size (lines ∷ []) (told ∷ []) ≡ after.entries
-played_order size capacity opened lines told after valid plays =
-    let rising = IsRising-FollowsFrom (first_position size) after.entries (played_chained size capacity opened lines told after plays) in
-    ap sorted_by_start (append-nil (entries_of size 0 lines told) ∙ played_entries size capacity opened lines told after valid plays) ∙ sorted_by_start-rising after.entries rising
+pub played_order : (size capacity faults_at_open : ℕ) (lines : List Line) (told : List Told) (after : LogHistory) → IsSegmentSize size → Plays size capacity faults_at_open (at_opening size) lines told after → order_of size (lines ∷ []) (told ∷ []) ≡ after.entries
+played_order size capacity faults_at_open lines told after valid plays =
+    let rising = IsRising-FollowsFrom (first_position size) after.entries (played_chained size capacity faults_at_open lines told after plays) in
+    ap sorted_by_start (append-nil (entries_of size 0 lines told) ∙ played_entries size capacity faults_at_open lines told after valid plays) ∙ sorted_by_start-rising after.entries rising
 
-pub played_rises : (size capacity opened : ℕ) (lines : List Line) (told : List Told) (after : LogHistory) → IsSegmentSize size → Plays size capacity opened (at_opening size) lines told after → RiseInLineOrder size 0 (lines ∷ []) (told ∷ [])
-played_rises size capacity opened lines told after valid plays =
-    let rising = IsRising-FollowsFrom (first_position size) after.entries (played_chained size capacity opened lines told after plays) in
-    (subst IsRising (sym (played_entries size capacity opened lines told after valid plays)) rising, tt)
+pub played_rises : (size capacity faults_at_open : ℕ) (lines : List Line) (told : List Told) (after : LogHistory) → IsSegmentSize size → Plays size capacity faults_at_open (at_opening size) lines told after → RiseInLineOrder size 0 (lines ∷ []) (told ∷ [])
+played_rises size capacity faults_at_open lines told after valid plays =
+    let rising = IsRising-FollowsFrom (first_position size) after.entries (played_chained size capacity faults_at_open lines told after plays) in
+    (subst IsRising (sym (played_entries size capacity faults_at_open lines told after valid plays)) rising, tt)
 
 -- there are as many as answers that reserved a record
 abbrev CountsEntry : StepFact
 CountsEntry before action told after = length after.entries ≡ length before.entries + is_reserved told
 
-steps_counted : (size capacity opened : ℕ) → HoldsOfSteps size capacity opened CountsEntry
-steps_counted size capacity opened = record {
+steps_counted : (size capacity faults_at_open : ℕ) → HoldsOfSteps size capacity faults_at_open CountsEntry
+steps_counted size capacity faults_at_open = record {
   wrote = λ s value start end reserves ends. length_push s.entries (next_entry size s.entries value);
   insert_full = λ s value free up left short. omega arith;
   insert_failed = λ s value start faults reserves rose. length_push s.entries (next_entry size s.entries value);
@@ -120,12 +120,12 @@ steps_counted size capacity opened = record {
   flush_down = λ s faults down. omega arith;
 }
 
-pub plays_counted : (size capacity opened : ℕ) (lines : List Line) (told : List Told) (before after : LogHistory) → Plays size capacity opened before lines told after → length after.entries ≡ length before.entries + reserved_count told
-plays_counted size capacity opened [] [] before after plays = omega (arith, ap (λ (s : LogHistory). length s.entries) plays)
-plays_counted size capacity opened [] (answer ∷ told) before after plays = absurd plays
-plays_counted size capacity opened (line ∷ lines) [] before after plays = absurd plays
-plays_counted size capacity opened (line ∷ lines) (answer ∷ told) before after plays =
-    omega (arith, plays_counted size capacity opened lines told plays.0 after plays.2, fact-Steps size capacity opened CountsEntry (steps_counted size capacity opened) before line.action answer plays.0 plays.1)
+pub plays_counted : (size capacity faults_at_open : ℕ) (lines : List Line) (told : List Told) (before after : LogHistory) → Plays size capacity faults_at_open before lines told after → length after.entries ≡ length before.entries + reserved_count told
+plays_counted size capacity faults_at_open [] [] before after plays = omega (arith, ap (λ (s : LogHistory). length s.entries) plays)
+plays_counted size capacity faults_at_open [] (answer ∷ told) before after plays = absurd plays
+plays_counted size capacity faults_at_open (line ∷ lines) [] before after plays = absurd plays
+plays_counted size capacity faults_at_open (line ∷ lines) (answer ∷ told) before after plays =
+    omega (arith, plays_counted size capacity faults_at_open lines told plays.0 after plays.2, fact-Steps size capacity faults_at_open CountsEntry (steps_counted size capacity faults_at_open) before line.action answer plays.0 plays.1)
 
-pub counted : (size capacity opened : ℕ) (lines : List Line) (told : List Told) (after : LogHistory) → Plays size capacity opened (at_opening size) lines told after → length after.entries ≡ reserved_count told
-counted size capacity opened lines told after plays = omega (arith, plays_counted size capacity opened lines told (at_opening size) after plays)
+pub counted : (size capacity faults_at_open : ℕ) (lines : List Line) (told : List Told) (after : LogHistory) → Plays size capacity faults_at_open (at_opening size) lines told after → length after.entries ≡ reserved_count told
+counted size capacity faults_at_open lines told after plays = omega (arith, plays_counted size capacity faults_at_open lines told (at_opening size) after plays)

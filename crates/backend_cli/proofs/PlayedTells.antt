@@ -22,7 +22,7 @@ use Rattle.backend_cli.proofs.PlayedEntries.{plays_entries, played_order}
 
 -- where the disk has failed, its count of faults was not that of the opening
 abbrev HasFailed : ℕ → Option ℕ → Type 0
-HasFailed opened down = (faults : ℕ) → down ≡ Some faults → (opened < faults) ⊎ (faults ≡ 2 ^ 64 - 1)
+HasFailed faults_at_open down = (faults : ℕ) → down ≡ Some faults → (faults_at_open < faults) ⊎ (faults ≡ 2 ^ 64 - 1)
 
 -- where the disk has failed, this was its count of faults
 abbrev IsLast : ℕ → Option ℕ → Type 0
@@ -37,8 +37,8 @@ is_up (Some other) faults none some = cc
 abbrev StaysDown : StepFact
 StaysDown before action told after = (faults : ℕ) → before.down ≡ Some faults → after.down ≡ Some faults
 
-steps_down : (size capacity opened : ℕ) → HoldsOfSteps size capacity opened StaysDown
-steps_down size capacity opened = record {
+steps_down : (size capacity faults_at_open : ℕ) → HoldsOfSteps size capacity faults_at_open StaysDown
+steps_down size capacity faults_at_open = record {
   wrote = λ s value start end reserves ends faults failed. failed;
   insert_full = λ s value free up left short faults failed. failed;
   insert_failed = λ s value start faults reserves rose others failed. absurd (is_up s.down others reserves.reserved.up failed);
@@ -52,25 +52,25 @@ steps_down size capacity opened = record {
   flush_down = λ s faults down others failed. failed;
 }
 
-plays_down : (size capacity opened : ℕ) (lines : List Line) (told : List Told) (before after : LogHistory) → Plays size capacity opened before lines told after → (faults : ℕ) → before.down ≡ Some faults → after.down ≡ Some faults
-plays_down size capacity opened [] [] before after plays faults failed = ap (λ (s : LogHistory). s.down) plays ∙ failed
-plays_down size capacity opened [] (answer ∷ told) before after plays faults failed = absurd plays
-plays_down size capacity opened (line ∷ lines) [] before after plays faults failed = absurd plays
-plays_down size capacity opened (line ∷ lines) (answer ∷ told) before after plays faults failed =
-    plays_down size capacity opened lines told plays.0 after plays.2 faults (fact-Steps size capacity opened StaysDown (steps_down size capacity opened) before line.action answer plays.0 plays.1 faults failed)
+plays_down : (size capacity faults_at_open : ℕ) (lines : List Line) (told : List Told) (before after : LogHistory) → Plays size capacity faults_at_open before lines told after → (faults : ℕ) → before.down ≡ Some faults → after.down ≡ Some faults
+plays_down size capacity faults_at_open [] [] before after plays faults failed = ap (λ (s : LogHistory). s.down) plays ∙ failed
+plays_down size capacity faults_at_open [] (answer ∷ told) before after plays faults failed = absurd plays
+plays_down size capacity faults_at_open (line ∷ lines) [] before after plays faults failed = absurd plays
+plays_down size capacity faults_at_open (line ∷ lines) (answer ∷ told) before after plays faults failed =
+    plays_down size capacity faults_at_open lines told plays.0 after plays.2 faults (fact-Steps size capacity faults_at_open StaysDown (steps_down size capacity faults_at_open) before line.action answer plays.0 plays.1 faults failed)
 
 abbrev logged_of : ℕ → ℕ → List Entry → ℕ → ℕ → Logged
-logged_of size capacity order opened last = record { size = size; capacity = capacity; order = order; opened = opened; last = last }
+logged_of size capacity order faults_at_open last = record { size = size; capacity = capacity; order = order; faults_at_open = faults_at_open; last = last }
 
 -- an answer as it may be behind some entries, and what is known for the next line
-record TellsLine (size capacity opened last : ℕ) (order es : List Entry) (action : Action) (told : Told) (after : LogHistory) : Type 0 where
-  fits : FitsLine (logged_of size capacity order opened last) (first_position size + rooms_of es) action told
+record TellsLine (size capacity faults_at_open last : ℕ) (order es : List Entry) (action : Action) (told : Told) (after : LogHistory) : Type 0 where
+  fits : FitsLine (logged_of size capacity order faults_at_open last) (first_position size + rooms_of es) action told
   behind : behind_or (first_position size + rooms_of es) (entry_of size 0 action told) ≡ first_position size + rooms_of after.entries
-  failed : HasFailed opened after.down
+  failed : HasFailed faults_at_open after.down
 
 abbrev TellsStep : ℕ → ℕ → ℕ → ℕ → List Entry → StepFact
-TellsStep size capacity opened last order before action told after =
-    (more : List Entry) → order ≡ after.entries ++ more → HasFailed opened before.down → IsLast last after.down → TellsLine size capacity opened last order before.entries action told after
+TellsStep size capacity faults_at_open last order before action told after =
+    (more : List Entry) → order ≡ after.entries ++ more → HasFailed faults_at_open before.down → IsLast last after.down → TellsLine size capacity faults_at_open last order before.entries action told after
 
 position_at_end : (size : ℕ) → IsSegmentSize size → (es : List Entry) (start : Lsn) → start.0 ≡ address_of size (first_position size + rooms_of es) → position_of size start.0 ≡ first_position size + rooms_of es
 position_at_end size valid es start at = ap (position_of size) at ∙ position_of-address_of size valid (first_position size + rooms_of es)
@@ -83,9 +83,9 @@ behind_at_end : (size : ℕ) → IsSegmentSize size → (es : List Entry) (value
     → position_of size start.0 + room_of value ≡ first_position size + rooms_of (es ++ next_entry size es value ∷ [])
 behind_at_end size valid es value start at = omega (arith, position_at_end size valid es start at, rooms_of_push es (next_entry size es value))
 
-full_line : (size capacity opened last : ℕ) (order es more : List Entry) (value : Record) (free : ℕ) → order ≡ es ++ more → free + rooms_of es ≡ capacity → free < room_of value
-    → MayBeFull (logged_of size capacity order opened last) (first_position size + rooms_of es) value free
-full_line size capacity opened last order es more value free parts left short =
+full_line : (size capacity faults_at_open last : ℕ) (order es more : List Entry) (value : Record) (free : ℕ) → order ≡ es ++ more → free + rooms_of es ≡ capacity → free < room_of value
+    → MayBeFull (logged_of size capacity order faults_at_open last) (first_position size + rooms_of es) value free
+full_line size capacity faults_at_open last order es more value free parts left short =
     let front : take (length es) order ≡ es = ap (take (length es)) parts ∙ take-append_seam es more in
     let rooms : rooms_of (take (length es) order) ≡ rooms_of es = ap rooms_of front in
     record {
@@ -96,9 +96,9 @@ full_line size capacity opened last order es more value free parts left short =
       short = short;
     }
 
-flushed_line : (size capacity opened last : ℕ) → IsSegmentSize size → (order es more : List Entry) (upto : Lsn) → order ≡ es ++ more → upto.0 ≡ end_of size es
+flushed_line : (size capacity faults_at_open last : ℕ) → IsSegmentSize size → (order es more : List Entry) (upto : Lsn) → order ≡ es ++ more → upto.0 ≡ end_of size es
     → (end_address_of size (first_position size + rooms_of es) ≤ upto.0) × (upto.0 ≤ end_address_of size (first_position size + rooms_of order))
-flushed_line size capacity opened last valid order es more upto parts at =
+flushed_line size capacity faults_at_open last valid order es more upto parts at =
     let rooms : rooms_of es ≤ rooms_of order = omega (arith, ap rooms_of parts, rooms_of-append es more) in
     let rises = end_address_of-mono size valid (first_position size + rooms_of es) (first_position size + rooms_of order) (omega (arith, rooms)) in
     (omega (arith, at), omega (arith, at, rises))
@@ -113,31 +113,31 @@ placed_line size capacity valid s value start end reserves ends =
     }
 
 -- a fault that is told since the opening
-fault_line : (size capacity opened last : ℕ) (order : List Entry) (faults : ℕ) → Rose opened faults → faults ≡ last → IsFault (logged_of size capacity order opened last) faults
-fault_line size capacity opened last order faults rose is_last = record { rose = rose; upto = omega (arith, is_last) }
+fault_line : (size capacity faults_at_open last : ℕ) (order : List Entry) (faults : ℕ) → Rose faults_at_open faults → faults ≡ last → IsFault (logged_of size capacity order faults_at_open last) faults
+fault_line size capacity faults_at_open last order faults rose is_last = record { rose = rose; upto = omega (arith, is_last) }
 
-failed_now : (opened faults : ℕ) → Rose opened faults → HasFailed opened (Some faults)
-failed_now opened faults rose others same = let equal : faults ≡ others = cc in subst (Rose opened) equal rose
+failed_now : (faults_at_open faults : ℕ) → Rose faults_at_open faults → HasFailed faults_at_open (Some faults)
+failed_now faults_at_open faults rose others same = let equal : faults ≡ others = cc in subst (Rose faults_at_open) equal rose
 
-steps_tell : (size capacity opened last : ℕ) (order : List Entry) → IsSegmentSize size → HoldsOfSteps size capacity opened (TellsStep size capacity opened last order)
-steps_tell size capacity opened last order valid = record {
+steps_tell : (size capacity faults_at_open last : ℕ) (order : List Entry) → IsSegmentSize size → HoldsOfSteps size capacity faults_at_open (TellsStep size capacity faults_at_open last order)
+steps_tell size capacity faults_at_open last order valid = record {
   wrote = λ s value start end reserves ends more parts failed is_last. record {
     fits = placed_line size capacity valid s value start end reserves ends;
     behind = behind_at_end size valid s.entries value start reserves.reserved.start_is;
     failed = failed;
   };
   insert_full = λ s value free up left short more parts failed is_last. record {
-    fits = full_line size capacity opened last order s.entries more value free parts left short;
+    fits = full_line size capacity faults_at_open last order s.entries more value free parts left short;
     behind = refl;
     failed = failed;
   };
   insert_failed = λ s value start faults reserves rose more parts failed is_last. record {
-    fits = (fault_line size capacity opened last order faults rose (is_last faults refl), start_at_end size valid s.entries start reserves.reserved.start_is);
+    fits = (fault_line size capacity faults_at_open last order faults rose (is_last faults refl), start_at_end size valid s.entries start reserves.reserved.start_is);
     behind = behind_at_end size valid s.entries value start reserves.reserved.start_is;
-    failed = failed_now opened faults rose;
+    failed = failed_now faults_at_open faults rose;
   };
   insert_down = λ s value faults down more parts failed is_last. record {
-    fits = fault_line size capacity opened last order faults (failed faults down) (is_last faults down);
+    fits = fault_line size capacity faults_at_open last order faults (failed faults down) (is_last faults down);
     behind = refl;
     failed = failed;
   };
@@ -147,67 +147,67 @@ steps_tell size capacity opened last order valid = record {
     failed = failed;
   };
   commit_full = λ s value free up left short more parts failed is_last. record {
-    fits = full_line size capacity opened last order s.entries more value free parts left short;
+    fits = full_line size capacity faults_at_open last order s.entries more value free parts left short;
     behind = refl;
     failed = failed;
   };
   commit_failed = λ s value start faults reserves rose more parts failed is_last. record {
-    fits = (fault_line size capacity opened last order faults rose (is_last faults refl), start_at_end size valid s.entries start reserves.reserved.start_is);
+    fits = (fault_line size capacity faults_at_open last order faults rose (is_last faults refl), start_at_end size valid s.entries start reserves.reserved.start_is);
     behind = behind_at_end size valid s.entries value start reserves.reserved.start_is;
-    failed = failed_now opened faults rose;
+    failed = failed_now faults_at_open faults rose;
   };
   commit_down = λ s value faults down more parts failed is_last. record {
-    fits = fault_line size capacity opened last order faults (failed faults down) (is_last faults down);
+    fits = fault_line size capacity faults_at_open last order faults (failed faults down) (is_last faults down);
     behind = refl;
     failed = failed;
   };
   flushed = λ s upto moment up at more parts failed is_last. record {
-    fits = flushed_line size capacity opened last valid order s.entries more upto parts at;
+    fits = flushed_line size capacity faults_at_open last valid order s.entries more upto parts at;
     behind = refl;
     failed = failed;
   };
   flush_failed = λ s faults up rose more parts failed is_last. record {
-    fits = (fault_line size capacity opened last order faults rose (is_last faults refl), refl);
+    fits = (fault_line size capacity faults_at_open last order faults rose (is_last faults refl), refl);
     behind = refl;
-    failed = failed_now opened faults rose;
+    failed = failed_now faults_at_open faults rose;
   };
   flush_down = λ s faults down more parts failed is_last. record {
-    fits = (fault_line size capacity opened last order faults (failed faults down) (is_last faults down), refl);
+    fits = (fault_line size capacity faults_at_open last order faults (failed faults down) (is_last faults down), refl);
     behind = refl;
     failed = failed;
   };
 }
 
-plays_tell : (size capacity opened last : ℕ) (order : List Entry) → IsSegmentSize size → (lines : List Line) (told : List Told) (before after : LogHistory) → Plays size capacity opened before lines told after → order ≡ after.entries
-    → HasFailed opened before.down → IsLast last after.down → TellsFrom (logged_of size capacity order opened last) 0 (first_position size + rooms_of before.entries) lines told
-plays_tell size capacity opened last order valid [] [] before after plays all failed is_last = tt
-plays_tell size capacity opened last order valid [] (answer ∷ told) before after plays all failed is_last = absurd plays
-plays_tell size capacity opened last order valid (line ∷ lines) [] before after plays all failed is_last = absurd plays
-plays_tell size capacity opened last order valid (line ∷ lines) (answer ∷ told) before after plays all failed is_last =
-    let parts = all ∙ plays_entries size capacity opened lines told plays.0 after valid plays.2 in
-    let last_then = λ (faults : ℕ) (down : plays.0.down ≡ Some faults). is_last faults (plays_down size capacity opened lines told plays.0 after plays.2 faults down) in
-    let here = fact-Steps size capacity opened (TellsStep size capacity opened last order) (steps_tell size capacity opened last order valid) before line.action answer plays.0 plays.1 (entries_of size 0 lines told) parts failed last_then in
-    let rest = plays_tell size capacity opened last order valid lines told plays.0 after plays.2 all here.failed is_last in
-    (here.fits, subst (λ (n : ℕ). TellsFrom (logged_of size capacity order opened last) 0 n lines told) (sym here.behind) rest)
+plays_tell : (size capacity faults_at_open last : ℕ) (order : List Entry) → IsSegmentSize size → (lines : List Line) (told : List Told) (before after : LogHistory) → Plays size capacity faults_at_open before lines told after → order ≡ after.entries
+    → HasFailed faults_at_open before.down → IsLast last after.down → TellsFrom (logged_of size capacity order faults_at_open last) 0 (first_position size + rooms_of before.entries) lines told
+plays_tell size capacity faults_at_open last order valid [] [] before after plays all failed is_last = tt
+plays_tell size capacity faults_at_open last order valid [] (answer ∷ told) before after plays all failed is_last = absurd plays
+plays_tell size capacity faults_at_open last order valid (line ∷ lines) [] before after plays all failed is_last = absurd plays
+plays_tell size capacity faults_at_open last order valid (line ∷ lines) (answer ∷ told) before after plays all failed is_last =
+    let parts = all ∙ plays_entries size capacity faults_at_open lines told plays.0 after valid plays.2 in
+    let last_then = λ (faults : ℕ) (down : plays.0.down ≡ Some faults). is_last faults (plays_down size capacity faults_at_open lines told plays.0 after plays.2 faults down) in
+    let here = fact-Steps size capacity faults_at_open (TellsStep size capacity faults_at_open last order) (steps_tell size capacity faults_at_open last order valid) before line.action answer plays.0 plays.1 (entries_of size 0 lines told) parts failed last_then in
+    let rest = plays_tell size capacity faults_at_open last order valid lines told plays.0 after plays.2 all here.failed is_last in
+    (here.fits, subst (λ (n : ℕ). TellsFrom (logged_of size capacity order faults_at_open last) 0 n lines told) (sym here.behind) rest)
 
 IsLast-IfSome : (last : ℕ) (down : Option ℕ) → IfSome down (λ faults. faults ≡ last) → IsLast last down
 IsLast-IfSome last None known = λ faults down. absurd (let no : ⊥ = cc in no)
 IsLast-IfSome last (Some other) known = λ faults down. let same : other ≡ faults = cc in sym same ∙ known
 
 -- over any name for the order
-tells_over : (size capacity opened last : ℕ) (order : List Entry) (lines : List Line) (told : List Told) (after : LogHistory) → IsSegmentSize size → Plays size capacity opened (at_opening size) lines told after → IfSome after.down (λ faults. faults ≡ last) → order ≡ after.entries
-    → TellsAll (record { size = size; capacity = capacity; order = order; opened = opened; last = last }) 0 (lines ∷ []) (told ∷ [])
-tells_over size capacity opened last order lines told after valid plays known all =
-    let failed : HasFailed opened None = λ faults down. absurd (let no : ⊥ = cc in no) in
-    let tells = plays_tell size capacity opened last order valid lines told (at_opening size) after plays all failed (IsLast-IfSome last after.down known) in
+tells_over : (size capacity faults_at_open last : ℕ) (order : List Entry) (lines : List Line) (told : List Told) (after : LogHistory) → IsSegmentSize size → Plays size capacity faults_at_open (at_opening size) lines told after → IfSome after.down (λ faults. faults ≡ last) → order ≡ after.entries
+    → TellsAll (record { size = size; capacity = capacity; order = order; faults_at_open = faults_at_open; last = last }) 0 (lines ∷ []) (told ∷ [])
+tells_over size capacity faults_at_open last order lines told after valid plays known all =
+    let failed : HasFailed faults_at_open None = λ faults down. absurd (let no : ⊥ = cc in no) in
+    let tells = plays_tell size capacity faults_at_open last order valid lines told (at_opening size) after plays all failed (IsLast-IfSome last after.down known) in
     let from : first_position size + rooms_of [] ≡ first_position size = omega arith in
-    (subst (λ (n : ℕ). TellsFrom (logged_of size capacity order opened last) 0 n lines told) from tells, tt)
+    (subst (λ (n : ℕ). TellsFrom (logged_of size capacity order faults_at_open last) 0 n lines told) from tells, tt)
 
-pub played_tells : (size capacity opened last : ℕ) (lines : List Line) (told : List Told) (after : LogHistory) → IsSegmentSize size → Plays size capacity opened (at_opening size) lines told after → IfSome after.down (λ faults. faults ≡ last)
-    → TellsAll (record { size = size; capacity = capacity; order = after.entries; opened = opened; last = last }) 0 (lines ∷ []) (told ∷ [])
-played_tells size capacity opened last lines told after valid plays known = tells_over size capacity opened last after.entries lines told after valid plays known refl
+pub played_tells : (size capacity faults_at_open last : ℕ) (lines : List Line) (told : List Told) (after : LogHistory) → IsSegmentSize size → Plays size capacity faults_at_open (at_opening size) lines told after → IfSome after.down (λ faults. faults ≡ last)
+    → TellsAll (record { size = size; capacity = capacity; order = after.entries; faults_at_open = faults_at_open; last = last }) 0 (lines ∷ []) (told ∷ [])
+played_tells size capacity faults_at_open last lines told after valid plays known = tells_over size capacity faults_at_open last after.entries lines told after valid plays known refl
 
 -- with the order that the answers themselves give
-pub played_tells_order : (size capacity opened last : ℕ) (lines : List Line) (told : List Told) (after : LogHistory) → IsSegmentSize size → Plays size capacity opened (at_opening size) lines told after → IfSome after.down (λ faults. faults ≡ last)
-    → TellsAll (record { size = size; capacity = capacity; order = order_of size (lines ∷ []) (told ∷ []); opened = opened; last = last }) 0 (lines ∷ []) (told ∷ [])
-played_tells_order size capacity opened last lines told after valid plays known = tells_over size capacity opened last (order_of size (lines ∷ []) (told ∷ [])) lines told after valid plays known (played_order size capacity opened lines told after valid plays)
+pub played_tells_order : (size capacity faults_at_open last : ℕ) (lines : List Line) (told : List Told) (after : LogHistory) → IsSegmentSize size → Plays size capacity faults_at_open (at_opening size) lines told after → IfSome after.down (λ faults. faults ≡ last)
+    → TellsAll (record { size = size; capacity = capacity; order = order_of size (lines ∷ []) (told ∷ []); faults_at_open = faults_at_open; last = last }) 0 (lines ∷ []) (told ∷ [])
+played_tells_order size capacity faults_at_open last lines told after valid plays known = tells_over size capacity faults_at_open last (order_of size (lines ∷ []) (told ∷ [])) lines told after valid plays known (played_order size capacity faults_at_open lines told after valid plays)

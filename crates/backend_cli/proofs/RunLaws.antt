@@ -65,32 +65,32 @@ risen_where_not_printed old new before after text (Ok done) puts is = cc
 risen_where_not_printed old new before after text (Err fault) puts is = rose before after puts.1
 
 -- a disk whose count of faults did not rise is up
-quiet_is_up : (opened last : ℕ) (down : Option ℕ) → IfSome down (λ f. (f ≡ last) × Rose opened f) → last ≡ opened → opened < 2 ^ 64 - 1 → down ≡ None
-quiet_is_up opened last None fell same low = refl
-quiet_is_up opened last (Some f) fell same low =
-    absurd (⊎_elim (λ (more : opened < f). omega (arith, fell.0, same)) (λ (most : f ≡ 2 ^ 64 - 1). omega (arith, fell.0, same, most)) fell.1)
+quiet_is_up : (faults_at_open last : ℕ) (down : Option ℕ) → IfSome down (λ f. (f ≡ last) × Rose faults_at_open f) → last ≡ faults_at_open → faults_at_open < 2 ^ 64 - 1 → down ≡ None
+quiet_is_up faults_at_open last None fell same low = refl
+quiet_is_up faults_at_open last (Some f) fell same low =
+    absurd (⊎_elim (λ (more : faults_at_open < f). omega (arith, fell.0, same)) (λ (most : f ≡ 2 ^ 64 - 1). omega (arith, fell.0, same, most)) fell.1)
 
-module _ (D : Type 0) (tape : D → Option Tape) (faults : D → ℕ) (before : Option Tape) (opened : ℕ) (log : LogState D) (es : List Entry) where
-  fell_for : (down : Option ℕ) → IsUpOrDown tape faults before opened log es down → IfSome down (λ f. (f ≡ faults (log_disk log)) × Rose opened f)
+module _ (D : Type 0) (tape : D → Option Tape) (faults : D → ℕ) (before : Option Tape) (faults_at_open : ℕ) (log : LogState D) (es : List Entry) where
+  fell_for : (down : Option ℕ) → IsUpOrDown tape faults before faults_at_open log es down → IfSome down (λ f. (f ≡ faults (log_disk log)) × Rose faults_at_open f)
   fell_for None state = tt
   fell_for (Some f) state = (state.faults_same, state.rose)
 
-  quiet_for : (down : Option ℕ) → IsUpOrDown tape faults before opened log es down → down ≡ None → faults (log_disk log) ≡ opened
+  quiet_for : (down : Option ℕ) → IsUpOrDown tape faults before faults_at_open log es down → down ≡ None → faults (log_disk log) ≡ faults_at_open
   quiet_for None state none = state.faults_same
   quiet_for (Some f) state none = cc
 
-module _ (D : Type 0) (tape : D → Option Tape) (faults : D → ℕ) (before : Option Tape) (opened : ℕ) (log : LogState D) (after : LogHistory) (is_log : IsLog tape faults before opened log after) where
+module _ (D : Type 0) (tape : D → Option Tape) (faults : D → ℕ) (before : Option Tape) (faults_at_open : ℕ) (log : LogState D) (after : LogHistory) (is_log : IsLog tape faults before faults_at_open log after) where
   -- where the disk failed, its count of faults is the one told, and rose
-  pub fell : IfSome after.down (λ f. (f ≡ faults (log_disk log)) × Rose opened f)
-  fell = fell_for D tape faults before opened log after.entries after.down is_log.state
+  pub fell : IfSome after.down (λ f. (f ≡ faults (log_disk log)) × Rose faults_at_open f)
+  fell = fell_for D tape faults before faults_at_open log after.entries after.down is_log.state
 
-  pub quiet : after.down ≡ None → faults (log_disk log) ≡ opened
-  quiet none = quiet_for D tape faults before opened log after.entries after.down is_log.state none
+  pub quiet : after.down ≡ None → faults (log_disk log) ≡ faults_at_open
+  quiet none = quiet_for D tape faults before faults_at_open log after.entries after.down is_log.state none
 
 -- the count at which the disk fell is its last
-pub last_of : (opened last : ℕ) (down : Option ℕ) → IfSome down (λ f. (f ≡ last) × Rose opened f) → IfSome down (λ f. f ≡ last)
-last_of opened last None since = tt
-last_of opened last (Some f) since = since.0
+pub last_of : (faults_at_open last : ℕ) (down : Option ℕ) → IfSome down (λ f. (f ≡ last) × Rose faults_at_open f) → IfSome down (λ f. f ≡ last)
+last_of faults_at_open last None since = tt
+last_of faults_at_open last (Some f) since = since.0
 
 -- how a run ends, by what it concluded
 pub ends_opened : (outside : Outside) (told : List Told) (down : Option ℕ) (failed : Bool) (outcome : Outcome) → Concludes down told failed outcome

@@ -95,7 +95,7 @@ pub record HoldsOpened (outside : Outside) (size capacity : ℕ) (list : Bool) (
     size = size;
     capacity = capacity;
     order = order_of size script lists;
-    opened = outside.disk_before;
+    faults_at_open = outside.disk_before;
     last = outside.disk_after;
   }) 0 script lists
   pub stays_down : EachStaysDown lists

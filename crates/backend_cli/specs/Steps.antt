@@ -1,4 +1,5 @@
--- Lines done by a log, step by step: `capacity` is how many bytes its records may take up, `opened` the disk's count of faults when it was opened.
+-- Lines done by a log, step by step: `capacity` is how many bytes its records may take up,
+-- `faults_at_open` the disk's count of faults when it was opened.
 use Rattle.std.specs.Prelude.{◌≡◌, ℕ, List, [], ◌∷◌, Result, Ok, Err}
 use Rattle.record_spelling.specs.Spelling.{IsWritable}
 use Rattle.log_answers.specs.declared.Receipt.{Receipt}
@@ -28,17 +29,21 @@ told_of_flush (Err refusal) = Refused refusal.cause refusal.reserved
 
 -- one line: the standing before it, what it asks for, what it is told, and the standing after it
 abbrev pub Steps : ℕ → ℕ → ℕ → LogHistory → Action → Told → LogHistory → Type 0
-Steps size capacity opened before (Insert value) told after =
-    (answer : Result Receipt refused.Refused) × (told ≡ told_of_insert answer) × IsWritable value × Inserts size capacity opened before value answer after
-Steps size capacity opened before (Commit value) told after =
-    (answer : Result Sealed refused.Refused) × (told ≡ told_of_commit answer) × IsWritable value × Commits size capacity opened before value answer after
-Steps size capacity opened before Flush told after =
-    (answer : Result hard.Hard refused.Refused) × (told ≡ told_of_flush answer) × Flushes size opened before (end_of size before.entries) answer after
+Steps size capacity faults_at_open before (Insert value) told after =
+    (answer : Result Receipt refused.Refused) × (told ≡ told_of_insert answer) × IsWritable value
+    × Inserts size capacity faults_at_open before value answer after
+Steps size capacity faults_at_open before (Commit value) told after =
+    (answer : Result Sealed refused.Refused) × (told ≡ told_of_commit answer) × IsWritable value
+    × Commits size capacity faults_at_open before value answer after
+Steps size capacity faults_at_open before Flush told after =
+    (answer : Result hard.Hard refused.Refused) × (told ≡ told_of_flush answer)
+    × Flushes size faults_at_open before (end_of size before.entries) answer after
 
 -- lines in order, each told as it may be
 abbrev pub Plays : ℕ → ℕ → ℕ → LogHistory → List Line → List Told → LogHistory → Type 0
-Plays size capacity opened before [] [] after = after ≡ before
-Plays size capacity opened before [] (told ∷ others) after = ⊥
-Plays size capacity opened before (line ∷ lines) [] after = ⊥
-Plays size capacity opened before (line ∷ lines) (told ∷ others) after =
-    (mid : LogHistory) × Steps size capacity opened before line.action told mid × Plays size capacity opened mid lines others after
+Plays size capacity faults_at_open before [] [] after = after ≡ before
+Plays size capacity faults_at_open before [] (told ∷ others) after = ⊥
+Plays size capacity faults_at_open before (line ∷ lines) [] after = ⊥
+Plays size capacity faults_at_open before (line ∷ lines) (told ∷ others) after =
+    (mid : LogHistory) × Steps size capacity faults_at_open before line.action told mid
+    × Plays size capacity faults_at_open mid lines others after

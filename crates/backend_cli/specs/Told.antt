@@ -71,7 +71,7 @@ pub record Logged : Type 0 where
   pub size : ℕ
   pub capacity : ℕ
   pub order : List Entry
-  pub opened : ℕ
+  pub faults_at_open : ℕ
   pub last : ℕ
 
 -- a place in the log: a record's start is the address of its byte position, its end the end form of
@@ -82,7 +82,7 @@ pub record IsPlaced (size : ℕ) (value : Record) (start end : ℕ) : Type 0 whe
 
 -- the disk failed since the opening, and this was its count of faults then
 pub record IsFault (logged : Logged) (faults : ℕ) : Type 0 where
-  pub rose : Rose logged.opened faults
+  pub rose : Rose logged.faults_at_open faults
   pub upto : faults ≤ logged.last
 
 -- too few bytes were left for the record behind some front of the order, which has the backend's

@@ -17,57 +17,57 @@ ghost use Rattle.backend_cli.specs.Whole.{HeldLogIsWhole};
 
 /// What lines are told says which entries they made: chained, and in the order of the lines.
 pub fn law_of_played_entries()
-    ensures entries { (size capacity opened : ℕ) (lines : List Line)
+    ensures entries { (size capacity faults_at_open : ℕ) (lines : List Line)
         (told : List Told) (after : LogHistory)
-        → IsSegmentSize size → Plays size capacity opened (at_opening size) lines told after
+        → IsSegmentSize size → Plays size capacity faults_at_open (at_opening size) lines told after
         → entries_of size 0 lines told ≡ after.entries }
-    ensures order { (size capacity opened : ℕ) (lines : List Line)
+    ensures order { (size capacity faults_at_open : ℕ) (lines : List Line)
         (told : List Told) (after : LogHistory)
-        → IsSegmentSize size → Plays size capacity opened (at_opening size) lines told after
+        → IsSegmentSize size → Plays size capacity faults_at_open (at_opening size) lines told after
         → order_of size (lines ∷ []) (told ∷ []) ≡ after.entries }
-    ensures chained { (size capacity opened : ℕ) (lines : List Line)
+    ensures chained { (size capacity faults_at_open : ℕ) (lines : List Line)
         (told : List Told) (after : LogHistory)
-        → Plays size capacity opened (at_opening size) lines told after
+        → Plays size capacity faults_at_open (at_opening size) lines told after
         → IsChained size after.entries }
-    ensures rises { (size capacity opened : ℕ) (lines : List Line)
+    ensures rises { (size capacity faults_at_open : ℕ) (lines : List Line)
         (told : List Told) (after : LogHistory)
-        → IsSegmentSize size → Plays size capacity opened (at_opening size) lines told after
+        → IsSegmentSize size → Plays size capacity faults_at_open (at_opening size) lines told after
         → RiseInLineOrder size 0 (lines ∷ []) (told ∷ []) }
 {}
 
 /// Without a fault of the disk a line is refused only by a full log, and then the script's records
 /// do not fit together.
 pub fn law_of_played_full()
-    ensures refusals { (size capacity opened : ℕ) (lines : List Line)
+    ensures refusals { (size capacity faults_at_open : ℕ) (lines : List Line)
         (told : List Told) (after : LogHistory)
-        → Plays size capacity opened (at_opening size) lines told after
+        → Plays size capacity faults_at_open (at_opening size) lines told after
         → after.down ≡ None → SomeAnswer IsRefused told → SomeAnswer IsFullAnswer told }
-    ensures full { (size capacity opened : ℕ) (lines : List Line)
+    ensures full { (size capacity faults_at_open : ℕ) (lines : List Line)
         (told : List Told) (after : LogHistory)
-        → Plays size capacity opened (at_opening size) lines told after
+        → Plays size capacity faults_at_open (at_opening size) lines told after
         → SomeAnswer IsFullAnswer told → capacity < rooms_asked lines }
 {}
 
 /// Once a line is told a fault of the disk, each later one is told that fault.
 pub fn law_of_played_down()
-    ensures { (size capacity opened : ℕ) (lines : List Line)
+    ensures { (size capacity faults_at_open : ℕ) (lines : List Line)
         (told : List Told) (after : LogHistory)
-        → Plays size capacity opened (at_opening size) lines told after
+        → Plays size capacity faults_at_open (at_opening size) lines told after
         → StaysDown told }
 {}
 
 /// Each line is told what it may be told, where the disk's last count of faults is the one at which
 /// it failed.
 pub fn law_of_played_tells()
-    ensures { (size capacity opened last : ℕ) (lines : List Line)
+    ensures { (size capacity faults_at_open last : ℕ) (lines : List Line)
         (told : List Told) (after : LogHistory)
-        → IsSegmentSize size → Plays size capacity opened (at_opening size) lines told after
+        → IsSegmentSize size → Plays size capacity faults_at_open (at_opening size) lines told after
         → IfSome after.down (λ faults. faults ≡ last)
         → TellsAll (record {
           size = size;
           capacity = capacity;
           order = after.entries;
-          opened = opened;
+          faults_at_open = faults_at_open;
           last = last;
         }) 0 (lines ∷ []) (told ∷ []) }
 {}

@@ -9,7 +9,8 @@ use wal_script::Refusal;
 use wal_types::Lsn;
 use waldump_text::{SinkFault, put_all};
 
-/// How a command ends: the first of its causes in the order of the statuses 1, 2, 7, 3, 9, 4, 6, 5, 8.
+/// How a command ends: the first of its causes, in the order of the statuses
+/// 1, 2, 7, 3, 9, 4, 6, 5, 8.
 #[derive(Clone, Copy, Debug)]
 pub enum Outcome {
     Done,
@@ -50,7 +51,8 @@ impl Outcome {
 
     // Puts the line that tells it, if there is one.
     pub(crate) fn tell<E: Sink>(self, err: &mut E) -> Result<(), SinkFault>
-        ensures { Puts (E.taken err.old) (E.taken err.new) (E.faults err.old) (E.faults err.new) (joined (outcome_text self)) result }
+        ensures { Puts (E.taken err.old) (E.taken err.new) (E.faults err.old) (E.faults err.new)
+            (joined (outcome_text self)) result }
     {
         match self {
             Outcome::Done => put_all(err, &[]),
@@ -68,7 +70,8 @@ impl Outcome {
 }
 
 fn tell_refusal<E: Sink>(refusal: Refusal, err: &mut E) -> Result<(), SinkFault>
-    ensures { Puts (E.taken err.old) (E.taken err.new) (E.faults err.old) (E.faults err.new) (joined (outcome_text (Outcome.ScriptRefused refusal))) result }
+    ensures { Puts (E.taken err.old) (E.taken err.new) (E.faults err.old) (E.faults err.new)
+        (joined (outcome_text (Outcome.ScriptRefused refusal))) result }
 {
     let mut number = itoa::Buffer::new();
     let line = number.format(refusal.line);
@@ -85,7 +88,8 @@ fn tell_refusal<E: Sink>(refusal: Refusal, err: &mut E) -> Result<(), SinkFault>
 }
 
 fn tell_stop<E: Sink>(stopped: Stopped, err: &mut E) -> Result<(), SinkFault>
-    ensures { Puts (E.taken err.old) (E.taken err.new) (E.faults err.old) (E.faults err.new) (joined (outcome_text (Outcome.Stopped stopped))) result }
+    ensures { Puts (E.taken err.old) (E.taken err.new) (E.faults err.old) (E.faults err.new)
+        (joined (outcome_text (Outcome.Stopped stopped))) result }
 {
     match stopped {
         Stopped::Damaged { at, kind } => tell_damage(at, kind.name(), err),
@@ -96,7 +100,8 @@ fn tell_stop<E: Sink>(stopped: Stopped, err: &mut E) -> Result<(), SinkFault>
 
 fn tell_damage<E: Sink>(at: Lsn, what: &str, err: &mut E) -> Result<(), SinkFault>
     ensures { Puts (E.taken err.old) (E.taken err.new) (E.faults err.old) (E.faults err.new)
-        (joined (codes "pgwal: damaged at " ∷ lsn_text at.0 ∷ codes ": " ∷ what.now ∷ codes "\n" ∷ [])) result }
+        (joined (codes "pgwal: damaged at " ∷ lsn_text at.0 ∷ codes ": " ∷ what.now ∷ codes "\n"
+        ∷ [])) result }
 {
     put_all(
         err,

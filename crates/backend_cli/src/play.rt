@@ -13,8 +13,10 @@ use crate::told::Told;
 use segment_disk::Disk;
 use serial_log::Log;
 
-/// Plays a backend's lines in order, and notes what each is told in a vector that has room for it. A line that is refused does not end the
-/// backend: the next is tried.
+/// Plays a backend's lines in order, and notes what each is told in a vector that has room for it:
+/// nothing takes memory once the log is open. The gate is passed before each line. A line that is
+/// refused does not end the backend: the next is tried, and where the disk has failed it is told
+/// that same fault, without a device call.
 pub(crate) fn play<D: Disk, G: Gate>(
     log: &mut Log<D>,
     gate: &G,
@@ -27,7 +29,9 @@ pub(crate) fn play<D: Disk, G: Gate>(
         → StepsLog D.tape D.faults log.old log.new (λ faults_at_open before after.
         Plays log.old.size log.old.capacity faults_at_open before lines told.new.items after) }
     ensures same { IsSameLog log.old log.new }
-    ensures moments { (last : LastTold) → IsTracked D.moment last log.old → (after : LastTold) × MomentsReach last told.new.items after × IsTracked D.moment after log.new }
+    ensures moments { (last : LastTold) → IsTracked D.moment last log.old
+        → (after : LastTold) × MomentsReach last told.new.items after
+        × IsTracked D.moment after log.new }
     ensures each { length told.new.items ≡ length tasks.now }
 {
     for task in tasks {

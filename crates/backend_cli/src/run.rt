@@ -159,7 +159,8 @@ fn print<O: Sink>(
     summary: &Summary,
 ) -> Result<(), SinkFault>
     requires { length tasks.now ≡ length told.now }
-    ensures { Puts (O.taken out.old) (O.taken out.new) (O.faults out.old) (O.faults out.new) (printed_text list tasks.now told.now summary.now) result }
+    ensures { Puts (O.taken out.old) (O.taken out.new) (O.faults out.old) (O.faults out.new)
+        (printed_text list tasks.now told.now summary.now) result }
 {
     if list {
         put_told_lines(out, 0, tasks, told)?;
@@ -220,7 +221,8 @@ fn run_prepared<O: Sink, D: Disk, G: Gate>(
         },
         Ok(mut log) => {
             play(&mut log, gate, &tasks, &mut told);
-            // No line asked for this flush, so none is told its answer; where it fails the log is down.
+            // No line asked for this flush, so none is told its answer; where it fails the log is
+            // down.
             let end = log.end();
             let _ = log.flush(end);
             let summary = summary_of(geometry, &log, &told);
@@ -234,7 +236,11 @@ fn run_prepared<O: Sink, D: Disk, G: Gate>(
     }
 }
 
-/// Runs a script: reads it, makes all ready, opens the log, does each line, flushes to the log's end, prints.
+/// Runs a script. In this order, so that a refusal leaves the disk as it came: the script is read
+/// to its end and understood, all memory is taken, the log is opened (one read, no counted call),
+/// each line is done, all is flushed to the log's end, and what was told is printed. So want of
+/// memory and a refused script come before the first device call, and a sink's fault loses only
+/// what is printed.
 pub(crate) fn run<S: Source, O: Sink, D: Disk, G: Gate>(
     alloc: Global,
     shape: Shape,
