@@ -25,7 +25,8 @@ use Rattle.backend_cli.specs.Outside.{Outside, Took, IsUntouched}
 -- the script that the source handed out means some lines
 abbrev pub MeansSome : Outside → Type 0
 MeansSome outside =
-    (script : List (List AskedLine)) × ScriptMeans outside.source_before outside.source_after (Ok script)
+    (script : List (List AskedLine))
+    × ScriptMeans outside.source_before outside.source_after (Ok script)
 
 -- how a run ends that did not open the log, and why; it ends in no other way
 abbrev pub EndsUnopened : Outside → Outcome → Type 0

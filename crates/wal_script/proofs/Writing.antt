@@ -20,7 +20,7 @@ use Rattle.wal_script.specs.Text.{is_text, lines_of, fields_of}
 use Rattle.decimal_numbers.specs.Numbers.{number_of, time_of}
 use Rattle.wal_script.specs.Hexadecimal.{byte_spelled, data_of}
 use Rattle.wal_script.specs.Blocks.{references_from}
-use Rattle.wal_script.specs.Meaning.{LineMeaning, passes, asks, refuses, assembly_fault, unless, accepted, record_of, insert_of, commit_record, commit_of, flush_of, asks_as, line_with, line_of, then_line, lines_meaning, script_limit, backend_meaning}
+use Rattle.wal_script.specs.Meaning.{LineMeaning, passes, asks, refuses, assembly_fault, unless, accepted, record_spelled, insert_of, commit_record, commit_of, flush_of, asks_as, line_with, line_of, then_line, lines_meaning, script_limit, backend_meaning}
 use Rattle.wal_script.specs.Reading.{JudgesBody}
 use Rattle.wal_script.specs.Writable.{AsksWritable}
 use Rattle.wal_script.specs.declared.line_error.LineError.{LineError}
@@ -60,7 +60,7 @@ accepted_writable r fits = by_refusal r fits (refusal_of r) refl
 
 -- ---- the records of lines
 
-record_fits : (fields : List (List ℕ)) → IfOk (record_of fields) Fits
+record_fits : (fields : List (List ℕ)) → IfOk (record_spelled fields) Fits
 record_fits fields =
     next_then (number_of (2 ^ 32 - 1)) faults.Number fields _ Fits (λ behind_xid xid_field xid xid_is.
     next_then (number_of 255) faults.Number behind_xid _ Fits (λ behind_manager manager_field manager manager_is.
@@ -77,7 +77,7 @@ record_fits fields =
     })))))
 
 insert_writable : (fields : List (List ℕ)) → IfOk (insert_of fields) IsWritable
-insert_writable fields = bind_then (record_of fields) accepted Fits IsWritable (record_fits fields) accepted_writable
+insert_writable fields = bind_then (record_spelled fields) accepted Fits IsWritable (record_fits fields) accepted_writable
 
 size_of-commit_record : (xid time : ℕ) → size_of (commit_record xid time) ≡ 34
 size_of-commit_record xid time = refl

@@ -37,10 +37,10 @@ unless (Some fault) x = Err fault
 abbrev pub accepted : Record → Result Record ScriptFault
 accepted r = unless (option_and_then assembly_fault (refusal_of r)) r
 
--- the record that the fields behind `I` spell: a transaction's number, a manager, its info, the main
--- data, and any block references
-abbrev pub record_of : List (List ℕ) → Result Record ScriptFault
-record_of fields = do
+-- the record that the fields behind `I` spell: a transaction's number, a manager, its info, the
+-- main data, and any block references
+abbrev pub record_spelled : List (List ℕ) → Result Record ScriptFault
+record_spelled fields = do
   xid ← next_as (number_of (2 ^ 32 - 1)) faults.Number fields
   manager ← next_as (number_of 255) faults.Number xid.rest
   info ← next_as byte_spelled faults.Hex manager.rest
@@ -58,7 +58,7 @@ record_of fields = do
 
 -- the fields behind `I`, whose record can be assembled
 abbrev pub insert_of : List (List ℕ) → Result Record ScriptFault
-insert_of fields = record_of fields >>= accepted
+insert_of fields = record_spelled fields >>= accepted
 
 -- a transaction's commit (manager 1, info 0): its time as eight bytes is the main data
 -- (PostgreSQL's xact.c)
@@ -110,7 +110,8 @@ abbrev pub with_line : ℕ → Asked → Result (List AskedLine) Refusal → Res
 with_line number asked (Ok lines) = Ok ((record { number = number; asked = asked }) ∷ lines)
 with_line number asked (Err refusal) = Err refusal
 
-abbrev pub then_line : ℕ → LineMeaning → Result (List AskedLine) Refusal → Result (List AskedLine) Refusal
+abbrev pub then_line : ℕ → LineMeaning → Result (List AskedLine) Refusal
+    → Result (List AskedLine) Refusal
 then_line number passes others = others
 then_line number (asks asked) others = with_line number asked others
 then_line number (refuses fault) others = Err (record { line = number; fault = fault })

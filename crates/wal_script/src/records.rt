@@ -1,7 +1,7 @@
 //! The records that lines insert.
 
 ghost use Rattle.std.specs.Prelude.{◌≡◌, IfOk};
-ghost use Rattle.wal_script.specs.Meaning.{accepted, commit_of, commit_record, insert_of, record_of};
+ghost use Rattle.wal_script.specs.Meaning.{accepted, commit_of, commit_record, insert_of, record_spelled};
 ghost use Rattle.wal_script.specs.Reading.{Judges, JudgesBody};
 
 use crate::blocks::blocks;
@@ -25,7 +25,7 @@ pub(crate) fn insert(alloc: Global, fields: Pieces) -> Result<Body, LineError>
 
 // The record that the fields behind `I` spell.
 fn record_of_insert(alloc: Global, mut fields: Pieces) -> Result<Record, LineError>
-    ensures { Judges result (record_of fields.entry) }
+    ensures { Judges result (record_spelled fields.entry) }
 {
     let xid = next_u32(&mut fields)?;
     let rmid = next_u8(&mut fields)?;
