@@ -8,36 +8,36 @@ use Rattle.log_answers.specs.declared.Sealed.{Sealed}
 use Rattle.log_answers.specs.declared.Refused.{Refused}
 use Rattle.serial_log.specs.History.{LogHistory, end_of}
 use Rattle.serial_log.specs.Steps.{Inserts, Commits, Flushes}
+use Rattle.wal_script.specs.Asked.{Asked}
+use Rattle.wal_script.specs.Asked as asking
+use Rattle.backend_cli.specs.declared.told.Told.{Told}
 use Rattle.wal_script.specs.declared.line.Action.{Action}
 use Rattle.wal_script.specs.declared.line.Action.TheVariants as actions
-use Rattle.backend_cli.specs.declared.told.Told.{Told}
-use Rattle.backend_cli.specs.declared.tasks.Work.{Work}
-use Rattle.backend_cli.specs.declared.tasks.Work.TheVariants as works
 use Rattle.backend_cli.specs.Steps.{Steps, told_of_insert, told_of_commit, told_of_flush}
-use Rattle.backend_cli.specs.Tasks.{IsWork}
+use Rattle.wal_script.specs.Bodies.{IsActionOf}
 
 module _ (size capacity faults_at_open : ℕ) (s : LogHistory) (IsAfter : LogHistory → Type 0) (told : Told) where
-  -- whatever the line asks for whose work is an insert, a commit, a flush
-  pub insert_steps : (action : Action) (work : Work) (body : Assembled) (answer : Result Receipt Refused) → work ≡ works.Insert body → told ≡ told_of_insert answer → IsWork action work
-      → ((value : Record) → body ≡ assembled value → IsWritable value → (after : LogHistory) × Inserts size capacity faults_at_open s value answer after × IsAfter after) → (after : LogHistory) × Steps size capacity faults_at_open s action told after × IsAfter after
-  insert_steps (actions.Insert value) work body answer is tells does inserts =
-      let work_is : IsWork (actions.Insert value) (works.Insert body) = subst (IsWork (actions.Insert value)) is does in
-      let step = inserts value work_is.0 work_is.1 in
-      (step.0, (answer, tells, work_is.1, step.1), step.2)
-  insert_steps (actions.Commit value) work body answer is tells does inserts = absurd (let no : IsWork (actions.Commit value) (works.Insert body) = subst (IsWork (actions.Commit value)) is does in no)
-  insert_steps actions.Flush work body answer is tells does inserts = absurd (let no : IsWork actions.Flush (works.Insert body) = subst (IsWork actions.Flush) is does in no)
+  -- whatever the line asks for whose action is an insert, a commit, a flush
+  pub insert_steps : (asked : Asked) (action : Action) (body : Assembled) (answer : Result Receipt Refused) → action ≡ actions.Insert body → told ≡ told_of_insert answer → IsActionOf asked action
+      → ((value : Record) → body ≡ assembled value → IsWritable value → (after : LogHistory) × Inserts size capacity faults_at_open s value answer after × IsAfter after) → (after : LogHistory) × Steps size capacity faults_at_open s asked told after × IsAfter after
+  insert_steps (asking.Insert value) action body answer is tells does inserts =
+      let does_it : IsActionOf (asking.Insert value) (actions.Insert body) = subst (IsActionOf (asking.Insert value)) is does in
+      let step = inserts value does_it.0 does_it.1 in
+      (step.0, (answer, tells, does_it.1, step.1), step.2)
+  insert_steps (asking.Commit value) action body answer is tells does inserts = absurd (let no : IsActionOf (asking.Commit value) (actions.Insert body) = subst (IsActionOf (asking.Commit value)) is does in no)
+  insert_steps asking.Flush action body answer is tells does inserts = absurd (let no : IsActionOf asking.Flush (actions.Insert body) = subst (IsActionOf asking.Flush) is does in no)
 
-  pub commit_steps : (action : Action) (work : Work) (body : Assembled) (answer : Result Sealed Refused) → work ≡ works.Commit body → told ≡ told_of_commit answer → IsWork action work
-      → ((value : Record) → body ≡ assembled value → IsWritable value → (after : LogHistory) × Commits size capacity faults_at_open s value answer after × IsAfter after) → (after : LogHistory) × Steps size capacity faults_at_open s action told after × IsAfter after
-  commit_steps (actions.Insert value) work body answer is tells does commits = absurd (let no : IsWork (actions.Insert value) (works.Commit body) = subst (IsWork (actions.Insert value)) is does in no)
-  commit_steps (actions.Commit value) work body answer is tells does commits =
-      let work_is : IsWork (actions.Commit value) (works.Commit body) = subst (IsWork (actions.Commit value)) is does in
-      let step = commits value work_is.0 work_is.1 in
-      (step.0, (answer, tells, work_is.1, step.1), step.2)
-  commit_steps actions.Flush work body answer is tells does commits = absurd (let no : IsWork actions.Flush (works.Commit body) = subst (IsWork actions.Flush) is does in no)
+  pub commit_steps : (asked : Asked) (action : Action) (body : Assembled) (answer : Result Sealed Refused) → action ≡ actions.Commit body → told ≡ told_of_commit answer → IsActionOf asked action
+      → ((value : Record) → body ≡ assembled value → IsWritable value → (after : LogHistory) × Commits size capacity faults_at_open s value answer after × IsAfter after) → (after : LogHistory) × Steps size capacity faults_at_open s asked told after × IsAfter after
+  commit_steps (asking.Insert value) action body answer is tells does commits = absurd (let no : IsActionOf (asking.Insert value) (actions.Commit body) = subst (IsActionOf (asking.Insert value)) is does in no)
+  commit_steps (asking.Commit value) action body answer is tells does commits =
+      let does_it : IsActionOf (asking.Commit value) (actions.Commit body) = subst (IsActionOf (asking.Commit value)) is does in
+      let step = commits value does_it.0 does_it.1 in
+      (step.0, (answer, tells, does_it.1, step.1), step.2)
+  commit_steps asking.Flush action body answer is tells does commits = absurd (let no : IsActionOf asking.Flush (actions.Commit body) = subst (IsActionOf asking.Flush) is does in no)
 
-  pub flush_steps : (action : Action) (work : Work) (answer : Result Hard Refused) → work ≡ works.Flush → told ≡ told_of_flush answer → IsWork action work
-      → ((after : LogHistory) × Flushes size faults_at_open s (end_of size s.entries) answer after × IsAfter after) → (after : LogHistory) × Steps size capacity faults_at_open s action told after × IsAfter after
-  flush_steps (actions.Insert value) work answer is tells does step = absurd (let no : IsWork (actions.Insert value) works.Flush = subst (IsWork (actions.Insert value)) is does in no)
-  flush_steps (actions.Commit value) work answer is tells does step = absurd (let no : IsWork (actions.Commit value) works.Flush = subst (IsWork (actions.Commit value)) is does in no)
-  flush_steps actions.Flush work answer is tells does step = (step.0, (answer, tells, step.1), step.2)
+  pub flush_steps : (asked : Asked) (action : Action) (answer : Result Hard Refused) → action ≡ actions.Flush → told ≡ told_of_flush answer → IsActionOf asked action
+      → ((after : LogHistory) × Flushes size faults_at_open s (end_of size s.entries) answer after × IsAfter after) → (after : LogHistory) × Steps size capacity faults_at_open s asked told after × IsAfter after
+  flush_steps (asking.Insert value) action answer is tells does step = absurd (let no : IsActionOf (asking.Insert value) actions.Flush = subst (IsActionOf (asking.Insert value)) is does in no)
+  flush_steps (asking.Commit value) action answer is tells does step = absurd (let no : IsActionOf (asking.Commit value) actions.Flush = subst (IsActionOf (asking.Commit value)) is does in no)
+  flush_steps asking.Flush action answer is tells does step = (step.0, (answer, tells, step.1), step.2)

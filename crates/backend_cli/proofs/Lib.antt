@@ -5,7 +5,7 @@ pub mod PlayedAnswers
 pub mod PlayedTells
 pub mod PlayedDown
 pub mod AnswerCounts
-pub mod TaskLaws
+pub mod LineLaws
 pub mod ScriptLaws
 pub mod AnswerLaws
 pub mod PlayLaws
@@ -13,7 +13,7 @@ pub mod WholeLaws
 pub mod LastFlush
 pub mod Capacities
 pub mod RunLaws
-pub mod TaskLines
+pub mod ToldLines
 pub mod ReadLaws
 pub mod AnswerLoops
 pub mod ScriptReading

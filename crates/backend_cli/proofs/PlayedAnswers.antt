@@ -3,8 +3,8 @@ use Rattle.std.proofs.Common.{◌≡◌, ℕ, ◌+◌, ◌<◌, ◌≤◌, List,
 use Rattle.wal_types.specs.declared.record.Record.{Record}
 use Rattle.wal_page.specs.Order.{rooms_of, room_behind}
 use Rattle.wal_page.proofs.OrderLaws.{rooms_of_push}
-use Rattle.wal_script.specs.declared.line.Line.{Line}
-use Rattle.wal_script.specs.declared.line.Action.{Action}
+use Rattle.wal_script.specs.Asked.{AskedLine}
+use Rattle.wal_script.specs.Asked.{Asked}
 use Rattle.backend_cli.specs.declared.told.Told.{Told}
 use Rattle.backend_cli.specs.Told.{IsFullAnswer, IsRefused, SomeAnswer, SomeTold}
 use Rattle.backend_cli.specs.Run.{room_asked, rooms_asked}
@@ -40,26 +40,26 @@ steps_up size capacity faults_at_open = record {
   flush_down = λ s faults down up. absurd (is_down s.down faults down up);
 }
 
-pub plays_up : (size capacity faults_at_open : ℕ) (lines : List Line) (told : List Told) (before after : LogHistory) → Plays size capacity faults_at_open before lines told after → after.down ≡ None → before.down ≡ None
+pub plays_up : (size capacity faults_at_open : ℕ) (lines : List AskedLine) (told : List Told) (before after : LogHistory) → Plays size capacity faults_at_open before lines told after → after.down ≡ None → before.down ≡ None
 plays_up size capacity faults_at_open [] [] before after plays up = ap (λ (s : LogHistory). s.down) (sym plays) ∙ up
 plays_up size capacity faults_at_open [] (answer ∷ told) before after plays up = absurd plays
 plays_up size capacity faults_at_open (line ∷ lines) [] before after plays up = absurd plays
 plays_up size capacity faults_at_open (line ∷ lines) (answer ∷ told) before after plays up =
-    (fact-Steps size capacity faults_at_open StaysUp (steps_up size capacity faults_at_open) before line.action answer plays.0 plays.1 (plays_up size capacity faults_at_open lines told plays.0 after plays.2 up)).up
+    (fact-Steps size capacity faults_at_open StaysUp (steps_up size capacity faults_at_open) before line.asked answer plays.0 plays.1 (plays_up size capacity faults_at_open lines told plays.0 after plays.2 up)).up
 
-pub plays_refusals : (size capacity faults_at_open : ℕ) (lines : List Line) (told : List Told) (before after : LogHistory) → Plays size capacity faults_at_open before lines told after → after.down ≡ None → SomeAnswer IsRefused told → SomeAnswer IsFullAnswer told
+pub plays_refusals : (size capacity faults_at_open : ℕ) (lines : List AskedLine) (told : List Told) (before after : LogHistory) → Plays size capacity faults_at_open before lines told after → after.down ≡ None → SomeAnswer IsRefused told → SomeAnswer IsFullAnswer told
 plays_refusals size capacity faults_at_open [] [] before after plays up refused = absurd refused
 plays_refusals size capacity faults_at_open [] (answer ∷ told) before after plays up refused = absurd plays
 plays_refusals size capacity faults_at_open (line ∷ lines) [] before after plays up refused = absurd plays
 plays_refusals size capacity faults_at_open (line ∷ lines) (answer ∷ told) before after plays up (inl here) =
-    inl ((fact-Steps size capacity faults_at_open StaysUp (steps_up size capacity faults_at_open) before line.action answer plays.0 plays.1 (plays_up size capacity faults_at_open lines told plays.0 after plays.2 up)).refuses here)
+    inl ((fact-Steps size capacity faults_at_open StaysUp (steps_up size capacity faults_at_open) before line.asked answer plays.0 plays.1 (plays_up size capacity faults_at_open lines told plays.0 after plays.2 up)).refuses here)
 plays_refusals size capacity faults_at_open (line ∷ lines) (answer ∷ told) before after plays up (inr later) = inr (plays_refusals size capacity faults_at_open lines told plays.0 after plays.2 up later)
 
-pub played_refusals : (size capacity faults_at_open : ℕ) (lines : List Line) (told : List Told) (after : LogHistory) → Plays size capacity faults_at_open (at_opening size) lines told after → after.down ≡ None → SomeAnswer IsRefused told → SomeAnswer IsFullAnswer told
+pub played_refusals : (size capacity faults_at_open : ℕ) (lines : List AskedLine) (told : List Told) (after : LogHistory) → Plays size capacity faults_at_open (at_opening size) lines told after → after.down ≡ None → SomeAnswer IsRefused told → SomeAnswer IsFullAnswer told
 played_refusals size capacity faults_at_open lines told after plays = plays_refusals size capacity faults_at_open lines told (at_opening size) after plays
 
 -- a step takes up no more than its line asks for, and one that finds the log full asks for more than is left
-record AsksFor (size capacity : ℕ) (before : LogHistory) (action : Action) (told : Told) (after : LogHistory) : Type 0 where
+record AsksFor (size capacity : ℕ) (before : LogHistory) (action : Asked) (told : Told) (after : LogHistory) : Type 0 where
   taken : rooms_of size after.entries ≤ rooms_of size before.entries + room_asked action
   full : IsFullAnswer told → capacity < rooms_of size before.entries + room_asked action
 
@@ -84,18 +84,18 @@ steps_room size capacity faults_at_open = record {
   flush_down = λ s faults down. record { taken = omega arith; full = λ no. absurd no };
 }
 
-pub plays_full : (size capacity faults_at_open : ℕ) (lines : List Line) (told : List Told) (before after : LogHistory) → Plays size capacity faults_at_open before lines told after → SomeAnswer IsFullAnswer told → capacity < rooms_of size before.entries + rooms_asked lines
+pub plays_full : (size capacity faults_at_open : ℕ) (lines : List AskedLine) (told : List Told) (before after : LogHistory) → Plays size capacity faults_at_open before lines told after → SomeAnswer IsFullAnswer told → capacity < rooms_of size before.entries + rooms_asked lines
 plays_full size capacity faults_at_open [] [] before after plays full = absurd full
 plays_full size capacity faults_at_open [] (answer ∷ told) before after plays full = absurd plays
 plays_full size capacity faults_at_open (line ∷ lines) [] before after plays full = absurd plays
 plays_full size capacity faults_at_open (line ∷ lines) (answer ∷ told) before after plays (inl here) =
-    let room = fact-Steps size capacity faults_at_open (TakesRoom size capacity) (steps_room size capacity faults_at_open) before line.action answer plays.0 plays.1 in
+    let room = fact-Steps size capacity faults_at_open (TakesRoom size capacity) (steps_room size capacity faults_at_open) before line.asked answer plays.0 plays.1 in
     omega (arith, room.full here)
 plays_full size capacity faults_at_open (line ∷ lines) (answer ∷ told) before after plays (inr later) =
-    let room = fact-Steps size capacity faults_at_open (TakesRoom size capacity) (steps_room size capacity faults_at_open) before line.action answer plays.0 plays.1 in
+    let room = fact-Steps size capacity faults_at_open (TakesRoom size capacity) (steps_room size capacity faults_at_open) before line.asked answer plays.0 plays.1 in
     omega (arith, room.taken, plays_full size capacity faults_at_open lines told plays.0 after plays.2 later)
 
-pub played_full : (size capacity faults_at_open : ℕ) (lines : List Line) (told : List Told) (after : LogHistory) → Plays size capacity faults_at_open (at_opening size) lines told after → SomeAnswer IsFullAnswer told → capacity < rooms_asked lines
+pub played_full : (size capacity faults_at_open : ℕ) (lines : List AskedLine) (told : List Told) (after : LogHistory) → Plays size capacity faults_at_open (at_opening size) lines told after → SomeAnswer IsFullAnswer told → capacity < rooms_asked lines
 played_full size capacity faults_at_open lines told after plays full = omega (arith, plays_full size capacity faults_at_open lines told (at_opening size) after plays full)
 
 -- some answer of the one backend

@@ -1,6 +1,6 @@
 -- Once the disk has failed, each line is told so.
 use Rattle.std.proofs.Common.{◌≡◌, ℕ, List, [], ◌∷◌, Some, None, Option, refl, sym, ap, ◌∙◌}
-use Rattle.wal_script.specs.declared.line.Line.{Line}
+use Rattle.wal_script.specs.Asked.{AskedLine}
 use Rattle.log_answers.specs.declared.Cause.TheVariants.{Full, Disk, Down}
 use Rattle.serial_log.specs.History.{LogHistory, at_opening}
 use Rattle.backend_cli.specs.declared.told.Told.{Told}
@@ -48,12 +48,12 @@ steps_down size capacity faults_at_open = record {
   flush_down = λ s faults is. record { again = λ others down. (same_fault s.down faults others is down, down); leaves = is };
 }
 
-plays_all_down : (size capacity faults_at_open faults : ℕ) (lines : List Line) (told : List Told) (before after : LogHistory) → Plays size capacity faults_at_open before lines told after → before.down ≡ Some faults → AllDown faults told
+plays_all_down : (size capacity faults_at_open faults : ℕ) (lines : List AskedLine) (told : List Told) (before after : LogHistory) → Plays size capacity faults_at_open before lines told after → before.down ≡ Some faults → AllDown faults told
 plays_all_down size capacity faults_at_open faults [] [] before after plays down = tt
 plays_all_down size capacity faults_at_open faults [] (answer ∷ told) before after plays down = absurd plays
 plays_all_down size capacity faults_at_open faults (line ∷ lines) [] before after plays down = absurd plays
 plays_all_down size capacity faults_at_open faults (line ∷ lines) (answer ∷ told) before after plays down =
-    let step = (fact-Steps size capacity faults_at_open KeepsDown (steps_down size capacity faults_at_open) before line.action answer plays.0 plays.1).again faults down in
+    let step = (fact-Steps size capacity faults_at_open KeepsDown (steps_down size capacity faults_at_open) before line.asked answer plays.0 plays.1).again faults down in
     (step.0, plays_all_down size capacity faults_at_open faults lines told plays.0 after plays.2 step.1)
 
 -- one answer more in front
@@ -65,13 +65,13 @@ stays_down_behind (Refused (Full free) reserved) others mid leaves stays down = 
 stays_down_behind (Refused (Disk faults) reserved) others mid leaves stays down = down faults leaves
 stays_down_behind (Refused (Down faults) reserved) others mid leaves stays down = down faults leaves
 
-plays_stay_down : (size capacity faults_at_open : ℕ) (lines : List Line) (told : List Told) (before after : LogHistory) → Plays size capacity faults_at_open before lines told after → StaysDown told
+plays_stay_down : (size capacity faults_at_open : ℕ) (lines : List AskedLine) (told : List Told) (before after : LogHistory) → Plays size capacity faults_at_open before lines told after → StaysDown told
 plays_stay_down size capacity faults_at_open [] [] before after plays = tt
 plays_stay_down size capacity faults_at_open [] (answer ∷ told) before after plays = absurd plays
 plays_stay_down size capacity faults_at_open (line ∷ lines) [] before after plays = absurd plays
 plays_stay_down size capacity faults_at_open (line ∷ lines) (answer ∷ told) before after plays =
-    let step = fact-Steps size capacity faults_at_open KeepsDown (steps_down size capacity faults_at_open) before line.action answer plays.0 plays.1 in
+    let step = fact-Steps size capacity faults_at_open KeepsDown (steps_down size capacity faults_at_open) before line.asked answer plays.0 plays.1 in
     stays_down_behind answer told plays.0 step.leaves (plays_stay_down size capacity faults_at_open lines told plays.0 after plays.2) (λ faults down. plays_all_down size capacity faults_at_open faults lines told plays.0 after plays.2 down)
 
-pub played_stays_down : (size capacity faults_at_open : ℕ) (lines : List Line) (told : List Told) (after : LogHistory) → Plays size capacity faults_at_open (at_opening size) lines told after → StaysDown told
+pub played_stays_down : (size capacity faults_at_open : ℕ) (lines : List AskedLine) (told : List Told) (after : LogHistory) → Plays size capacity faults_at_open (at_opening size) lines told after → StaysDown told
 played_stays_down size capacity faults_at_open lines told after plays = plays_stay_down size capacity faults_at_open lines told (at_opening size) after plays

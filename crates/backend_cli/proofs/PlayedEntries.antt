@@ -8,7 +8,7 @@ use Rattle.wal_types.specs.declared.record.Record.{Record}
 use Rattle.wal_types.specs.declared.lsn.Lsn.{Lsn}
 use Rattle.wal_page.specs.Order.{Entry, IsChained, rooms_of}
 use Rattle.wal_page.proofs.OrderLaws.{IsChained_push}
-use Rattle.wal_script.specs.declared.line.Line.{Line}
+use Rattle.wal_script.specs.Asked.{AskedLine}
 use Rattle.backend_cli.specs.declared.told.Told.{Told}
 use Rattle.backend_cli.specs.Told.{entry_of, entries_of, order_of, IsRising, RiseInLineOrder, sorted_by_start}
 use Rattle.backend_cli.specs.Texts.{is_reserved, reserved_count}
@@ -43,19 +43,19 @@ steps_entries size capacity faults_at_open valid = record {
   flush_down = λ s faults down. sym (append-nil s.entries);
 }
 
-pub plays_entries : (size capacity faults_at_open : ℕ) (lines : List Line) (told : List Told) (before after : LogHistory) → IsSegmentSize size → Plays size capacity faults_at_open before lines told after → after.entries ≡ before.entries ++ entries_of size 0 lines told
+pub plays_entries : (size capacity faults_at_open : ℕ) (lines : List AskedLine) (told : List Told) (before after : LogHistory) → IsSegmentSize size → Plays size capacity faults_at_open before lines told after → after.entries ≡ before.entries ++ entries_of size 0 lines told
 plays_entries size capacity faults_at_open [] [] before after valid plays = ap (λ (s : LogHistory). s.entries) plays ∙ sym (append-nil before.entries)
 plays_entries size capacity faults_at_open [] (answer ∷ told) before after valid plays = absurd plays
 plays_entries size capacity faults_at_open (line ∷ lines) [] before after valid plays = absurd plays
 plays_entries size capacity faults_at_open (line ∷ lines) (answer ∷ told) before after valid plays =
-    let added = fact-Steps size capacity faults_at_open (AddsEntry size) (steps_entries size capacity faults_at_open valid) before line.action answer plays.0 plays.1 in
-    let new = option_to_list (entry_of size 0 line.action answer) in
+    let added = fact-Steps size capacity faults_at_open (AddsEntry size) (steps_entries size capacity faults_at_open valid) before line.asked answer plays.0 plays.1 in
+    let new = option_to_list (entry_of size 0 line.asked answer) in
     plays_entries size capacity faults_at_open lines told plays.0 after valid plays.2
     ∙ ap (λ (es : List Entry). es ++ entries_of size 0 lines told) added
     ∙ append_assoc before.entries new (entries_of size 0 lines told)
 
 -- from the opening on, they are all that were told
-pub played_entries : (size capacity faults_at_open : ℕ) (lines : List Line) (told : List Told) (after : LogHistory) → IsSegmentSize size → Plays size capacity faults_at_open (at_opening size) lines told after → entries_of size 0 lines told ≡ after.entries
+pub played_entries : (size capacity faults_at_open : ℕ) (lines : List AskedLine) (told : List Told) (after : LogHistory) → IsSegmentSize size → Plays size capacity faults_at_open (at_opening size) lines told after → entries_of size 0 lines told ≡ after.entries
 played_entries size capacity faults_at_open lines told after valid plays = sym (plays_entries size capacity faults_at_open lines told (at_opening size) after valid plays)
 
 -- entries stay chained
@@ -80,23 +80,23 @@ steps_chained size capacity faults_at_open = record {
   flush_down = λ s faults down chained. chained;
 }
 
-pub plays_chained : (size capacity faults_at_open : ℕ) (lines : List Line) (told : List Told) (before after : LogHistory) → Plays size capacity faults_at_open before lines told after → IsChained size before.entries → IsChained size after.entries
+pub plays_chained : (size capacity faults_at_open : ℕ) (lines : List AskedLine) (told : List Told) (before after : LogHistory) → Plays size capacity faults_at_open before lines told after → IsChained size before.entries → IsChained size after.entries
 plays_chained size capacity faults_at_open [] [] before after plays chained = subst (λ (s : LogHistory). IsChained size s.entries) (sym plays) chained
 plays_chained size capacity faults_at_open [] (answer ∷ told) before after plays chained = absurd plays
 plays_chained size capacity faults_at_open (line ∷ lines) [] before after plays chained = absurd plays
 plays_chained size capacity faults_at_open (line ∷ lines) (answer ∷ told) before after plays chained =
-    plays_chained size capacity faults_at_open lines told plays.0 after plays.2 (fact-Steps size capacity faults_at_open (KeepsChain size) (steps_chained size capacity faults_at_open) before line.action answer plays.0 plays.1 chained)
+    plays_chained size capacity faults_at_open lines told plays.0 after plays.2 (fact-Steps size capacity faults_at_open (KeepsChain size) (steps_chained size capacity faults_at_open) before line.asked answer plays.0 plays.1 chained)
 
-pub played_chained : (size capacity faults_at_open : ℕ) (lines : List Line) (told : List Told) (after : LogHistory) → Plays size capacity faults_at_open (at_opening size) lines told after → IsChained size after.entries
+pub played_chained : (size capacity faults_at_open : ℕ) (lines : List AskedLine) (told : List Told) (after : LogHistory) → Plays size capacity faults_at_open (at_opening size) lines told after → IsChained size after.entries
 played_chained size capacity faults_at_open lines told after plays = plays_chained size capacity faults_at_open lines told (at_opening size) after plays tt
 
 -- the reserved order is that of the entries
-pub played_order : (size capacity faults_at_open : ℕ) (lines : List Line) (told : List Told) (after : LogHistory) → IsSegmentSize size → Plays size capacity faults_at_open (at_opening size) lines told after → order_of size (lines ∷ []) (told ∷ []) ≡ after.entries
+pub played_order : (size capacity faults_at_open : ℕ) (lines : List AskedLine) (told : List Told) (after : LogHistory) → IsSegmentSize size → Plays size capacity faults_at_open (at_opening size) lines told after → order_of size (lines ∷ []) (told ∷ []) ≡ after.entries
 played_order size capacity faults_at_open lines told after valid plays =
     let rising = IsRising-FollowsFrom size (first_position size) after.entries (played_chained size capacity faults_at_open lines told after plays) in
     ap sorted_by_start (append-nil (entries_of size 0 lines told) ∙ played_entries size capacity faults_at_open lines told after valid plays) ∙ sorted_by_start-rising after.entries rising
 
-pub played_rises : (size capacity faults_at_open : ℕ) (lines : List Line) (told : List Told) (after : LogHistory) → IsSegmentSize size → Plays size capacity faults_at_open (at_opening size) lines told after → RiseInLineOrder size 0 (lines ∷ []) (told ∷ [])
+pub played_rises : (size capacity faults_at_open : ℕ) (lines : List AskedLine) (told : List Told) (after : LogHistory) → IsSegmentSize size → Plays size capacity faults_at_open (at_opening size) lines told after → RiseInLineOrder size 0 (lines ∷ []) (told ∷ [])
 played_rises size capacity faults_at_open lines told after valid plays =
     let rising = IsRising-FollowsFrom size (first_position size) after.entries (played_chained size capacity faults_at_open lines told after plays) in
     (subst IsRising (sym (played_entries size capacity faults_at_open lines told after valid plays)) rising, tt)
@@ -120,12 +120,12 @@ steps_counted size capacity faults_at_open = record {
   flush_down = λ s faults down. omega arith;
 }
 
-pub plays_counted : (size capacity faults_at_open : ℕ) (lines : List Line) (told : List Told) (before after : LogHistory) → Plays size capacity faults_at_open before lines told after → length after.entries ≡ length before.entries + reserved_count told
+pub plays_counted : (size capacity faults_at_open : ℕ) (lines : List AskedLine) (told : List Told) (before after : LogHistory) → Plays size capacity faults_at_open before lines told after → length after.entries ≡ length before.entries + reserved_count told
 plays_counted size capacity faults_at_open [] [] before after plays = omega (arith, ap (λ (s : LogHistory). length s.entries) plays)
 plays_counted size capacity faults_at_open [] (answer ∷ told) before after plays = absurd plays
 plays_counted size capacity faults_at_open (line ∷ lines) [] before after plays = absurd plays
 plays_counted size capacity faults_at_open (line ∷ lines) (answer ∷ told) before after plays =
-    omega (arith, plays_counted size capacity faults_at_open lines told plays.0 after plays.2, fact-Steps size capacity faults_at_open CountsEntry (steps_counted size capacity faults_at_open) before line.action answer plays.0 plays.1)
+    omega (arith, plays_counted size capacity faults_at_open lines told plays.0 after plays.2, fact-Steps size capacity faults_at_open CountsEntry (steps_counted size capacity faults_at_open) before line.asked answer plays.0 plays.1)
 
-pub counted : (size capacity faults_at_open : ℕ) (lines : List Line) (told : List Told) (after : LogHistory) → Plays size capacity faults_at_open (at_opening size) lines told after → length after.entries ≡ reserved_count told
+pub counted : (size capacity faults_at_open : ℕ) (lines : List AskedLine) (told : List Told) (after : LogHistory) → Plays size capacity faults_at_open (at_opening size) lines told after → length after.entries ≡ reserved_count told
 counted size capacity faults_at_open lines told after plays = omega (arith, plays_counted size capacity faults_at_open lines told (at_opening size) after plays)

@@ -10,8 +10,8 @@ use Rattle.wal_types.specs.declared.record.Record.{Record}
 use Rattle.wal_types.specs.declared.lsn.Lsn.{Lsn}
 use Rattle.wal_page.specs.Order.{Entry, rooms_of, finish_of, room_at, room_behind}
 use Rattle.wal_page.proofs.OrderLaws.{rooms_of_push, rooms_of-append}
-use Rattle.wal_script.specs.declared.line.Line.{Line}
-use Rattle.wal_script.specs.declared.line.Action.{Action}
+use Rattle.wal_script.specs.Asked.{AskedLine}
+use Rattle.wal_script.specs.Asked.{Asked}
 use Rattle.backend_cli.specs.declared.told.Told.{Told}
 use Rattle.backend_cli.specs.Told.{Logged, IsFault, MayBeFull, IsPlaced, FitsLine, TellsFrom, TellsAll, behind_or, entry_of, entries_of, order_of}
 use Rattle.serial_log.specs.History.{LogHistory, at_opening, next_entry, end_of}
@@ -51,18 +51,18 @@ steps_down size capacity faults_at_open = record {
   flush_down = λ s faults down others failed. failed;
 }
 
-plays_down : (size capacity faults_at_open : ℕ) (lines : List Line) (told : List Told) (before after : LogHistory) → Plays size capacity faults_at_open before lines told after → (faults : ℕ) → before.down ≡ Some faults → after.down ≡ Some faults
+plays_down : (size capacity faults_at_open : ℕ) (lines : List AskedLine) (told : List Told) (before after : LogHistory) → Plays size capacity faults_at_open before lines told after → (faults : ℕ) → before.down ≡ Some faults → after.down ≡ Some faults
 plays_down size capacity faults_at_open [] [] before after plays faults failed = ap (λ (s : LogHistory). s.down) plays ∙ failed
 plays_down size capacity faults_at_open [] (answer ∷ told) before after plays faults failed = absurd plays
 plays_down size capacity faults_at_open (line ∷ lines) [] before after plays faults failed = absurd plays
 plays_down size capacity faults_at_open (line ∷ lines) (answer ∷ told) before after plays faults failed =
-    plays_down size capacity faults_at_open lines told plays.0 after plays.2 faults (fact-Steps size capacity faults_at_open StaysDown (steps_down size capacity faults_at_open) before line.action answer plays.0 plays.1 faults failed)
+    plays_down size capacity faults_at_open lines told plays.0 after plays.2 faults (fact-Steps size capacity faults_at_open StaysDown (steps_down size capacity faults_at_open) before line.asked answer plays.0 plays.1 faults failed)
 
 abbrev logged_of : ℕ → ℕ → List Entry → ℕ → ℕ → Logged
 logged_of size capacity order faults_at_open last = record { size = size; capacity = capacity; order = order; faults_at_open = faults_at_open; last = last }
 
 -- an answer as it may be behind some entries, and what is known for the next line
-record TellsLine (size capacity faults_at_open last : ℕ) (order es : List Entry) (action : Action) (told : Told) (after : LogHistory) : Type 0 where
+record TellsLine (size capacity faults_at_open last : ℕ) (order es : List Entry) (action : Asked) (told : Told) (after : LogHistory) : Type 0 where
   fits : FitsLine (logged_of size capacity order faults_at_open last) (first_position size + rooms_of size es) action told
   behind : behind_or size (first_position size + rooms_of size es) (entry_of size 0 action told) ≡ first_position size + rooms_of size after.entries
   failed : HasFailed faults_at_open after.down
@@ -177,7 +177,7 @@ steps_tell size capacity faults_at_open last order valid = record {
   };
 }
 
-plays_tell : (size capacity faults_at_open last : ℕ) (order : List Entry) → IsSegmentSize size → (lines : List Line) (told : List Told) (before after : LogHistory) → Plays size capacity faults_at_open before lines told after → order ≡ after.entries
+plays_tell : (size capacity faults_at_open last : ℕ) (order : List Entry) → IsSegmentSize size → (lines : List AskedLine) (told : List Told) (before after : LogHistory) → Plays size capacity faults_at_open before lines told after → order ≡ after.entries
     → HasFailed faults_at_open before.down → IsLast last after.down → TellsFrom (logged_of size capacity order faults_at_open last) 0 (first_position size + rooms_of size before.entries) lines told
 plays_tell size capacity faults_at_open last order valid [] [] before after plays all failed is_last = tt
 plays_tell size capacity faults_at_open last order valid [] (answer ∷ told) before after plays all failed is_last = absurd plays
@@ -185,7 +185,7 @@ plays_tell size capacity faults_at_open last order valid (line ∷ lines) [] bef
 plays_tell size capacity faults_at_open last order valid (line ∷ lines) (answer ∷ told) before after plays all failed is_last =
     let parts = all ∙ plays_entries size capacity faults_at_open lines told plays.0 after valid plays.2 in
     let last_then = λ (faults : ℕ) (down : plays.0.down ≡ Some faults). is_last faults (plays_down size capacity faults_at_open lines told plays.0 after plays.2 faults down) in
-    let here = fact-Steps size capacity faults_at_open (TellsStep size capacity faults_at_open last order) (steps_tell size capacity faults_at_open last order valid) before line.action answer plays.0 plays.1 (entries_of size 0 lines told) parts failed last_then in
+    let here = fact-Steps size capacity faults_at_open (TellsStep size capacity faults_at_open last order) (steps_tell size capacity faults_at_open last order valid) before line.asked answer plays.0 plays.1 (entries_of size 0 lines told) parts failed last_then in
     let rest = plays_tell size capacity faults_at_open last order valid lines told plays.0 after plays.2 all here.failed is_last in
     (here.fits, subst (λ (n : ℕ). TellsFrom (logged_of size capacity order faults_at_open last) 0 n lines told) (sym here.behind) rest)
 
@@ -194,7 +194,7 @@ IsLast-IfSome last None known = λ faults down. absurd (let no : ⊥ = cc in no)
 IsLast-IfSome last (Some other) known = λ faults down. let same : other ≡ faults = cc in sym same ∙ known
 
 -- over any name for the order
-tells_over : (size capacity faults_at_open last : ℕ) (order : List Entry) (lines : List Line) (told : List Told) (after : LogHistory) → IsSegmentSize size → Plays size capacity faults_at_open (at_opening size) lines told after → IfSome after.down (λ faults. faults ≡ last) → order ≡ after.entries
+tells_over : (size capacity faults_at_open last : ℕ) (order : List Entry) (lines : List AskedLine) (told : List Told) (after : LogHistory) → IsSegmentSize size → Plays size capacity faults_at_open (at_opening size) lines told after → IfSome after.down (λ faults. faults ≡ last) → order ≡ after.entries
     → TellsAll (record { size = size; capacity = capacity; order = order; faults_at_open = faults_at_open; last = last }) 0 (lines ∷ []) (told ∷ [])
 tells_over size capacity faults_at_open last order lines told after valid plays known all =
     let failed : HasFailed faults_at_open None = λ faults down. absurd (let no : ⊥ = cc in no) in
@@ -202,11 +202,11 @@ tells_over size capacity faults_at_open last order lines told after valid plays 
     let from : first_position size + rooms_of size [] ≡ first_position size = omega arith in
     (subst (λ (n : ℕ). TellsFrom (logged_of size capacity order faults_at_open last) 0 n lines told) from tells, tt)
 
-pub played_tells : (size capacity faults_at_open last : ℕ) (lines : List Line) (told : List Told) (after : LogHistory) → IsSegmentSize size → Plays size capacity faults_at_open (at_opening size) lines told after → IfSome after.down (λ faults. faults ≡ last)
+pub played_tells : (size capacity faults_at_open last : ℕ) (lines : List AskedLine) (told : List Told) (after : LogHistory) → IsSegmentSize size → Plays size capacity faults_at_open (at_opening size) lines told after → IfSome after.down (λ faults. faults ≡ last)
     → TellsAll (record { size = size; capacity = capacity; order = after.entries; faults_at_open = faults_at_open; last = last }) 0 (lines ∷ []) (told ∷ [])
 played_tells size capacity faults_at_open last lines told after valid plays known = tells_over size capacity faults_at_open last after.entries lines told after valid plays known refl
 
 -- with the order that the answers themselves give
-pub played_tells_order : (size capacity faults_at_open last : ℕ) (lines : List Line) (told : List Told) (after : LogHistory) → IsSegmentSize size → Plays size capacity faults_at_open (at_opening size) lines told after → IfSome after.down (λ faults. faults ≡ last)
+pub played_tells_order : (size capacity faults_at_open last : ℕ) (lines : List AskedLine) (told : List Told) (after : LogHistory) → IsSegmentSize size → Plays size capacity faults_at_open (at_opening size) lines told after → IfSome after.down (λ faults. faults ≡ last)
     → TellsAll (record { size = size; capacity = capacity; order = order_of size (lines ∷ []) (told ∷ []); faults_at_open = faults_at_open; last = last }) 0 (lines ∷ []) (told ∷ [])
 played_tells_order size capacity faults_at_open last lines told after valid plays known = tells_over size capacity faults_at_open last (order_of size (lines ∷ []) (told ∷ [])) lines told after valid plays known (played_order size capacity faults_at_open lines told after valid plays)

@@ -11,13 +11,13 @@ use Rattle.record_spelling.specs.Spelling.{assembled}
 use Rattle.record_spelling.proofs.SpellingLaws.{room_is}
 use Rattle.wal_page.specs.Order.{Entry, IsChained, rooms_of}
 use Rattle.wal_page.proofs.OrderLaws.{rooms_of_cons}
-use Rattle.wal_script.specs.declared.line.Line.{Line}
+use Rattle.wal_script.specs.Asked.{AskedLine}
 use Rattle.waldump_text.specs.declared.putting.SinkFault.{SinkFault}
 use Rattle.waldump_text.specs.Put.{Puts, joined}
 use Rattle.backend_cli.specs.declared.outcome.Outcome.{Outcome}
 use Rattle.backend_cli.specs.declared.outcome.Outcome.TheVariants.{OutOfMemory, NotEmpty, DiskFault}
 use Rattle.backend_cli.specs.declared.told.Told.{Told}
-use Rattle.backend_cli.specs.declared.tasks.Task.{Task}
+use Rattle.wal_script.specs.declared.line.Line.{Line}
 use Rattle.flush_core.specs.Pages.{HoldsNothing}
 use Rattle.flush_core.specs.Writer.{writer_fault}
 use Rattle.serial_log.specs.LogImage.{HoldsLog}
@@ -28,7 +28,7 @@ use Rattle.serial_log.specs.History.{LogHistory, at_opening, end_of}
 use Rattle.backend_cli.specs.declared.printing.Summary.{Summary}
 use Rattle.backend_cli.specs.Told.{IsFullAnswer, IsRefused, SomeAnswer}
 use Rattle.backend_cli.specs.Texts.{run_text, summary_text, segments_upto, commits_of, all_commits_of, reserved_count, told_lines_of}
-use Rattle.backend_cli.specs.Printing.{task_lines, summary_line, printed_text, Summarizes}
+use Rattle.backend_cli.specs.Printing.{told_lines, summary_line, printed_text, Summarizes}
 use Rattle.backend_cli.specs.Concluding.{Concludes}
 use Rattle.backend_cli.specs.Moments.{MomentsRise}
 use Rattle.segment_disk.specs.Cause.{Rose, RoseByOne}
@@ -37,13 +37,13 @@ use Rattle.backend_cli.specs.Outside.{Outside, SourceView, Took}
 use Rattle.backend_cli.specs.Reading.{ScriptMeans}
 use Rattle.backend_cli.specs.Run.{EndsOpened, IsWhole, RunHolds}
 use Rattle.backend_cli.specs.Told.{order_of}
-use Rattle.backend_cli.specs.Tasks.{AreTasks}
+use Rattle.wal_script.specs.Bodies.{AreLinesOf}
 use Rattle.backend_cli.proofs.PlayedEntries.{counted, played_order, played_chained, played_rises}
 use Rattle.backend_cli.proofs.PlayedTells.{played_tells_order}
 use Rattle.backend_cli.proofs.PlayedDown.{played_stays_down}
 use Rattle.backend_cli.proofs.LastFlush.{IsBehindFlush, still_down}
 use Rattle.backend_cli.proofs.PlayedAnswers.{played_refusals, played_full, SomeTold-one}
-use Rattle.backend_cli.proofs.TaskLaws.{task_lines_are}
+use Rattle.backend_cli.proofs.LineLaws.{told_lines_are}
 use Rattle.backend_cli.proofs.WholeLaws.{whole}
 
 -- a count that rose by one, or stands at its last value, rose
@@ -125,31 +125,31 @@ summary_is size es told s is count =
     ∙ ap (λ (n : ℕ). line (length es) (commits_of told) (rooms_of size es) n (segments_upto size es n)) is.end
 
 -- what is printed is the run's text
-pub text_is : (size : ℕ) (list : Bool) (lines : List Line) (tasks : List Task) (told : List Told) (es : List Entry) (s : Summary) → AreTasks lines tasks → Summarizes size (rooms_of size es) told s → length es ≡ reserved_count told
-    → printed_text list tasks told s ≡ run_text size list (lines ∷ []) (told ∷ []) es
-text_is size list lines tasks told es s are is count =
+pub text_is : (size : ℕ) (list : Bool) (asked : List AskedLine) (lines : List Line) (told : List Told) (es : List Entry) (s : Summary) → AreLinesOf asked lines → Summarizes size (rooms_of size es) told s → length es ≡ reserved_count told
+    → printed_text list lines told s ≡ run_text size list (asked ∷ []) (told ∷ []) es
+text_is size list asked lines told es s are is count =
     let line = summary_is size es told s is count in
     let commits : commits_of told ≡ all_commits_of (told ∷ []) = omega arith in
-    let lines_are : task_lines 0 tasks told ≡ told_lines_of 0 lines told ++ [] = task_lines_are 0 lines tasks told are ∙ sym (append-nil (told_lines_of 0 lines told)) in
+    let lines_are : told_lines 0 lines told ≡ told_lines_of 0 asked told ++ [] = told_lines_are 0 asked lines told are ∙ sym (append-nil (told_lines_of 0 asked told)) in
     ap (λ (text : List ℕ). (if list then text else []) ++ summary_line s) lines_are
-    ∙ ap (λ (text : List ℕ). (if list then told_lines_of 0 lines told ++ [] else []) ++ text) (line ∙ ap (summary_text size es) commits)
+    ∙ ap (λ (text : List ℕ). (if list then told_lines_of 0 asked told ++ [] else []) ++ text) (line ∙ ap (summary_text size es) commits)
 
 module _ (D : Type 0) (tape : D → Option Tape) (moment faults : D → ℕ) (disk : D) (log : LogState D) (after last : LogHistory) (is_log : IsLog tape faults (tape disk) (faults disk) log last) (behind : IsBehindFlush log.size after last) where
   -- a run that opened the log holds what it promises
-  pub opened_holds : (size capacity : ℕ) (list : Bool) (outcome : Outcome) (lines : List Line) (tasks : List Task) (told : List Told) (summary : Summary) (taken_before taken_after : Option (List ℕ)) (sink_before sink_after : ℕ) (printed : Result (Unit {0}) SinkFault) (source_before source_after : SourceView) (down : Option ℕ) (result : D) (lists : List (List Told))
-      → log.size ≡ size → log.capacity ≡ capacity → capacity ≤ 2 ^ 42 → log.sysid ≡ 1 → result ≡ log_disk log → lists ≡ told ∷ [] → Plays size capacity (faults disk) (at_opening size) lines told after → ScriptMeans source_before source_after (Ok (lines ∷ [])) → AreTasks lines tasks
-      → Summarizes size log.bytes told summary → Puts taken_before taken_after sink_before sink_after (printed_text list tasks told summary) printed → down ≡ writer_fault log.writer → Concludes down told (not (is_ok printed)) outcome → MomentsRise (moment disk) told (moment (log_disk log)) → IfSome (tape disk) (λ t. page_of_segment (state_now t 1) 0 ≡ None)
+  pub opened_holds : (size capacity : ℕ) (list : Bool) (outcome : Outcome) (asked : List AskedLine) (lines : List Line) (told : List Told) (summary : Summary) (taken_before taken_after : Option (List ℕ)) (sink_before sink_after : ℕ) (printed : Result (Unit {0}) SinkFault) (source_before source_after : SourceView) (down : Option ℕ) (result : D) (lists : List (List Told))
+      → log.size ≡ size → log.capacity ≡ capacity → capacity ≤ 2 ^ 42 → log.sysid ≡ 1 → result ≡ log_disk log → lists ≡ told ∷ [] → Plays size capacity (faults disk) (at_opening size) asked told after → ScriptMeans source_before source_after (Ok (asked ∷ [])) → AreLinesOf asked lines
+      → Summarizes size log.bytes told summary → Puts taken_before taken_after sink_before sink_after (printed_text list lines told summary) printed → down ≡ writer_fault log.writer → Concludes down told (not (is_ok printed)) outcome → MomentsRise (moment disk) told (moment (log_disk log)) → IfSome (tape disk) (λ t. page_of_segment (state_now t 1) 0 ≡ None)
       → (HoldsNothing (tape disk) → last.down ≡ None → last.flushed ≡ end_of log.size last.entries → IfSome (tape result) (λ t. HoldsLog log.size log.sysid last.entries t))
       → RunHolds (record { source_before = source_before; source_after = source_after; tape_before = tape disk; tape_after = tape result; moment_before = moment disk; moment_after = moment result; disk_before = faults disk; disk_after = faults result; taken_before = taken_before; taken_after = taken_after; sink_before = sink_before; sink_after = sink_after }) size capacity list outcome lists
-  opened_holds size capacity list outcome lines tasks told summary taken_before taken_after sink_before sink_after printed source_before source_after down result lists same_size same_capacity small sysid same_disk same_lists plays means are summarizes puts told_down concludes rises empty settled =
+  opened_holds size capacity list outcome asked lines told summary taken_before taken_after sink_before sink_after printed source_before source_after down result lists same_size same_capacity small sysid same_disk same_lists plays means are summarizes puts told_down concludes rises empty settled =
       let outside_of : D → Outside = λ d. record { source_before = source_before; source_after = source_after; tape_before = tape disk; tape_after = tape d; moment_before = moment disk; moment_after = moment d; disk_before = faults disk; disk_after = faults d; taken_before = taken_before; taken_after = taken_after; sink_before = sink_before; sink_after = sink_after } in
       let outside : Outside = outside_of (log_disk log) in
       let valid : IsSegmentSize size = subst IsSegmentSize same_size is_log.valid in
-      let order : order_of size (lines ∷ []) (told ∷ []) ≡ after.entries = played_order size capacity (faults disk) lines told after valid plays in
+      let order : order_of size (asked ∷ []) (told ∷ []) ≡ after.entries = played_order size capacity (faults disk) asked told after valid plays in
       let since = fell D tape faults (tape disk) (faults disk) log last is_log in
       let used : Summarizes size (rooms_of size after.entries) told summary = subst (λ (n : ℕ). Summarizes size n told summary) (is_log.bytes ∙ ap (λ (es : List Entry). rooms_of size es) behind.same) summarizes in
-      let text = text_is size list lines tasks told after.entries summary are used (counted size capacity (faults disk) lines told after plays) in
-      let order_text : printed_text list tasks told summary ≡ run_text size list (lines ∷ []) (told ∷ []) (order_of size (lines ∷ []) (told ∷ [])) = text ∙ ap (run_text size list (lines ∷ []) (told ∷ [])) (sym order) in
+      let text = text_is size list asked lines told after.entries summary are used (counted size capacity (faults disk) asked told after plays) in
+      let order_text : printed_text list lines told summary ≡ run_text size list (asked ∷ []) (told ∷ []) (order_of size (asked ∷ []) (told ∷ [])) = text ∙ ap (run_text size list (asked ∷ []) (told ∷ [])) (sym order) in
       let whole_at_end : faults (log_disk log) ≡ faults disk → faults disk < 2 ^ 64 - 1 → HoldsNothing (tape disk) → IsWhole size (tape (log_disk log)) after.entries = λ same low nothing.
       (let none = quiet_is_up (faults disk) (faults (log_disk log)) last.down since same low in
       let held : IfSome (tape (log_disk log)) (HoldsLog log.size log.sysid last.entries) = subst (λ (d : D). IfSome (tape d) (HoldsLog log.size log.sysid last.entries)) same_disk (settled nothing none (behind.flushed none)) in
@@ -157,43 +157,43 @@ module _ (D : Type 0) (tape : D → Option Tape) (moment faults : D → ℕ) (di
       let by_sysid : IfSome (tape (log_disk log)) (HoldsLog size 1 last.entries) = subst (λ (n : ℕ). IfSome (tape (log_disk log)) (HoldsLog size n last.entries)) sysid by_size in
       let by_entries : IfSome (tape (log_disk log)) (HoldsLog size 1 after.entries) = subst (λ (es : List Entry). IfSome (tape (log_disk log)) (HoldsLog size 1 es)) behind.same by_sysid in
       let within : rooms_of size after.entries ≤ 2 ^ 42 = omega (arith, is_log.within, ap (λ (es : List Entry). rooms_of size es) behind.same, same_capacity, small) in
-      whole size 1 after.entries (tape (log_disk log)) valid (omega arith) (omega arith) (played_chained size capacity (faults disk) lines told after plays) within by_entries) in
+      whole size 1 after.entries (tape (log_disk log)) valid (omega arith) (omega arith) (played_chained size capacity (faults disk) asked told after plays) within by_entries) in
       let holds : RunHolds outside size capacity list outcome (told ∷ []) = (
-        lines ∷ [],
+        asked ∷ [],
         record {
           means = means;
           empty = empty;
-          told = played_tells_order size capacity (faults disk) (faults (log_disk log)) lines told after valid plays (still_down (faults (log_disk log)) after.down last.down behind.down (last_of (faults disk) (faults (log_disk log)) last.down since));
-          stays_down = (played_stays_down size capacity (faults disk) lines told after plays, tt);
-          gapless = subst (IsChained size) (sym order) (played_chained size capacity (faults disk) lines told after plays);
-          in_line_order = played_rises size capacity (faults disk) lines told after valid plays;
+          told = played_tells_order size capacity (faults disk) (faults (log_disk log)) asked told after valid plays (still_down (faults (log_disk log)) after.down last.down behind.down (last_of (faults disk) (faults (log_disk log)) last.down since));
+          stays_down = (played_stays_down size capacity (faults disk) asked told after plays, tt);
+          gapless = subst (IsChained size) (sym order) (played_chained size capacity (faults disk) asked told after plays);
+          in_line_order = played_rises size capacity (faults disk) asked told after valid plays;
           moments = (rises, tt);
           whole = λ same low nothing. subst (IsWhole size (tape (log_disk log))) (sym order) (whole_at_end same low nothing);
-          printed = subst (Took taken_before taken_after sink_before sink_after) order_text (took taken_before taken_after sink_before sink_after (printed_text list tasks told summary) printed puts);
+          printed = subst (Took taken_before taken_after sink_before sink_after) order_text (took taken_before taken_after sink_before sink_after (printed_text list lines told summary) printed puts);
           ends = ends_opened outside told last.down (not (is_ok printed)) outcome (subst (λ (d : Option ℕ). Concludes d told (not (is_ok printed)) outcome) (told_down ∙ is_log.down) concludes) since (quiet D tape faults (tape disk) (faults disk) log last is_log)
-              (λ none refused. played_refusals size capacity (faults disk) lines told after plays (behind.up none) refused)
-              (quiet_where_printed taken_before taken_after sink_before sink_after (printed_text list tasks told summary) printed puts) (risen_where_not_printed taken_before taken_after sink_before sink_after (printed_text list tasks told summary) printed puts);
-          full = λ found. let more = played_full size capacity (faults disk) lines told after plays (SomeTold-one IsFullAnswer told found) in omega (arith, more);
+              (λ none refused. played_refusals size capacity (faults disk) asked told after plays (behind.up none) refused)
+              (quiet_where_printed taken_before taken_after sink_before sink_after (printed_text list lines told summary) printed puts) (risen_where_not_printed taken_before taken_after sink_before sink_after (printed_text list lines told summary) printed puts);
+          full = λ found. let more = played_full size capacity (faults disk) asked told after plays (SomeTold-one IsFullAnswer told found) in omega (arith, more);
         },
       ) in
       subst (λ (t : List (List Told)). RunHolds (outside_of result) size capacity list outcome t) (sym same_lists) (subst (λ (d : D). RunHolds (outside_of d) size capacity list outcome (told ∷ [])) (sym same_disk) holds)
 
 -- a run that did not open the log, where the read of its first page failed
-pub failed_to_open : (D : Type 0) (tape : D → Option Tape) (moment faults : D → ℕ) (disk now : D) (taken : Option (List ℕ)) (sink : ℕ) (size capacity : ℕ) (list : Bool) (before after : SourceView) (lines : List Line) (lists : List (List Told))
-    → RefusesToOpen tape moment faults disk (failures.Disk now) → ScriptMeans before after (Ok (lines ∷ [])) → lists ≡ []
+pub failed_to_open : (D : Type 0) (tape : D → Option Tape) (moment faults : D → ℕ) (disk now : D) (taken : Option (List ℕ)) (sink : ℕ) (size capacity : ℕ) (list : Bool) (before after : SourceView) (asked : List AskedLine) (lists : List (List Told))
+    → RefusesToOpen tape moment faults disk (failures.Disk now) → ScriptMeans before after (Ok (asked ∷ [])) → lists ≡ []
     → RunHolds (record { source_before = before; source_after = after; tape_before = tape disk; tape_after = tape now; moment_before = moment disk; moment_after = moment now; disk_before = faults disk; disk_after = faults now; taken_before = taken; taken_after = taken; sink_before = sink; sink_after = sink }) size capacity list DiskFault lists
-failed_to_open D tape moment faults disk now taken sink size capacity list before after lines lists refuses means none =
+failed_to_open D tape moment faults disk now taken sink size capacity list before after asked lists refuses means none =
     let outside : Outside = record { source_before = before; source_after = after; tape_before = tape disk; tape_after = tape now; moment_before = moment disk; moment_after = moment now; disk_before = faults disk; disk_after = faults now; taken_before = taken; taken_after = taken; sink_before = sink; sink_after = sink } in
-    let holds : RunHolds outside size capacity list DiskFault [] = (((lines ∷ [], means), refuses.1), record { tape_same = refuses.0.same_tape; moment_same = refuses.0.same_moment; nothing_printed = refl; sink_faults_same = refl }) in
+    let holds : RunHolds outside size capacity list DiskFault [] = (((asked ∷ [], means), refuses.1), record { tape_same = refuses.0.same_tape; moment_same = refuses.0.same_moment; nothing_printed = refl; sink_faults_same = refl }) in
     subst (RunHolds outside size capacity list DiskFault) (sym none) holds
 
 -- where segment 1 was there
-pub found_a_log : (D : Type 0) (tape : D → Option Tape) (moment faults : D → ℕ) (disk now : D) (taken : Option (List ℕ)) (sink : ℕ) (size capacity : ℕ) (list : Bool) (before after : SourceView) (lines : List Line) (lists : List (List Told))
-    → RefusesToOpen tape moment faults disk (failures.NotEmpty now) → ScriptMeans before after (Ok (lines ∷ [])) → lists ≡ []
+pub found_a_log : (D : Type 0) (tape : D → Option Tape) (moment faults : D → ℕ) (disk now : D) (taken : Option (List ℕ)) (sink : ℕ) (size capacity : ℕ) (list : Bool) (before after : SourceView) (asked : List AskedLine) (lists : List (List Told))
+    → RefusesToOpen tape moment faults disk (failures.NotEmpty now) → ScriptMeans before after (Ok (asked ∷ [])) → lists ≡ []
     → RunHolds (record { source_before = before; source_after = after; tape_before = tape disk; tape_after = tape now; moment_before = moment disk; moment_after = moment now; disk_before = faults disk; disk_after = faults now; taken_before = taken; taken_after = taken; sink_before = sink; sink_after = sink }) size capacity list NotEmpty lists
-found_a_log D tape moment faults disk now taken sink size capacity list before after lines lists refuses means none =
+found_a_log D tape moment faults disk now taken sink size capacity list before after asked lists refuses means none =
     let outside : Outside = record { source_before = before; source_after = after; tape_before = tape disk; tape_after = tape now; moment_before = moment disk; moment_after = moment now; disk_before = faults disk; disk_after = faults now; taken_before = taken; taken_after = taken; sink_before = sink; sink_after = sink } in
-    let holds : RunHolds outside size capacity list NotEmpty [] = (((lines ∷ [], means), refuses.2, refuses.1), record { tape_same = refuses.0.same_tape; moment_same = refuses.0.same_moment; nothing_printed = refl; sink_faults_same = refl }) in
+    let holds : RunHolds outside size capacity list NotEmpty [] = (((asked ∷ [], means), refuses.2, refuses.1), record { tape_same = refuses.0.same_tape; moment_same = refuses.0.same_moment; nothing_printed = refl; sink_faults_same = refl }) in
     subst (RunHolds outside size capacity list NotEmpty) (sym none) holds
 
 -- a run that opened the log does not end for want of memory

@@ -1,18 +1,9 @@
--- What a script means, read from a source: no more of it is needed than a byte beyond the limit, and each record can be written.
-use Rattle.std.proofs.Common.{◌≡◌, ℕ, ◌+◌, ◌<◌, inl, inr, List, length, take, Result, Ok, Err, All, count_by, ltb, sym, ap, ◌∙◌, subst, arith, lt-ltb, take_all, take-take, length-take-le, if◌then◌else◌, ◌==◌}
-use Rattle.std.specs.Prelude.{IfOk}
+-- What a script means, read from a source: no more of it is needed than a byte beyond the limit.
+use Rattle.std.proofs.Common.{◌≡◌, ℕ, ◌+◌, ◌<◌, inl, inr, List, length, take, Err, count_by, ltb, sym, ap, ◌∙◌, arith, lt-ltb, take_all, take-take, length-take-le, if◌then◌else◌, ◌==◌}
 use Rattle.std.proofs.lemmas.Bool.{cond-true, cases_lt}
-use Rattle.wal_script.specs.declared.line.Line.{Line}
-use Rattle.wal_script.specs.declared.line.Refusal.{Refusal}
 use Rattle.wal_script.specs.declared.line.ScriptFault.TheVariants as faults
 use Rattle.wal_script.specs.Text.{lines_of}
-use Rattle.wal_script.specs.Meaning.{lines_meaning, script_limit, backend_meaning, one_backend, meaning_of}
-use Rattle.wal_script.specs.Writable.{AsksWritable}
-use Rattle.wal_script.proofs.Writing.{lines_are_writable}
-
--- the lines that a script means can be written
-pub lines_writable : (script : List ℕ) (lines : List Line) → backend_meaning script ≡ Ok lines → All (λ line. AsksWritable line.action) lines
-lines_writable script lines is = subst (λ (meaning : Result (List Line) Refusal). IfOk meaning (λ ls. All (λ line. AsksWritable line.action) ls)) is (lines_are_writable script)
+use Rattle.wal_script.specs.Meaning.{lines_meaning, script_limit, one_backend, meaning_of}
 
 -- what is judged by a limit, and beyond it by what stands within, is judged by a front that goes on one byte beyond it
 limited_front : {X : Type 0} (limit : ℕ) (bytes : List ℕ) (refusal meaning : List ℕ → X)

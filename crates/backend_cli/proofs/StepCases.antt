@@ -14,15 +14,15 @@ use Rattle.log_answers.specs.declared.Cause.TheVariants.{Full, Disk, Down}
 use Rattle.serial_log.specs.History.{LogHistory, end_of, next_entry, with_entry}
 use Rattle.serial_log.specs.Steps.{Inserts, Commits, Flushes, HasFlushed, IsReserved, RefusesRecord, RefusesFlush}
 use Rattle.serial_log.proofs.StepLaws.{HasCommitted-of, RefusesRecord-of}
-use Rattle.wal_script.specs.declared.line.Action.{Action}
-use Rattle.wal_script.specs.declared.line.Action.TheVariants.{Insert, Commit, Flush}
+use Rattle.wal_script.specs.Asked.{Asked}
+use Rattle.wal_script.specs.Asked.{Insert, Commit, Flush}
 use Rattle.backend_cli.specs.declared.told.Told.{Told}
 use Rattle.backend_cli.specs.declared.told.Told.TheVariants.{Wrote, Hard, Flushed, Refused}
 use Rattle.backend_cli.specs.Steps.{Steps, told_of_insert, told_of_commit, told_of_flush}
 
 -- a fact about the standing before a step, its action, its answer and the standing after it
 abbrev pub StepFact : Type 1
-StepFact = LogHistory → Action → Told → LogHistory → Type 0
+StepFact = LogHistory → Asked → Told → LogHistory → Type 0
 
 -- what is known of a record that was reserved: it can be written, it fits, and it starts where the others end
 pub record Reserves (size capacity : ℕ) (before : LogHistory) (value : Record) (start : ℕ) : Type 0 where
@@ -93,7 +93,7 @@ module _ (size capacity faults_at_open : ℕ) (P : StepFact) (holds : HoldsOfSte
   flushes s (Err refusal) after step = flush_refused s (end_of size s.entries) refusal.cause refusal.reserved after step
 
   -- what holds of each kind of step holds of each step
-  pub fact-Steps : (before : LogHistory) (action : Action) (told : Told) (after : LogHistory) → Steps size capacity faults_at_open before action told after → P before action told after
+  pub fact-Steps : (before : LogHistory) (action : Asked) (told : Told) (after : LogHistory) → Steps size capacity faults_at_open before action told after → P before action told after
   fact-Steps before (Insert value) told after step = subst (λ (t : Told). P before (Insert value) t after) (sym step.1) (inserts before value step.0 after step.2 step.3)
   fact-Steps before (Commit value) told after step = subst (λ (t : Told). P before (Commit value) t after) (sym step.1) (commits before value step.0 after step.2 step.3)
   fact-Steps before Flush told after step = subst (λ (t : Told). P before Flush t after) (sym step.1) (flushes before step.0 after step.2)

@@ -9,7 +9,6 @@ pub mod Run
 pub mod Whole
 pub mod Dumping
 pub mod Reading
-pub mod Tasks
 pub mod Printing
 pub mod Prepared
 pub mod Concluding

@@ -1,8 +1,8 @@
 -- What a run makes ready before it opens the log.
-use Rattle.std.specs.Prelude.{◌≡◌, ◌<◌, ◌≤◌, List, [], ◌∷◌, length, All, Result, Ok, Err, Vec, vec_capacity}
+use Rattle.std.specs.Prelude.{◌≡◌, ◌<◌, ◌≤◌, List, [], ◌∷◌, length, Result, Ok, Err, Vec, vec_capacity}
 use Rattle.std.specs.declared.alloc.Global.{Global}
+use Rattle.wal_script.specs.Asked.{AskedLine}
 use Rattle.wal_script.specs.declared.line.Line.{Line}
-use Rattle.wal_script.specs.Writable.{AsksWritable}
 use Rattle.serial_log.specs.declared.shape.Shape.{Shape}
 use Rattle.backend_cli.specs.declared.run.Prepared.{Prepared}
 use Rattle.backend_cli.specs.declared.outcome.Outcome.{Outcome}
@@ -10,14 +10,14 @@ use Rattle.backend_cli.specs.declared.outcome.Outcome.TheVariants.{OutOfMemory, 
 use Rattle.backend_cli.specs.Outside.{SourceView}
 use Rattle.backend_cli.specs.Reading.{ScriptMeans}
 use Rattle.segment_disk.specs.Cause.{Rose}
-use Rattle.backend_cli.specs.Tasks.{AreTasks}
+use Rattle.wal_script.specs.Bodies.{AreLinesOf}
 
--- tasks for these lines, room for a log, and room for what the lines are told
-pub record IsPrepared (shape : Shape) (lines : List Line) (prepared : Prepared) : Type 0 where
-  pub tasks : AreTasks lines prepared.tasks.items
+-- the lines that are asked for, room for a log, and room for what the lines are told
+pub record IsPrepared (shape : Shape) (asked : List AskedLine) (prepared : Prepared) : Type 0 where
+  pub lines : AreLinesOf asked prepared.lines.items
   pub log : prepared.log ≡ shape
   pub told : prepared.told.items ≡ []
-  pub told_room : length prepared.tasks.items ≤ vec_capacity prepared.told
+  pub told_room : length prepared.lines.items ≤ vec_capacity prepared.told
   pub lists : prepared.lists.items ≡ []
   pub lists_room : 0 < vec_capacity prepared.lists
 
@@ -28,16 +28,16 @@ IsUnprepared before after SourceFault = Rose before.faults after.faults
 IsUnprepared before after (ScriptRefused refusal) = ScriptMeans before after (Err refusal)
 IsUnprepared before after others = ⊥
 
--- reading the lines of a script, each of which can be written
+-- reading the lines of a script
 abbrev pub ReadsLines : SourceView → SourceView → Result (Vec Line Global) Outcome → Type 0
 ReadsLines before after (Ok lines) =
-    ScriptMeans before after (Ok (lines.items ∷ []))
-    × All (λ line. AsksWritable line.action) lines.items
+    (asked : List AskedLine) × ScriptMeans before after (Ok (asked ∷ []))
+    × AreLinesOf asked lines.items
 ReadsLines before after (Err outcome) = IsUnprepared before after outcome
 
 -- making all ready
 abbrev pub Prepares : SourceView → SourceView → Shape → Result Prepared Outcome → Type 0
 Prepares before after shape (Ok prepared) =
-    (lines : List Line) × ScriptMeans before after (Ok (lines ∷ []))
-    × IsPrepared shape lines prepared
+    (asked : List AskedLine) × ScriptMeans before after (Ok (asked ∷ []))
+    × IsPrepared shape asked prepared
 Prepares before after shape (Err outcome) = IsUnprepared before after outcome

@@ -1,20 +1,20 @@
--- Tasks and answers as they are printed.
+-- Lines and answers as they are printed.
 use Rattle.std.specs.Prelude.{ℕ, ◌+◌, ◌-◌, ◌/◌, ◌≡◌, Bool, List, [], ◌∷◌, ◌++◌, codes, ◌==◌, if◌then◌else◌}
 use Rattle.std.specs.Fmt.{decimal}
 use Rattle.byte_position.specs.Position.{end_address_of, first_position}
 use Rattle.wal_types.specs.LsnText.{lsn_text}
 use Rattle.waldump_text.specs.Put.{joined}
 use Rattle.backend_cli.specs.declared.printing.Summary.{Summary}
-use Rattle.backend_cli.specs.declared.tasks.Task.{Task}
+use Rattle.wal_script.specs.declared.line.Line.{Line}
 use Rattle.backend_cli.specs.declared.told.Told.{Told}
 use Rattle.backend_cli.specs.Texts.{told_line, reserved_count, commits_of}
 
--- a line for each task
-abbrev pub task_lines : ℕ → List Task → List Told → List ℕ
-task_lines backend [] told = []
-task_lines backend (task ∷ tasks) [] = []
-task_lines backend (task ∷ tasks) (told ∷ others) =
-    told_line backend task.number told ++ task_lines backend tasks others
+-- a told line for each line
+abbrev pub told_lines : ℕ → List Line → List Told → List ℕ
+told_lines backend [] told = []
+told_lines backend (line ∷ lines) [] = []
+told_lines backend (line ∷ lines) (told ∷ others) =
+    told_line backend line.number told ++ told_lines backend lines others
 
 -- a summary's line
 abbrev pub summary_line : Summary → List ℕ
@@ -23,9 +23,9 @@ summary_line s =
     codes " bytes " ∷ decimal s.bytes ∷ codes " end " ∷ lsn_text s.end.0 ∷ codes " segments " ∷
     decimal s.segments ∷ codes "\n" ∷ [])
 
--- all that is printed of a backend's tasks
-abbrev pub printed_text : Bool → List Task → List Told → Summary → List ℕ
-printed_text list tasks told s = (if list then task_lines 0 tasks told else []) ++ summary_line s
+-- all that is printed of a backend's lines
+abbrev pub printed_text : Bool → List Line → List Told → Summary → List ℕ
+printed_text list lines told s = (if list then told_lines 0 lines told else []) ++ summary_line s
 
 -- what a summary says of a log of which so many bytes are taken up, and of what its lines were told
 pub record Summarizes (size used : ℕ) (told : List Told) (s : Summary) : Type 0 where

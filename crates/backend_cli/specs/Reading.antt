@@ -3,7 +3,7 @@ use Rattle.std.specs.Prelude.{◌≡◌, ℕ, ◌+◌, ◌≤◌, List, ◌++◌
 use Rattle.std.specs.declared.alloc.Global.{Global}
 use Rattle.segment_disk.specs.Cause.{RoseByOne}
 use Rattle.segment_disk.specs.Stream.{LosesFront}
-use Rattle.wal_script.specs.declared.line.Line.{Line}
+use Rattle.wal_script.specs.Asked.{AskedLine}
 use Rattle.wal_script.specs.declared.line.Refusal.{Refusal}
 use Rattle.wal_script.specs.Meaning.{meaning_of, script_limit}
 use Rattle.backend_cli.specs.declared.reading.ReadFailure.{ReadFailure}
@@ -39,7 +39,7 @@ abbrev pub ReadsAll : SourceView → SourceView → Result (Vec ℕ Global) Read
 ReadsAll before after result = ReadsUpto (script_limit + 1) before after result
 
 -- the script that a source handed out has this meaning
-abbrev pub ScriptMeans : SourceView → SourceView → Result (List (List Line)) Refusal → Type 0
+abbrev pub ScriptMeans : SourceView → SourceView → Result (List (List AskedLine)) Refusal → Type 0
 ScriptMeans before after meaning =
     (bytes : List ℕ) × ReadsScript before after bytes × (meaning_of bytes ≡ meaning)
 

@@ -5,9 +5,9 @@ use Rattle.segment_disk.specs.DiskImage.{DiskImage, MayLeave, image_as_read}
 use Rattle.flush_core.specs.Pages.{HoldsNothing}
 use Rattle.record_spelling.specs.Spelling.{room_of}
 use Rattle.wal_page.specs.Order.{Entry, IsChained, end_position}
-use Rattle.wal_script.specs.declared.line.Line.{Line}
-use Rattle.wal_script.specs.declared.line.Action.{Action}
-use Rattle.wal_script.specs.declared.line.Action.TheVariants.{Insert, Commit, Flush}
+use Rattle.wal_script.specs.Asked.{AskedLine}
+use Rattle.wal_script.specs.Asked.{Asked}
+use Rattle.wal_script.specs.Asked.{Insert, Commit, Flush}
 use Rattle.wal_reader.specs.Pages.{pages_in}
 use Rattle.wal_reader.specs.Decodes.{Decodes, ended}
 use Rattle.written_log.specs.Written.{found_of}
@@ -24,7 +24,8 @@ use Rattle.backend_cli.specs.Outside.{Outside, Took, IsUntouched}
 -- the script that the source handed out means some lines
 abbrev pub MeansSome : Outside → Type 0
 MeansSome outside =
-    (script : List (List Line)) × ScriptMeans outside.source_before outside.source_after (Ok script)
+    (script : List (List AskedLine))
+    × ScriptMeans outside.source_before outside.source_after (Ok script)
 
 -- how a run ends that did not open the log, and why; it ends in no other way
 abbrev pub EndsUnopened : Outside → Outcome → Type 0
@@ -71,23 +72,23 @@ IsWhole size (Some t) es =
     × DecodesTo size (image_as_read (state_now t)) es
 
 -- the bytes that the records of a script take up together
-abbrev pub room_asked : Action → ℕ
+abbrev pub room_asked : Asked → ℕ
 room_asked (Insert value) = room_of value
 room_asked (Commit value) = room_of value
 room_asked Flush = 0
 
-abbrev pub rooms_asked : List Line → ℕ
+abbrev pub rooms_asked : List AskedLine → ℕ
 rooms_asked [] = 0
-rooms_asked (line ∷ lines) = room_asked line.action + rooms_asked lines
+rooms_asked (line ∷ lines) = room_asked line.asked + rooms_asked lines
 
-abbrev pub all_rooms_asked : List (List Line) → ℕ
+abbrev pub all_rooms_asked : List (List AskedLine) → ℕ
 all_rooms_asked [] = 0
 all_rooms_asked (lines ∷ script) = rooms_asked lines + all_rooms_asked script
 
 -- a run that opened the log, of the script with these lines that the source handed out: what it
 -- told and made of them
 pub record HoldsOpened (outside : Outside) (size capacity : ℕ) (list : Bool) (outcome : Outcome)
-    (script : List (List Line)) (lists : List (List Told)) : Type 0 where
+    (script : List (List AskedLine)) (lists : List (List Told)) : Type 0 where
   pub means : ScriptMeans outside.source_before outside.source_after (Ok script)
   pub empty : IfSome outside.tape_before (λ t. page_of_segment (state_now t 1) 0 ≡ None)
   pub told : TellsAll (record {
@@ -113,5 +114,5 @@ pub record HoldsOpened (outside : Outside) (size capacity : ℕ) (list : Bool) (
 abbrev pub RunHolds : Outside → ℕ → ℕ → Bool → Outcome → List (List Told) → Type 0
 RunHolds outside size capacity list outcome [] = EndsUnopened outside outcome × IsUntouched outside
 RunHolds outside size capacity list outcome (told ∷ others) =
-    (script : List (List Line))
+    (script : List (List AskedLine))
     × HoldsOpened outside size capacity list outcome script (told ∷ others)

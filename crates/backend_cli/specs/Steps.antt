@@ -8,9 +8,9 @@ use Rattle.log_answers.specs.declared.Sealed.{Sealed}
 use Rattle.log_answers.specs.declared.Refused as refused
 use Rattle.serial_log.specs.History.{LogHistory, end_of}
 use Rattle.serial_log.specs.Steps.{Inserts, Commits, Flushes}
-use Rattle.wal_script.specs.declared.line.Line.{Line}
-use Rattle.wal_script.specs.declared.line.Action.{Action}
-use Rattle.wal_script.specs.declared.line.Action.TheVariants.{Insert, Commit, Flush}
+use Rattle.wal_script.specs.Asked.{AskedLine}
+use Rattle.wal_script.specs.Asked.{Asked}
+use Rattle.wal_script.specs.Asked.{Insert, Commit, Flush}
 use Rattle.backend_cli.specs.declared.told.Told.{Told}
 use Rattle.backend_cli.specs.declared.told.Told.TheVariants.{Wrote, Hard, Flushed, Refused}
 
@@ -28,7 +28,7 @@ told_of_flush (Ok done) = Flushed done.upto done.moment
 told_of_flush (Err refusal) = Refused refusal.cause refusal.reserved
 
 -- one line: the standing before it, what it asks for, what it is told, and the standing after it
-abbrev pub Steps : ℕ → ℕ → ℕ → LogHistory → Action → Told → LogHistory → Type 0
+abbrev pub Steps : ℕ → ℕ → ℕ → LogHistory → Asked → Told → LogHistory → Type 0
 Steps size capacity faults_at_open before (Insert value) told after =
     (answer : Result Receipt refused.Refused) × (told ≡ told_of_insert answer) × IsWritable value
     × Inserts size capacity faults_at_open before value answer after
@@ -40,10 +40,10 @@ Steps size capacity faults_at_open before Flush told after =
     × Flushes size faults_at_open before (end_of size before.entries) answer after
 
 -- lines in order, each told as it may be
-abbrev pub Plays : ℕ → ℕ → ℕ → LogHistory → List Line → List Told → LogHistory → Type 0
+abbrev pub Plays : ℕ → ℕ → ℕ → LogHistory → List AskedLine → List Told → LogHistory → Type 0
 Plays size capacity faults_at_open before [] [] after = after ≡ before
 Plays size capacity faults_at_open before [] (told ∷ others) after = ⊥
 Plays size capacity faults_at_open before (line ∷ lines) [] after = ⊥
 Plays size capacity faults_at_open before (line ∷ lines) (told ∷ others) after =
-    (mid : LogHistory) × Steps size capacity faults_at_open before line.action told mid
+    (mid : LogHistory) × Steps size capacity faults_at_open before line.asked told mid
     × Plays size capacity faults_at_open mid lines others after

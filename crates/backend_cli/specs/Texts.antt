@@ -5,7 +5,7 @@ use Rattle.byte_position.specs.Position.{end_address_of}
 use Rattle.wal_types.specs.LsnText.{lsn_text}
 use Rattle.wal_types.specs.declared.lsn.Lsn.{Lsn}
 use Rattle.wal_page.specs.Order.{Entry, rooms_of, end_position}
-use Rattle.wal_script.specs.declared.line.Line.{Line}
+use Rattle.wal_script.specs.Asked.{AskedLine}
 use Rattle.waldump_text.specs.Put.{joined}
 use Rattle.backend_cli.specs.declared.told.Told.{Told}
 use Rattle.backend_cli.specs.declared.told.Told.TheVariants.{Wrote, Hard, Flushed, Refused}
@@ -38,13 +38,13 @@ abbrev pub told_line : ℕ → ℕ → Told → List ℕ
 told_line backend line told = joined (decimal backend ∷ codes " " ∷ decimal line ∷ answer_text told)
 
 -- the told lines of a backend, and of all backends from a number on
-abbrev pub told_lines_of : ℕ → List Line → List Told → List ℕ
+abbrev pub told_lines_of : ℕ → List AskedLine → List Told → List ℕ
 told_lines_of backend [] told = []
 told_lines_of backend (line ∷ lines) [] = []
 told_lines_of backend (line ∷ lines) (told ∷ others) =
     told_line backend line.number told ++ told_lines_of backend lines others
 
-abbrev pub told_lines_from : ℕ → List (List Line) → List (List Told) → List ℕ
+abbrev pub told_lines_from : ℕ → List (List AskedLine) → List (List Told) → List ℕ
 told_lines_from backend [] told = []
 told_lines_from backend (lines ∷ script) [] = []
 told_lines_from backend (lines ∷ script) (told ∷ others) =
@@ -93,7 +93,7 @@ summary_text size order commits =
     codes " segments " ∷ decimal (segments_upto size order end) ∷ codes "\n" ∷ [])
 
 -- all that a run prints: the told lines where they are asked for, then the summary
-abbrev pub run_text : ℕ → Bool → List (List Line) → List (List Told) → List Entry → List ℕ
+abbrev pub run_text : ℕ → Bool → List (List AskedLine) → List (List Told) → List Entry → List ℕ
 run_text size list script told order =
     (if list then told_lines_from 0 script told else [])
     ++ summary_text size order (all_commits_of told)

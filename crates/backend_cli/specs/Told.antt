@@ -1,13 +1,13 @@
 -- What lines are told, and the order that it makes.
-use Rattle.std.specs.Prelude.{◌≡◌, ℕ, ◌+◌, ◌-◌, ◌^◌, ◌<◌, ◌≤◌, ◌⊎◌, List, [], ◌∷◌, ◌++◌, length, take, Option, Some, None, option_to_list, nat_le, if◌then◌else◌}
+use Rattle.std.specs.Prelude.{◌≡◌, ℕ, ◌+◌, ◌<◌, ◌≤◌, ◌⊎◌, List, [], ◌∷◌, ◌++◌, length, take, Option, Some, None, option_to_list, nat_le, if◌then◌else◌}
 use Rattle.segment_disk.specs.Cause.{Rose}
 use Rattle.wal_types.specs.declared.lsn.Lsn.{Lsn}
 use Rattle.wal_types.specs.declared.record.Record.{Record}
 use Rattle.byte_position.specs.Position.{position_of, address_of, end_address_of, first_position}
 use Rattle.wal_page.specs.Order.{Entry, position_behind, rooms_of, end_position, room_at, room_behind}
-use Rattle.wal_script.specs.declared.line.Line.{Line}
-use Rattle.wal_script.specs.declared.line.Action.{Action}
-use Rattle.wal_script.specs.declared.line.Action.TheVariants.{Insert, Commit, Flush}
+use Rattle.wal_script.specs.Asked.{AskedLine}
+use Rattle.wal_script.specs.Asked.{Asked}
+use Rattle.wal_script.specs.Asked.{Insert, Commit, Flush}
 use Rattle.backend_cli.specs.declared.told.Told.{Told}
 use Rattle.backend_cli.specs.declared.told.Told.TheVariants.{Wrote, Hard, Flushed, Refused}
 use Rattle.log_answers.specs.declared.Cause.{Cause}
@@ -26,20 +26,20 @@ entry_at size backend value None = None
 entry_at size backend value (Some start) =
     Some (record { pass = Some backend; value = value; start = position_of size start.0 })
 
-abbrev pub entry_of : ℕ → ℕ → Action → Told → Option Entry
+abbrev pub entry_of : ℕ → ℕ → Asked → Told → Option Entry
 entry_of size backend (Insert value) told = entry_at size backend value (reserved_by told)
 entry_of size backend (Commit value) told = entry_at size backend value (reserved_by told)
 entry_of size backend Flush told = None
 
 -- a backend's entries, in the order of its lines
-abbrev pub entries_of : ℕ → ℕ → List Line → List Told → List Entry
+abbrev pub entries_of : ℕ → ℕ → List AskedLine → List Told → List Entry
 entries_of size backend [] told = []
 entries_of size backend (line ∷ lines) [] = []
 entries_of size backend (line ∷ lines) (told ∷ others) =
-    option_to_list (entry_of size backend line.action told) ++ entries_of size backend lines others
+    option_to_list (entry_of size backend line.asked told) ++ entries_of size backend lines others
 
 -- the entries of all backends from a number on
-abbrev pub entries_from : ℕ → ℕ → List (List Line) → List (List Told) → List Entry
+abbrev pub entries_from : ℕ → ℕ → List (List AskedLine) → List (List Told) → List Entry
 entries_from size backend [] told = []
 entries_from size backend (lines ∷ script) [] = []
 entries_from size backend (lines ∷ script) (told ∷ others) =
@@ -55,7 +55,7 @@ sorted_by_start [] = []
 sorted_by_start (e ∷ es) = insert_by_start e (sorted_by_start es)
 
 -- the reserved order: the entries of all backends, by their starts
-abbrev pub order_of : ℕ → List (List Line) → List (List Told) → List Entry
+abbrev pub order_of : ℕ → List (List AskedLine) → List (List Told) → List Entry
 order_of size script told = sorted_by_start (entries_from size 0 script told)
 
 -- each starts behind the one before
@@ -115,7 +115,7 @@ MayRefuseFlush logged (Down faults) reserved = IsFault logged faults × (reserve
 -- what a line may be told, where its backend's earlier entries end at byte position `behind`: an
 -- insert that its record is written, a commit that it is durable, a flush that all is up to there
 -- at least and no further than the log goes
-abbrev pub FitsLine : Logged → ℕ → Action → Told → Type 0
+abbrev pub FitsLine : Logged → ℕ → Asked → Told → Type 0
 FitsLine logged behind (Insert value) (Wrote start end) = IsPlaced logged.size value start.0 end.0
 FitsLine logged behind (Insert value) (Hard start end moment) = ⊥
 FitsLine logged behind (Insert value) (Flushed upto moment) = ⊥
@@ -140,17 +140,17 @@ behind_or size behind None = behind
 behind_or size behind (Some e) = position_behind size e
 
 -- one answer for each line, in order, each as it may be
-abbrev pub TellsFrom : Logged → ℕ → ℕ → List Line → List Told → Type 0
+abbrev pub TellsFrom : Logged → ℕ → ℕ → List AskedLine → List Told → Type 0
 TellsFrom logged backend behind [] [] = Unit {0}
 TellsFrom logged backend behind [] (told ∷ others) = ⊥
 TellsFrom logged backend behind (line ∷ lines) [] = ⊥
 TellsFrom logged backend behind (line ∷ lines) (told ∷ others) =
-    FitsLine logged behind line.action told
+    FitsLine logged behind line.asked told
     × TellsFrom logged backend
-    (behind_or logged.size behind (entry_of logged.size backend line.action told)) lines others
+    (behind_or logged.size behind (entry_of logged.size backend line.asked told)) lines others
 
 -- a list for each backend from a number on, and one answer for each of its lines
-abbrev pub TellsAll : Logged → ℕ → List (List Line) → List (List Told) → Type 0
+abbrev pub TellsAll : Logged → ℕ → List (List AskedLine) → List (List Told) → Type 0
 TellsAll logged backend [] [] = Unit {0}
 TellsAll logged backend [] (told ∷ others) = ⊥
 TellsAll logged backend (lines ∷ script) [] = ⊥
@@ -159,7 +159,7 @@ TellsAll logged backend (lines ∷ script) (told ∷ others) =
     × TellsAll logged (backend + 1) script others
 
 -- each backend's entries rise in the order of its lines
-abbrev pub RiseInLineOrder : ℕ → ℕ → List (List Line) → List (List Told) → Type 0
+abbrev pub RiseInLineOrder : ℕ → ℕ → List (List AskedLine) → List (List Told) → Type 0
 RiseInLineOrder size backend [] told = Unit {0}
 RiseInLineOrder size backend (lines ∷ script) [] = Unit {0}
 RiseInLineOrder size backend (lines ∷ script) (told ∷ others) =

@@ -3,7 +3,7 @@
 ghost use Rattle.std.specs.Prelude.{◌≡◌, ℕ, ◌<◌, List, [], ◌∷◌, None, Result, IfSome};
 ghost use Rattle.byte_position.specs.Geometry.{IsSegmentSize};
 ghost use Rattle.wal_page.specs.Order.{IsChained};
-ghost use Rattle.wal_script.specs.declared.line.Line.{Line};
+ghost use Rattle.wal_script.specs.Asked.{AskedLine};
 ghost use Rattle.wal_script.specs.declared.line.Refusal.{Refusal};
 ghost use Rattle.wal_script.specs.Meaning.{meaning_of};
 ghost use Rattle.backend_cli.specs.Outside.{SourceView};
@@ -17,19 +17,19 @@ ghost use Rattle.backend_cli.specs.Whole.{HeldLogIsWhole};
 
 /// What lines are told says which entries they made: chained, and in the order of the lines.
 pub fn law_of_played_entries()
-    ensures entries { (size capacity faults_at_open : ℕ) (lines : List Line)
+    ensures entries { (size capacity faults_at_open : ℕ) (lines : List AskedLine)
         (told : List Told) (after : LogHistory)
         → IsSegmentSize size → Plays size capacity faults_at_open (at_opening size) lines told after
         → entries_of size 0 lines told ≡ after.entries }
-    ensures order { (size capacity faults_at_open : ℕ) (lines : List Line)
+    ensures order { (size capacity faults_at_open : ℕ) (lines : List AskedLine)
         (told : List Told) (after : LogHistory)
         → IsSegmentSize size → Plays size capacity faults_at_open (at_opening size) lines told after
         → order_of size (lines ∷ []) (told ∷ []) ≡ after.entries }
-    ensures chained { (size capacity faults_at_open : ℕ) (lines : List Line)
+    ensures chained { (size capacity faults_at_open : ℕ) (lines : List AskedLine)
         (told : List Told) (after : LogHistory)
         → Plays size capacity faults_at_open (at_opening size) lines told after
         → IsChained size after.entries }
-    ensures rises { (size capacity faults_at_open : ℕ) (lines : List Line)
+    ensures rises { (size capacity faults_at_open : ℕ) (lines : List AskedLine)
         (told : List Told) (after : LogHistory)
         → IsSegmentSize size → Plays size capacity faults_at_open (at_opening size) lines told after
         → RiseInLineOrder size 0 (lines ∷ []) (told ∷ []) }
@@ -38,11 +38,11 @@ pub fn law_of_played_entries()
 /// Without a fault of the disk a line is refused only by a full log, and then the script's records
 /// do not fit together.
 pub fn law_of_played_full()
-    ensures refusals { (size capacity faults_at_open : ℕ) (lines : List Line)
+    ensures refusals { (size capacity faults_at_open : ℕ) (lines : List AskedLine)
         (told : List Told) (after : LogHistory)
         → Plays size capacity faults_at_open (at_opening size) lines told after
         → after.down ≡ None → SomeAnswer IsRefused told → SomeAnswer IsFullAnswer told }
-    ensures full { (size capacity faults_at_open : ℕ) (lines : List Line)
+    ensures full { (size capacity faults_at_open : ℕ) (lines : List AskedLine)
         (told : List Told) (after : LogHistory)
         → Plays size capacity faults_at_open (at_opening size) lines told after
         → SomeAnswer IsFullAnswer told → capacity < rooms_asked lines }
@@ -50,7 +50,7 @@ pub fn law_of_played_full()
 
 /// Once a line is told a fault of the disk, each later one is told that fault.
 pub fn law_of_played_down()
-    ensures { (size capacity faults_at_open : ℕ) (lines : List Line)
+    ensures { (size capacity faults_at_open : ℕ) (lines : List AskedLine)
         (told : List Told) (after : LogHistory)
         → Plays size capacity faults_at_open (at_opening size) lines told after
         → StaysDown told }
@@ -59,7 +59,7 @@ pub fn law_of_played_down()
 /// Each line is told what it may be told, where the disk's last count of faults is the one at which
 /// it failed.
 pub fn law_of_played_tells()
-    ensures { (size capacity faults_at_open last : ℕ) (lines : List Line)
+    ensures { (size capacity faults_at_open last : ℕ) (lines : List AskedLine)
         (told : List Told) (after : LogHistory)
         → IsSegmentSize size → Plays size capacity faults_at_open (at_opening size) lines told after
         → IfSome after.down (λ faults. faults ≡ last)
@@ -75,7 +75,7 @@ pub fn law_of_played_tells()
 /// Where a source tells what it had left, the script that was read off it means what all of that
 /// means.
 pub fn read_scripts_mean_all_that_was_left()
-    ensures { (before after : SourceView) (meaning : Result (List (List Line)) Refusal)
+    ensures { (before after : SourceView) (meaning : Result (List (List AskedLine)) Refusal)
         → ScriptMeans before after meaning
         → IfSome before.left (λ bytes. meaning_of bytes ≡ meaning) }
 {}

@@ -10,7 +10,6 @@ mod printing;
 mod program;
 mod reading;
 mod run;
-mod tasks;
 mod told;
 
 pub use laws::{

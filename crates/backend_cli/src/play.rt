@@ -1,17 +1,17 @@
 ghost use Rattle.std.specs.Prelude.{◌≡◌, ◌≤◌, List, [], length, vec_capacity};
-ghost use Rattle.wal_script.specs.declared.line.Line.{Line};
+ghost use Rattle.wal_script.specs.Asked.{AskedLine};
+ghost use Rattle.wal_script.specs.Bodies.{AreLinesOf};
 ghost use Rattle.serial_log.specs.LogState.{IsSameLog, StepsLog};
 ghost use Rattle.backend_cli.specs.Moments.{LastTold, MomentsReach};
 ghost use Rattle.backend_cli.specs.Steps.{Plays};
-ghost use Rattle.backend_cli.specs.Tasks.{AreTasks};
 ghost use Rattle.backend_cli.specs.Tracked.{IsTracked};
 
 use crate::answer::answer;
 use crate::program::Gate;
-use crate::tasks::Task;
 use crate::told::Told;
 use segment_disk::Disk;
 use serial_log::Log;
+use wal_script::Line;
 
 /// Plays a backend's lines in order, and notes what each is told in a vector that has room for it:
 /// nothing takes memory once the log is open. The gate is passed before each line. A line that is
@@ -20,23 +20,23 @@ use serial_log::Log;
 pub(crate) fn play<D: Disk, G: Gate>(
     log: &mut Log<D>,
     gate: &G,
-    tasks: &[Task],
+    lines: &[Line],
     told: &mut Vec<Told>,
 )
     requires empty { told.old.items ≡ [] }
-    requires room { length tasks.now ≤ vec_capacity told.old }
-    ensures plays { (lines : List Line) → AreTasks lines tasks.now
+    requires room { length lines.now ≤ vec_capacity told.old }
+    ensures plays { (asked : List AskedLine) → AreLinesOf asked lines.now
         → StepsLog D.tape D.faults log.old log.new (λ faults_at_open before after.
-        Plays log.old.size log.old.capacity faults_at_open before lines told.new.items after) }
+        Plays log.old.size log.old.capacity faults_at_open before asked told.new.items after) }
     ensures same { IsSameLog log.old log.new }
     ensures moments { (last : LastTold) → IsTracked D.moment last log.old
         → (after : LastTold) × MomentsReach last told.new.items after
         × IsTracked D.moment after log.new }
-    ensures each { length told.new.items ≡ length tasks.now }
+    ensures each { length told.new.items ≡ length lines.now }
 {
-    for task in tasks {
-        gate.pass(0, task.number);
-        let answer = answer(log, &task.work);
+    for line in lines {
+        gate.pass(0, line.number);
+        let answer = answer(log, &line.action);
         told.push_reserved(answer);
     }
 }

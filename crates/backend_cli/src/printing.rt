@@ -3,12 +3,12 @@ ghost use Rattle.std.specs.Fmt.{decimal};
 ghost use Rattle.wal_types.specs.LsnText.{lsn_text};
 ghost use Rattle.waldump_text.specs.Put.{Puts, joined};
 ghost use Rattle.backend_cli.specs.Texts.{told_line, answer_text, cause_text, reserved_text};
-ghost use Rattle.backend_cli.specs.Printing.{task_lines, summary_line};
+ghost use Rattle.backend_cli.specs.Printing.{told_lines, summary_line};
 
-use crate::tasks::Task;
 use crate::told::Told;
 use log_answers::Cause;
 use segment_disk::Sink;
+use wal_script::Line;
 use wal_types::Lsn;
 use waldump_text::{SinkFault, put_all};
 
@@ -182,19 +182,19 @@ fn put_fault<'a, O: Sink>(
     }
 }
 
-/// Puts the told lines of a backend's tasks, in order.
+/// Puts the told lines of a backend's lines, in order.
 pub(crate) fn put_told_lines<O: Sink>(
     out: &mut O,
     backend: u32,
-    tasks: &[Task],
+    lines: &[Line],
     told: &[Told],
 ) -> Result<(), SinkFault>
-    requires { length tasks.now ≡ length told.now }
+    requires { length lines.now ≡ length told.now }
     ensures { Puts (O.taken out.old) (O.taken out.new) (O.faults out.old) (O.faults out.new)
-        (task_lines backend tasks.now told.now) result }
+        (told_lines backend lines.now told.now) result }
 {
-    for (task, answer) in tasks.iter().zip(told) {
-        put_told(out, backend, task.number, answer)?;
+    for (line, answer) in lines.iter().zip(told) {
+        put_told(out, backend, line.number, answer)?;
     }
     Ok(())
 }

@@ -1,6 +1,6 @@
 ghost use Rattle.std.specs.Prelude.{◌≡◌, ◌≤◌, ◌<◌, All, List, [], ◌∷◌, length, Ok, IfOk, IsTrue, false, not};
-ghost use Rattle.wal_script.specs.declared.line.Line.{Line};
-ghost use Rattle.wal_script.specs.Writable.{AsksWritable};
+ghost use Rattle.wal_script.specs.Asked.{AskedLine};
+ghost use Rattle.wal_script.specs.Bodies.{AreLinesOf};
 ghost use Rattle.waldump_text.specs.Put.{Puts};
 ghost use Rattle.serial_log.specs.History.{capacity_of};
 ghost use Rattle.backend_cli.specs.Told.{SomeAnswer, IsFullAnswer};
@@ -17,7 +17,6 @@ use crate::play::play;
 use crate::printing::{Summary, put_told_lines};
 use crate::program::Gate;
 use crate::reading::{ReadFailure, read_script};
-use crate::tasks::{Task, tasks_of};
 use crate::told::{Told, ToldLists};
 use byte_position::Geometry;
 use segment_disk::{Disk, Sink, Source};
@@ -37,7 +36,7 @@ pub(crate) struct Finished<D> {
 // What a run needs before it opens the log: all that takes memory.
 #[derive(Drop)]
 struct Prepared {
-    tasks: Vec<Task>,
+    lines: Vec<Line>,
     log: LogMemory,
     // Room for what the lines are told.
     told: Vec<Told>,
@@ -64,14 +63,14 @@ fn lines_of<S: Source>(alloc: Global, source: &mut S) -> Result<Vec<Line>, Outco
     }
 }
 
-fn room_for(alloc: Global, shape: Shape, lines: &[Line]) -> Result<Prepared, AllocError>
-    requires { All (λ line. AsksWritable line.action) lines.now }
-    ensures { IfOk result (λ prepared. IsPrepared shape lines.now prepared) }
+// Takes all room for a script's lines.
+fn room_for(alloc: Global, shape: Shape, lines: Vec<Line>) -> Result<Prepared, AllocError>
+    ensures { (asked : List AskedLine) → AreLinesOf asked lines.items
+        → IfOk result (λ prepared. IsPrepared shape asked prepared) }
 {
-    let tasks = tasks_of(alloc, lines)?;
-    let told = Vec::with_capacity(alloc, tasks.len())?;
+    let told = Vec::with_capacity(alloc, lines.len())?;
     Ok(Prepared {
-        tasks,
+        lines,
         log: LogMemory::new(alloc, shape)?,
         told,
         lists: Vec::with_capacity(alloc, 1)?,
@@ -85,7 +84,7 @@ fn prepare<S: Source>(alloc: Global, shape: &Shape, source: &mut S) -> Result<Pr
         (source_view S.left S.handed S.faults source.new) shape.now result }
 {
     let lines = lines_of(alloc, source)?;
-    match room_for(alloc, *shape, &lines) {
+    match room_for(alloc, *shape, lines) {
         Ok(prepared) => Ok(prepared),
         Err(AllocError) => Err(Outcome::OutOfMemory),
     }
@@ -154,16 +153,16 @@ fn summary_of<D: Disk>(geometry: Geometry, log: &Log<D>, told: &[Told]) -> Summa
 fn print<O: Sink>(
     out: &mut O,
     list: bool,
-    tasks: &[Task],
+    lines: &[Line],
     told: &[Told],
     summary: &Summary,
 ) -> Result<(), SinkFault>
-    requires { length tasks.now ≡ length told.now }
+    requires { length lines.now ≡ length told.now }
     ensures { Puts (O.taken out.old) (O.taken out.new) (O.faults out.old) (O.faults out.new)
-        (printed_text list tasks.now told.now summary.now) result }
+        (printed_text list lines.now told.now summary.now) result }
 {
     if list {
-        put_told_lines(out, 0, tasks, told)?;
+        put_told_lines(out, 0, lines, told)?;
     }
     summary.put(out)
 }
@@ -192,9 +191,9 @@ fn run_prepared<O: Sink, D: Disk, G: Gate>(
     out: &mut O,
     gate: &G,
 ) -> Finished<D>
-    requires { (lines : List Line) × IsPrepared shape lines prepared }
-    ensures holds { (before after : SourceView) (lines : List Line)
-        → ScriptMeans before after (Ok (lines ∷ [])) → IsPrepared shape lines prepared
+    requires { (asked : List AskedLine) × IsPrepared shape asked prepared }
+    ensures holds { (before after : SourceView) (asked : List AskedLine)
+        → ScriptMeans before after (Ok (asked ∷ [])) → IsPrepared shape asked prepared
         → RunHolds (outside_of before after
         D.tape D.moment D.faults disk result.disk O.taken O.faults out.old out.new)
         shape.geometry (capacity_of shape.geometry shape.cap_segments)
@@ -202,7 +201,7 @@ fn run_prepared<O: Sink, D: Disk, G: Gate>(
     ensures no_memory { result.outcome ≡ Outcome.OutOfMemory → ⊥ }
 {
     let Prepared {
-        tasks,
+        lines,
         log: memory,
         mut told,
         lists,
@@ -220,13 +219,13 @@ fn run_prepared<O: Sink, D: Disk, G: Gate>(
             told: ToldLists::none(alloc),
         },
         Ok(mut log) => {
-            play(&mut log, gate, &tasks, &mut told);
+            play(&mut log, gate, &lines, &mut told);
             // No line asked for this flush, so none is told its answer; where it fails the log is
             // down.
             let end = log.end();
             let _ = log.flush(end);
             let summary = summary_of(geometry, &log, &told);
-            let is_printed = print(out, list, &tasks, &told, &summary).is_ok();
+            let is_printed = print(out, list, &lines, &told, &summary).is_ok();
             Finished {
                 outcome: conclusion(log.down(), &told, is_printed),
                 disk: log.into_disk(),

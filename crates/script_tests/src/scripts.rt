@@ -1,10 +1,11 @@
 ghost use Rattle.std.specs.Prelude.{◌<◌, length};
 
-use std::alloc::Global;
+use record_spelling::Body;
+use std::alloc::{AllocError, Global};
 use std::process::Abort;
 use std::test::Fail;
 use wal_script::{Action, Line, ParseError, Refusal, ScriptFault, parse};
-use wal_types::{Record, Rel, Xid};
+use wal_types::{Block, BlockList, Bytes, Image, Lsn, Record, Rel, Xid};
 
 // Tries that each script is refused at one line, for one fault.
 fn refuses<R: Abort + AllocGlobal>(rt: &R, line: u32, fault: &str, scripts: &[&[u8]]) {
@@ -219,113 +220,168 @@ fn lines_have_their_numbers(rt: HostRuntime) -> Result<(), Fail> {
     Ok(())
 }
 
-// The record that a script of one commit inserts.
-fn commit(alloc: Global, script: &[u8]) -> Result<Record, Fail>
+// The record that a script of one commit inserts, assembled.
+fn commit(alloc: Global, script: &[u8]) -> Result<Body, Fail>
     requires { length script.now < 100 }
 {
     let mut lines = parse(alloc, script)?;
     match lines.pop().ok_or("a line")?.action {
-        Action::Commit(record) => Ok(record),
+        Action::Commit(body) => Ok(body),
         _ => Err(Fail::from("a commit")),
     }
 }
 
-// The record that a script of one insert inserts.
-fn insert(alloc: Global, script: &[u8]) -> Result<Record, Fail>
+// The record that a script of one insert inserts, assembled.
+fn insert(alloc: Global, script: &[u8]) -> Result<Body, Fail>
     requires { length script.now < 100 }
 {
     let mut lines = parse(alloc, script)?;
     match lines.pop().ok_or("a line")?.action {
-        Action::Insert(record) => Ok(record),
+        Action::Insert(body) => Ok(body),
         _ => Err(Fail::from("an insert")),
     }
 }
 
-#[test]
-fn an_insert_is_its_record(rt: HostRuntime) -> Result<(), Fail> {
-    let record = insert(rt.alloc(), b"I 5 10 aF DeadBEEF09\n")?;
-    assert_eq!(rt; record.xid, Xid(5));
-    assert_eq!(rt; (record.rmid, record.info), (10, 0xaf));
-    assert_eq!(rt; record.origin, None);
-    assert_eq!(rt; record.top_xid, None);
-    assert!(rt; record.blocks.as_slice().is_empty());
-    assert_eq!(rt;
-        record.main.as_slice(),
-        [0xde, 0xad, 0xbe, 0xef, 0x09].as_slice()
-    );
-    let bare = insert(rt.alloc(), b"I 4294967295 255 00 -")?;
-    assert_eq!(rt; (bare.xid, bare.rmid), (Xid(u32::MAX), 255));
-    assert!(rt; bare.main.as_slice().is_empty());
+// A record of manager 10 with info 0.
+fn record(xid: u32, blocks: BlockList, main: Bytes) -> Record {
+    Record {
+        xid: Xid(xid),
+        rmid: 10,
+        info: 0,
+        origin: None,
+        top_xid: None,
+        blocks,
+        main,
+    }
+}
+
+// A block of relation 1663/5/16384 in its main fork, without an image.
+fn block(id: u8, blk: u32, content: Bytes) -> Block {
+    Block {
+        id,
+        rel: Rel {
+            spc: 1663,
+            db: 5,
+            rel: 16384,
+        },
+        fork: 0,
+        blk,
+        will_init: false,
+        content,
+        image: None,
+    }
+}
+
+fn bytes(alloc: Global, bytes: &[u8]) -> Result<Bytes, AllocError> {
+    Ok(Bytes::of(Vec::from_slice(alloc, bytes)?))
+}
+
+fn copies(alloc: Global, byte: u8, count: usize) -> Result<Bytes, AllocError> {
+    Ok(Bytes::of(vec![in alloc; byte; count]?))
+}
+
+fn no_blocks(alloc: Global) -> BlockList {
+    BlockList::of(Vec::new(alloc))
+}
+
+// Tries that a body spells this record, word by word, behind a record that starts at some place.
+fn spells<R: Abort + AllocGlobal>(rt: &R, body: &Body, expected: &Record) -> Result<(), Fail> {
+    let prev = Lsn(0x10_0028);
+    let expected = Body::assemble(rt.alloc(), expected)?;
+    assert_eq!(rt; body.len(), expected.len());
+    assert_eq!(rt; body.words(), expected.words());
+    for n in 0..body.words() {
+        assert_eq!(rt; body.word(prev, n), expected.word(prev, n));
+    }
     Ok(())
 }
 
 #[test]
+fn an_insert_is_its_record(rt: HostRuntime) -> Result<(), Fail> {
+    let alloc = rt.alloc();
+    let body = insert(alloc, b"I 5 10 aF DeadBEEF09\n")?;
+    let main = bytes(alloc, b"\xde\xad\xbe\xef\x09")?;
+    let mut expected = record(5, no_blocks(alloc), main);
+    expected.info = 0xaf;
+    spells(&rt, &body, &expected)?;
+    let bare = insert(alloc, b"I 4294967295 255 00 -")?;
+    let mut expected = record(u32::MAX, no_blocks(alloc), bytes(alloc, b"")?);
+    expected.rmid = 255;
+    spells(&rt, &bare, &expected)
+}
+
+#[test]
 fn data_may_be_counted(rt: HostRuntime) -> Result<(), Fail> {
-    let record = insert(rt.alloc(), b"I 1 10 00 8123*5a")?;
-    assert_eq!(rt; record.main.as_slice().len(), 8123);
-    assert!(rt; record.main.as_slice().iter().all(|&byte| byte == 0x5a));
-    let longest = insert(rt.alloc(), b"I 1 10 00 0001048547*00")?;
-    assert_eq!(rt; longest.main.as_slice().len(), 1_048_547);
+    let alloc = rt.alloc();
+    let body = insert(alloc, b"I 1 10 00 8123*5a")?;
+    spells(
+        &rt,
+        &body,
+        &record(1, no_blocks(alloc), copies(alloc, 0x5a, 8123)?),
+    )?;
+    let longest = insert(alloc, b"I 1 10 00 0001048547*00")?;
+    assert_eq!(rt; longest.len(), 1_048_576);
     Ok(())
 }
 
 #[test]
 fn a_commit_is_a_record(rt: HostRuntime) -> Result<(), Fail> {
-    let record = commit(rt.alloc(), b"C 700 0\n")?;
-    assert_eq!(rt; record.xid, Xid(700));
-    assert_eq!(rt; (record.rmid, record.info), (1, 0));
-    assert_eq!(rt; record.origin, None);
-    assert_eq!(rt; record.top_xid, None);
-    assert!(rt; record.blocks.as_slice().is_empty());
-    assert_eq!(rt; record.main.as_slice(), [0; 8].as_slice());
-    let last = commit(rt.alloc(), b"C 00000000004294967295 1")?;
-    assert_eq!(rt; last.xid, Xid(u32::MAX));
-    Ok(())
+    let alloc = rt.alloc();
+    let body = commit(alloc, b"C 700 0\n")?;
+    let mut expected = record(700, no_blocks(alloc), bytes(alloc, &[0; 8])?);
+    expected.rmid = 1;
+    spells(&rt, &body, &expected)?;
+    let last = commit(alloc, b"C 00000000004294967295 1")?;
+    let mut expected = record(
+        u32::MAX,
+        no_blocks(alloc),
+        bytes(alloc, &[1, 0, 0, 0, 0, 0, 0, 0])?,
+    );
+    expected.rmid = 1;
+    spells(&rt, &last, &expected)
 }
 
 #[test]
 fn blocks_are_numbered_in_their_order(rt: HostRuntime) -> Result<(), Fail> {
-    let record = insert(
-        rt.alloc(),
+    let alloc = rt.alloc();
+    let body = insert(
+        alloc,
         b"I 5 10 00 - 1663/5/16384:0:7:aabbcc:- 1663/5/16384:0:8:ddeeff:-",
     )?;
-    let blocks = record.blocks.as_slice();
-    assert_eq!(rt; blocks.len(), 2);
-    let rel = Rel {
-        spc: 1663,
-        db: 5,
-        rel: 16384,
-    };
-    assert_eq!(rt; (blocks[0].id, blocks[0].rel), (0, rel));
-    assert_eq!(rt; (blocks[0].fork, blocks[0].blk), (0, 7));
-    assert_eq!(rt; blocks[0].content.as_slice(), [0xaa, 0xbb, 0xcc].as_slice());
-    assert!(rt; !blocks[0].will_init && blocks[0].image.is_none());
-    assert_eq!(rt; (blocks[1].id, blocks[1].rel), (1, rel));
-    assert_eq!(rt; blocks[1].blk, 8);
-    assert_eq!(rt; blocks[1].content.as_slice(), [0xdd, 0xee, 0xff].as_slice());
-    Ok(())
+    let first = block(0, 7, bytes(alloc, b"\xaa\xbb\xcc")?);
+    let second = block(1, 8, bytes(alloc, b"\xdd\xee\xff")?);
+    let blocks = BlockList::of(vec![in alloc; first, second]?);
+    spells(&rt, &body, &record(5, blocks, bytes(alloc, b"")?))
 }
 
 #[test]
 fn an_image_is_a_page_without_its_hole(rt: HostRuntime) -> Result<(), Fail> {
-    let record = insert(rt.alloc(), b"I 9 10 00 - 1663/5/16384:0:7:-:64+8000+5a")?;
-    let block = record.blocks.as_slice().first().ok_or("a block")?;
-    let image = block.image.as_ref().ok_or("an image")?;
-    assert!(rt; image.apply);
-    assert_eq!(rt; (image.hole_offset, image.hole_len), (64, 8000));
-    assert_eq!(rt; image.bytes.as_slice(), [0x5a; 192].as_slice());
-    Ok(())
+    let alloc = rt.alloc();
+    let body = insert(alloc, b"I 9 10 00 - 1663/5/16384:0:7:-:64+8000+5a")?;
+    let mut block = block(0, 7, bytes(alloc, b"")?);
+    block.image = Some(Image {
+        apply: true,
+        hole_offset: 64,
+        hole_len: 8000,
+        bytes: copies(alloc, 0x5a, 192)?,
+    });
+    let blocks = BlockList::of(vec![in alloc; block]?);
+    spells(&rt, &body, &record(9, blocks, bytes(alloc, b"")?))
 }
 
 #[test]
 fn an_image_need_not_be_applied(rt: HostRuntime) -> Result<(), Fail> {
-    let record = insert(rt.alloc(), b"I 2 10 00 - 1663/5/16384:1i:3:-:0+0+00v")?;
-    let block = record.blocks.as_slice().first().ok_or("a block")?;
-    assert_eq!(rt; block.fork, 1);
-    assert!(rt; block.will_init && block.content.as_slice().is_empty());
-    let image = block.image.as_ref().ok_or("an image")?;
-    assert!(rt; !image.apply);
-    assert_eq!(rt; (image.hole_offset, image.hole_len), (0, 0));
-    assert_eq!(rt; image.bytes.as_slice().len(), 8192);
-    Ok(())
+    let alloc = rt.alloc();
+    let body = insert(alloc, b"I 2 10 00 - 1663/5/16384:1i:3:-:0+0+00v")?;
+    let mut block = block(0, 3, bytes(alloc, b"")?);
+    block.fork = 1;
+    block.will_init = true;
+    block.image = Some(Image {
+        apply: false,
+        hole_offset: 0,
+        hole_len: 0,
+        bytes: copies(alloc, 0, 8192)?,
+    });
+    let blocks = BlockList::of(vec![in alloc; block]?);
+    spells(&rt, &body, &record(2, blocks, bytes(alloc, b"")?))
 }

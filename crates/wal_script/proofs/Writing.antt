@@ -1,5 +1,5 @@
 -- Each record of a script can be written.
-use Rattle.std.proofs.Common.{◌≡◌, ℕ, ◌+◌, ◌-◌, ◌<◌, ◌^◌, Bool, true, false, cond, List, [], ◌∷◌, length, Option, Some, None, Result, Ok, Err, All, codes, eqb, ltb, refl, arith}
+use Rattle.std.proofs.Common.{◌≡◌, ℕ, ◌+◌, ◌-◌, ◌<◌, ◌^◌, Bool, true, false, cond, List, [], ◌∷◌, length, Option, Some, None, Result, Ok, Err, All, codes, eqb, ltb, refl, ap, sym, subst, ◌∙◌, arith}
 use Rattle.std.specs.Prelude.{IfOk, option_and_then, option_map, if◌then◌else◌}
 use Rattle.std.specs.Int.{w64, to_le_bytes}
 use Rattle.std.specs.Option.{option_or}
@@ -10,11 +10,9 @@ use Rattle.record_spelling.specs.declared.fault.BodyErr.{BodyErr}
 use Rattle.record_spelling.specs.declared.fault.BodyErr.TheVariants.{Memory, TooLong, BadBlock, Switch, BadRmgr}
 use Rattle.record_spelling.specs.Record.{Fits, BlockFits, is_free_manager, is_switch}
 use Rattle.record_spelling.specs.Refusal.{first_bad_block, refusal_of, too_long}
-use Rattle.record_spelling.specs.Spelling.{IsWritable, size_of}
+use Rattle.record_spelling.specs.Spelling.{Assembled, IsWritable, size_of}
 use Rattle.record_spelling.proofs.Acceptance.{refused_or_writable}
-use Rattle.wal_script.specs.declared.line.Line.{Line}
-use Rattle.wal_script.specs.declared.line.Action.{Action}
-use Rattle.wal_script.specs.declared.line.Action.TheVariants.{Insert, Commit}
+use Rattle.wal_script.specs.Asked.{Asked, AskedLine, Insert, Commit}
 use Rattle.wal_script.specs.declared.line.Refusal.{Refusal}
 use Rattle.wal_script.specs.declared.line.ScriptFault.{ScriptFault}
 use Rattle.wal_script.specs.declared.line.ScriptFault.TheVariants as faults
@@ -22,8 +20,10 @@ use Rattle.wal_script.specs.Text.{is_text, lines_of, fields_of}
 use Rattle.decimal_numbers.specs.Numbers.{number_of, time_of}
 use Rattle.wal_script.specs.Hexadecimal.{byte_spelled, data_of}
 use Rattle.wal_script.specs.Blocks.{references_from}
-use Rattle.wal_script.specs.Meaning.{LineMeaning, passes, asks, refuses, assembly_fault, unless, accepted, insert_of, commit_record, commit_of, flush_of, asks_as, line_with, line_of, then_line, lines_meaning, script_limit, backend_meaning}
+use Rattle.wal_script.specs.Meaning.{LineMeaning, passes, asks, refuses, assembly_fault, unless, accepted, record_spelled, insert_of, commit_record, commit_of, flush_of, asks_as, line_with, line_of, then_line, lines_meaning, script_limit, backend_meaning}
+use Rattle.wal_script.specs.Reading.{JudgesBody}
 use Rattle.wal_script.specs.Writable.{AsksWritable}
+use Rattle.wal_script.specs.declared.line_error.LineError.{LineError}
 use Rattle.wal_script.proofs.FittingBlocks.{blocks_fit}
 use Rattle.wal_script.proofs.Steps.{bind_then, next_then, no_more_then}
 use Rattle.wal_script.proofs.Fits.{number_of-le, byte_of-lt, data_of_fits}
@@ -60,14 +60,13 @@ accepted_writable r fits = by_refusal r fits (refusal_of r) refl
 
 -- ---- the records of lines
 
-insert_writable : (fields : List (List ℕ)) → IfOk (insert_of fields) IsWritable
-insert_writable fields =
-    next_then (number_of (2 ^ 32 - 1)) faults.Number fields _ IsWritable (λ behind_xid xid_field xid xid_is.
-    next_then (number_of 255) faults.Number behind_xid _ IsWritable (λ behind_manager manager_field manager manager_is.
-    next_then byte_spelled faults.Hex behind_manager _ IsWritable (λ behind_info info_field info info_is.
-    next_then data_of faults.Hex behind_info _ IsWritable (λ behind_main main_field main main_is.
-    bind_then (references_from 0 behind_main) _ (All BlockFits) IsWritable (blocks_fit 0 (omega arith) behind_main) (λ blocks all_fit.
-    accepted_writable (record { xid = record { 0 = xid }; rmid = manager; info = info; origin = None; top_xid = None; blocks = blocks; main = main }) (record {
+record_fits : (fields : List (List ℕ)) → IfOk (record_spelled fields) Fits
+record_fits fields =
+    next_then (number_of (2 ^ 32 - 1)) faults.Number fields _ Fits (λ behind_xid xid_field xid xid_is.
+    next_then (number_of 255) faults.Number behind_xid _ Fits (λ behind_manager manager_field manager manager_is.
+    next_then byte_spelled faults.Hex behind_manager _ Fits (λ behind_info info_field info info_is.
+    next_then data_of faults.Hex behind_info _ Fits (λ behind_main main_field main main_is.
+    bind_then (references_from 0 behind_main) _ (All BlockFits) Fits (blocks_fit 0 (omega arith) behind_main) (λ blocks all_fit. record {
       xid = omega (arith, number_of-le (2 ^ 32 - 1) xid_field xid xid_is);
       manager = omega (arith, number_of-le 255 manager_field manager manager_is);
       info = byte_of-lt info_field info info_is;
@@ -75,7 +74,10 @@ insert_writable fields =
       top_xid = tt;
       blocks = all_fit;
       main = data_of_fits main_field main main_is;
-    }))))))
+    })))))
+
+insert_writable : (fields : List (List ℕ)) → IfOk (insert_of fields) IsWritable
+insert_writable fields = bind_then (record_spelled fields) accepted Fits IsWritable (record_fits fields) accepted_writable
 
 size_of-commit_record : (xid time : ℕ) → size_of (commit_record xid time) ≡ 34
 size_of-commit_record xid time = refl
@@ -97,18 +99,27 @@ commit_writable fields =
     no_more_then behind_time _ IsWritable
     (IsWritable-commit_record xid time (omega (arith, number_of-le (2 ^ 32 - 1) xid_field xid xid_is)))))
 
+-- so such a record is accepted
+accepted_where_writable : (value : Record) → IsWritable value → accepted value ≡ Ok value
+accepted_where_writable value writable = ap (λ (refusal : Option BodyErr). unless (option_and_then assembly_fault refusal) value) ((refused_or_writable value writable.fits).1 writable)
+
+pub JudgesBody-commit : (fields : List (List ℕ)) (value : Record) (result : Result Assembled LineError) → commit_of fields ≡ Ok value → JudgesBody result (accepted value) → JudgesBody result (commit_of fields)
+JudgesBody-commit fields value result is judges =
+    let writable : IsWritable value = subst (λ (r : Result Record ScriptFault). IfOk r IsWritable) is (commit_writable fields) in
+    subst (JudgesBody result) (accepted_where_writable value writable ∙ sym is) judges
+
 -- ---- lines
 
 abbrev MeansWritable : LineMeaning → Type 0
 MeansWritable passes = Unit {0}
-MeansWritable (asks action) = AsksWritable action
+MeansWritable (asks asked) = AsksWritable asked
 MeansWritable (refuses fault) = Unit {0}
 
-asks_as_writable : (action : Record → Action) (r : Result Record ScriptFault) → ((x : Record) → IsWritable x → AsksWritable (action x)) → IfOk r IsWritable → MeansWritable (asks_as action r)
-asks_as_writable action (Ok x) keeps writable = keeps x writable
-asks_as_writable action (Err fault) keeps writable = tt
+asks_as_writable : (form : Record → Asked) (r : Result Record ScriptFault) → ((x : Record) → IsWritable x → AsksWritable (form x)) → IfOk r IsWritable → MeansWritable (asks_as form r)
+asks_as_writable form (Ok x) keeps writable = keeps x writable
+asks_as_writable form (Err fault) keeps writable = tt
 
-flush_writable : (fields : List (List ℕ)) → MeansWritable (asks_as (λ action. action) (flush_of fields))
+flush_writable : (fields : List (List ℕ)) → MeansWritable (asks_as (λ asked. asked) (flush_of fields))
 flush_writable [] = tt
 flush_writable (field ∷ rest) = tt
 
@@ -116,28 +127,28 @@ line_with_writable : (fields : List (List ℕ)) → MeansWritable (line_with fie
 line_with_writable [] = tt
 line_with_writable (word ∷ fields) =
     let backends = if is_text word (codes "B") then refuses faults.Backends else refuses faults.Word in
-    let flush = if is_text word (codes "F") then asks_as (λ action. action) (flush_of fields) else backends in
+    let flush = if is_text word (codes "F") then asks_as (λ asked. asked) (flush_of fields) else backends in
     let commit = if is_text word (codes "C") then asks_as Commit (commit_of fields) else flush in
     cond_both (is_text word (codes "I")) (asks_as Insert (insert_of fields)) commit MeansWritable (λ _. asks_as_writable Insert (insert_of fields) (λ x writable. writable) (insert_writable fields))
     (λ _. cond_both (is_text word (codes "C")) (asks_as Commit (commit_of fields)) flush MeansWritable (λ _. asks_as_writable Commit (commit_of fields) (λ x writable. writable) (commit_writable fields))
-    (λ _. cond_both (is_text word (codes "F")) (asks_as (λ action. action) (flush_of fields)) backends MeansWritable (λ _. flush_writable fields)
+    (λ _. cond_both (is_text word (codes "F")) (asks_as (λ asked. asked) (flush_of fields)) backends MeansWritable (λ _. flush_writable fields)
     (λ _. cond_both (is_text word (codes "B")) (refuses faults.Backends) (refuses faults.Word) MeansWritable (λ _. tt) (λ _. tt))))
 
 line_of_writable : (line : List ℕ) → MeansWritable (line_of line)
 line_of_writable [] = tt
 line_of_writable (c ∷ cs) = cond_both (eqb c 35) passes (line_with (fields_of (c ∷ cs))) MeansWritable (λ _. tt) (λ _. line_with_writable (fields_of (c ∷ cs)))
 
-abbrev AreWritable : List Line → Type 0
-AreWritable lines = All (λ line. AsksWritable line.action) lines
+abbrev AreWritable : List AskedLine → Type 0
+AreWritable lines = All (λ line. AsksWritable line.asked) lines
 
-then_line_writable : (number : ℕ) (meaning : LineMeaning) (others : Result (List Line) Refusal) → MeansWritable meaning → IfOk others AreWritable → IfOk (then_line number meaning others) AreWritable
+then_line_writable : (number : ℕ) (meaning : LineMeaning) (others : Result (List AskedLine) Refusal) → MeansWritable meaning → IfOk others AreWritable → IfOk (then_line number meaning others) AreWritable
 then_line_writable number passes others writable rest = rest
-then_line_writable number (asks action) (Ok lines) writable rest = All-cons (λ line. AsksWritable line.action) (record { number = number; action = action }) lines writable rest
-then_line_writable number (asks action) (Err refusal) writable rest = tt
+then_line_writable number (asks asked) (Ok lines) writable rest = All-cons (λ line. AsksWritable line.asked) (record { number = number; asked = asked }) lines writable rest
+then_line_writable number (asks asked) (Err refusal) writable rest = tt
 then_line_writable number (refuses fault) others writable rest = tt
 
 lines_meaning_writable : (number : ℕ) (texts : List (List ℕ)) → IfOk (lines_meaning number texts) AreWritable
-lines_meaning_writable number [] = All-nil (λ line. AsksWritable line.action)
+lines_meaning_writable number [] = All-nil (λ line. AsksWritable line.asked)
 lines_meaning_writable number (text ∷ texts) =
     then_line_writable number (line_of text) (lines_meaning (number + 1) texts) (line_of_writable text) (lines_meaning_writable (number + 1) texts)
 
@@ -146,5 +157,5 @@ limited_writable : (limit : ℕ) (refusal : Refusal) (script : List ℕ) → IfO
 limited_writable limit refusal script =
     cond_both (ltb limit (length script)) (Err refusal) (lines_meaning 1 (lines_of script)) (λ meaning. IfOk meaning AreWritable) (λ _. tt) (λ _. lines_meaning_writable 1 (lines_of script))
 
-pub lines_are_writable : (script : List ℕ) → IfOk (backend_meaning script) (λ lines. All (λ line. AsksWritable line.action) lines)
+pub lines_are_writable : (script : List ℕ) → IfOk (backend_meaning script) (λ lines. All (λ line. AsksWritable line.asked) lines)
 lines_are_writable script = limited_writable script_limit _ script

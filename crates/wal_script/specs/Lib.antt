@@ -3,6 +3,8 @@ pub mod Hexadecimal
 pub mod Names
 pub mod Fields
 pub mod Blocks
+pub mod Asked
+pub mod Bodies
 pub mod Meaning
 pub mod Reading
 pub mod Writable

@@ -5,22 +5,20 @@ use Rattle.wal_types.specs.declared.record.Record.{Record}
 use Rattle.record_spelling.specs.declared.fault.BodyErr.{BodyErr}
 use Rattle.record_spelling.specs.declared.fault.BodyErr.TheVariants.{Memory, TooLong, BadBlock, Switch, BadRmgr}
 use Rattle.record_spelling.specs.Refusal.{refusal_of}
-use Rattle.wal_script.specs.declared.line.Line.{Line}
-use Rattle.wal_script.specs.declared.line.Action.{Action}
-use Rattle.wal_script.specs.declared.line.Action.TheVariants.{Insert, Commit, Flush}
 use Rattle.wal_script.specs.declared.line.Refusal.{Refusal}
 use Rattle.wal_script.specs.declared.line.ScriptFault.{ScriptFault}
 use Rattle.wal_script.specs.declared.line.ScriptFault.TheVariants as faults
+use Rattle.wal_script.specs.Asked.{Asked, AskedLine, Insert, Commit, Flush}
 use Rattle.wal_script.specs.Text.{is_text, lines_of, fields_of}
 use Rattle.decimal_numbers.specs.Numbers.{number_of, time_of}
 use Rattle.wal_script.specs.Hexadecimal.{byte_spelled, data_of}
 use Rattle.wal_script.specs.Blocks.{references_from}
 use Rattle.wal_script.specs.Fields.{◌>>=◌, next_as, no_more}
 
--- what one line means: nothing, an action, or that it is refused
+-- what one line means: nothing, what it asks for, or that it is refused
 pub data LineMeaning : Type 0 where
   passes : LineMeaning
-  asks : Action → LineMeaning
+  asks : Asked → LineMeaning
   refuses : ScriptFault → LineMeaning
 
 -- the fault of a record that cannot be assembled; want of memory is none
@@ -39,16 +37,16 @@ unless (Some fault) x = Err fault
 abbrev pub accepted : Record → Result Record ScriptFault
 accepted r = unless (option_and_then assembly_fault (refusal_of r)) r
 
--- the fields behind `I`: a transaction's number, a manager, its info, the main data, and any block
--- references
-abbrev pub insert_of : List (List ℕ) → Result Record ScriptFault
-insert_of fields = do
+-- the record that the fields behind `I` spell: a transaction's number, a manager, its info, the
+-- main data, and any block references
+abbrev pub record_spelled : List (List ℕ) → Result Record ScriptFault
+record_spelled fields = do
   xid ← next_as (number_of (2 ^ 32 - 1)) faults.Number fields
   manager ← next_as (number_of 255) faults.Number xid.rest
   info ← next_as byte_spelled faults.Hex manager.rest
   main ← next_as data_of faults.Hex info.rest
   blocks ← references_from 0 main.rest
-  accepted (record {
+  Ok (record {
     xid = record { 0 = xid.value };
     rmid = manager.value;
     info = info.value;
@@ -57,6 +55,10 @@ insert_of fields = do
     blocks = blocks;
     main = main.value;
   })
+
+-- the fields behind `I`, whose record can be assembled
+abbrev pub insert_of : List (List ℕ) → Result Record ScriptFault
+insert_of fields = record_spelled fields >>= accepted
 
 -- a transaction's commit (manager 1, info 0): its time as eight bytes is the main data
 -- (PostgreSQL's xact.c)
@@ -81,14 +83,14 @@ commit_of fields = do
   Ok (commit_record xid.value time.value)
 
 -- the fields behind `F`: none
-abbrev pub flush_of : List (List ℕ) → Result Action ScriptFault
+abbrev pub flush_of : List (List ℕ) → Result Asked ScriptFault
 flush_of fields = do
   nothing ← no_more fields
   Ok Flush
 
-abbrev pub asks_as : {X : Type 0} → (X → Action) → Result X ScriptFault → LineMeaning
-asks_as action (Ok x) = asks (action x)
-asks_as action (Err fault) = refuses fault
+abbrev pub asks_as : {X : Type 0} → (X → Asked) → Result X ScriptFault → LineMeaning
+asks_as form (Ok x) = asks (form x)
+asks_as form (Err fault) = refuses fault
 
 -- a line by its first field; no further backend may begin yet
 abbrev pub line_with : List (List ℕ) → LineMeaning
@@ -96,7 +98,7 @@ line_with [] = refuses faults.Word
 line_with (word ∷ fields) =
     if is_text word (codes "I") then asks_as Insert (insert_of fields)
     else (if is_text word (codes "C") then asks_as Commit (commit_of fields)
-    else (if is_text word (codes "F") then asks_as (λ action. action) (flush_of fields)
+    else (if is_text word (codes "F") then asks_as (λ asked. asked) (flush_of fields)
     else (if is_text word (codes "B") then refuses faults.Backends else refuses faults.Word)))
 
 -- an empty line and one that begins with `#` are passed over
@@ -104,17 +106,18 @@ abbrev pub line_of : List ℕ → LineMeaning
 line_of [] = passes
 line_of (c ∷ cs) = if c == 35 then passes else line_with (fields_of (c ∷ cs))
 
-abbrev pub with_line : ℕ → Action → Result (List Line) Refusal → Result (List Line) Refusal
-with_line number action (Ok lines) = Ok ((record { number = number; action = action }) ∷ lines)
-with_line number action (Err refusal) = Err refusal
+abbrev pub with_line : ℕ → Asked → Result (List AskedLine) Refusal → Result (List AskedLine) Refusal
+with_line number asked (Ok lines) = Ok ((record { number = number; asked = asked }) ∷ lines)
+with_line number asked (Err refusal) = Err refusal
 
-abbrev pub then_line : ℕ → LineMeaning → Result (List Line) Refusal → Result (List Line) Refusal
+abbrev pub then_line : ℕ → LineMeaning → Result (List AskedLine) Refusal
+    → Result (List AskedLine) Refusal
 then_line number passes others = others
-then_line number (asks action) others = with_line number action others
+then_line number (asks asked) others = with_line number asked others
 then_line number (refuses fault) others = Err (record { line = number; fault = fault })
 
 -- lines from a number on, in order, up to the first that is refused
-abbrev pub lines_meaning : ℕ → List (List ℕ) → Result (List Line) Refusal
+abbrev pub lines_meaning : ℕ → List (List ℕ) → Result (List AskedLine) Refusal
 lines_meaning number [] = Ok []
 lines_meaning number (line ∷ lines) =
     then_line number (line_of line) (lines_meaning (number + 1) lines)
@@ -125,7 +128,7 @@ script_limit = 67108864
 
 -- the lines of one backend; a script beyond its limit is refused at the line of its first byte
 -- too many
-abbrev pub backend_meaning : List ℕ → Result (List Line) Refusal
+abbrev pub backend_meaning : List ℕ → Result (List AskedLine) Refusal
 backend_meaning script =
     if nat_lt script_limit (length script)
     then Err (record {
@@ -134,10 +137,10 @@ backend_meaning script =
     })
     else lines_meaning 1 (lines_of script)
 
-abbrev pub one_backend : Result (List Line) Refusal → Result (List (List Line)) Refusal
+abbrev pub one_backend : Result (List AskedLine) Refusal → Result (List (List AskedLine)) Refusal
 one_backend (Ok lines) = Ok (lines ∷ [])
 one_backend (Err refusal) = Err refusal
 
 -- a script's meaning: a list of lines for each backend, of which there is one yet
-abbrev pub meaning_of : List ℕ → Result (List (List Line)) Refusal
+abbrev pub meaning_of : List ℕ → Result (List (List AskedLine)) Refusal
 meaning_of script = one_backend (backend_meaning script)

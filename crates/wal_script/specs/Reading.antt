@@ -11,16 +11,25 @@ use Rattle.wal_script.specs.declared.line_error.LineError.{LineError}
 use Rattle.wal_script.specs.declared.line_error.LineError.TheVariants as causes
 use Rattle.wal_script.specs.declared.line.ScriptFault.{ScriptFault}
 use Rattle.record_spelling.specs.declared.fault.BodyErr.{BodyErr}
+use Rattle.record_spelling.specs.Spelling.{Assembled}
+use Rattle.wal_types.specs.declared.record.Record.{Record}
+use Rattle.wal_script.specs.Asked.{Asked, AskedLine}
+use Rattle.wal_script.specs.Bodies.{AreLinesOf, IsActionOf, IsBodyOf}
 use Rattle.wal_script.specs.Meaning.{LineMeaning, passes, asks, refuses, assembly_fault}
 
 -- a script that is refused so means that refusal
-abbrev pub RefusesScript : ParseError → Result (List Line) Refusal → Type 0
+abbrev pub RefusesScript : ParseError → Result (List AskedLine) Refusal → Type 0
 RefusesScript errors.Memory meaning = Unit {0}
 RefusesScript (errors.Refused refusal) meaning = meaning ≡ Err refusal
 
--- a script's lines are what it means, and its refusal is; nothing is said where memory ran out
-abbrev pub GivesLines : Result (Vec Line) ParseError → Result (List Line) Refusal → Type 0
-GivesLines (Ok lines) meaning = meaning ≡ Ok lines.items
+-- lines do what a script means
+abbrev pub DoesScript : List Line → Result (List AskedLine) Refusal → Type 0
+DoesScript lines meaning = (asked : List AskedLine) × (meaning ≡ Ok asked) × AreLinesOf asked lines
+
+-- a script's lines do what it means, and its refusal is what it means; nothing is said where memory
+-- ran out
+abbrev pub GivesLines : Result (Vec Line) ParseError → Result (List AskedLine) Refusal → Type 0
+GivesLines (Ok lines) meaning = DoesScript lines.items meaning
 GivesLines (Err error) meaning = RefusesScript error meaning
 
 -- a line that is refused so means that fault
@@ -28,10 +37,20 @@ abbrev pub RefusesLine : LineError → LineMeaning → Type 0
 RefusesLine causes.Memory meaning = Unit {0}
 RefusesLine (causes.Fault fault) meaning = meaning ≡ refuses fault
 
--- what was read of a line, seen by `view`, is what it means, and its fault is
-abbrev pub LineGives : {X : Type 0} → (X → LineMeaning) → Result X LineError → LineMeaning → Type 0
-LineGives view (Ok x) meaning = meaning ≡ view x
-LineGives view (Err error) meaning = RefusesLine error meaning
+-- an action does what a line means
+abbrev pub DoesLine : Action → LineMeaning → Type 0
+DoesLine action meaning = (asked : Asked) × (meaning ≡ asks asked) × IsActionOf asked action
+
+-- an action does what a line means, or none does that passes
+abbrev pub DoesAny : Option Action → LineMeaning → Type 0
+DoesAny None meaning = meaning ≡ passes
+DoesAny (Some action) meaning = DoesLine action meaning
+
+-- what was read of a line does what it means, and its fault is what it means
+abbrev pub LineGives : {X : Type 0} → (X → LineMeaning → Type 0) → Result X LineError → LineMeaning
+    → Type 0
+LineGives Does (Ok x) meaning = Does x meaning
+LineGives Does (Err error) meaning = RefusesLine error meaning
 
 -- fields with this fault mean it; nothing is said where memory ran out
 abbrev pub FailsAs : {X : Type 0} → LineError → Result X ScriptFault → Type 0
@@ -46,10 +65,10 @@ JudgesAs view (Err error) meaning = FailsAs error meaning
 abbrev pub Judges : {X : Type 0} → Result X LineError → Result X ScriptFault → Type 0
 Judges = JudgesAs (λ x. x)
 
--- what an action or none means
-abbrev pub meant : Option Action → LineMeaning
-meant None = passes
-meant (Some action) = asks action
+-- what was assembled is the record that fields mean, and their fault is theirs
+abbrev pub JudgesBody : Result Assembled LineError → Result Record ScriptFault → Type 0
+JudgesBody (Ok body) meaning = (value : Record) × (meaning ≡ Ok value) × IsBodyOf value body
+JudgesBody (Err error) meaning = FailsAs error meaning
 
 -- why a line was not read, from why its record is not assembled
 abbrev pub error_or_memory : Option ScriptFault → LineError

@@ -1,10 +1,9 @@
 -- That what a script asks for can be done.
 use Rattle.record_spelling.specs.Spelling.{IsWritable}
-use Rattle.wal_script.specs.declared.line.Action.{Action}
-use Rattle.wal_script.specs.declared.line.Action.TheVariants.{Insert, Commit, Flush}
+use Rattle.wal_script.specs.Asked.{Asked, Insert, Commit, Flush}
 
 -- a record that is asked for can be written
-abbrev pub AsksWritable : Action → Type 0
+abbrev pub AsksWritable : Asked → Type 0
 AsksWritable (Insert r) = IsWritable r
 AsksWritable (Commit r) = IsWritable r
 AsksWritable Flush = Unit {0}

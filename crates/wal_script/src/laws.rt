@@ -7,5 +7,5 @@ ghost use Rattle.wal_script.specs.Writable.{AsksWritable};
 /// Each record of a script's lines can be written.
 pub fn lines_are_writable()
     ensures { (script : List ℕ)
-        → IfOk (backend_meaning script) (λ lines. All (λ line. AsksWritable line.action) lines) }
+        → IfOk (backend_meaning script) (λ lines. All (λ line. AsksWritable line.asked) lines) }
 {}

@@ -1,14 +1,14 @@
 ghost use Rattle.std.specs.Prelude.{◌≡◌};
 
-use wal_types::Record;
+use record_spelling::Body;
 
-/// What a line asks for.
+/// What a line asks for, with its record assembled.
 #[derive(Debug, Drop)]
 pub enum Action {
     /// Insert this record.
-    Insert(Record),
+    Insert(Body),
     /// Insert this commit's record, then flush to its end.
-    Commit(Record),
+    Commit(Body),
     /// Flush to the end of the backend's last record.
     Flush,
 }

@@ -1,7 +1,7 @@
 ghost use Rattle.std.specs.Prelude.{◌≡◌, ◌+◌, ◌≤◌, ◌==◌, length, count_by};
 ghost use Rattle.wal_script.specs.Text.{lines_of};
-ghost use Rattle.wal_script.specs.Meaning.{asks, line_with, line_of, lines_meaning, backend_meaning};
-ghost use Rattle.wal_script.specs.Reading.{GivesLines, LineGives, meant};
+ghost use Rattle.wal_script.specs.Meaning.{line_with, line_of, lines_meaning, backend_meaning};
+ghost use Rattle.wal_script.specs.Reading.{DoesAny, DoesLine, GivesLines, LineGives};
 
 use crate::fields::no_more;
 use crate::line::{Action, Line, Refusal, ScriptFault};
@@ -87,7 +87,7 @@ fn lines(alloc: Global, script: &[u8]) -> Result<Vec<Line>, ParseError>
 
 // What a line asks for: nothing where it is empty or a comment.
 fn action_of(alloc: Global, line: &[u8]) -> Result<Option<Action>, LineError>
-    ensures { LineGives meant result (line_of line.now) }
+    ensures { LineGives DoesAny result (line_of line.now) }
 {
     match line {
         [] | [b'#', ..] => Ok(None),
@@ -97,7 +97,7 @@ fn action_of(alloc: Global, line: &[u8]) -> Result<Option<Action>, LineError>
 
 // What a line's fields ask for; the first that is wrong, from the left, is its fault.
 fn action(alloc: Global, mut fields: Pieces) -> Result<Action, LineError>
-    ensures { LineGives asks result (line_with fields.entry) }
+    ensures { LineGives DoesLine result (line_with fields.entry) }
 {
     match fields.next() {
         Some(b"I") => Ok(Action::Insert(insert(alloc, fields)?)),

@@ -1,30 +1,38 @@
 //! The records that lines insert.
 
 ghost use Rattle.std.specs.Prelude.{◌≡◌, IfOk};
-ghost use Rattle.wal_script.specs.Meaning.{accepted, commit_of, commit_record, insert_of};
-ghost use Rattle.wal_script.specs.Reading.{Judges};
+ghost use Rattle.wal_script.specs.Meaning.{accepted, commit_of, commit_record, insert_of, record_spelled};
+ghost use Rattle.wal_script.specs.Reading.{Judges, JudgesBody};
 
 use crate::blocks::blocks;
 use crate::fields::{next_byte, next_data, next_time, next_u8, next_u32, no_more};
 use crate::line_error::LineError;
 use crate::text::Pieces;
-use record_spelling::refusal;
+use record_spelling::Body;
 use std::alloc::{AllocError, Global};
 use wal_types::{BlockList, Bytes, Record, Xid};
 
 // The resource manager of transactions (PostgreSQL's rmgrlist.h).
 const TRANSACTION_MANAGER: u8 = 1;
 
-/// The record of a line `I`, which can be assembled.
-pub(crate) fn insert(alloc: Global, mut fields: Pieces) -> Result<Record, LineError>
-    ensures { Judges result (insert_of fields.entry) }
+/// The record of a line `I`, assembled.
+pub(crate) fn insert(alloc: Global, fields: Pieces) -> Result<Body, LineError>
+    ensures { JudgesBody result (insert_of fields.entry) }
+{
+    let value = record_of_insert(alloc, fields)?;
+    assembled(alloc, &value)
+}
+
+// The record that the fields behind `I` spell.
+fn record_of_insert(alloc: Global, mut fields: Pieces) -> Result<Record, LineError>
+    ensures { Judges result (record_spelled fields.entry) }
 {
     let xid = next_u32(&mut fields)?;
     let rmid = next_u8(&mut fields)?;
     let info = next_byte(&mut fields)?;
     let main = next_data(alloc, &mut fields)?;
     let blocks = blocks(alloc, fields)?;
-    accepted(Record {
+    Ok(Record {
         xid: Xid(xid),
         rmid,
         info,
@@ -35,18 +43,23 @@ pub(crate) fn insert(alloc: Global, mut fields: Pieces) -> Result<Record, LineEr
     })
 }
 
-// A record that can be assembled.
-fn accepted(r: Record) -> Result<Record, LineError>
-    ensures { Judges result (accepted r) }
+// A record, assembled; where it cannot be, its fault.
+fn assembled(alloc: Global, value: &Record) -> Result<Body, LineError>
+    ensures { JudgesBody result (accepted value.now) }
 {
-    match refusal(&r) {
-        None => Ok(r),
-        Some(refusal) => Err(LineError::from(refusal)),
-    }
+    Ok(Body::assemble(alloc, value)?)
 }
 
-/// The record of a line `C`.
-pub(crate) fn commit(alloc: Global, mut fields: Pieces) -> Result<Record, LineError>
+/// The record of a line `C`, assembled.
+pub(crate) fn commit(alloc: Global, fields: Pieces) -> Result<Body, LineError>
+    ensures { JudgesBody result (commit_of fields.entry) }
+{
+    let value = record_of_commit(alloc, fields)?;
+    assembled(alloc, &value)
+}
+
+// The record that the fields behind `C` spell.
+fn record_of_commit(alloc: Global, mut fields: Pieces) -> Result<Record, LineError>
     ensures { Judges result (commit_of fields.entry) }
 {
     let xid = next_u32(&mut fields)?;

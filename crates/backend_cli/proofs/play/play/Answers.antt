@@ -7,12 +7,12 @@ use Rattle.serial_log.proofs.StepLaws.{IsSameLog-trans}
 use Rattle.backend_cli.proofs.PlayLaws.{IsPlayed_more, IsPlayed_all}
 use Rattle.backend_cli.proofs.play.play.Goals as goal
 
-pub loop-task-preserved : goal.loop-task-preserved
-loop-task-preserved g c =
-    let now = c.loop-task in
+pub loop-line-preserved : goal.loop-line-preserved
+loop-line-preserved g c =
+    let now = c.loop-line in
     record {
-      plays = IsPlayed_more g.row.D.Denot g.D.Disk.tape g.D.Disk.faults c.args.log.now c.args.tasks.now now.log c.answer-answer.new.log now.task-index now.told.items c.push_reserved.new.self.items c.task-item.result c.answer-answer.result
-          now.invariant.plays now.invariant.same (omega arith) c.task-item.is c.push_reserved.ensures.items c.answer-answer.ensures.steps;
+      plays = IsPlayed_more g.row.D.Denot g.D.Disk.tape g.D.Disk.faults c.args.log.now c.args.lines.now now.log c.answer-answer.new.log now.line-index now.told.items c.push_reserved.new.self.items c.line-item.result c.answer-answer.result
+          now.invariant.plays now.invariant.same (omega arith) c.line-item.is c.push_reserved.ensures.items c.answer-answer.ensures.steps;
       same = IsSameLog-trans c.args.log.now now.log c.answer-answer.new.log now.invariant.same c.answer-answer.ensures.same;
       moments = λ last tracked.
           let so_far = now.invariant.moments last tracked in
@@ -24,4 +24,4 @@ loop-task-preserved g c =
 
 pub returns-clause-plays : goal.returns-clause-plays
 returns-clause-plays g c =
-    IsPlayed_all g.row.D.Denot g.D.Disk.tape g.D.Disk.faults c.args.log.now c.args.tasks.now c.loop-task.log c.loop-task.task-index c.loop-task.told.items c.loop-task.invariant.plays (omega arith)
+    IsPlayed_all g.row.D.Denot g.D.Disk.tape g.D.Disk.faults c.args.log.now c.args.lines.now c.loop-line.log c.loop-line.line-index c.loop-line.told.items c.loop-line.invariant.plays (omega arith)

@@ -6,11 +6,11 @@ use Rattle.backend_cli.proofs.PlayLaws.{IsPlayed}
 use Rattle.backend_cli.proofs.play.play.Given as goal
 
 -- the lines so far are played, each told in its turn
-abbrev pub invariant-loop-task : goal.invariant-loop-task
-invariant-loop-task g l = record {
-  plays : IsPlayed g.D.Disk.tape g.D.Disk.faults l.fn.log l.log l.tasks l.task-index l.told.items;
+abbrev pub invariant-loop-line : goal.invariant-loop-line
+invariant-loop-line g l = record {
+  plays : IsPlayed g.D.Disk.tape g.D.Disk.faults l.fn.log l.log l.lines l.line-index l.told.items;
   same : IsSameLog l.fn.log l.log;
   moments : (last : LastTold) → IsTracked g.D.Disk.moment last l.fn.log → (after : LastTold) × MomentsReach last l.told.items after × IsTracked g.D.Disk.moment after l.log;
-  each : vec_len l.told ≡ l.task-index;
-  room : length l.tasks ≤ vec_capacity l.told;
+  each : vec_len l.told ≡ l.line-index;
+  room : length l.lines ≤ vec_capacity l.told;
 }
