@@ -16,7 +16,7 @@ ghost use Rattle.backend_cli.specs.Run.{rooms_asked};
 ghost use Rattle.backend_cli.specs.Whole.{HeldLogIsWhole};
 
 /// What lines are told says which entries they made: chained, and in the order of the lines.
-pub fn law_of_played_entries()
+pub fn answers_tell_the_order()
     ensures entries { (size capacity faults_at_open : ℕ) (lines : List AskedLine)
         (told : List Told) (after : LogHistory)
         → IsSegmentSize size → Plays size capacity faults_at_open (at_opening size) lines told after
@@ -37,7 +37,7 @@ pub fn law_of_played_entries()
 
 /// Without a fault of the disk a line is refused only by a full log, and then the script's records
 /// do not fit together.
-pub fn law_of_played_full()
+pub fn full_logs_have_too_much_asked_of_them()
     ensures refusals { (size capacity faults_at_open : ℕ) (lines : List AskedLine)
         (told : List Told) (after : LogHistory)
         → Plays size capacity faults_at_open (at_opening size) lines told after
@@ -49,7 +49,7 @@ pub fn law_of_played_full()
 {}
 
 /// Once a line is told a fault of the disk, each later one is told that fault.
-pub fn law_of_played_down()
+pub fn faults_are_told_again()
     ensures { (size capacity faults_at_open : ℕ) (lines : List AskedLine)
         (told : List Told) (after : LogHistory)
         → Plays size capacity faults_at_open (at_opening size) lines told after
@@ -58,7 +58,7 @@ pub fn law_of_played_down()
 
 /// Each line is told what it may be told, where the disk's last count of faults is the one at which
 /// it failed.
-pub fn law_of_played_tells()
+pub fn lines_are_told_as_they_may_be()
     ensures { (size capacity faults_at_open last : ℕ) (lines : List AskedLine)
         (told : List Told) (after : LogHistory)
         → IsSegmentSize size → Plays size capacity faults_at_open (at_opening size) lines told after
@@ -82,6 +82,6 @@ pub fn read_scripts_mean_all_that_was_left()
 
 /// A log that a disk holds for good survives a crash whole: every image that the crash may leave
 /// reads back as exactly the order, and then a clean end.
-pub fn law_of_whole()
+pub fn held_logs_survive_whole()
     ensures { HeldLogIsWhole }
 {}

@@ -1,5 +1,5 @@
 use Rattle.backend_cli.proofs.WholeLaws.{whole}
-use Rattle.backend_cli.proofs.laws.law_of_whole.Goals as goal
+use Rattle.backend_cli.proofs.laws.held_logs_survive_whole.Goals as goal
 
 pub returns : goal.returns
 returns c = whole
