@@ -41,7 +41,7 @@ calls_to_put writer page upto bytes =
 abbrev pub calls_to_harden : {D : Type 0} → Writer D → List Call
 calls_to_harden writer = harden_calls writer.geometry writer.written.0 writer.unsynced
 
--- all that is written lies in segments that are made, but for a next one that begins with it
+-- all that is written lies in segments that are made
 abbrev pub IsReached : {D : Type 0} → Writer D → Type 0
 IsReached writer = writer.written.0 ≤ writer.made * writer.geometry + writer.geometry
 
@@ -57,7 +57,8 @@ pub record IsWriter {D : Type 0} (tape : D → Option Tape) (writer : Writer D) 
       (λ t. HoldsPut writer.geometry writer.written.0 writer.unsynced (state_now t) pages)
 
 -- each crash from a moment on leaves the pages below a position: their segments, and in them each
--- word below it as it was put
+-- word below it as it was put; none of these segments is made anew, since all that is written lies
+-- in segments that are made
 abbrev pub IsKept : {D : Type 0} → (D → Option Tape) → Writer D → ℕ → ℕ → PutPages → Type 0
 IsKept tape writer moment position pages =
     let size = writer.geometry in
