@@ -3,3 +3,4 @@ pub mod Handing
 pub mod Reading
 pub mod Presence
 pub mod Answering
+pub mod Spans

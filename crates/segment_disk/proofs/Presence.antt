@@ -6,7 +6,7 @@ use Rattle.std.proofs.lemmas.Bool.Decides.{eqb_tells}
 use Rattle.segment_disk.specs.declared.disk.Call.{Call}
 use Rattle.segment_disk.specs.declared.disk.CallKind.TheVariants.{Create, Write, Sync}
 use Rattle.segment_disk.specs.declared.disk.CallKind.{CallKind}
-use Rattle.segment_disk.specs.Tape.{Segment, DiskState, segment_after, empty_state, after_call, after_calls}
+use Rattle.segment_disk.specs.Tape.{Segment, DiskState, segment_after, after_call, after_calls}
 use Rattle.segment_disk.specs.Failing.{is_listed}
 use Rattle.segment_disk.specs.Present.{ListsPresent, MakesNone, with_number}
 use Rattle.segment_disk.proofs.Reading.{after_calls-push}
@@ -43,31 +43,31 @@ listed-with_number numbers number other = by_test (is_listed numbers number) ref
         list_any-append (λ n. n == other) numbers (number ∷ []) ∙ ap (λ (b : Bool). is_listed numbers other || (b || false)) (ne_eqb number other (λ same. differ.1 (sym same))) ∙ elsewhere (is_listed numbers other)
         ∙ sym (ap (λ (b : Bool). b || is_listed numbers other) differ.0)
 
-module _ (before after : List Call) (call : Call) (is : after ≡ before ++ call ∷ []) where
-  state_after : (segment : ℕ) → after_calls empty_state after segment ≡ after_call (after_calls empty_state before) call segment
-  state_after segment = ap (λ (calls : List Call). after_calls empty_state calls segment) is ∙ ap (λ (state : DiskState). state segment) (after_calls-push empty_state before call)
+module _ (start : DiskState) (before after : List Call) (call : Call) (is : after ≡ before ++ call ∷ []) where
+  state_after : (segment : ℕ) → after_calls start after segment ≡ after_call (after_calls start before) call segment
+  state_after segment = ap (λ (calls : List Call). after_calls start calls segment) is ∙ ap (λ (state : DiskState). state segment) (after_calls-push start before call)
 
-  pub present_kept : (numbers : List ℕ) → ((s : Option Segment) → is_some (segment_after call.kind call.geometry call.done s) ≡ is_some s) → ListsPresent numbers before → ListsPresent numbers after
+  pub present_kept : (numbers : List ℕ) → ((s : Option Segment) → is_some (segment_after call.kind call.geometry call.done s) ≡ is_some s) → ListsPresent numbers start before → ListsPresent numbers start after
   present_kept numbers keeps present segment = present segment ∙ sym (ap is_some (state_after segment) ∙ by_test (segment == call.segment))
     where
-      by_test : (b : Bool) → is_some (if b then segment_after call.kind call.geometry call.done (after_calls empty_state before segment) else after_calls empty_state before segment) ≡ is_some (after_calls empty_state before segment)
-      by_test true = keeps (after_calls empty_state before segment)
+      by_test : (b : Bool) → is_some (if b then segment_after call.kind call.geometry call.done (after_calls start before segment) else after_calls start before segment) ≡ is_some (after_calls start before segment)
+      by_test true = keeps (after_calls start before segment)
       by_test false = refl
 
-  pub present_created : (numbers later : List ℕ) → call.kind ≡ Create true → later ≡ with_number numbers call.segment → ListsPresent numbers before → ListsPresent later after
+  pub present_created : (numbers later : List ℕ) → call.kind ≡ Create true → later ≡ with_number numbers call.segment → ListsPresent numbers start before → ListsPresent later start after
   present_created numbers later kind adds present segment =
       ap (λ (list : List ℕ). is_listed list segment) adds ∙ listed-with_number numbers call.segment segment ∙ ap (λ (b : Bool). segment == call.segment || b) (present segment)
       ∙ sym (ap is_some (state_after segment) ∙ rw kind (by_test (segment == call.segment)))
     where
-      by_test : (b : Bool) → is_some (if b then segment_after (Create true) call.geometry call.done (after_calls empty_state before segment) else after_calls empty_state before segment) ≡ (b || is_some (after_calls empty_state before segment))
+      by_test : (b : Bool) → is_some (if b then segment_after (Create true) call.geometry call.done (after_calls start before segment) else after_calls start before segment) ≡ (b || is_some (after_calls start before segment))
       by_test true = refl
       by_test false = refl
 
   -- a create that is not made leaves each segment as it was
-  pub state_unmade : call.kind ≡ Create false → (segment : ℕ) → after_calls empty_state after segment ≡ after_calls empty_state before segment
+  pub state_unmade : call.kind ≡ Create false → (segment : ℕ) → after_calls start after segment ≡ after_calls start before segment
   state_unmade kind segment = state_after segment ∙ rw kind (by_test (segment == call.segment))
     where
-      by_test : (b : Bool) → (if b then after_calls empty_state before segment else after_calls empty_state before segment) ≡ after_calls empty_state before segment
+      by_test : (b : Bool) → (if b then after_calls start before segment else after_calls start before segment) ≡ after_calls start before segment
       by_test true = refl
       by_test false = refl
 

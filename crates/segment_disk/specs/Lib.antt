@@ -3,6 +3,9 @@ pub mod Stream
 pub mod Tape
 pub mod DiskImage
 pub mod Failing
+pub mod First
+pub mod Picks
+pub mod Crash
 pub mod Present
 pub mod MemStream
 pub mod MemDisk

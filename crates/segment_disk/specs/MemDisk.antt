@@ -1,7 +1,8 @@
 -- A disk in memory: what it holds, and what it fails at.
 use Rattle.std.specs.Prelude.{◌≡◌, ℕ, ◌+◌, Bool, false, IsTrue, List, length, Option, Some, is_some, nat_lt, not, ◌&&◌, ◌||◌, if◌then◌else◌}
 use Rattle.segment_disk.specs.Failing.{Failing, is_listed}
-use Rattle.segment_disk.specs.Tape.{DiskState, Tape, IsUncalled, empty_state, after_calls}
+use Rattle.segment_disk.specs.First.{first_state}
+use Rattle.segment_disk.specs.Tape.{DiskState, Tape, IsUncalled, after_calls}
 use Rattle.segment_disk.specs.declared.memory.disk.MemDisk.{MemDisk}
 
 -- how many segments and counted calls a disk has room for, and the counted calls that fail, by
@@ -19,9 +20,10 @@ limits_of disk = record {
   failing = disk.calls.fail.items;
 }
 
--- a disk's tape: nothing was there at first
+-- a disk's tape
 abbrev pub tape_of : MemDisk → Option Tape
-tape_of disk = Some (record { at_first = empty_state; calls = disk.calls.made.items })
+tape_of disk =
+    Some (record { at_first = first_state disk.first.items; calls = disk.calls.made.items })
 
 -- how many calls were counted
 abbrev pub moment_of : MemDisk → ℕ
@@ -37,7 +39,7 @@ failing_reads disk = disk.reads
 
 -- the segments that are there now
 abbrev pub disk_state_of : MemDisk → DiskState
-disk_state_of disk = after_calls empty_state disk.calls.made.items
+disk_state_of disk = after_calls (first_state disk.first.items) disk.calls.made.items
 
 -- how many segments are there
 abbrev pub segment_count : MemDisk → ℕ

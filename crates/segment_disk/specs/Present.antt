@@ -4,12 +4,12 @@ use Rattle.segment_disk.specs.declared.disk.Call.{Call}
 use Rattle.segment_disk.specs.declared.disk.CallKind.{CallKind}
 use Rattle.segment_disk.specs.declared.disk.CallKind.TheVariants.{Create, Write, Sync}
 use Rattle.segment_disk.specs.Failing.{is_listed}
-use Rattle.segment_disk.specs.Tape.{empty_state, after_calls}
+use Rattle.segment_disk.specs.Tape.{DiskState, after_calls}
 
 -- the list has the numbers of those that are there
-abbrev pub ListsPresent : List ℕ → List Call → Type 0
-ListsPresent numbers calls =
-    (segment : ℕ) → is_listed numbers segment ≡ is_some (after_calls empty_state calls segment)
+abbrev pub ListsPresent : List ℕ → DiskState → List Call → Type 0
+ListsPresent numbers at_first calls =
+    (segment : ℕ) → is_listed numbers segment ≡ is_some (after_calls at_first calls segment)
 
 -- the call neither makes a segment nor takes one away
 abbrev pub MakesNone : CallKind → Type 0

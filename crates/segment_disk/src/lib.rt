@@ -11,5 +11,5 @@ mod stream;
 pub use disk::{Call, CallKind, Disk, PageBytes};
 pub use failed::{Failed, count_fault};
 pub use handed::HandedOut;
-pub use memory::{MemDisk, MemSink, MemSource, Memory};
+pub use memory::{MemDisk, MemSink, MemSource, Memory, Pick};
 pub use stream::{Sink, Source};

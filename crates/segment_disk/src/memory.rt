@@ -2,16 +2,20 @@
 //! ones do.
 
 mod disk;
+mod first;
+mod pick;
 mod reading;
 mod record;
 mod schedule;
 mod segments;
 mod sink;
+mod span;
 mod source;
 
 ghost use Rattle.std.specs.Prelude.{◌≡◌};
 
 pub use disk::MemDisk;
+pub use pick::Pick;
 pub use sink::MemSink;
 pub use source::MemSource;
 use std::alloc::{AllocError, AllocFailed};

@@ -2,12 +2,14 @@ ghost use Rattle.std.specs.Prelude.{◌≡◌, ℕ, ◌<◌, ◌≤◌, ◌/◌,
 ghost use Rattle.byte_position.specs.Geometry.{pages_of};
 ghost use Rattle.segment_disk.specs.Cause.{HasCause};
 ghost use Rattle.segment_disk.specs.Failing.{fails_next, after_next};
+ghost use Rattle.segment_disk.specs.First.{first_state};
 ghost use Rattle.segment_disk.specs.Present.{ListsPresent, MakesNone};
 ghost use Rattle.segment_disk.specs.Tape.{Answers, IsPageRead, IsUncalled, create_call, empty_state, page_of_segment, state_now, sync_call, write_call};
 
 use crate::disk::{Call, CallKind, Disk, PageBytes};
 use crate::failed::{Failed, count_fault};
 use crate::memory::Memory;
+use crate::memory::first::FirstSegment;
 use crate::memory::reading::read_back;
 use crate::memory::record::CallRecord;
 use crate::memory::schedule::Schedule;
@@ -21,7 +23,9 @@ pub struct MemDisk {
     calls: CallRecord,
     segments: SegmentList,
     reads: Schedule,
-    ghost present: { ListsPresent segments.numbers.items calls.made.items },
+    first: Vec<FirstSegment>,
+    ghost present: { ListsPresent segments.numbers.items (first_state first.items)
+        calls.made.items },
 }
 
 impl MemDisk {
@@ -50,6 +54,7 @@ impl MemDisk {
             calls: CallRecord::new(alloc, calls, fail)?,
             segments: SegmentList::new(alloc, segments)?,
             reads: Schedule::new(fail_reads),
+            first: Vec::new(alloc),
         })
     }
 }
@@ -184,7 +189,7 @@ impl Disk for MemDisk {
         if self.reads.next_fails() {
             return Err(count_fault(&mut self.calls.faults));
         }
-        Ok(read_back(&self.calls.made, segment, page, bytes))
+        Ok(read_back(&self.first, &self.calls.made, segment, page as usize, bytes))
     }
 
     fn moment(&self) -> u64 {

@@ -1,21 +1,34 @@
 ghost use Rattle.std.specs.Prelude.{◌≡◌, length};
-ghost use Rattle.segment_disk.specs.Tape.{IsPageRead, page_of_segment, after_calls, empty_state};
+ghost use Rattle.segment_disk.specs.Tape.{IsPageRead, page_of_segment, after_calls};
+ghost use Rattle.segment_disk.specs.First.{first_state};
 
 use crate::disk::{Call, CallKind, PageBytes};
+use crate::memory::first::{FirstSegment, find_first};
 
 /// Reads a page of a segment as these calls leave it, and answers whether the segment has it.
-pub fn read_back(calls: &[Call], segment: u64, page: u32, bytes: &mut [u8; 8192]) -> bool
+pub fn read_back<'a>(
+    first: &'a [FirstSegment],
+    calls: &'a [Call],
+    segment: u64,
+    page: usize,
+    bytes: &mut [u8; 8192],
+) -> bool
     ensures reads { IsPageRead
-        (page_of_segment (after_calls empty_state calls.now segment) page) result bytes.new }
+        (page_of_segment (after_calls (first_state first.now) calls.now segment) page) result
+        bytes.new }
 {
     let mut pages = 0;
     let mut last: Option<&PageBytes> = None;
+    if let Some(stored) = find_first(first, segment) {
+        pages = stored.page_count();
+        last = stored.page(page);
+    }
     for call in calls {
         if call.segment == segment {
             match &call.kind {
                 CallKind::Create { made } => {
                     if *made {
-                        pages = call.geometry.pages();
+                        pages = call.geometry.pages() as usize;
                         last = None;
                     }
                 }
@@ -23,7 +36,7 @@ pub fn read_back(calls: &[Call], segment: u64, page: u32, bytes: &mut [u8; 8192]
                     page: written,
                     bytes,
                 } => {
-                    if *written == page {
+                    if *written as usize == page {
                         last = Some(bytes);
                     }
                 }
