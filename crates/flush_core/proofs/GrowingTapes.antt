@@ -26,10 +26,10 @@ pub with_calls-none : (more : List Call) → with_calls None more ≡ None
 with_calls-none [] = refl
 with_calls-none (call ∷ more) = with_calls-none more
 
-pub take-before : (calls more : List Call) (m : ℕ) → m ≤ length calls → take m (calls ++ more) ≡ take m calls
-take-before calls more zero within = refl
+pub take-before : {A : Type 0} (xs more : List A) (m : ℕ) → m ≤ length xs → take m (xs ++ more) ≡ take m xs
+take-before xs more zero within = refl
 take-before [] more (suc m) within = absurd (omega arith)
-take-before (c ∷ calls) more (suc m) within = ap (λ (l : List Call). c ∷ l) (take-before calls more m (omega arith))
+take-before {A} (x ∷ xs) more (suc m) within = ap (λ (l : List A). x ∷ l) (take-before xs more m (omega arith))
 
 slice_get-before : (calls more : List Call) (m : ℕ) → m < length calls → slice_get (calls ++ more) m ≡ slice_get calls m
 slice_get-before [] more m within = absurd (omega arith)

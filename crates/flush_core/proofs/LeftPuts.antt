@@ -16,7 +16,7 @@ use Rattle.flush_core.specs.Writer.{IsKept, IsWriter}
 use Rattle.flush_core.proofs.Words.{durable_word}
 use Rattle.flush_core.proofs.LeftLaws.{AllFit, store_fits, TapeAssures-now, TapeAssures-weaker}
 
-div_rises : (a b n : ℕ) → a ≤ b → a / n ≤ b / n
+pub div_rises : (a b n : ℕ) → a ≤ b → a / n ≤ b / n
 div_rises a b n rises = elim (cases_lt 0 n) [
   | inl positive ↦ elim (cases_lt (b / n) (a / n)) [
     | inl falls ↦ (let high : b < a / n * n = (div-lt_iff_lt-mul positive).0 falls in absurd (omega (arith, div-mul-le_self a n)))
