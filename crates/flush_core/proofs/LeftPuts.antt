@@ -16,7 +16,7 @@ use Rattle.flush_core.specs.Writer.{IsKept, IsWriter}
 use Rattle.flush_core.proofs.Words.{durable_word}
 use Rattle.flush_core.proofs.LeftLaws.{AllFit, store_fits, TapeAssures-now, TapeAssures-weaker}
 
-div_rises : (a b n : ℕ) → a ≤ b → a / n ≤ b / n
+pub div_rises : (a b n : ℕ) → a ≤ b → a / n ≤ b / n
 div_rises a b n rises = elim (cases_lt 0 n) [
   | inl positive ↦ elim (cases_lt (b / n) (a / n)) [
     | inl falls ↦ (let high : b < a / n * n = (div-lt_iff_lt-mul positive).0 falls in absurd (omega (arith, div-mul-le_self a n)))
@@ -31,9 +31,12 @@ module _ (page : ℕ) (bytes : List ℕ) where
   put_before puts n word found put = elim (cases_eq n page) [ inl same ↦ rw (eq-eqb n page same) (inr put) | inr other ↦ rw (ne_eqb n page other) put ]
 
   pub HoldsOnly-more : (size : ℕ) (puts : PutHistory) (moment : ℕ) (tape : Option Tape) → IfSome tape (TapeAssures size IsNowhere (IsWordPut puts) moment) → IfSome tape (TapeAssures size IsNowhere (IsWordPut (with_put puts page bytes)) moment)
-  HoldsOnly-more size puts moment tape assures = IfSome_then tape assures (λ t only. TapeAssures-weaker size IsNowhere (IsWordPut puts) (IsWordPut (with_put puts page bytes)) (put_before puts) moment t only)
+  HoldsOnly-more size puts moment tape assures = IfSome_then tape assures (λ t only. TapeAssures-weaker size IsNowhere (IsWordPut puts) IsNowhere (IsWordPut (with_put puts page bytes)) (λ segment nowhere. nowhere) (put_before puts) moment t only)
 
 module _ (size made written upto page : ℕ) (bytes : List ℕ) (stored : List Call) (are : stored ≡ put_calls size made page upto bytes) (valid : IsSegmentSize size) (at : page ≡ written / 8192) where
+  within_segment : page % pages_of size < pages_of size
+  within_segment = let whole = segment_size_in_pages size valid in let parts = div-add-mod page (pages_of size) in omega (arith, whole.0, whole.1)
+
   number : page ≡ page / pages_of size * pages_of size + page % pages_of size
   number = let parts = div-add-mod page (pages_of size) in omega arith
 
@@ -51,7 +54,7 @@ module _ (size made written upto page : ℕ) (bytes : List ℕ) (stored : List C
   put_keeps reached position pages low same =
       let count = pages_of size in
       subst (AllFit size (IsMadeUpto size position) (IsKeptWord position pages)) (sym are)
-      (store_fits size (IsMadeUpto size position) (IsKeptWord position pages) (page / count) (page % count) bytes (nat_lt made (page / count)) (upto % size == 0)
+      (store_fits size (IsMadeUpto size position) (IsKeptWord position pages) (page / count) (page % count) bytes (nat_lt made (page / count)) (upto % size == 0) within_segment
       (λ new k word within small below. absurd (omega (arith, begins reached (ltb-true made (page / count) new))))
       (subst (λ (n : ℕ). SameBelow position n bytes (pages n)) number same))
 
@@ -67,7 +70,7 @@ module _ (size made written upto page : ℕ) (bytes : List ℕ) (stored : List C
   put_adds puts =
       let count = pages_of size in
       subst (AllFit size IsNowhere (IsWordPut (with_put puts page bytes))) (sym are)
-      (store_fits size IsNowhere (IsWordPut (with_put puts page bytes)) (page / count) (page % count) bytes (nat_lt made (page / count)) (upto % size == 0)
+      (store_fits size IsNowhere (IsWordPut (with_put puts page bytes)) (page / count) (page % count) bytes (nat_lt made (page / count)) (upto % size == 0) within_segment
       (λ new k word within small. zeros_put (with_put puts page bytes (page / count * count + k)) word)
       (subst (λ (n : ℕ). (word : ℕ) → word < 1024 → IsWordOf (with_put puts page bytes n) word (word_of bytes word)) number (λ word _. put_now puts word)))
 

@@ -66,8 +66,8 @@ IsKept tape writer moment position pages =
     × IfSome (tape writer.disk)
     (TapeAssures size (IsMadeUpto size position) (IsKeptWord position pages) moment)
 
--- each crash from a moment on leaves nothing but what was put: in whatever segment is there, each
--- word is zeros or was put there
+-- each crash from a moment on leaves nothing but what was put, and no call from it on writes
+-- anything else: in whatever segment is there, each word is zeros or was put there
 abbrev pub HoldsOnly : {D : Type 0} → (D → Option Tape) → Writer D → ℕ → PutHistory → Type 0
 HoldsOnly tape writer moment puts =
     IfSome (tape writer.disk) (TapeAssures writer.geometry IsNowhere (IsWordPut puts) moment)

@@ -6,12 +6,9 @@ use Rattle.segment_disk.specs.declared.disk.Call.{Call}
 use Rattle.segment_disk.specs.Tape.{Fails, Tape, with_call}
 use Rattle.flush_core.specs.declared.writer.Writer.{Writer}
 use Rattle.flush_core.specs.Calls.{AreMade, BreaksOff, harden_calls, put_calls, with_calls}
+use Rattle.flush_core.proofs.GrowingTapes.{GoesOn, GoesOn-broken, GoesOn-made, with_calls-append}
 use Rattle.flush_core.specs.Writer.{disk_of, last_made, writer_segment_size, written_of}
 use Rattle.serial_log.specs.DeviceCalls.{BreaksFlush, BreaksWrites, MakesFlush, MakesWrites, WritesFrom, WritesOut, nothing_to_write, page_behind}
-
-with_calls-append : (tape : Option Tape) (xs ys : List Call) → with_calls tape (xs ++ ys) ≡ with_calls (with_calls tape xs) ys
-with_calls-append tape [] ys = refl
-with_calls-append tape (x ∷ xs) ys = with_calls-append (with_call tape x) xs ys
 
 pub AreMade-none : (tape : Option Tape) (moment : ℕ) → AreMade tape tape moment moment []
 AreMade-none tape moment = record { tape = refl; moment = let more : moment ≡ moment + 0 = omega arith in more }
@@ -175,3 +172,16 @@ module _ (D : Type 0) (tape : D → Option Tape) (moment : D → ℕ) where
   pub refused_behind : (a b c : Writer D) → MakesWrites tape moment a b → MakesFlush tape moment b c ⊎ BreaksFlush tape moment b c → MakesFlush tape moment a c ⊎ BreaksFlush tape moment a c
   refused_behind a b c first (inl makes) = inl (MakesFlush-then a b c first makes)
   refused_behind a b c first (inr breaks) = inr (BreaksFlush-behind a b c first breaks)
+
+  -- the disk's tape goes on
+  pub GoesOn-writes : (a b : Writer D) → MakesWrites tape moment a b → GoesOn (tape (disk_of a)) (tape (disk_of b))
+  GoesOn-writes a b writes = GoesOn-made _ _ _ _ _ writes.made
+
+  pub GoesOn-broken_writes : (a b : Writer D) → BreaksWrites tape moment a b → GoesOn (tape (disk_of a)) (tape (disk_of b))
+  GoesOn-broken_writes a b breaks = GoesOn-broken _ _ _ _ _ breaks.made
+
+  pub GoesOn-flush : (a b : Writer D) → MakesFlush tape moment a b → GoesOn (tape (disk_of a)) (tape (disk_of b))
+  GoesOn-flush a b flush = GoesOn-made _ _ _ _ _ flush.made
+
+  pub GoesOn-broken_flush : (a b : Writer D) → BreaksFlush tape moment a b → GoesOn (tape (disk_of a)) (tape (disk_of b))
+  GoesOn-broken_flush a b breaks = GoesOn-broken _ _ _ _ _ breaks.made

@@ -4,6 +4,8 @@ ghost use Rattle.record_spelling.specs.Spelling.{RecordOf, assembled_room};
 ghost use Rattle.flush_core.specs.Pages.{HoldsNothing};
 ghost use Rattle.flush_core.specs.Writer.{writer_fault};
 ghost use Rattle.serial_log.specs.LogImage.{HoldsLog};
+ghost use Rattle.serial_log.specs.OnDisk.{moments_of};
+ghost use Rattle.serial_log.specs.Promises.{LeavesLog};
 ghost use Rattle.serial_log.specs.LogState.{IsLog, HasUnwritten, StepsLog, log_disk, log_end};
 ghost use Rattle.segment_disk.specs.Tape.{IsUncalled};
 ghost use Rattle.serial_log.specs.Opening.{RefusesToOpen};
@@ -134,6 +136,11 @@ impl<D: Disk> Log<D> {
             → IsLog D.tape D.faults tape_at_open faults_at_open self s
             → HoldsNothing tape_at_open → s.down ≡ None → s.flushed ≡ end_of self.size s.entries
             → IfSome (D.tape result) (λ t. HoldsLog self.size self.sysid s.entries t) }
+        ensures left { (tape_at_open : Option Tape) (faults_at_open : ℕ) (s : LogHistory)
+            → IsLog D.tape D.faults tape_at_open faults_at_open self s
+            → HoldsNothing tape_at_open
+            → IfSome (D.tape result) (LeavesLog self.size self.sysid (moments_of tape_at_open)
+            s.entries s.promises) }
     {
         self.buffers.into_disk()
     }
@@ -163,9 +170,9 @@ impl<D: Disk> Log<D> {
     /// Puts a record behind the others. It is not durable before a flush.
     #[tactic(auto, using(crate::proofs::CallLaws::makes_no_writes))]
     pub fn insert(&mut self, body: &Body) -> Result<Receipt, Refused>
-        ensures inserts { (known : RecordOf body.now)
+        ensures inserts { (pass : ℕ) (known : RecordOf body.now)
             → StepsLog D.tape D.faults self.old self.new (λ faults_at_open before after.
-            Inserts self.old.size self.old.capacity faults_at_open before known.value
+            Inserts self.old.size self.old.capacity faults_at_open before pass known.value
             result after) }
         ensures known { RecordOf body.now }
         ensures down_again { IfSome (writer_fault self.old.writer) (λ faults.
@@ -219,9 +226,9 @@ impl<D: Disk> Log<D> {
 
     /// Puts a record behind the others, and makes all of them durable: an insert, then a flush.
     pub fn commit(&mut self, body: &Body) -> Result<Sealed, Refused>
-        ensures commits { (known : RecordOf body.now)
+        ensures commits { (pass : ℕ) (known : RecordOf body.now)
             → StepsLog D.tape D.faults self.old self.new (λ faults_at_open before after.
-            Commits self.old.size self.old.capacity faults_at_open before known.value
+            Commits self.old.size self.old.capacity faults_at_open before pass known.value
             result after) }
         ensures known { RecordOf body.now }
         ensures down_again { IfSome (writer_fault self.old.writer) (λ faults.
@@ -268,9 +275,9 @@ impl<D: Disk> Log<D> {
     fn append(&mut self, body: &Body) -> Result<Receipt, Refused>
         requires up { writer_fault self.old.writer ≡ None }
         requires fits { self.old.bytes + assembled_room body.now ≤ self.old.capacity }
-        ensures inserts { (known : RecordOf body.now)
+        ensures inserts { (pass : ℕ) (known : RecordOf body.now)
             → StepsLog D.tape D.faults self.old self.new (λ faults_at_open before after.
-            Inserts self.old.size self.old.capacity faults_at_open before known.value
+            Inserts self.old.size self.old.capacity faults_at_open before pass known.value
             result after) }
         ensures leaves { InsertLeaves D.tape D.moment D.faults self.old self.new result }
     {
