@@ -10,3 +10,5 @@ pub mod RecordRows
 pub mod Tables
 pub mod WrittenLogLaws
 pub mod AgreeingLaws
+pub mod LawfulPages
+pub mod LawfulLaws

@@ -8,7 +8,6 @@ use Rattle.byte_position.specs.Geometry.{IsSegmentSize, pages_of}
 use Rattle.byte_position.specs.Position.{position_of, address_of, first_position}
 use Rattle.byte_position.proofs.SegmentSizes.{segment_size_in_pages}
 use Rattle.wal_page.specs.Order.{Entry, FollowsFrom, position_behind, rooms_of, end_position}
-use Rattle.wal_page.specs.LogPage.{IsLogPage}
 use Rattle.wal_page.specs.Log.{remaining_at, log_byte}
 use Rattle.wal_page.proofs.OrderLaws.{rooms_of_cons, room_at-pos}
 use Rattle.wal_page.proofs.OwnerLaws.{owner_of-entry}
@@ -19,7 +18,7 @@ use Rattle.wal_reader.specs.declared.found.Answer.TheVariants.{End}
 use Rattle.wal_reader.specs.Pages.{Pages}
 use Rattle.wal_reader.specs.Decodes.{Decodes, ReadsRecords, ReadsFrom, beginning, ended}
 use Rattle.written_log.specs.Written.{found_entry, found_from, found_of}
-use Rattle.written_log.specs.WrittenLog.{HavePagesOfLog, OwnPagesHoldLog, WrittenLogDecodes}
+use Rattle.written_log.specs.WrittenLog.{BeginsAsLogPage, HavePagesOfLog, OwnPagesHoldLog, WrittenLogDecodes}
 use Rattle.wal_reader.proofs.PagesLaws.{end_address_of-first_position}
 use Rattle.written_log.proofs.BeginLaws.{begins_nowhere, begins_empty, begins_behind_header}
 use Rattle.written_log.proofs.Tables.{first_fault-none}
@@ -116,9 +115,9 @@ written_log_decodes size sysid pages (e ∷ es) valid known narrow chained bound
 own_bytes : (size sysid : ℕ) (es : List Entry) (page n k : ℕ) → k < n → get_or (map (λ i. log_byte size sysid es (page * 8192 + i)) (range_with_len 0 n)) k 0 ≡ log_byte size sysid es (page * 8192 + k)
 own_bytes size sysid es page n k within = get_or-map-range_with_len (λ i. log_byte size sysid es (page * 8192 + i)) 0 n k k 0 within (omega arith)
 
-own_page : (size sysid : ℕ) (es : List Entry) (page n : ℕ) → n ≡ 8192 → IsLogPage size sysid es page (map (λ k. log_byte size sysid es (page * 8192 + k)) (range_with_len 0 n))
+own_page : (size sysid : ℕ) (es : List Entry) (page n : ℕ) → n ≡ 8192 → BeginsAsLogPage size sysid es page (map (λ k. log_byte size sysid es (page * 8192 + k)) (range_with_len 0 n))
 own_page size sysid es page n whole = record {
-  long = length-map-range_with_len (λ k. log_byte size sysid es (page * 8192 + k)) 0 n ∙ whole;
+  long = omega (arith, length-map-range_with_len (λ k. log_byte size sysid es (page * 8192 + k)) 0 n, whole);
   each = λ k within. own_bytes size sysid es page n k (omega arith);
 }
 

@@ -1,4 +1,5 @@
 ghost use Rattle.written_log.specs.Agreeing.{AgreeingLogsDecodeAlike};
+ghost use Rattle.written_log.specs.LawfulLog.{WholeLawfulImagesDecode};
 ghost use Rattle.written_log.specs.LogSegments.{SegmentsHoldLog};
 ghost use Rattle.written_log.specs.WrittenLog.{OwnPagesHoldLog, WrittenLogDecodes};
 
@@ -9,6 +10,11 @@ pub fn written_log_decodes()
     ensures decodes { WrittenLogDecodes }
     ensures own_pages { OwnPagesHoldLog }
     ensures segments { SegmentsHoldLog }
+{}
+
+/// A law: an image of a disk that is lawful for an order up to its end decodes to all of it.
+pub fn lawful_images_decode()
+    ensures whole { WholeLawfulImagesDecode }
 {}
 
 /// A law: two logs that agree below an address, and are 0 from there on, decode to the same
