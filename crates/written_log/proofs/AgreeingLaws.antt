@@ -31,14 +31,14 @@ magic_zero (b ∷ c ∷ rest) e f =
     let second : c ≡ 0 = f in
     rw (first, second) refl
 
-cases_Option : {A : Type 0} (o : Option A) → (o ≡ None) ⊎ ((x : A) × (o ≡ Some x))
+pub cases_Option : {A : Type 0} (o : Option A) → (o ≡ None) ⊎ ((x : A) × (o ≡ Some x))
 cases_Option None = inl refl
 cases_Option (Some x) = inr (x, refl)
 
-abbrev placed : RecordPlace → Result RecordPlace Answer
+abbrev pub placed : RecordPlace → Result RecordPlace Answer
 placed place = Ok place
 
-same_place : (p q : RecordPlace) → placed p ≡ placed q → p ≡ q
+pub same_place : (p q : RecordPlace) → placed p ≡ placed q → p ≡ q
 same_place p q e = cc
 
 is_true : (b : Bool) → not b ≡ false → b ≡ true

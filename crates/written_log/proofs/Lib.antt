@@ -12,3 +12,8 @@ pub mod WrittenLogLaws
 pub mod AgreeingLaws
 pub mod LawfulPages
 pub mod LawfulLaws
+pub mod WordsOfBytes
+pub mod ReadRecord
+pub mod LawfulRecords
+pub mod LawfulFronts
+pub mod LawfulBeginning

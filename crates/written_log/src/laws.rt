@@ -1,5 +1,5 @@
 ghost use Rattle.written_log.specs.Agreeing.{AgreeingLogsDecodeAlike};
-ghost use Rattle.written_log.specs.LawfulLog.{WholeLawfulImagesDecode};
+ghost use Rattle.written_log.specs.LawfulLog.{LawfulImagesDecodeToFronts, WholeLawfulImagesDecode};
 ghost use Rattle.written_log.specs.LogSegments.{SegmentsHoldLog};
 ghost use Rattle.written_log.specs.WrittenLog.{OwnPagesHoldLog, WrittenLogDecodes};
 
@@ -12,8 +12,11 @@ pub fn written_log_decodes()
     ensures segments { SegmentsHoldLog }
 {}
 
-/// A law: an image of a disk that is lawful for an order up to its end decodes to all of it.
+/// A law: an image of a disk that is lawful for an order decodes to a front of it. The front holds
+/// each entry up to where the image has all that the order has, and is all of the order where that
+/// is its end.
 pub fn lawful_images_decode()
+    ensures fronts { LawfulImagesDecodeToFronts }
     ensures whole { WholeLawfulImagesDecode }
 {}
 
