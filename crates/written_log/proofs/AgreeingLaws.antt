@@ -1,12 +1,12 @@
 -- Logs that have the same bytes decode to the same records.
-use Rattle.std.proofs.Common.{◌≡◌, ◌⊎◌, ℕ, zero, suc, ◌+◌, ◌-◌, ◌*◌, ◌/◌, ◌%◌, ◌^◌, ◌<◌, ◌≤◌, Bool, true, false, not, eqb, leb, cond, List, [], ◌∷◌, ◌++◌, length, get_or, filter, Option, Some, None, Result, Ok, Err, inl, inr, refl, sym, ap, subst, ◌∙◌, arith}
+use Rattle.std.proofs.Common.{◌≡◌, ◌⊎◌, ℕ, zero, suc, ◌+◌, ◌-◌, ◌*◌, ◌/◌, ◌%◌, ◌^◌, ◌<◌, ◌≤◌, Bool, true, false, not, eqb, leb, List, [], ◌∷◌, ◌++◌, length, filter, Option, Some, None, Result, Ok, Err, inl, inr, refl, sym, ap, subst, ◌∙◌, arith}
 use Rattle.std.specs.Prelude.{IfSome, slice_index}
 use Rattle.std.specs.Int.{w16, w32, w64}
 use Rattle.std.specs.List.{flat_map, range_with_len}
 use Rattle.std.proofs.lemmas.Bool.{cases_Bool, cases_lt, cond-true, cond-false, eqb-true}
 use Rattle.std.proofs.lemmas.List.{ext_get_or}
 use Rattle.byte_position.specs.Geometry.{IsSegmentSize}
-use Rattle.byte_position.specs.Position.{position_of, address_of}
+use Rattle.byte_position.specs.Position.{address_of}
 use Rattle.byte_position.proofs.Rising.{address_of-mono}
 use Rattle.record_spelling.specs.Numbers.{number_at}
 use Rattle.record_decode.specs.Reading.{reading_of}
@@ -15,8 +15,8 @@ use Rattle.wal_reader.specs.declared.record_place.RecordPlace.{RecordPlace}
 use Rattle.wal_reader.specs.declared.found.FoundRecord.{FoundRecord}
 use Rattle.wal_reader.specs.declared.found.Answer.{Answer}
 use Rattle.wal_reader.specs.declared.found.DamageKind.TheVariants as damages
-use Rattle.written_log.specs.Agreeing.{AreWhole, AgreeBelow, AgreeingLogsDecodeAlike}
-use Rattle.wal_reader.specs.Decodes.{ReadsFrom, ReadsRecords, answer_or, begin_at, begin_in, beginning, continuation_rows, continuation_rows_of, crc_rows, damaged, ended, header_rows, is_at_end, is_zero_word, opening_rows, overwritten, page_answers, page_of_byte, place_behind, read_at, read_in, record_rows, rest_rows, rows_of_pages, size_rows, timeline_or}
+use Rattle.written_log.specs.Agreeing.{AreWhole, AgreeingLogsDecodeAlike}
+use Rattle.wal_reader.specs.Decodes.{ReadsFrom, ReadsRecords, answer_or, begin_at, begin_in, beginning, continuation_rows, continuation_rows_of, crc_rows, damaged, ended, header_rows, is_at_end, is_zero_word, opening_rows, overwritten, page_answers, page_of_byte, place_behind, read_at, read_in, record_rows, rest_rows, rows_of_pages, size_rows}
 use Rattle.wal_reader.specs.Pages.{Pages, byte_at, byte_in_page, bytes_from}
 use Rattle.wal_reader.proofs.SettledLaws.{passes_both, passes_row, same_read, size-passed, size_in_header, total_of}
 
@@ -31,14 +31,14 @@ magic_zero (b ∷ c ∷ rest) e f =
     let second : c ≡ 0 = f in
     rw (first, second) refl
 
-cases_Option : {A : Type 0} (o : Option A) → (o ≡ None) ⊎ ((x : A) × (o ≡ Some x))
+pub cases_Option : {A : Type 0} (o : Option A) → (o ≡ None) ⊎ ((x : A) × (o ≡ Some x))
 cases_Option None = inl refl
 cases_Option (Some x) = inr (x, refl)
 
-abbrev placed : RecordPlace → Result RecordPlace Answer
+abbrev pub placed : RecordPlace → Result RecordPlace Answer
 placed place = Ok place
 
-same_place : (p q : RecordPlace) → placed p ≡ placed q → p ≡ q
+pub same_place : (p q : RecordPlace) → placed p ≡ placed q → p ≡ q
 same_place p q e = cc
 
 is_true : (b : Bool) → not b ≡ false → b ≡ true

@@ -33,7 +33,7 @@ answers_of size page fault valid e =
     first_fault-map (told (pages_of size * 8192)) (page_rows size (pages_of size) page 0) ∙ ap (option_map (told (pages_of size * 8192))) e ∙ ap (λ (a : ℕ). option_map (told a) fault) at
 
 module _ (size : ℕ) (pages : Pages) (valid : IsSegmentSize size) where
-  beginning_is : (page : Option (List ℕ)) → pages (pages_of size) ≡ page → beginning size pages size ≡ begin_in (begin_at (2 ^ 47 - 1) size pages) size (pages_of size) 0 page
+  pub beginning_is : (page : Option (List ℕ)) → pages (pages_of size) ≡ page → beginning size pages size ≡ begin_in (begin_at (2 ^ 47 - 1) size pages) size (pages_of size) 0 page
   beginning_is page there =
       begin_at-suc (2 ^ 47 - 1) size pages (pages_of size) 0 ∙ ap (begin_in (begin_at (2 ^ 47 - 1) size pages) size (pages_of size) 0) there
 

@@ -10,3 +10,10 @@ pub mod RecordRows
 pub mod Tables
 pub mod WrittenLogLaws
 pub mod AgreeingLaws
+pub mod LawfulPages
+pub mod LawfulLaws
+pub mod WordsOfBytes
+pub mod ReadRecord
+pub mod LawfulRecords
+pub mod LawfulFronts
+pub mod LawfulBeginning

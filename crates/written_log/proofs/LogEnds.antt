@@ -11,7 +11,6 @@ use Rattle.byte_position.proofs.HeaderSizes.{header_size_bounds}
 use Rattle.byte_position.proofs.PagesTimes.{address_of-page_start_times}
 use Rattle.wal_page.specs.Order.{Entry, IsChained, rooms_of, end_position}
 use Rattle.wal_page.specs.Page.{is_continued}
-use Rattle.wal_page.specs.LogPage.{IsLogPage}
 use Rattle.wal_page.specs.Log.{stream_of, log_byte}
 use Rattle.wal_page.proofs.OwnerLaws.{owner_of-none_behind}
 use Rattle.wal_page.proofs.LogByteLaws.{log_byte-stream}
@@ -19,7 +18,7 @@ use Rattle.wal_page.proofs.StreamLaws.{length-stream_of}
 use Rattle.wal_types.specs.declared.lsn.Lsn.{Lsn}
 use Rattle.wal_reader.specs.Pages.{Pages, byte_in_page, bytes_from}
 use Rattle.wal_reader.specs.Decodes.{read_at, is_zero_word, opens_page, ended}
-use Rattle.written_log.specs.WrittenLog.{HavePagesOfLog}
+use Rattle.written_log.specs.WrittenLog.{BeginsAsLogPage, HavePagesOfLog}
 use Rattle.wal_reader.proofs.PagesLaws.{take-bytes_from}
 use Rattle.written_log.proofs.RecordRows.{IsIn, zero_word_ends, no_page_ends, zero_page_ends}
 use Rattle.written_log.proofs.LogPositions.{page_begins, page_from_first, page_of-start}
@@ -34,8 +33,8 @@ zero_word bytes zeros =
     eq-eqb _ _ (omega (arith, at 0 (omega arith), at 1 (omega arith), at 2 (omega arith), at 3 (omega arith), at 4 (omega arith), at 5 (omega arith), at 6 (omega arith), at 7 (omega arith)))
 
 module _ (size sysid : ℕ) (pages : Pages) (es : List Entry) (holds : HavePagesOfLog size sysid pages es) where
-  is_log_page : (page : ℕ) (bytes : List ℕ) → pages_of size ≤ page → pages page ≡ Some bytes → IsLogPage size sysid es page bytes
-  is_log_page page bytes from there = subst (λ (o : Option (List ℕ)). IfSome o (IsLogPage size sysid es page)) there (holds.is_log page from)
+  is_log_page : (page : ℕ) (bytes : List ℕ) → pages_of size ≤ page → pages page ≡ Some bytes → BeginsAsLogPage size sysid es page bytes
+  is_log_page page bytes from there = subst (λ (o : Option (List ℕ)). IfSome o (BeginsAsLogPage size sysid es page)) there (holds.is_log page from)
 
   byte_on : (address : ℕ) (bytes : List ℕ) → pages_of size ≤ address / 8192 → pages (address / 8192) ≡ Some bytes → get_or bytes (address % 8192) 0 ≡ log_byte size sysid es address
   byte_on address bytes from there =

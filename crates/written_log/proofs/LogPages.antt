@@ -28,7 +28,7 @@ pub record IsWritten (size sysid : ℕ) (pages : Pages) (es : List Entry) : Type
   pub narrow : sysid < 2 ^ 64
   pub chained : IsChained size es
   pub bounded : end_address_of size (end_position size es) ≤ 2 ^ 60
-  pub there : (page : ℕ) → pages_of size ≤ page → page * 8192 < end_address_of size (end_position size es) → (bytes : List ℕ) × (pages page ≡ Some bytes) × (length bytes ≡ 8192)
+  pub there : (page : ℕ) → pages_of size ≤ page → page * 8192 < end_address_of size (end_position size es) → (bytes : List ℕ) × (pages page ≡ Some bytes) × (8192 ≤ length bytes)
   pub each : (address : ℕ) → size ≤ address → address < end_address_of size (end_position size es) → byte_at pages address ≡ log_byte size sysid es address
 
 -- a header's bytes are those that the owner of the page's first position gives it

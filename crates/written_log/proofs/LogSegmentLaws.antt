@@ -8,9 +8,8 @@ use Rattle.byte_position.specs.Position.{end_address_of}
 use Rattle.byte_position.proofs.SegmentSizes.{segment_size_in_pages}
 use Rattle.segment_disk.specs.DiskImage.{DiskImage, ImageSegment}
 use Rattle.wal_page.specs.Order.{Entry, end_position}
-use Rattle.wal_page.specs.LogPage.{IsLogPage}
 use Rattle.wal_reader.specs.Pages.{page_of_image, pages_in}
-use Rattle.written_log.specs.WrittenLog.{HavePagesOfLog}
+use Rattle.written_log.specs.WrittenLog.{BeginsAsLogPage, HavePagesOfLog}
 use Rattle.written_log.specs.LogSegments.{IsLogSegment, HoldsSegments, SegmentsHoldLog}
 
 module _ (size sysid : ℕ) (image : DiskImage) (es : List Entry) (valid : IsSegmentSize size) (bounded : end_address_of size (end_position size es) ≤ 2 ^ 60) (holds : HoldsSegments size sysid image es) where
@@ -52,22 +51,23 @@ module _ (size sysid : ℕ) (image : DiskImage) (es : List Entry) (valid : IsSeg
     page_in : (i : ImageSegment) → image segment ≡ Some i → page_of_image (Some i) number ≡ Some (i.page number)
     page_in i there = cond-true _ _ _ (lt-ltb number i.pages (omega (arith, parts.1, (is_log_segment i there).0)))
 
-    page_of_segment : (here : Option ImageSegment) → image segment ≡ here → IfSome (page_of_image here number) (IsLogPage size sysid es page)
+    page_of_segment : (here : Option ImageSegment) → image segment ≡ here → IfSome (page_of_image here number) (BeginsAsLogPage size sysid es page)
     page_of_segment None there = tt
     page_of_segment (Some i) there =
         let page_is = (is_log_segment i there).1 number parts.1 in
-        subst (λ (o : Option (List ℕ)). IfSome o (IsLogPage size sysid es page)) (sym (page_in i there)) (subst (λ (p : ℕ). IsLogPage size sysid es p (i.page number)) parts.0 page_is)
+        let begins : BeginsAsLogPage size sysid es (segment * pages_of size + number) (i.page number) = record { long = omega (arith, page_is.long); each = page_is.each } in
+        subst (λ (o : Option (List ℕ)). IfSome o (BeginsAsLogPage size sysid es page)) (sym (page_in i there)) (subst (λ (p : ℕ). BeginsAsLogPage size sysid es p (i.page number)) parts.0 begins)
 
     page_is_there : (here : Option ImageSegment) → image segment ≡ here → IsSome here → IsSome (page_of_image here number)
     page_is_there None there some = absurd (false≢true some)
     page_is_there (Some i) there some = subst (λ (o : Option (List ℕ)). IsSome o) (sym (page_in i there)) refl
 
-    page_is_log : IfSome (pages_in size image page) (IsLogPage size sysid es page)
+    page_is_log : IfSome (pages_in size image page) (BeginsAsLogPage size sysid es page)
     page_is_log =
         let here = page_of_image (image segment) number in
         elim (cases_Bool (leb ((page + 1) * 8192) (2 ^ 60))) [
-          | inl low ↦ subst (λ (o : Option (List ℕ)). IfSome o (IsLogPage size sysid es page)) (sym (cond-true _ here None low)) (page_of_segment (image segment) refl)
-          | inr high ↦ subst (λ (o : Option (List ℕ)). IfSome o (IsLogPage size sysid es page)) (sym (cond-false _ here None high)) tt
+          | inl low ↦ subst (λ (o : Option (List ℕ)). IfSome o (BeginsAsLogPage size sysid es page)) (sym (cond-true _ here None low)) (page_of_segment (image segment) refl)
+          | inr high ↦ subst (λ (o : Option (List ℕ)). IfSome o (BeginsAsLogPage size sysid es page)) (sym (cond-false _ here None high)) tt
         ]
 
     page_is_in : page * 8192 < end_address_of size (end_position size es) → IsSome (pages_in size image page)

@@ -1,5 +1,5 @@
 -- What the writer puts into a log's pages reads back as its records, and then a clean end.
-use Rattle.std.proofs.Common.{◌≡◌, ℕ, ◌+◌, ◌*◌, ◌<◌, ◌≤◌, ltb, List, [], ◌∷◌, ◌++◌, Option, Some, None, Result, Ok, Err, get_or, refl, sym, ap, subst, ◌∙◌, add-zero, zero-add, append-nil, arith}
+use Rattle.std.proofs.Common.{◌≡◌, ℕ, ◌+◌, ◌*◌, ◌<◌, ◌≤◌, true, ltb, List, [], ◌∷◌, ◌++◌, Option, Some, None, Result, Ok, Err, get_or, refl, sym, ap, subst, ◌∙◌, add-zero, zero-add, append-nil, arith}
 use Rattle.std.specs.Prelude.{nat_le, map}
 use Rattle.std.specs.List.{filter, range_with_len}
 use Rattle.std.proofs.lemmas.List.FromFn.{length-map-range_with_len, get_or-map-range_with_len}
@@ -8,7 +8,6 @@ use Rattle.byte_position.specs.Geometry.{IsSegmentSize, pages_of}
 use Rattle.byte_position.specs.Position.{position_of, address_of, first_position}
 use Rattle.byte_position.proofs.SegmentSizes.{segment_size_in_pages}
 use Rattle.wal_page.specs.Order.{Entry, FollowsFrom, position_behind, rooms_of, end_position}
-use Rattle.wal_page.specs.LogPage.{IsLogPage}
 use Rattle.wal_page.specs.Log.{remaining_at, log_byte}
 use Rattle.wal_page.proofs.OrderLaws.{rooms_of_cons, room_at-pos}
 use Rattle.wal_page.proofs.OwnerLaws.{owner_of-entry}
@@ -17,19 +16,19 @@ use Rattle.wal_reader.specs.declared.found.FoundRecord.{FoundRecord}
 use Rattle.wal_reader.specs.declared.found.Answer.{Answer}
 use Rattle.wal_reader.specs.declared.found.Answer.TheVariants.{End}
 use Rattle.wal_reader.specs.Pages.{Pages}
-use Rattle.wal_reader.specs.Decodes.{Decodes, ReadsRecords, ReadsFrom, beginning, ended}
+use Rattle.wal_reader.specs.Decodes.{Decodes, ReadsRecords, ReadsFrom, beginning, ended, is_right_prev}
 use Rattle.written_log.specs.Written.{found_entry, found_from, found_of}
-use Rattle.written_log.specs.WrittenLog.{HavePagesOfLog, OwnPagesHoldLog, WrittenLogDecodes}
+use Rattle.written_log.specs.WrittenLog.{BeginsAsLogPage, HavePagesOfLog, OwnPagesHoldLog, WrittenLogDecodes}
 use Rattle.wal_reader.proofs.PagesLaws.{end_address_of-first_position}
 use Rattle.written_log.proofs.BeginLaws.{begins_nowhere, begins_empty, begins_behind_header}
 use Rattle.written_log.proofs.Tables.{first_fault-none}
 use Rattle.written_log.proofs.LogPositions.{page_of-start, start-le-address_of}
 use Rattle.written_log.proofs.LogPages.{IsWritten, page_is_sound}
-use Rattle.written_log.proofs.LogReads.{StandFrom, log_place, last_start, entries_are_read}
+use Rattle.written_log.proofs.LogReads.{StandFrom, log_place, last_start, entries_are_read, entries_come_first}
 use Rattle.written_log.proofs.LogEnds.{holds_below_end, page_begins_with_zeros, log_ends}
 
 -- no record starts below the log's own start
-none_below : (size prev position : ℕ) (es : List Entry) → IsSegmentSize size → FollowsFrom size position es → first_position size ≤ position → found_from size prev es ≡ filter (λ f. nat_le size f.start.0) (found_from size prev es)
+pub none_below : (size prev position : ℕ) (es : List Entry) → IsSegmentSize size → FollowsFrom size position es → first_position size ≤ position → found_from size prev es ≡ filter (λ f. nat_le size f.start.0) (found_from size prev es)
 none_below size prev position [] valid follows from = refl
 none_below size prev position (e ∷ es) valid follows from =
     let start = address_of size e.start in
@@ -41,7 +40,7 @@ none_below size prev position (e ∷ es) valid follows from =
     ∙ sym (cond-true (nat_le size start) (found ∷ filter (λ f. nat_le size f.start.0) others) (filter (λ f. nat_le size f.start.0) others) (le-leb size start above))
 
 -- the first position of the log's first page
-first_page_position : (size : ℕ) → IsSegmentSize size → position_of size (pages_of size * 8192) ≡ first_position size
+pub first_page_position : (size : ℕ) → IsSegmentSize size → position_of size (pages_of size * 8192) ≡ first_position size
 first_page_position size valid = ap (position_of size) (page_of-start size valid)
 
 -- ---- where nothing is written
@@ -77,22 +76,35 @@ module _ (size sysid : ℕ) (pages : Pages) (e : Entry) (es : List Entry) (w : I
       ∙ ap (λ (t : ℕ). Ok (record { position = first_position size; prev = None; timeline = t })) sound.2.on_timeline
       ∙ ap (λ (p : ℕ). Ok (record { position = p; prev = None; timeline = 1 })) (sym (add-zero (first_position size)))
 
+  -- they stand one behind another from the log's start on
+  all_stand : StandFrom size (e ∷ es) 0 0 (e ∷ es)
+  all_stand = record {
+    rooms = zero-add (rooms_of size (e ∷ es));
+    bytes = refl;
+    follows = subst (λ (p : ℕ). FollowsFrom size p (e ∷ es)) (sym (add-zero (first_position size))) w.chained;
+    front = [];
+    parts = refl;
+    prev_fits = omega arith;
+  }
+
+  right_at_first : is_right_prev None (address_of size (first_position size + 0)) 0 ≡ true
+  right_at_first =
+      let above = start-le-address_of size w.valid (first_position size + 0) (omega arith) in
+      lt-ltb 0 (address_of size (first_position size + 0)) (omega (arith, above, segment_size_in_pages size w.valid))
+
   -- they are read from the log's start on, and then what stands behind them
   pub entries_are_read_first : (found : List FoundRecord) (answer : Answer) → ReadsRecords size pages None (log_place size (rooms_of size (e ∷ es)) (last_start size None (e ∷ es))) found answer
       → ReadsFrom size pages None (beginning size pages size) (found_of size (e ∷ es) ++ found) answer
   entries_are_read_first found answer behind =
       let all = e ∷ es in
-      let stand : StandFrom size all 0 0 all = record {
-        rooms = zero-add (rooms_of size all);
-        bytes = refl;
-        follows = subst (λ (p : ℕ). FollowsFrom size p all) (sym (add-zero (first_position size))) w.chained;
-        front = [];
-        parts = refl;
-        prev_fits = omega arith;
-      } in
-      let above = start-le-address_of size w.valid (first_position size + 0) (omega arith) in
-      let right = lt-ltb 0 (address_of size (first_position size + 0)) (omega (arith, above, segment_size_in_pages size w.valid)) in
-      subst (λ (begun : Result RecordPlace Answer). ReadsFrom size pages None begun (found_of size all ++ found) answer) (sym begins_at_first) (entries_are_read size sysid pages all w all 0 0 None found answer stand right behind)
+      subst (λ (begun : Result RecordPlace Answer). ReadsFrom size pages None begun (found_of size all ++ found) answer) (sym begins_at_first) (entries_are_read size sysid pages all w all 0 0 None found answer all_stand right_at_first behind)
+
+  -- whatever is read begins with them
+  order_comes_first : (found : List FoundRecord) (answer : Answer) → ReadsFrom size pages None (beginning size pages size) found answer → (others : List FoundRecord) × (found ≡ found_of size (e ∷ es) ++ others)
+  order_comes_first found answer reads =
+      let all = e ∷ es in
+      let begun = subst (λ (begun : Result RecordPlace Answer). ReadsFrom size pages None begun found answer) begins_at_first reads in
+      entries_come_first size sysid pages all w all 0 0 None found answer all_stand right_at_first begun
 
   something_decodes : HavePagesOfLog size sysid pages (e ∷ es) → Decodes size pages size None (found_of size (e ∷ es)) (ended size (end_position size (e ∷ es)))
   something_decodes holds =
@@ -105,6 +117,11 @@ module _ (size sysid : ℕ) (pages : Pages) (e : Entry) (es : List Entry) (w : I
         given = none_below size 0 (first_position size) all w.valid w.chained (omega arith);
       }
 
+-- where an order's log stands below its end, whatever is read begins with the order's records
+pub written_order_comes_first : (size sysid : ℕ) (pages : Pages) (es : List Entry) → IsWritten size sysid pages es → (found : List FoundRecord) (answer : Answer) → ReadsFrom size pages None (beginning size pages size) found answer → (others : List FoundRecord) × (found ≡ found_of size es ++ others)
+written_order_comes_first size sysid pages [] w found answer reads = (found, refl)
+written_order_comes_first size sysid pages (e ∷ es) w found answer reads = order_comes_first size sysid pages e es w found answer reads
+
 pub written_log_decodes : WrittenLogDecodes
 written_log_decodes size sysid pages [] valid known narrow chained bounded holds =
     nothing_decodes size sysid pages holds (holds_below_end size sysid pages [] holds valid known narrow chained bounded)
@@ -116,9 +133,9 @@ written_log_decodes size sysid pages (e ∷ es) valid known narrow chained bound
 own_bytes : (size sysid : ℕ) (es : List Entry) (page n k : ℕ) → k < n → get_or (map (λ i. log_byte size sysid es (page * 8192 + i)) (range_with_len 0 n)) k 0 ≡ log_byte size sysid es (page * 8192 + k)
 own_bytes size sysid es page n k within = get_or-map-range_with_len (λ i. log_byte size sysid es (page * 8192 + i)) 0 n k k 0 within (omega arith)
 
-own_page : (size sysid : ℕ) (es : List Entry) (page n : ℕ) → n ≡ 8192 → IsLogPage size sysid es page (map (λ k. log_byte size sysid es (page * 8192 + k)) (range_with_len 0 n))
+own_page : (size sysid : ℕ) (es : List Entry) (page n : ℕ) → n ≡ 8192 → BeginsAsLogPage size sysid es page (map (λ k. log_byte size sysid es (page * 8192 + k)) (range_with_len 0 n))
 own_page size sysid es page n whole = record {
-  long = length-map-range_with_len (λ k. log_byte size sysid es (page * 8192 + k)) 0 n ∙ whole;
+  long = omega (arith, length-map-range_with_len (λ k. log_byte size sysid es (page * 8192 + k)) 0 n, whole);
   each = λ k within. own_bytes size sysid es page n k (omega arith);
 }
 

@@ -3,3 +3,4 @@ pub mod WrittenLog
 pub mod LogSegments
 pub mod Torn
 pub mod Agreeing
+pub mod LawfulLog

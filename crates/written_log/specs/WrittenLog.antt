@@ -1,20 +1,25 @@
 -- What a written log of many pages reads back as.
-use Rattle.std.specs.Prelude.{ℕ, ◌+◌, ◌*◌, ◌^◌, ◌<◌, ◌≤◌, List, map, Some, None, IfSome, IsSome}
+use Rattle.std.specs.Prelude.{◌≡◌, ℕ, ◌+◌, ◌*◌, ◌^◌, ◌<◌, ◌≤◌, List, length, map, slice_index, Some, None, IfSome, IsSome}
 use Rattle.std.specs.List.{range_with_len}
 use Rattle.byte_position.specs.Geometry.{IsSegmentSize, pages_of}
 use Rattle.byte_position.specs.Position.{end_address_of}
 use Rattle.wal_page.specs.Order.{Entry, IsChained, end_position}
 use Rattle.wal_page.specs.Log.{log_byte}
-use Rattle.wal_page.specs.LogPage.{IsLogPage}
 use Rattle.wal_reader.specs.Pages.{Pages}
 use Rattle.wal_reader.specs.Decodes.{Decodes, ended}
 use Rattle.written_log.specs.Written.{found_of}
+
+-- a page of the log as a reader needs it: its first 8192 bytes are the log's, whatever follows them
+pub record BeginsAsLogPage (size sysid : ℕ) (es : List Entry) (page : ℕ) (bytes : List ℕ)
+    : Type 0 where
+  pub long : 8192 ≤ length bytes
+  pub each : (k : ℕ) → k < 8192 → slice_index bytes k ≡ log_byte size sysid es (page * 8192 + k)
 
 -- pages that hold an order's log: each page from the log's first on that is there is the log's, and
 -- each that begins below the log's end is there
 pub record HavePagesOfLog (size sysid : ℕ) (pages : Pages) (es : List Entry) : Type 0 where
   pub is_log : (page : ℕ) → pages_of size ≤ page
-      → IfSome (pages page) (IsLogPage size sysid es page)
+      → IfSome (pages page) (BeginsAsLogPage size sysid es page)
   pub there : (page : ℕ) → pages_of size ≤ page → page * 8192
       < end_address_of size (end_position size es) → IsSome (pages page)
 

@@ -1,4 +1,5 @@
 ghost use Rattle.written_log.specs.Agreeing.{AgreeingLogsDecodeAlike};
+ghost use Rattle.written_log.specs.LawfulLog.{LawfulImagesDecodeToFronts, WholeLawfulImagesDecode};
 ghost use Rattle.written_log.specs.LogSegments.{SegmentsHoldLog};
 ghost use Rattle.written_log.specs.WrittenLog.{OwnPagesHoldLog, WrittenLogDecodes};
 
@@ -9,6 +10,14 @@ pub fn written_log_decodes()
     ensures decodes { WrittenLogDecodes }
     ensures own_pages { OwnPagesHoldLog }
     ensures segments { SegmentsHoldLog }
+{}
+
+/// A law: an image of a disk that is lawful for an order decodes to a front of it. The front holds
+/// each entry up to where the image has all that the order has, and is all of the order where that
+/// is its end.
+pub fn lawful_images_decode()
+    ensures fronts { LawfulImagesDecodeToFronts }
+    ensures whole { WholeLawfulImagesDecode }
 {}
 
 /// A law: two logs that agree below an address, and are 0 from there on, decode to the same

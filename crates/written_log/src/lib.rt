@@ -4,4 +4,4 @@
 
 mod laws;
 
-pub use laws::{agreeing_logs_decode_alike, written_log_decodes};
+pub use laws::{agreeing_logs_decode_alike, lawful_images_decode, written_log_decodes};

@@ -1,0 +1,58 @@
+-- What is read in pages that hold nothing but words of a log, where no torn record passes: a front of the order's records.
+use Rattle.std.proofs.Common.{◌≡◌, ◌⊎◌, ℕ, suc, ◌^◌, ◌<◌, ◌≤◌, List, [], ◌∷◌, ◌++◌, length, take, Some, None, Ok, inl, refl, sym, ap, subst, ◌∙◌, append-nil, append_assoc, arith}
+use Rattle.std.specs.Prelude.{slice_get}
+use Rattle.std.proofs.Math.Seq.{get_or-append_seam, take-append_seam}
+use Rattle.std.proofs.lemmas.List.{length-append}
+use Rattle.std.proofs.lemmas.Option.{slice_get-get_or}
+use Rattle.byte_position.specs.Geometry.{IsSegmentSize}
+use Rattle.byte_position.specs.Position.{address_of, end_address_of}
+use Rattle.wal_page.specs.Order.{Entry, IsChained, rooms_of, end_position, prev_of}
+use Rattle.wal_page.proofs.OrderLaws.{prev_of_push, room_at-pos, rooms_of-append, rooms_of_cons, rooms_of_push}
+use Rattle.wal_reader.specs.declared.record_place.RecordPlace.{RecordPlace}
+use Rattle.wal_reader.specs.declared.found.FoundRecord.{FoundRecord}
+use Rattle.wal_reader.specs.declared.found.Answer.{Answer}
+use Rattle.wal_reader.specs.Pages.{Pages}
+use Rattle.wal_reader.specs.Decodes.{ReadsRecords, place_behind, read_at}
+use Rattle.written_log.specs.Torn.{IsSeenTorn, IsTorn, NoTornPass}
+use Rattle.written_log.specs.Written.{found_entry, found_from}
+use Rattle.written_log.proofs.LawfulPages.{ArePagesOf}
+use Rattle.written_log.proofs.LawfulRecords.{entry_or_nothing, entry_start, no_record_behind}
+use Rattle.written_log.proofs.LogPositions.{address_of-below_end}
+
+-- an entry before a front of those behind it
+with_first : (size : ℕ) (e : Entry) (others : List Entry) (prev next : ℕ) (f : FoundRecord) (found : List FoundRecord) (count : ℕ) → count ≤ length others → f ≡ found_entry size prev e → found ≡ found_from size next (take count others) → next ≡ address_of size e.start
+    → (n : ℕ) × (n ≤ length (e ∷ others)) × (f ∷ found ≡ found_from size prev (take n (e ∷ others)))
+with_first size e others prev next f found count within entry behind at =
+    (suc count, omega (arith, within), ap (λ (g : FoundRecord). g ∷ found) entry ∙ ap (λ (gs : List FoundRecord). found_entry size prev e ∷ gs) (behind ∙ ap (λ (p : ℕ). found_from size p (take count others)) at))
+
+module _ (size sysid : ℕ) (pages : Pages) (es : List Entry) (upto : ℕ) (valid : IsSegmentSize size) (chained : IsChained size es) (bounded : end_address_of size (end_position size es) ≤ 2 ^ 60) (are : ArePagesOf size sysid pages es upto) (no_torn : NoTornPass size pages es) where
+  -- what is promised of each entry by its number, for an entry by its place
+  entry_does_not_pass : (front others : List Entry) (e : Entry) → es ≡ front ++ e ∷ others → IsTorn size pages e (prev_of size 0 front) → IsSeenTorn size pages e (prev_of size 0 front)
+  entry_does_not_pass front others e parts =
+      let n = length front in
+      let within : n < length (front ++ e ∷ others) = omega (arith, length-append front (e ∷ others)) in
+      let got : slice_get es n ≡ Some e = ap (λ (l : List Entry). slice_get l n) parts ∙ slice_get-get_or (front ++ e ∷ others) n e within ∙ ap Some (get_or-append_seam front e others e) in
+      let taken : take n es ≡ front = ap (take n) parts ∙ take-append_seam front (e ∷ others) in
+      subst (λ (l : List Entry). IsTorn size pages e (prev_of size 0 l) → IsSeenTorn size pages e (prev_of size 0 l)) taken (no_torn n e got)
+
+  -- records that are read from an entry's place on are a front of those that stand there
+  pub records_are_front : (rest front : List Entry) → es ≡ front ++ rest → (place : RecordPlace) → place.position ≡ end_position size front → prev_of size 0 front < 2 ^ 64 → (place.prev ≡ Some (record { 0 = prev_of size 0 front })) ⊎ (front ≡ []) → (found : List FoundRecord) (answer : Answer)
+      → ReadsRecords size pages None place found answer → (count : ℕ) × (count ≤ length rest) × (found ≡ found_from size (prev_of size 0 front) (take count rest))
+  records_are_front rest front parts place at fits known [] answer reads = (0, omega arith, refl)
+  records_are_front [] front parts place at fits known (f ∷ found) answer reads =
+      let all : front ≡ es = sym (parts ∙ append-nil front) in
+      absurd (no_record_behind size sysid pages es upto valid chained are place f (at ∙ ap (end_position size) all) reads.0)
+  records_are_front (e ∷ others) front parts place at fits known (f ∷ found) answer reads =
+      let prev = prev_of size 0 front in
+      let start = entry_start size sysid pages es upto valid chained are front others e parts in
+      let here = subst (λ (p : ℕ). read_at size pages None (record { position = p; prev = place.prev; timeline = place.timeline }) ≡ Ok f) (at ∙ sym start) reads.0 in
+      let entry : f ≡ found_entry size prev e = entry_or_nothing size sysid pages es upto valid chained are front others e parts place.prev place.timeline f fits known (entry_does_not_pass front others e parts) here in
+      let total = ap (λ (g : FoundRecord). g.total) entry in
+      let pushed = prev_of_push size 0 front e in
+      let within : e.start < end_position size es = omega (arith, start, ap (rooms_of size) parts, rooms_of-append size front (e ∷ others), rooms_of_cons size e others, room_at-pos size e) in
+      let below = address_of-below_end size valid e.start (end_position size es) within in
+      let now : es ≡ (front ++ e ∷ []) ++ others = parts ∙ sym (append_assoc front (e ∷ []) others) in
+      let next : (place_behind size pages place f).position ≡ end_position size (front ++ e ∷ []) = omega (arith, at, total, rooms_of_push size front e) in
+      let known_next : Some f.start ≡ Some (record { 0 = prev_of size 0 (front ++ e ∷ []) }) = ap (λ (g : FoundRecord). Some g.start) entry ∙ ap (λ (a : ℕ). Some (record { 0 = a })) (sym pushed) in
+      let behind = records_are_front others (front ++ e ∷ []) now (place_behind size pages place f) next (omega (arith, pushed, below)) (inl known_next) found answer reads.1 in
+      with_first size e others prev (prev_of size 0 (front ++ e ∷ [])) f found behind.0 behind.1 entry behind.2 pushed
