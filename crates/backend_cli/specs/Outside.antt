@@ -11,17 +11,19 @@ Took old new before after text =
     ⊎ (Rose before after × ((n : ℕ) × (new ≡ with_behind old (take n text))))
 
 -- a source as clauses see it: the bytes that it has left, where it tells them, all that it has
--- handed out so far, and its count of faults
+-- handed out so far, how often it has answered that nothing is left, and its count of faults
 pub record SourceView : Type 0 where
   pub left : Option (List ℕ)
   pub handed : List ℕ
+  pub ends_told : ℕ
   pub faults : ℕ
 
-abbrev pub source_view : {S : Type 0} → (S → Option (List ℕ)) → (S → List ℕ) → (S → ℕ) → S
-    → SourceView
-source_view left handed faults source = record {
+abbrev pub source_view : {S : Type 0} → (S → Option (List ℕ)) → (S → List ℕ) → (S → ℕ)
+    → (S → ℕ) → S → SourceView
+source_view left handed ends_told faults source = record {
   left = left source;
   handed = handed source;
+  ends_told = ends_told source;
   faults = faults source;
 }
 

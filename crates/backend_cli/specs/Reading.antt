@@ -1,5 +1,5 @@
 -- Reading a script off a source.
-use Rattle.std.specs.Prelude.{◌≡◌, ℕ, ◌+◌, ◌≤◌, List, ◌++◌, length, take, drop, Option, Some, None, option_map, Result, Ok, Err, Vec}
+use Rattle.std.specs.Prelude.{◌≡◌, ℕ, ◌+◌, ◌<◌, ◌≤◌, ◌⊎◌, List, ◌++◌, length, take, drop, Option, Some, None, option_map, Result, Ok, Err, Vec}
 use Rattle.std.specs.declared.alloc.Global.{Global}
 use Rattle.segment_disk.specs.Cause.{RoseByOne}
 use Rattle.segment_disk.specs.Stream.{LosesFront}
@@ -15,11 +15,12 @@ abbrev pub IsFront : ℕ → Option (List ℕ) → List ℕ → Type 0
 IsFront most None bytes = Unit {0}
 IsFront most (Some left) bytes = bytes ≡ take most left
 
--- a source handed out these bytes in between: all that it had left, or as many as were asked for,
--- and it did not fail
+-- a source handed out these bytes in between: all that it had left, until it answered that nothing
+-- is left, or as many as were asked for; and it did not fail
 pub record ReadsBytes (most : ℕ) (before after : SourceView) (bytes : List ℕ) : Type 0 where
   pub handed_out : after.handed ≡ before.handed ++ bytes
   pub is_front : IsFront most before.left bytes
+  pub to_end : (before.ends_told < after.ends_told) ⊎ (length bytes ≡ most)
   pub left_behind : after.left ≡ option_map (drop most) before.left
   pub within : length bytes ≤ most
   pub faults_same : after.faults ≡ before.faults
@@ -47,5 +48,6 @@ ScriptMeans before after meaning =
 pub record HasRead (most : ℕ) (before now : SourceView) (bytes : List ℕ) : Type 0 where
   pub taken_off : LosesFront before.left now.left bytes
   pub handed_out : now.handed ≡ before.handed ++ bytes
+  pub ends_told : before.ends_told ≤ now.ends_told
   pub faults_same : now.faults ≡ before.faults
   pub within : length bytes ≤ most

@@ -42,8 +42,8 @@ fn obey<S: Source, O: Sink, D: Disk, G: Gate>(
 ) -> Finished<D>
     requires in_range { AsksInRange command }
     ensures obeys { Obeys command (outside_of
-        (source_view S.left S.handed S.faults script.old)
-        (source_view S.left S.handed S.faults script.new)
+        (source_view S.left S.handed S.ends_told S.faults script.old)
+        (source_view S.left S.handed S.ends_told S.faults script.new)
         D.tape D.moment D.faults disk result.disk O.taken O.faults out.old out.new)
         result.outcome result.told }
     ensures as_handed_in { AsksRun command → result.outcome ≡ Outcome.OutOfMemory
@@ -87,8 +87,8 @@ pub fn pgwal<R: Threads + Wait + Sync, S: Source, O: Sink, E: Sink, D: Disk + Se
         × Took (E.taken err.old) (E.taken err.new) (E.faults err.old) (E.faults err.new)
         (joined (outcome_text outcome))
         × Obeys (asks (map (λ w. string_bytes w) words.now)) (outside_of
-        (source_view S.left S.handed S.faults script.old)
-        (source_view S.left S.handed S.faults script.new)
+        (source_view S.left S.handed S.ends_told S.faults script.old)
+        (source_view S.left S.handed S.ends_told S.faults script.new)
         D.tape D.moment D.faults disk result.disk O.taken O.faults out.old out.new)
         outcome result.told }
     // A run that ends for want of memory hands the disk back as it came.

@@ -30,8 +30,8 @@ const PIECE: usize = 65_536;
 /// Reads a script to its end, or to one byte past its limit.
 pub(crate) fn read_script<S: Source>(alloc: Global, source: &mut S) -> Result<Vec<u8>, ReadFailure>
     ensures { ReadsAll
-        (source_view S.left S.handed S.faults source.old)
-        (source_view S.left S.handed S.faults source.new) result }
+        (source_view S.left S.handed S.ends_told S.faults source.old)
+        (source_view S.left S.handed S.ends_told S.faults source.new) result }
 {
     let mut piece = vec![in alloc; 0u8; PIECE]?;
     read_upto(alloc, source, &mut piece, SCRIPT_LIMIT + 1)
@@ -46,8 +46,8 @@ fn read_upto<S: Source>(
 ) -> Result<Vec<u8>, ReadFailure>
     requires { 0 < length piece.old }
     ensures { ReadsUpto most
-        (source_view S.left S.handed S.faults source.old)
-        (source_view S.left S.handed S.faults source.new) result }
+        (source_view S.left S.handed S.ends_told S.faults source.old)
+        (source_view S.left S.handed S.ends_told S.faults source.new) result }
 {
     let mut bytes = Vec::new(alloc);
     while bytes.len() < most {

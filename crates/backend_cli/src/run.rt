@@ -48,8 +48,8 @@ const SYSTEM_ID: u64 = 1;
 
 fn lines_of<S: Source>(alloc: Global, source: &mut S) -> Result<Vec<Line>, Outcome>
     ensures { ReadsLines
-        (source_view S.left S.handed S.faults source.old)
-        (source_view S.left S.handed S.faults source.new) result }
+        (source_view S.left S.handed S.ends_told S.faults source.old)
+        (source_view S.left S.handed S.ends_told S.faults source.new) result }
 {
     let script = match read_script(alloc, source) {
         Ok(script) => script,
@@ -80,8 +80,8 @@ fn room_for(alloc: Global, shape: Shape, lines: Vec<Line>) -> Result<Prepared, A
 // Reads the script and takes all room.
 fn prepare<S: Source>(alloc: Global, shape: &Shape, source: &mut S) -> Result<Prepared, Outcome>
     ensures { Prepares
-        (source_view S.left S.handed S.faults source.old)
-        (source_view S.left S.handed S.faults source.new) shape.now result }
+        (source_view S.left S.handed S.ends_told S.faults source.old)
+        (source_view S.left S.handed S.ends_told S.faults source.new) shape.now result }
 {
     let lines = lines_of(alloc, source)?;
     match room_for(alloc, *shape, lines) {
@@ -250,8 +250,8 @@ pub(crate) fn run<S: Source, O: Sink, D: Disk, G: Gate>(
     gate: &G,
 ) -> Finished<D>
     ensures holds { RunHolds (outside_of
-        (source_view S.left S.handed S.faults source.old)
-        (source_view S.left S.handed S.faults source.new)
+        (source_view S.left S.handed S.ends_told S.faults source.old)
+        (source_view S.left S.handed S.ends_told S.faults source.new)
         D.tape D.moment D.faults disk result.disk O.taken O.faults out.old out.new)
         shape.geometry (capacity_of shape.geometry shape.cap_segments)
         list result.outcome result.told }

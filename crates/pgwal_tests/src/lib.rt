@@ -14,6 +14,8 @@ mod listing;
 #[cfg(test)]
 mod moments;
 #[cfg(test)]
+mod noting;
+#[cfg(test)]
 mod pages;
 #[cfg(test)]
 mod played;

@@ -1,14 +1,15 @@
 //! A script beyond its limit.
 
-use crate::played::{Open, empty_disk};
+use crate::played::{Open, empty_disk, words_of};
 use backend_cli::pgwal;
-use segment_disk::{Disk, Failed, HandedOut, MemSink, Source};
+use segment_disk::{Disk, EndsTold, Failed, HandedOut, MemSink, Source};
 use std::test::Fail;
 
 /// A source of line feeds without an end, which tells nothing of what is left.
 #[derive(Drop)]
 struct LineFeeds {
     handed: HandedOut,
+    ends_told: EndsTold,
 }
 
 impl Source for LineFeeds {
@@ -18,12 +19,15 @@ impl Source for LineFeeds {
 
     ghost handed = { λ s. s.handed.bytes };
 
+    ghost ends_told = { λ s. s.ends_told.count };
+
     ghost faults = { λ _. 0 };
 
     fn read(&mut self, into: &mut [u8]) -> Result<usize, Failed> {
         into.fill(b'\n');
         let count = into.len();
         self.handed.add(&into[..count]);
+        self.ends_told.note(into.len(), count);
         Ok(count)
     }
 
@@ -38,13 +42,12 @@ fn a_script_beyond_its_limit_is_refused_at_its_first_byte_too_many(
     rt: HostRuntime,
 ) -> Result<(), Fail> {
     let alloc = rt.alloc();
-    let mut words = Vec::new(alloc);
-    words.push(String::from_str(alloc, "pgwal")?)?;
-    words.push(String::from_str(alloc, "run")?)?;
+    let words = words_of(alloc, &["run"])?;
     let mut out = MemSink::new(alloc, 1024, Vec::new(alloc))?;
     let mut err = MemSink::new(alloc, 1024, Vec::new(alloc))?;
     let mut source = LineFeeds {
         handed: HandedOut::new(),
+        ends_told: EndsTold::new(),
     };
     let ended = pgwal(
         &rt,

@@ -50,6 +50,16 @@ pub fn setting_of(alloc: Global, script: &[u8], disk: MemDisk) -> Result<Setting
     })
 }
 
+/// The words of a command line, behind the program's name.
+pub fn words_of(alloc: Global, words: &[&str]) -> Result<Vec<String>, Fail> {
+    let mut given = Vec::new(alloc);
+    given.push(String::from_str(alloc, "pgwal")?)?;
+    for word in words {
+        given.push(String::from_str(alloc, word)?)?;
+    }
+    Ok(given)
+}
+
 /// Plays a command, each line of a script through a gate.
 pub fn play_through<R: Threads + Wait + Sync, G: Gate + Sync>(
     rt: &R,
@@ -58,11 +68,7 @@ pub fn play_through<R: Threads + Wait + Sync, G: Gate + Sync>(
     setting: Setting,
     gate: &G,
 ) -> Result<Played, Fail> {
-    let mut given = Vec::new(alloc);
-    given.push(String::from_str(alloc, "pgwal")?)?;
-    for word in words {
-        given.push(String::from_str(alloc, word)?)?;
-    }
+    let given = words_of(alloc, words)?;
     let Setting {
         disk,
         mut source,

@@ -12,6 +12,10 @@ source_left source = Some (drop source.taken source.bytes.items)
 abbrev pub source_handed : MemSource → List ℕ
 source_handed source = take source.taken source.bytes.items
 
+-- how often a source has answered that nothing is left
+abbrev pub source_ends_told : MemSource → ℕ
+source_ends_told source = source.ends_told.count
+
 -- how often a source has failed
 abbrev pub source_faults : MemSource → ℕ
 source_faults source = source.faults

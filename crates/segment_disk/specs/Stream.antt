@@ -1,5 +1,5 @@
 -- What sources and sinks do with their bytes, where they tell them.
-use Rattle.std.specs.Prelude.{◌≡◌, ℕ, List, ◌++◌, take, Option, Some, None, option_map}
+use Rattle.std.specs.Prelude.{◌≡◌, ℕ, ◌+◌, List, ◌++◌, take, Option, Some, None, option_map, nat_lt, ◌==◌, ◌&&◌, if◌then◌else◌}
 
 -- these bytes are taken off the front of what is left, where that is told
 abbrev pub LosesFront : Option (List ℕ) → Option (List ℕ) → List ℕ → Type 0
@@ -18,6 +18,11 @@ abbrev pub HandsOut : Option (List ℕ) → Option (List ℕ) → List ℕ → L
 HandsOut old_left new_left old_handed new_handed =
     (between : List ℕ) × (new_handed ≡ old_handed ++ between)
     × LosesFront old_left new_left between
+
+-- how often a source has answered that nothing is left, once a read into a piece of this room gave
+-- so many bytes: none into a piece that is not empty is one more
+abbrev pub ends_after : ℕ → ℕ → ℕ → ℕ
+ends_after before room count = if count == 0 && nat_lt 0 room then before + 1 else before
 
 -- what was taken, with further bytes behind it
 abbrev pub with_behind : Option (List ℕ) → List ℕ → Option (List ℕ)

@@ -3,12 +3,14 @@
 #![tactic(auto)]
 
 mod disk;
+mod ends_told;
 mod failed;
 mod handed;
 mod memory;
 mod stream;
 
 pub use disk::{Call, CallKind, Disk, PageBytes};
+pub use ends_told::EndsTold;
 pub use failed::{Failed, count_fault};
 pub use handed::HandedOut;
 pub use memory::{MemDisk, MemSink, MemSource, Memory, Pick};

@@ -1,18 +1,21 @@
 ghost use Rattle.std.specs.Prelude.{◌≡◌, ℕ, ◌<◌, ◌≤◌, List, [], ◌++◌, length, take, Option, IfOk, OnErr, IfSome};
 ghost use Rattle.segment_disk.specs.Cause.{HasCause};
-ghost use Rattle.segment_disk.specs.Stream.{Takes, with_behind};
+ghost use Rattle.segment_disk.specs.Stream.{Takes, ends_after, with_behind};
 
 use crate::failed::Failed;
 
-/// Bytes that come from outside, piece by piece. What each source tells is what it has handed out;
-/// one that also tells what is left has handed out the front of that, in order, and nothing else
-/// (`HandsOut` of specs/Stream.antt).
+/// Bytes that come from outside, piece by piece. What each source tells is what it has handed out,
+/// and how often it has answered that nothing is left; one that also tells what is left has handed
+/// out the front of that, in order, and nothing else (`HandsOut` of specs/Stream.antt).
 pub trait Source {
     /// The bytes that are left, where the source tells them.
     ghost left: { Self → Option (List ℕ) };
 
     /// All bytes that it has handed out so far.
     ghost handed: { Self → List ℕ };
+
+    /// How often it has answered that nothing is left.
+    ghost ends_told: { Self → ℕ };
 
     /// How often the source has failed.
     ghost faults: { Self → ℕ };
@@ -26,6 +29,9 @@ pub trait Source {
         ensures taken { IfOk result (λ n. Takes (left self.old) (left self.new) n into.new) }
         ensures end { IfOk result (λ n. n ≡ 0 → 0 < length into.old
             → IfSome (left self.old) (λ bytes. bytes ≡ [])) }
+        ensures ends_told { IfOk result (λ n.
+            ends_told self.new ≡ ends_after (ends_told self.old) (length into.old) n) }
+        ensures no_end_told { OnErr result (ends_told self.new ≡ ends_told self.old) }
         ensures failed { OnErr result (left self.new ≡ left self.old) }
         ensures cause { HasCause (faults self.old) (faults self.new) result };
 

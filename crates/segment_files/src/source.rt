@@ -1,8 +1,9 @@
 ghost use Rattle.std.specs.Prelude.{◌≡◌, ◌≤◌, ◌<◌, ◌++◌, [], None, IfOk, OnErr, length, take};
 ghost use Rattle.std.specs.Io.KnownBytes.{Keeps, ReadConsumes};
 ghost use Rattle.segment_disk.specs.Cause.{HasCause};
+ghost use Rattle.segment_disk.specs.Stream.{ends_after};
 
-use segment_disk::{Failed, HandedOut, Source, count_fault};
+use segment_disk::{EndsTold, Failed, HandedOut, Source, count_fault};
 use std::io;
 use std::io::{ErrorKind, Read};
 
@@ -14,6 +15,7 @@ const MOST_TRIES: u32 = 1000;
 pub struct StandardSource<R: Read> {
     reader: R,
     handed: HandedOut,
+    ends_told: EndsTold,
     faults: u64,
 }
 
@@ -23,12 +25,14 @@ impl<R: Read> StandardSource<R> {
     pub fn new(reader: R) -> StandardSource<R>
         ensures left { ⟦<StandardSource<R> as Source>⟧.left result ≡ None }
         ensures handed { ⟦<StandardSource<R> as Source>⟧.handed result ≡ [] }
+        ensures ends_told { ⟦<StandardSource<R> as Source>⟧.ends_told result ≡ 0 }
         ensures faults { ⟦<StandardSource<R> as Source>⟧.faults result ≡ 0 }
         ensures bytes { reader_left R.remaining result ≡ R.remaining reader }
     {
         StandardSource {
             reader,
             handed: HandedOut::new(),
+            ends_told: EndsTold::new(),
             faults: 0,
         }
     }
@@ -42,6 +46,8 @@ impl<R: Read> Source for StandardSource<R> {
 
     ghost handed = { λ s. s.handed.bytes };
 
+    ghost ends_told = { λ s. s.ends_told.count };
+
     ghost faults = { λ s. s.faults };
 
     fn read(&mut self, into: &mut [u8]) -> Result<usize, Failed>
@@ -49,6 +55,10 @@ impl<R: Read> Source for StandardSource<R> {
         ensures handed { IfOk result (λ n.
             self.new.handed.bytes ≡ self.old.handed.bytes ++ take n into.new) }
         ensures none_handed { OnErr result (self.new.handed.bytes ≡ self.old.handed.bytes) }
+        ensures ends_told { IfOk result (λ n.
+            self.new.ends_told.count ≡ ends_after self.old.ends_told.count (length into.old) n) }
+        ensures no_end_told { OnErr result
+            (self.new.ends_told.count ≡ self.old.ends_told.count) }
         ensures cause { HasCause self.old.faults self.new.faults result }
 
         // It gives the reader's bytes in order, and answers 0 where none is left.
@@ -58,6 +68,7 @@ impl<R: Read> Source for StandardSource<R> {
         match read_once(&mut self.reader, into) {
             Ok(count) => {
                 self.handed.add(&into[..count]);
+                self.ends_told.note(into.len(), count);
                 Ok(count)
             }
             Err(_) => Err(count_fault(&mut self.faults)),

@@ -1,8 +1,9 @@
 ghost use Rattle.std.specs.Prelude.{◌≡◌, ◌≤◌, ◌<◌, [], ◌++◌, Some, take, drop, length, min, is_err, IfOk, OnErr, IfSome};
 ghost use Rattle.segment_disk.specs.Cause.{HasCause};
 ghost use Rattle.segment_disk.specs.Failing.{fails_next, after_next};
-ghost use Rattle.segment_disk.specs.Stream.{Takes};
+ghost use Rattle.segment_disk.specs.Stream.{Takes, ends_after};
 
+use crate::ends_told::EndsTold;
 use crate::failed::{Failed, count_fault};
 use crate::memory::schedule::Schedule;
 use crate::stream::Source;
@@ -12,6 +13,7 @@ use crate::stream::Source;
 pub struct MemSource {
     bytes: Vec<u8>,
     taken: usize,
+    ends_told: EndsTold,
     schedule: Schedule,
     faults: u64,
     ghost within: { taken ≤ length bytes.items },
@@ -25,12 +27,14 @@ impl MemSource {
     pub fn new(bytes: Vec<u8>, fail: Vec<u64>) -> MemSource
         ensures left { ⟦<MemSource as Source>⟧.left result ≡ Some bytes.items }
         ensures handed { ⟦<MemSource as Source>⟧.handed result ≡ [] }
+        ensures ends_told { ⟦<MemSource as Source>⟧.ends_told result ≡ 0 }
         ensures faults { ⟦<MemSource as Source>⟧.faults result ≡ 0 }
         ensures failing { source_failing result ≡ record { numbers = fail.items; made = 0 } }
     {
         MemSource {
             bytes,
             taken: 0,
+            ends_told: EndsTold::new(),
             schedule: Schedule::new(fail),
             faults: 0,
         }
@@ -38,11 +42,13 @@ impl MemSource {
 }
 
 impl Source for MemSource {
-    ghost use Rattle.segment_disk.specs.MemStream.{source_left, source_handed, source_faults, source_failing};
+    ghost use Rattle.segment_disk.specs.MemStream.{source_left, source_handed, source_ends_told, source_faults, source_failing};
 
     ghost left = { source_left };
 
     ghost handed = { source_handed };
+
+    ghost ends_told = { source_ends_told };
 
     ghost faults = { source_faults };
 
@@ -55,6 +61,9 @@ impl Source for MemSource {
             (λ n. Takes (source_left self.old) (source_left self.new) n into.new) }
         ensures end { IfOk result (λ n. n ≡ 0 → 0 < length into.old
             → IfSome (source_left self.old) (λ bytes. bytes ≡ [])) }
+        ensures ends_told { IfOk result (λ n. source_ends_told self.new
+            ≡ ends_after (source_ends_told self.old) (length into.old) n) }
+        ensures no_end_told { OnErr result (source_ends_told self.new ≡ source_ends_told self.old) }
         ensures failed { OnErr result (source_left self.new ≡ source_left self.old) }
         ensures cause { HasCause (source_faults self.old) (source_faults self.new) result }
 
@@ -71,6 +80,7 @@ impl Source for MemSource {
         let count = into.len().min(rest.len());
         into[..count].copy_from_slice(&rest[..count]);
         self.taken += count;
+        self.ends_told.note(into.len(), count);
         Ok(count)
     }
 
