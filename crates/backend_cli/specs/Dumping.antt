@@ -1,33 +1,36 @@
 -- What a listing promises.
 use Rattle.std.specs.Prelude.{◌≡◌, ℕ, List, [], IfSome, Result, Ok, Err}
 use Rattle.segment_disk.specs.Tape.{IsNotMade, Tape}
-use Rattle.wal_types.specs.declared.lsn.Lsn.{Lsn}
-use Rattle.wal_reader.specs.declared.found.Answer.TheVariants as answers
 use Rattle.wal_reader.specs.declared.found.Stopped.{Stopped as LogStop}
 use Rattle.wal_reader.specs.declared.standing.ReadErr.TheVariants as reading
 use Rattle.waldump_text.specs.declared.dumping.DumpErr.{DumpErr}
 use Rattle.waldump_text.specs.declared.dumping.DumpErr.TheVariants.{Read, Sink}
-use Rattle.waldump_text.specs.Dump.{PutsListing, PutsListingFront}
+use Rattle.waldump_text.specs.Dump.{ListsAll, ListsFront, ListsUpTo}
+use Rattle.command_words.specs.declared.words.DumpOptions.{DumpOptions}
 use Rattle.backend_cli.specs.declared.outcome.Outcome.{Outcome}
 use Rattle.backend_cli.specs.declared.outcome.Outcome.TheVariants.{Done, OutOfMemory, DiskFault, Stopped, SinkFault}
 use Rattle.backend_cli.specs.declared.told.Told.{Told}
 use Rattle.segment_disk.specs.Cause.{Rose, RoseByOne}
 use Rattle.backend_cli.specs.Outside.{Outside}
 
--- what a listing printed, by how it may end: the lines of the records that the disk's log decodes
--- to, or a front of them
-pub data Listed (size : ℕ) (outside : Outside) : Outcome → Tape → Type 0 where
-  all : {t : Tape} (at : Lsn) → PutsListing size t outside.taken_before outside.taken_after
-      (answers.End at) → Listed size outside Done t
+-- what a listing printed, by how it may end: the lines of the records that the filter lists of those
+-- that the disk's log decodes to, or a front of them
+pub data Listed (asked : DumpOptions) (outside : Outside) : Outcome → Tape → Type 0 where
+  all : {t : Tape} (count : ℕ)
+      → ListsAll asked.geometry asked.filter t outside.taken_before outside.taken_after count
+      → Listed asked outside Done t
   all_before : {t : Tape} {stop : LogStop}
-      → PutsListing size t outside.taken_before outside.taken_after (answers.Stopped stop)
-      → Listed size outside (Stopped stop) t
-  front_for_memory : {t : Tape} → PutsListingFront size t outside.taken_before outside.taken_after
-      → Listed size outside OutOfMemory t
-  front_for_disk : {t : Tape} → PutsListingFront size t outside.taken_before outside.taken_after
-      → Listed size outside DiskFault t
-  front_for_sink : {t : Tape} → PutsListingFront size t outside.taken_before outside.taken_after
-      → Listed size outside SinkFault t
+      → ListsUpTo asked.geometry asked.filter t outside.taken_before outside.taken_after stop
+      → Listed asked outside (Stopped stop) t
+  front_for_memory : {t : Tape}
+      → ListsFront asked.geometry asked.filter t outside.taken_before outside.taken_after
+      → Listed asked outside OutOfMemory t
+  front_for_disk : {t : Tape}
+      → ListsFront asked.geometry asked.filter t outside.taken_before outside.taken_after
+      → Listed asked outside DiskFault t
+  front_for_sink : {t : Tape}
+      → ListsFront asked.geometry asked.filter t outside.taken_before outside.taken_after
+      → Listed asked outside SinkFault t
 
 -- neither the disk nor the sink counted a fault
 pub record NoFaults (outside : Outside) : Type 0 where
@@ -45,17 +48,17 @@ pub data ListingEnds (outside : Outside) : Outcome → Type 0 where
       → RoseByOne outside.sink_before outside.sink_after → ListingEnds outside SinkFault
 
 -- how a listing ends, by what it answers
-abbrev pub outcome_of : Result (Unit {0}) DumpErr → Outcome
-outcome_of (Ok done) = Done
+abbrev pub outcome_of : Result ℕ DumpErr → Outcome
+outcome_of (Ok count) = Done
 outcome_of (Err (Read reading.Memory)) = OutOfMemory
 outcome_of (Err (Read (reading.Disk faults))) = DiskFault
 outcome_of (Err (Read (reading.Stopped stop))) = Stopped stop
 outcome_of (Err (Sink fault)) = SinkFault
 
 -- a listing: what it printed, no counted call of the disk, the script not read, and nothing told
-pub record DumpHolds (outside : Outside) (size : ℕ) (outcome : Outcome)
+pub record DumpHolds (outside : Outside) (asked : DumpOptions) (outcome : Outcome)
     (lists : List (List Told)) : Type 0 where
-  pub listed : IfSome outside.tape_before (Listed size outside outcome)
+  pub listed : IfSome outside.tape_before (Listed asked outside outcome)
   pub ends : ListingEnds outside outcome
   pub uncalled :
       IsNotMade outside.tape_before outside.tape_after outside.moment_before outside.moment_after

@@ -24,10 +24,10 @@ Obeys None outside outcome lists = IsUsage outside outcome lists
 Obeys (Some (Run options)) outside outcome lists =
     RunHolds outside options.geometry (capacity_of options.geometry options.cap_segments)
     options.list outcome lists
-Obeys (Some (Dump size)) outside outcome lists = DumpHolds outside size outcome lists
+Obeys (Some (Dump options)) outside outcome lists = DumpHolds outside options outcome lists
 
 -- a run is asked for
 abbrev pub AsksRun : Option Command → Type 0
 AsksRun None = ⊥
 AsksRun (Some (Run options)) = Unit {0}
-AsksRun (Some (Dump size)) = ⊥
+AsksRun (Some (Dump options)) = ⊥

@@ -63,7 +63,7 @@ fn obey<S: Source, O: Sink, D: Disk, G: Gate>(
             ).unwrap();
             run(alloc, shape, options.list, script, disk, out, gate)
         }
-        Some(Command::Dump(geometry)) => list(alloc, *geometry, disk, out),
+        Some(Command::Dump(options)) => list(alloc, options, disk, out),
     }
 }
 

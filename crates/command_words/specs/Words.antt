@@ -3,6 +3,7 @@ use Rattle.std.specs.Prelude.{ℕ, ◌-◌, ◌^◌, ◌≤◌, Bool, true, fals
 use Rattle.std.specs.Str.{bytes_eq}
 use Rattle.byte_position.specs.Geometry.{is_segment_size}
 use Rattle.decimal_numbers.specs.Numbers.{number_of}
+use Rattle.listing_filter.specs.Keeping.{everything_from}
 use Rattle.command_words.specs.declared.words.Valued.{Valued}
 use Rattle.command_words.specs.declared.words.Valued.TheVariants.{SegmentSize, RingPages, CapSegments}
 use Rattle.command_words.specs.declared.words.GivenOptions.{GivenOptions}
@@ -109,10 +110,15 @@ run_with given = run_of (record {
 abbrev pub AsksInRange : Option Command → Type 0
 AsksInRange None = Unit {0}
 AsksInRange (Some (Run options)) = IsInRange options
-AsksInRange (Some (Dump size)) = Unit {0}
+AsksInRange (Some (Dump options)) = Unit {0}
+
+-- a listing of everything from segment 1 on
+abbrev pub dump_of : ℕ → Option Command
+dump_of size =
+    Some (Dump (record { geometry = size; filter = everything_from (record { 0 = size }) }))
 
 abbrev pub dump_with : GivenOptions → Option Command
-dump_with given = Some (Dump (unwrap_or given.segment_size default_segment_size))
+dump_with given = dump_of (unwrap_or given.segment_size default_segment_size)
 
 -- the program's name, a command's name, and its options
 abbrev pub asks : List (List ℕ) → Option Command

@@ -3,4 +3,4 @@
 
 mod words;
 
-pub use words::{Command, RunOptions, asked};
+pub use words::{Command, DumpOptions, RunOptions, asked};

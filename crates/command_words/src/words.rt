@@ -3,6 +3,8 @@ ghost use Rattle.command_words.specs.Words.{AsksInRange, IsInRange, are_in_range
 
 use byte_position::Geometry;
 use decimal_numbers::number;
+use listing_filter::Filter;
+use wal_types::Lsn;
 
 /// What `run` is asked to do.
 #[derive(Clone, Copy, Debug)]
@@ -29,13 +31,21 @@ impl RunOptions {
     }
 }
 
+/// What `dump` is asked to do.
+#[derive(Clone, Copy, Debug)]
+pub struct DumpOptions {
+    pub geometry: Geometry,
+    /// Which records are listed, and whether they are printed.
+    pub filter: Filter,
+}
+
 /// What the words of a command line ask for.
 #[derive(Clone, Copy, Debug)]
 pub enum Command {
     /// Runs a script.
     Run(RunOptions),
     /// Lists the log.
-    Dump(Geometry),
+    Dump(DumpOptions),
 }
 
 const DEFAULT_SEGMENT_SIZE: u64 = 16_777_216;
@@ -199,6 +209,11 @@ fn dump_asked(options: &[String]) -> Option<Command>
         (options_from false no_options (map (λ w. string_bytes w) options.now)) }
     ensures in_range { AsksInRange result }
 {
-    let given = given_options(false, options)?;
-    Some(Command::Dump(given.geometry()))
+    let geometry = given_options(false, options)?.geometry();
+    Some(
+        Command::Dump(DumpOptions {
+            geometry,
+            filter: Filter::everything_from(Lsn(geometry.segment_size())),
+        }),
+    )
 }

@@ -1,7 +1,14 @@
 //! Which records a listing keeps, as the words of a command line say it.
 #![tactic(auto)]
 
-use wal_types::{Lsn, Rel, Xid};
+ghost use Rattle.std.specs.Prelude.{◌≡◌, nat_le};
+ghost use Rattle.std.specs.List.{list_any};
+ghost use Rattle.listing_filter.specs.Keeping.{asks_for_block, everything_from, has_image, is_reached, is_relation, keeps, meets_block};
+
+mod listed;
+
+pub use listed::Listed;
+use wal_types::{Block, Lsn, Rel, Xid};
 
 /// What a listing keeps and how much of it it prints (`pg_waldump`'s options). A rule that is not
 /// given keeps every record. The rules on a relation, a block's number and a fork are met by one
@@ -27,4 +34,78 @@ pub struct Filter {
     pub limit: Option<u64>,
     /// Whether nothing is printed.
     pub quiet: bool,
+}
+
+impl Filter {
+    /// The filter that keeps all that starts at an address or behind it, to the log's end.
+    pub fn everything_from(start: Lsn) -> Filter
+        ensures filter { result ≡ everything_from start }
+        ensures keeps { (r : _) → keeps result r ≡ nat_le start.0 r.start.0 }
+    {
+        Filter {
+            rmid: None,
+            xid: None,
+            rel: None,
+            blk: None,
+            fork: None,
+            fullpage: false,
+            start,
+            end: None,
+            limit: None,
+            quiet: false,
+        }
+    }
+
+    /// Whether a record meets all rules but the end and the limit, which no record meets by itself
+    /// (PostgreSQL's pg_waldump.c, XLogRecordMatchesRelationBlock and XLogRecordHasFPW).
+    #[tactic(auto, unfolding(crate::specs::Keeping::keeps))]
+    pub fn keeps(&self, r: &Listed) -> bool
+        ensures { result ≡ keeps self.now r.now }
+    {
+        let blocks = r.value.blocks.as_slice();
+        self.start.0 <= r.start.0
+            && self.rmid.is_none_or(|rmid| r.value.rmid == rmid)
+            && self.xid.is_none_or(|xid| r.value.xid.0 == xid.0)
+            && (!self.asks_for_block() || self.is_met_by_one(blocks))
+            && (!self.fullpage || has_image(blocks))
+    }
+
+    /// Whether so many listed records are as many as are to be listed.
+    pub fn is_full(&self, count: u64) -> bool
+        ensures { result ≡ is_reached self.now.limit count }
+    {
+        self.limit.is_some_and(|limit| limit <= count)
+    }
+
+    fn asks_for_block(&self) -> bool
+        ensures { result ≡ asks_for_block self.now }
+    {
+        self.rel.is_some() || self.blk.is_some() || self.fork.is_some()
+    }
+
+    fn is_met_by_one(&self, blocks: &[Block]) -> bool
+        ensures { result ≡ list_any (meets_block self.now) blocks.now }
+    {
+        blocks.iter().any(|block| self.meets_block(block))
+    }
+
+    fn meets_block(&self, block: &Block) -> bool
+        ensures { result ≡ meets_block self.now block.now }
+    {
+        self.rel.is_none_or(|rel| is_relation(block.rel, rel))
+            && self.blk.is_none_or(|blk| block.blk == blk)
+            && self.fork.is_none_or(|fork| block.fork == fork)
+    }
+}
+
+fn is_relation(rel: Rel, wanted: Rel) -> bool
+    ensures { result ≡ is_relation rel wanted }
+{
+    rel.spc == wanted.spc && rel.db == wanted.db && rel.rel == wanted.rel
+}
+
+fn has_image(blocks: &[Block]) -> bool
+    ensures { result ≡ has_image blocks.now }
+{
+    blocks.iter().any(|block| block.image.is_some())
 }

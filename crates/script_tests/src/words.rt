@@ -25,7 +25,7 @@ fn run(alloc: Global, words: &[&str]) -> Result<Option<(u64, bool)>, AllocError>
 fn dump(alloc: Global, words: &[&str]) -> Result<Option<u64>, AllocError> {
     let command = asked(&owned(alloc, words)?);
     Ok(match &command {
-        Some(Command::Dump(geometry)) => Some(geometry.segment_size()),
+        Some(Command::Dump(options)) => Some(options.geometry.segment_size()),
         _ => None,
     })
 }

@@ -1,6 +1,6 @@
 -- What a reader of a disk's log gives is what the log decodes to.
-use Rattle.std.proofs.Common.{◌≡◌, ℕ, List, ◌∷◌, ◌++◌, take, Option, Some, None, Result, Ok, Err, [], sym, ap, subst, ◌∙◌}
-use Rattle.std.specs.Prelude.{IfSome}
+use Rattle.std.proofs.Common.{◌≡◌, ℕ, ◌+◌, true, false, List, [], ◌∷◌, ◌++◌, length, take, Option, Some, None, Result, Ok, Err, inl, inr, sym, ap, subst, ◌∙◌}
+use Rattle.std.specs.Prelude.{IfSome, option_map}
 use Rattle.byte_position.specs.Geometry.{IsSegmentSize}
 use Rattle.segment_disk.specs.DiskImage.{image_as_read}
 use Rattle.segment_disk.specs.Stream.{with_behind}
@@ -22,34 +22,43 @@ use Rattle.wal_reader.specs.declared.standing.Standing.TheVariants.{NotBegun}
 use Rattle.wal_reader.specs.Settled.{IsSettled}
 use Rattle.wal_reader.specs.Standings.{given_as}
 use Rattle.wal_reader.proofs.SettledLaws.{decoding_is_settled, gives_something}
-use Rattle.waldump_text.specs.Dump.{DecodesOnDisk, IsDump, PutsListing, PutsListingFront}
-use Rattle.waldump_text.specs.Listing.{line_text, listed_of, listing}
+use Rattle.listing_filter.specs.declared.Filter.{Filter}
+use Rattle.listing_filter.specs.Keeping.{is_reached}
+use Rattle.waldump_text.specs.Dump.{DecodesOnDisk, IsDump, ListsFront}
+use Rattle.waldump_text.specs.Listing.{kept_by, listing}
 use Rattle.waldump_text.specs.declared.dumping.DumpErr.TheVariants as errors
 use Rattle.waldump_text.specs.declared.putting.SinkFault.{SinkFault}
-use Rattle.waldump_text.proofs.ListingLaws.{IsUnderway, IsUnderway-none, IsUnderway-more, listed_all, listed_front, listed_front_of_next}
+use Rattle.waldump_text.proofs.ListingLaws.{IsUnderway, IsUnderway-none, IsUnderway-more, IsWithin, limit_unlisted, listed_all, listed_front, listed_front_of_next, listed_reached, printed}
 
 -- there is one thing that a disk's log decodes to
-pub decoding_of_disk_is_settled : (size : ℕ) (t : Tape) → IsSegmentSize size → IsSettled size (log_of t size) size None
-decoding_of_disk_is_settled size t valid = decoding_is_settled size (image_as_read (state_now t)) size None valid
+pub decoding_of_disk_is_settled : (size : ℕ) (t : Tape) (start : ℕ) (end : Option ℕ) → IsSegmentSize size → IsSettled size (log_of t size) start end
+decoding_of_disk_is_settled size t start end valid = decoding_is_settled size (image_as_read (state_now t)) start end valid
 
--- a reader from segment 1 on, before it has begun
-abbrev pub unread : ℕ → ReaderState
-unread size = record { size = size; start = size; end = None; standing = NotBegun }
+-- a reader by a filter, before it has begun
+abbrev pub unread : ℕ → Filter → ReaderState
+unread size by = record { size = size; start = by.start.0; end = option_map (λ (end : Lsn). end.0) by.end; standing = NotBegun }
 
 -- a step of a reader of a disk's log
 abbrev pub Steps : Option Tape → Reader → Reader → Result Step ReadErr → Type 0
 Steps tape old new result = (pages : Pages) → IsLogOf tape (reader_state old).size pages → Knows old pages → Knows new pages × IsNext pages (reader_state old) (reader_state new) result
 
--- the log of a disk that tells is listed as far as the reader has come
-abbrev pub ListsLog : Option Tape → ℕ → Reader → Option (List ℕ) → Option (List ℕ) → Type 0
-ListsLog tape size reader old new = IfSome tape (λ t. Knows reader (log_of t size) × IsUnderway (log_of t size) (unread size) (reader_state reader) old new)
+-- the log of a disk that tells is listed as far as the reader has come, so many records
+abbrev pub ListsLog : Option Tape → ℕ → Filter → Reader → Option (List ℕ) → Option (List ℕ) → ℕ → Type 0
+ListsLog tape size by reader old new count = IfSome tape (λ t. Knows reader (log_of t size) × IsUnderway by (log_of t size) (unread size by) (reader_state reader) old new count)
 
-module _ (size : ℕ) (valid : IsSegmentSize size) (old : Option (List ℕ)) where
-  pub ListsLog-none : (tape : Option Tape) (reader : Reader) → reader_state reader ≡ unread size → ((pages : Pages) → Knows reader pages) → ListsLog tape size reader old old
+module _ (size : ℕ) (by : Filter) (valid : IsSegmentSize size) (old : Option (List ℕ)) where
+  pub ListsLog-none : (tape : Option Tape) (reader : Reader) → reader_state reader ≡ unread size by → ((pages : Pages) → Knows reader pages) → ListsLog tape size by reader old old 0
   ListsLog-none None reader is knows = tt
-  ListsLog-none (Some t) reader is knows = (knows (log_of t size), subst (λ (now : ReaderState). IsUnderway (log_of t size) (unread size) now old old) (sym is) (IsUnderway-none (log_of t size) (unread size) old))
+  ListsLog-none (Some t) reader is knows = (knows (log_of t size), subst (λ (now : ReaderState). IsUnderway by (log_of t size) (unread size by) now old old 0) (sym is) (IsUnderway-none by (log_of t size) (unread size by) old))
 
-  module _ (reader : Reader) (sized : (reader_state reader).size ≡ size) (mid : Option (List ℕ)) where
+  -- a front of what the log decodes to is a front whatever it is found to decode to
+  front_of : (t : Tape) (new : Option (List ℕ)) (found : List FoundRecord) (answer : Answer) → DecodesOnDisk size by t found answer → (n : ℕ) × (new ≡ with_behind old (take n (listing by found))) → ListsFront size by t old new
+  front_of t new found answer decodes front = λ others other on_disk.
+      (let settled = decoding_of_disk_is_settled size t by.start.0 (option_map (λ (end : Lsn). end.0) by.end) valid in
+      let same : found ≡ others = (settled.3 found answer decodes).0 ∙ sym (settled.3 others other on_disk).0 in
+      (front.0, front.1 ∙ ap (λ (fs : List FoundRecord). with_behind old (take front.0 (listing by fs))) same))
+
+  module _ (reader : Reader) (sized : (reader_state reader).size ≡ size) (mid : Option (List ℕ)) (count : ℕ) where
     -- a step of it, of the log
     step_of : (t : Tape) (next : Reader) (result : Result Step ReadErr) → Steps (Some t) reader next result → Knows reader (log_of t size) → Knows next (log_of t size) × IsNext (log_of t size) (reader_state reader) (reader_state next) result
     step_of t next result steps knows = steps (log_of t size) (ap (log_of t) (sym sized)) knows
@@ -60,47 +69,58 @@ module _ (size : ℕ) (valid : IsSegmentSize size) (old : Option (List ℕ)) whe
         let some = gives_something (image_as_read (state_now t)) (reader_state reader) (subst IsSegmentSize (sym sized) valid) in
         (some.0, some.1, subst (λ (n : ℕ). GivesRecords (log_of t n) (reader_state reader) some.0 some.1) sized some.2)
 
-    -- a front of what the log decodes to is a front whatever it is found to decode to
-    front_of : (t : Tape) (new : Option (List ℕ)) (found : List FoundRecord) (answer : Answer) → DecodesOnDisk size t found answer → (n : ℕ) × (new ≡ with_behind old (take n (listing found))) → PutsListingFront size t old new
-    front_of t new found answer decodes front = λ others other on_disk.
-        (let settled = decoding_of_disk_is_settled size t valid in
-        let same : found ≡ others = (settled.3 found answer decodes).0 ∙ sym (settled.3 others other on_disk).0 in
-        (front.0, front.1 ∙ ap (λ (fs : List FoundRecord). with_behind old (take front.0 (listing fs))) same))
+    -- a record is listed if it is kept
+    pub ListsLog-more : (tape : Option Tape) (next : Reader) (f : FoundRecord) (kept : List FoundRecord) → kept_by by (f ∷ []) ≡ kept → (new : Option (List ℕ)) → ListsLog tape size by reader old mid count → Steps tape reader next (Ok (given_as f)) → new ≡ with_behind mid (printed by.quiet kept)
+        → ListsLog tape size by next old new (count + length kept)
+    ListsLog-more None next f kept kept_is new lists steps taken = tt
+    ListsLog-more (Some t) next f kept kept_is new lists steps taken =
+        let step = step_of t next (Ok (given_as f)) steps lists.0 in
+        (step.0, IsUnderway-more by (log_of t size) (unread size by) old (reader_state reader) mid count lists.1 (reader_state next) f step.1 kept kept_is new taken)
 
-    module _ (t : Tape) (lists : ListsLog (Some t) size reader old mid) where
-      put_all : (next : Reader) (answer : Answer) → GivesRecords (log_of t size) (reader_state reader) [] answer → PutsListing size t old mid answer
-      put_all next answer ends = listed_all (log_of t size) (unread size) old (reader_state reader) mid lists.1 answer ends
-
-      put_front : PutsListingFront size t old mid
-      put_front =
+    module _ (within : IsWithin by.limit count) where
+      put_front : (t : Tape) → ListsLog (Some t) size by reader old mid count → ListsFront size by t old mid
+      put_front t lists =
           let left = still t in
           let underway = lists.1 in
-          front_of t mid (underway.listed ++ left.0) left.1 (underway.whole left.0 left.1 left.2) (listed_front (log_of t size) (unread size) old (reader_state reader) mid underway left.0)
+          front_of t mid (underway.given ++ left.0) left.1 (underway.whole left.0 left.1 left.2) (listed_front by (log_of t size) (unread size by) old (reader_state reader) mid count underway within left.0)
 
-    -- a record is listed
-    pub ListsLog-more : (tape : Option Tape) (next : Reader) (f : FoundRecord) (new : Option (List ℕ)) → ListsLog tape size reader old mid → Steps tape reader next (Ok (given_as f)) → new ≡ with_behind mid (line_text (listed_of f)) → ListsLog tape size next old new
-    ListsLog-more None next f new lists steps taken = tt
-    ListsLog-more (Some t) next f new lists steps taken =
-        let step = step_of t next (Ok (given_as f)) steps lists.0 in
-        (step.0, IsUnderway-more (log_of t size) (unread size) old (reader_state reader) mid lists.1 (reader_state next) f step.1 new taken)
+      pub dump_ended : (tape : Option Tape) (next : Reader) (at : Lsn) → ListsLog tape size by reader old mid count → Steps tape reader next (Ok (End at)) → IfSome tape (IsDump size by old mid (Ok count))
+      dump_ended None next at lists steps = tt
+      dump_ended (Some t) next at lists steps =
+          let all = listed_all by (log_of t size) (unread size by) old (reader_state reader) mid count lists.1 within (answers.End at) (step_of t next (Ok (End at)) steps lists.0).1 in
+          record { found = lists.1.given; answer = answers.End at; puts = record { decodes = all.0; put = all.1 }; ends = inl tt; count_is = all.2 }
 
-    pub dump_ended : (tape : Option Tape) (next : Reader) (at : Lsn) → ListsLog tape size reader old mid → Steps tape reader next (Ok (End at)) → IfSome tape (IsDump size old mid (Ok tt))
-    dump_ended None next at lists steps = tt
-    dump_ended (Some t) next at lists steps = (at, put_all t lists next (answers.End at) (step_of t next (Ok (End at)) steps lists.0).1)
+      -- once the limit is listed nothing more is read
+      pub dump_reached : (tape : Option Tape) → ListsLog tape size by reader old mid count → is_reached by.limit count ≡ true → IfSome tape (IsDump size by old mid (Ok count))
+      dump_reached None lists full = tt
+      dump_reached (Some t) lists full =
+          let left = still t in
+          let underway = lists.1 in
+          let all = listed_reached by (log_of t size) (unread size by) old (reader_state reader) mid count underway within left.0 full in
+          record {
+            found = underway.given ++ left.0;
+            answer = left.1;
+            puts = record { decodes = underway.whole left.0 left.1 left.2; put = all.0 };
+            ends = inr all.2;
+            count_is = all.1;
+          }
 
-    pub dump_failed : (tape : Option Tape) (next : Reader) (e : ReadErr) → ListsLog tape size reader old mid → Steps tape reader next (Err e) → IfSome tape (IsDump size old mid (Err (errors.Read e)))
-    dump_failed None next e lists steps = tt
-    dump_failed (Some t) next Memory lists steps = put_front t lists
-    dump_failed (Some t) next (Disk faults) lists steps = put_front t lists
-    dump_failed (Some t) next (Stopped stop) lists steps = put_all t lists next (answers.Stopped stop) (step_of t next (Err (Stopped stop)) steps lists.0).1
+      pub dump_failed : (tape : Option Tape) (next : Reader) (e : ReadErr) → ListsLog tape size by reader old mid count → Steps tape reader next (Err e) → is_reached by.limit count ≡ false → IfSome tape (IsDump size by old mid (Err (errors.Read e)))
+      dump_failed None next e lists steps unreached = tt
+      dump_failed (Some t) next Memory lists steps unreached = put_front t lists
+      dump_failed (Some t) next (Disk faults) lists steps unreached = put_front t lists
+      dump_failed (Some t) next (Stopped stop) lists steps unreached =
+          let pages = log_of t size in
+          let all = listed_all by pages (unread size by) old (reader_state reader) mid count lists.1 within (answers.Stopped stop) (step_of t next (Err (Stopped stop)) steps lists.0).1 in
+          record { found = lists.1.given; puts = record { decodes = all.0; put = all.1 }; below_limit = limit_unlisted by pages (unread size by) old (reader_state reader) mid count lists.1 unreached }
 
   -- the sink fails at a record's line
-  pub dump_cut : (reader next : Reader) (sized : (reader_state reader).size ≡ size) (kept : (reader_state next).size ≡ size) (mid new : Option (List ℕ)) (tape : Option Tape) (f : FoundRecord) (fault : SinkFault) → ListsLog tape size reader old mid → Steps tape reader next (Ok (given_as f))
-      → (n : ℕ) × (new ≡ with_behind mid (take n (line_text (listed_of f)))) → IfSome tape (IsDump size old new (Err (errors.Sink fault)))
-  dump_cut reader next sized kept mid new None f fault lists steps front = tt
-  dump_cut reader next sized kept mid new (Some t) f fault lists steps front =
+  pub dump_cut : (reader next : Reader) (sized : (reader_state reader).size ≡ size) (next_sized : (reader_state next).size ≡ size) (mid new : Option (List ℕ)) (count : ℕ) (tape : Option Tape) (f : FoundRecord) (kept : List FoundRecord) → kept_by by (f ∷ []) ≡ kept → (fault : SinkFault) → ListsLog tape size by reader old mid count
+      → Steps tape reader next (Ok (given_as f)) → IsWithin by.limit (count + length kept) → (n : ℕ) × (new ≡ with_behind mid (take n (printed by.quiet kept))) → IfSome tape (IsDump size by old new (Err (errors.Sink fault)))
+  dump_cut reader next sized next_sized mid new count None f kept kept_is fault lists steps within front = tt
+  dump_cut reader next sized next_sized mid new count (Some t) f kept kept_is fault lists steps within front =
       let underway = lists.1 in
-      let is = (step_of reader sized mid t next (Ok (given_as f)) steps lists.0).1 in
-      let left = still next kept mid t in
+      let is = (step_of reader sized mid count t next (Ok (given_as f)) steps lists.0).1 in
+      let left = still next next_sized new count t in
       let decodes = underway.whole (f ∷ left.0) left.1 (is left.0 left.1 left.2) in
-      front_of reader sized mid t new (underway.listed ++ f ∷ left.0) left.1 decodes (listed_front_of_next (log_of t size) (unread size) old (reader_state reader) mid underway (reader_state next) f is new left.0 front)
+      front_of t new (underway.given ++ f ∷ left.0) left.1 decodes (listed_front_of_next by (log_of t size) (unread size by) old (reader_state reader) mid count underway (reader_state next) f is kept kept_is new within left.0 front)

@@ -5,3 +5,4 @@ pub mod JoinedLaws
 pub mod SpelledLaws
 pub mod ListingLaws
 pub mod DumpLaws
+pub mod EverythingLaws

@@ -1,59 +1,217 @@
 -- A reader whose records are listed one after another.
-use Rattle.std.proofs.Common.{◌≡◌, ℕ, List, [], ◌∷◌, ◌++◌, take, Option, Ok, refl, sym, ap, subst, ◌∙◌, append_assoc}
+use Rattle.std.proofs.Common.{◌≡◌, ℕ, ◌+◌, ◌-◌, ◌≤◌, Bool, true, false, List, [], ◌∷◌, ◌++◌, length, take, Option, Some, None, Ok, if◌then◌else◌, refl, sym, ap, subst, ◌∙◌, append_assoc, length-append, arith}
+use Rattle.std.specs.Prelude.{IsSomeAnd}
 use Rattle.std.proofs.lemmas.Grind.{flat_map-append}
-use Rattle.std.proofs.lemmas.List.{append-nil}
+use Rattle.std.proofs.lemmas.List.{append-nil, take_all}
+use Rattle.std.proofs.lemmas.Bool.{leb-false, leb-true}
+use Rattle.std.proofs.lemmas.List.Elements.{filter-append}
+use Rattle.std.proofs.Math.Seq.{take-append-add, take-append_seam}
 use Rattle.segment_disk.specs.Stream.{with_behind}
 use Rattle.wal_reader.specs.Standings.{given_as}
 use Rattle.wal_reader.specs.LogReader.{ReaderState, GivesRecords, IsNext}
 use Rattle.wal_reader.specs.Pages.{Pages}
 use Rattle.wal_reader.specs.declared.found.FoundRecord.{FoundRecord}
 use Rattle.wal_reader.specs.declared.found.Answer.{Answer}
-use Rattle.waldump_text.specs.Listing.{line_text, listed_of, listing}
+use Rattle.listing_filter.specs.declared.Filter.{Filter}
+use Rattle.listing_filter.specs.Keeping.{is_reached, keeps}
+use Rattle.waldump_text.specs.Listing.{IsLimitListed, kept_by, line_text, lines_of, listed_by, listed_of, listing, up_to}
 use Rattle.waldump_text.specs.Put.{HasPut}
 use Rattle.waldump_text.proofs.SinkLaws.{HasPut-front, HasPut-front_of_next, with_behind-append, with_behind-nil}
 
-pub listing-append : (found others : List FoundRecord) → listing (found ++ others) ≡ listing found ++ listing others
-listing-append found others = flat_map-append (λ f. line_text (listed_of f)) found others
+-- ---- what is printed of records
 
--- what a reader gave from a start on is listed, and it still gives what comes behind that
-pub record IsUnderway (pages : Pages) (start now : ReaderState) (old new : Option (List ℕ)) : Type 0 where
-  pub listed : List FoundRecord
-  pub whole : (others : List FoundRecord) (answer : Answer) → GivesRecords pages now others answer → GivesRecords pages start (listed ++ others) answer
-  pub taken : new ≡ with_behind old (listing listed)
+-- the lines of records, unless nothing is printed
+abbrev pub printed : Bool → List FoundRecord → List ℕ
+printed quiet found = if quiet then [] else lines_of found
 
-module _ (pages : Pages) (start : ReaderState) (old : Option (List ℕ)) where
-  pub IsUnderway-none : IsUnderway pages start start old old
-  IsUnderway-none = record { listed = []; whole = λ others answer gives. gives; taken = sym (with_behind-nil old) }
+printed-append : (quiet : Bool) (found others : List FoundRecord) → printed quiet (found ++ others) ≡ printed quiet found ++ printed quiet others
+printed-append true found others = refl
+printed-append false found others = flat_map-append (λ f. line_text (listed_of f)) found others
 
-  module _ (now : ReaderState) (mid : Option (List ℕ)) (underway : IsUnderway pages start now old mid) where
-    -- the listing of what is listed and more
-    has_put : (others : List FoundRecord) (faults : ℕ) → HasPut old mid faults faults (listing (underway.listed ++ others)) (listing others)
-    has_put others faults = record { front = listing underway.listed; parts = listing-append underway.listed others; taken = underway.taken; faults = refl }
+printed-none : (quiet : Bool) → [] ≡ printed quiet []
+printed-none true = refl
+printed-none false = refl
 
-    -- where the reader stops all is listed
-    pub listed_all : (answer : Answer) → GivesRecords pages now [] answer → (found : List FoundRecord) × GivesRecords pages start found answer × (mid ≡ with_behind old (listing found))
-    listed_all answer ends =
-        let whole = subst (λ (found : List FoundRecord). GivesRecords pages start found answer) (append-nil underway.listed) (underway.whole [] answer ends) in
-        (underway.listed, whole, underway.taken)
+pub printed-one : (quiet : Bool) (f : FoundRecord) → (if quiet then [] else line_text (listed_of f)) ≡ printed quiet (f ∷ [])
+printed-one true f = refl
+printed-one false f = sym (append-nil (line_text (listed_of f)))
 
-    -- wherever it stands a front of all is listed
-    pub listed_front : (others : List FoundRecord) → (n : ℕ) × (mid ≡ with_behind old (take n (listing (underway.listed ++ others))))
-    listed_front others = HasPut-front (has_put others 0)
+-- a record that a filter keeps, and one that it does not
+pub kept : (by : Filter) (f : FoundRecord) → keeps by (listed_of f) ≡ true → kept_by by (f ∷ []) ≡ f ∷ []
+kept by f is = rw is refl
 
-    module _ (next : ReaderState) (f : FoundRecord) (is : IsNext pages now next (Ok (given_as f))) (new : Option (List ℕ)) where
-      -- the record's line is put
-      pub IsUnderway-more : new ≡ with_behind mid (line_text (listed_of f)) → IsUnderway pages start next old new
+pub passed_over : (by : Filter) (f : FoundRecord) → keeps by (listed_of f) ≡ false → kept_by by (f ∷ []) ≡ []
+passed_over by f is = rw is refl
+
+-- ---- limits
+
+-- a count of listed records is no more than a limit allows
+abbrev pub IsWithin : Option ℕ → ℕ → Type 0
+IsWithin None count = Unit {0}
+IsWithin (Some limit) count = count ≤ limit
+
+pub IsWithin-none : (limit : Option ℕ) → IsWithin limit 0
+IsWithin-none None = tt
+IsWithin-none (Some limit) = omega arith
+
+up_to-parts : (limit : Option ℕ) (found others : List FoundRecord) → IsWithin limit (length found) → (rest : List FoundRecord) × (up_to limit (found ++ others) ≡ found ++ rest)
+up_to-parts None found others within = (others, refl)
+up_to-parts (Some limit) found others within =
+    let left : ℕ = limit - length found in
+    let parts : limit ≡ length found + left = omega arith in
+    (take left others, ap (λ n. take n (found ++ others)) parts ∙ take-append-add found others left)
+
+up_to-short : (limit : Option ℕ) (found : List FoundRecord) → IsWithin limit (length found) → up_to limit found ≡ found
+up_to-short None found within = refl
+up_to-short (Some limit) found within = take_all limit found within
+
+-- one more record is within a limit that is not reached
+pub IsWithin-more : (limit : Option ℕ) (count : ℕ) → is_reached limit count ≡ false → IsWithin limit (count + 1)
+IsWithin-more None count unreached = tt
+IsWithin-more (Some limit) count unreached = omega (arith, leb-false limit count unreached)
+
+up_to-reached : (limit : Option ℕ) (found others : List FoundRecord) → IsWithin limit (length found) → is_reached limit (length found) ≡ true → up_to limit (found ++ others) ≡ found
+up_to-reached None found others within full = cc
+up_to-reached (Some limit) found others within full =
+    let exact : limit ≡ length found = omega (arith, leb-true limit (length found) full) in
+    ap (λ n. take n (found ++ others)) exact ∙ take-append_seam found others
+
+-- a record that is read is printed if it is kept, and counted then
+pub record Prints (by : Filter) (f : FoundRecord) (old new : Option (List ℕ)) (count more : ℕ) : Type 0 where
+  pub kept : List FoundRecord
+  pub kept_is : kept_by by (f ∷ []) ≡ kept
+  pub taken : new ≡ with_behind old (printed by.quiet kept)
+  pub count_is : more ≡ count + length kept
+  pub one : more ≤ count + 1
+  pub within : IsWithin by.limit more
+
+pub Prints-kept : (by : Filter) (f : FoundRecord) (old new : Option (List ℕ)) (count more : ℕ) → keeps by (listed_of f) ≡ true → new ≡ with_behind old (if by.quiet then [] else line_text (listed_of f)) → more ≡ count + 1 → is_reached by.limit count ≡ false → Prints by f old new count more
+Prints-kept by f old new count more keeps taken one unreached = record {
+  kept = f ∷ [];
+  kept_is = kept by f keeps;
+  taken = taken ∙ ap (with_behind old) (printed-one by.quiet f);
+  count_is = one;
+  one = omega arith;
+  within = subst (IsWithin by.limit) (sym one) (IsWithin-more by.limit count unreached);
+}
+
+pub Prints-passed_over : (by : Filter) (f : FoundRecord) (old new : Option (List ℕ)) (count more : ℕ) → keeps by (listed_of f) ≡ false → new ≡ old → more ≡ count → IsWithin by.limit count → Prints by f old new count more
+Prints-passed_over by f old new count more keeps same none within = record {
+  kept = [];
+  kept_is = passed_over by f keeps;
+  taken = same ∙ sym (with_behind-nil old) ∙ ap (with_behind old) (printed-none by.quiet);
+  count_is = omega arith;
+  one = omega arith;
+  within = subst (IsWithin by.limit) (sym none) within;
+}
+
+-- ---- listings of what is read up to somewhere
+
+module _ (by : Filter) (found : List FoundRecord) (within : IsWithin by.limit (length (kept_by by found))) where
+  kept_by-append : (others : List FoundRecord) → listed_by by (found ++ others) ≡ up_to by.limit (kept_by by found ++ kept_by by others)
+  kept_by-append others = ap (up_to by.limit) (filter-append (λ f. keeps by (listed_of f)) found others)
+
+  -- what is kept so far is printed in front of what comes
+  listing-parts : (others : List FoundRecord) → (rest : List ℕ) × (listing by (found ++ others) ≡ printed by.quiet (kept_by by found) ++ rest)
+  listing-parts others =
+      let parts = up_to-parts by.limit (kept_by by found) (kept_by by others) within in
+      (printed by.quiet parts.0, ap (printed by.quiet) (kept_by-append others ∙ parts.1) ∙ printed-append by.quiet (kept_by by found) parts.0)
+
+  -- all of it is listed
+  listed_by-short : listed_by by found ≡ kept_by by found
+  listed_by-short = up_to-short by.limit (kept_by by found) within
+
+  -- so is it where more is to come, once the limit is reached
+  listed_by-reached : (others : List FoundRecord) → is_reached by.limit (length (kept_by by found)) ≡ true → listed_by by (found ++ others) ≡ kept_by by found
+  listed_by-reached others full = kept_by-append others ∙ up_to-reached by.limit (kept_by by found) (kept_by by others) within full
+
+is_limit_listed : (limit : Option ℕ) (count more : ℕ) → count ≤ more → is_reached limit count ≡ true → IsSomeAnd limit (λ n. n ≤ more)
+is_limit_listed None count more within full = cc
+is_limit_listed (Some limit) count more within full = omega (arith, leb-true limit count full)
+
+is_limit_unreached : (limit : Option ℕ) (count : ℕ) → is_reached limit count ≡ false → IsSomeAnd limit (λ n. n ≤ count) → ⊥
+is_limit_unreached None count unreached listed = listed
+is_limit_unreached (Some limit) count unreached listed = omega (arith, leb-false limit count unreached)
+
+-- ---- a reader whose records are listed
+
+-- what a reader gave from a start on is listed by a filter, so many records, and it still gives
+-- what comes behind that
+pub record IsUnderway (by : Filter) (pages : Pages) (start now : ReaderState) (old new : Option (List ℕ)) (count : ℕ) : Type 0 where
+  pub given : List FoundRecord
+  pub whole : (others : List FoundRecord) (answer : Answer) → GivesRecords pages now others answer → GivesRecords pages start (given ++ others) answer
+  pub taken : new ≡ with_behind old (printed by.quiet (kept_by by given))
+  pub counted : length (kept_by by given) ≡ count
+
+module _ (by : Filter) (pages : Pages) (start : ReaderState) (old : Option (List ℕ)) where
+  pub IsUnderway-none : IsUnderway by pages start start old old 0
+  IsUnderway-none = record { given = []; whole = λ others answer gives. gives; taken = sym (with_behind-nil old) ∙ ap (with_behind old) (printed-none by.quiet); counted = refl }
+
+  module _ (now : ReaderState) (mid : Option (List ℕ)) (count : ℕ) (underway : IsUnderway by pages start now old mid count) where
+    module _ (within : IsWithin by.limit count) where
+      given_within : IsWithin by.limit (length (kept_by by underway.given))
+      given_within = subst (IsWithin by.limit) (sym underway.counted) within
+
+      -- wherever the reader stands a front of all is listed
+      pub listed_front : (others : List FoundRecord) → (n : ℕ) × (mid ≡ with_behind old (take n (listing by (underway.given ++ others))))
+      listed_front others =
+          let parts = listing-parts by underway.given given_within others in
+          let put : HasPut old mid 0 0 (listing by (underway.given ++ others)) parts.0 = record { front = printed by.quiet (kept_by by underway.given); parts = parts.1; taken = underway.taken; faults = refl } in
+          HasPut-front put
+
+      -- where the reader stops all is listed
+      pub listed_all : (answer : Answer) → GivesRecords pages now [] answer → GivesRecords pages start underway.given answer
+          × (mid ≡ with_behind old (listing by underway.given)) × (count ≡ length (listed_by by underway.given))
+      listed_all answer ends =
+          let all = listed_by-short by underway.given given_within in (
+            subst (λ (found : List FoundRecord). GivesRecords pages start found answer) (append-nil underway.given) (underway.whole [] answer ends),
+            underway.taken ∙ ap (λ (fs : List FoundRecord). with_behind old (printed by.quiet fs)) (sym all),
+            sym underway.counted ∙ ap length (sym all),
+          )
+
+      -- so it is where the limit is reached, whatever comes
+      pub listed_reached : (others : List FoundRecord) → is_reached by.limit count ≡ true → (mid ≡ with_behind old (listing by (underway.given ++ others)))
+          × (count ≡ length (listed_by by (underway.given ++ others))) × IsLimitListed by (underway.given ++ others)
+      listed_reached others full =
+          let full_of : is_reached by.limit (length (kept_by by underway.given)) ≡ true = ap (is_reached by.limit) underway.counted ∙ full in
+          let all = listed_by-reached by underway.given given_within others full_of in
+          let more = ap length (filter-append (λ f. keeps by (listed_of f)) underway.given others) ∙ length-append (kept_by by underway.given) (kept_by by others) in (
+            underway.taken ∙ ap (λ (fs : List FoundRecord). with_behind old (printed by.quiet fs)) (sym all),
+            sym underway.counted ∙ ap length (sym all),
+            is_limit_listed by.limit count (length (kept_by by (underway.given ++ others))) (omega (arith, more, underway.counted)) full,
+          )
+
+    -- the limit is not listed where it is not reached
+    pub limit_unlisted : is_reached by.limit count ≡ false → IsLimitListed by underway.given → ⊥
+    limit_unlisted unreached listed = is_limit_unreached by.limit (length (kept_by by underway.given)) (ap (is_reached by.limit) underway.counted ∙ unreached) listed
+
+    module _ (next : ReaderState) (f : FoundRecord) (is : IsNext pages now next (Ok (given_as f))) (kept : List FoundRecord) (kept_is : kept_by by (f ∷ []) ≡ kept) (new : Option (List ℕ)) where
+      kept_more : kept_by by (underway.given ++ f ∷ []) ≡ kept_by by underway.given ++ kept
+      kept_more = filter-append (λ g. keeps by (listed_of g)) underway.given (f ∷ []) ∙ ap (λ (fs : List FoundRecord). kept_by by underway.given ++ fs) kept_is
+
+      -- a record is printed if it is kept
+      pub IsUnderway-more : new ≡ with_behind mid (printed by.quiet kept) → IsUnderway by pages start next old new (count + length kept)
       IsUnderway-more taken = record {
-        listed = underway.listed ++ f ∷ [];
-        whole = λ others answer gives. subst (λ (found : List FoundRecord). GivesRecords pages start found answer) (sym (append_assoc underway.listed (f ∷ []) others)) (underway.whole (f ∷ others) answer (is others answer gives));
+        given = underway.given ++ f ∷ [];
+        whole = λ others answer gives. subst (λ (found : List FoundRecord). GivesRecords pages start found answer) (sym (append_assoc underway.given (f ∷ []) others)) (underway.whole (f ∷ others) answer (is others answer gives));
         taken =
             taken
-            ∙ ap (λ (text : Option (List ℕ)). with_behind text (line_text (listed_of f))) underway.taken
-            ∙ with_behind-append old (listing underway.listed) (line_text (listed_of f))
-            ∙ ap (λ (text : List ℕ). with_behind old (listing underway.listed ++ text)) (sym (append-nil (line_text (listed_of f))))
-            ∙ ap (with_behind old) (sym (listing-append underway.listed (f ∷ [])));
+            ∙ ap (λ (text : Option (List ℕ)). with_behind text (printed by.quiet kept)) underway.taken
+            ∙ with_behind-append old (printed by.quiet (kept_by by underway.given)) (printed by.quiet kept)
+            ∙ ap (with_behind old) (sym (ap (printed by.quiet) kept_more ∙ printed-append by.quiet (kept_by by underway.given) kept));
+        counted = ap length kept_more ∙ length-append (kept_by by underway.given) kept ∙ ap (λ n. n + length kept) underway.counted;
       }
 
-      -- the sink fails at the record's line
-      pub listed_front_of_next : (others : List FoundRecord) → (n : ℕ) × (new ≡ with_behind mid (take n (line_text (listed_of f)))) → (n : ℕ) × (new ≡ with_behind old (take n (listing (underway.listed ++ f ∷ others))))
-      listed_front_of_next others taken = HasPut-front_of_next (line_text (listed_of f)) (listing others) (has_put (f ∷ others) 0) refl taken
+      -- the sink fails at its line
+      pub listed_front_of_next : IsWithin by.limit (count + length kept) → (others : List FoundRecord) → (n : ℕ) × (new ≡ with_behind mid (take n (printed by.quiet kept)))
+          → (n : ℕ) × (new ≡ with_behind old (take n (listing by (underway.given ++ f ∷ others))))
+      listed_front_of_next within others taken =
+          let given = underway.given ++ f ∷ [] in
+          let counted : length (kept_by by given) ≡ count + length kept = ap length kept_more ∙ length-append (kept_by by underway.given) kept ∙ ap (λ n. n + length kept) underway.counted in
+          let parts = listing-parts by given (subst (IsWithin by.limit) (sym counted) within) others in
+          let whole : listing by (underway.given ++ f ∷ others) ≡ printed by.quiet (kept_by by underway.given) ++ (printed by.quiet kept ++ parts.0) =
+          ap (listing by) (sym (append_assoc underway.given (f ∷ []) others)) ∙ parts.1
+          ∙ ap (λ (text : List ℕ). text ++ parts.0) (ap (printed by.quiet) kept_more ∙ printed-append by.quiet (kept_by by underway.given) kept)
+          ∙ append_assoc (printed by.quiet (kept_by by underway.given)) (printed by.quiet kept) parts.0 in
+          let put : HasPut old mid 0 0 (listing by (underway.given ++ f ∷ others)) (printed by.quiet kept ++ parts.0) = record { front = printed by.quiet (kept_by by underway.given); parts = whole; taken = underway.taken; faults = refl } in
+          HasPut-front_of_next (printed by.quiet kept) parts.0 put refl taken

@@ -1,49 +1,71 @@
 -- What a listing of the disk's log puts, and how it ends.
-use Rattle.std.specs.Prelude.{◌≡◌, ℕ, List, take, Option, None, Result, Ok, Err}
+use Rattle.std.specs.Prelude.{◌≡◌, ℕ, ◌⊎◌, List, length, take, Option, option_map, Result, Ok, Err}
 use Rattle.segment_disk.specs.Cause.{RoseByOne}
 use Rattle.segment_disk.specs.Stream.{with_behind}
 use Rattle.segment_disk.specs.Tape.{Tape}
-use Rattle.wal_types.specs.declared.lsn.Lsn.{Lsn}
 use Rattle.wal_reader.specs.Cache.{log_of}
 use Rattle.wal_reader.specs.Decodes.{Decodes}
 use Rattle.wal_reader.specs.declared.found.FoundRecord.{FoundRecord}
 use Rattle.wal_reader.specs.declared.found.Answer.{Answer}
 use Rattle.wal_reader.specs.declared.found.Answer.TheVariants as answers
+use Rattle.wal_reader.specs.declared.found.Stopped.{Stopped as LogStop}
 use Rattle.wal_reader.specs.declared.standing.ReadErr.TheVariants as reading
 use Rattle.wal_reader.specs.Standings.{HasReadCause}
-use Rattle.waldump_text.specs.Listing.{listing}
+use Rattle.listing_filter.specs.declared.Filter.{Filter}
+use Rattle.waldump_text.specs.Listing.{IsLimitListed, listed_by, listing}
 use Rattle.waldump_text.specs.declared.dumping.DumpErr.{DumpErr}
 use Rattle.waldump_text.specs.declared.dumping.DumpErr.TheVariants.{Read, Sink}
 
--- what the disk's log decodes to, from segment 1 on
-abbrev pub DecodesOnDisk : ℕ → Tape → List FoundRecord → Answer → Type 0
-DecodesOnDisk size t found answer = Decodes size (log_of t size) size None found answer
+-- a clean end of a log
+abbrev pub IsEnd : Answer → Type 0
+IsEnd (answers.End at) = Unit {0}
+IsEnd (answers.Stopped stop) = ⊥
 
--- a sink took the listing of what the disk's log decodes to, and this stands behind the records
-abbrev pub PutsListing : ℕ → Tape → Option (List ℕ) → Option (List ℕ) → Answer → Type 0
-PutsListing size t old new answer =
-    (found : List FoundRecord) × DecodesOnDisk size t found answer
-    × (new ≡ with_behind old (listing found))
+-- what the disk's log decodes to, from a filter's start up to its end
+abbrev pub DecodesOnDisk : ℕ → Filter → Tape → List FoundRecord → Answer → Type 0
+DecodesOnDisk size by t found answer =
+    Decodes size (log_of t size) by.start.0 (option_map (λ end. end.0) by.end) found answer
+
+-- a sink took the listing of what the disk's log decodes to: these records, and this behind them
+pub record PutsListing (size : ℕ) (by : Filter) (t : Tape) (old new : Option (List ℕ))
+    (found : List FoundRecord) (answer : Answer) : Type 0 where
+  pub decodes : DecodesOnDisk size by t found answer
+  pub put : new ≡ with_behind old (listing by found)
+
+-- all is listed, so many records: the log comes to a clean end, or the limit is listed
+pub record ListsAll (size : ℕ) (by : Filter) (t : Tape) (old new : Option (List ℕ)) (count : ℕ)
+    : Type 0 where
+  pub found : List FoundRecord
+  pub answer : Answer
+  pub puts : PutsListing size by t old new found answer
+  pub ends : IsEnd answer ⊎ IsLimitListed by found
+  pub count_is : count ≡ length (listed_by by found)
+
+-- all before a stop is listed, which comes before the limit is
+pub record ListsUpTo (size : ℕ) (by : Filter) (t : Tape) (old new : Option (List ℕ))
+    (stop : LogStop) : Type 0 where
+  pub found : List FoundRecord
+  pub puts : PutsListing size by t old new found (answers.Stopped stop)
+  pub below_limit : IsLimitListed by found → ⊥
 
 -- a sink took a front of the listing of what the disk's log decodes to
-abbrev pub PutsListingFront : ℕ → Tape → Option (List ℕ) → Option (List ℕ) → Type 0
-PutsListingFront size t old new =
-    (found : List FoundRecord) (answer : Answer) → DecodesOnDisk size t found answer → (n : ℕ)
-    × (new ≡ with_behind old (take n (listing found)))
+abbrev pub ListsFront : ℕ → Filter → Tape → Option (List ℕ) → Option (List ℕ) → Type 0
+ListsFront size by t old new =
+    (found : List FoundRecord) (answer : Answer) → DecodesOnDisk size by t found answer → (n : ℕ)
+    × (new ≡ with_behind old (take n (listing by found)))
 
 -- what a listing put, by how it ended
-abbrev pub IsDump : ℕ → Option (List ℕ) → Option (List ℕ) → Result (Unit {0}) DumpErr → Tape
+abbrev pub IsDump : ℕ → Filter → Option (List ℕ) → Option (List ℕ) → Result ℕ DumpErr → Tape
     → Type 0
-IsDump size old new (Ok done) t = (at : Lsn) × PutsListing size t old new (answers.End at)
-IsDump size old new (Err (Read (reading.Stopped stop))) t =
-    PutsListing size t old new (answers.Stopped stop)
-IsDump size old new (Err (Read reading.Memory)) t = PutsListingFront size t old new
-IsDump size old new (Err (Read (reading.Disk faults))) t = PutsListingFront size t old new
-IsDump size old new (Err (Sink fault)) t = PutsListingFront size t old new
+IsDump size by old new (Ok count) t = ListsAll size by t old new count
+IsDump size by old new (Err (Read (reading.Stopped stop))) t = ListsUpTo size by t old new stop
+IsDump size by old new (Err (Read reading.Memory)) t = ListsFront size by t old new
+IsDump size by old new (Err (Read (reading.Disk faults))) t = ListsFront size by t old new
+IsDump size by old new (Err (Sink fault)) t = ListsFront size by t old new
 
 -- why a listing ended so: the counts of faults of the disk and of the sink, before and after
-abbrev pub HasDumpCause : ℕ → ℕ → ℕ → ℕ → Result (Unit {0}) DumpErr → Type 0
-HasDumpCause disk disk_after sink sink_after (Ok done) = (disk_after ≡ disk) × (sink_after ≡ sink)
+abbrev pub HasDumpCause : ℕ → ℕ → ℕ → ℕ → Result ℕ DumpErr → Type 0
+HasDumpCause disk disk_after sink sink_after (Ok count) = (disk_after ≡ disk) × (sink_after ≡ sink)
 HasDumpCause disk disk_after sink sink_after (Err (Read error)) =
     HasReadCause disk disk_after (Err error) × (sink_after ≡ sink)
 HasDumpCause disk disk_after sink sink_after (Err (Sink fault)) =

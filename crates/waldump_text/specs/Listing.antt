@@ -1,5 +1,5 @@
 -- The listing of records, a line each, in the form of pg_waldump.
-use Rattle.std.specs.Prelude.{ℕ, ◌-◌, ◌≤◌, IsTrue, not, List, [], ◌∷◌, ◌++◌, length, replicate, codes, slice_index_or, sum_by, All, Option, Some, None, ◌==◌, if◌then◌else◌}
+use Rattle.std.specs.Prelude.{ℕ, ◌-◌, ◌≤◌, IsTrue, not, List, [], ◌∷◌, ◌++◌, length, take, filter, replicate, codes, slice_index_or, sum_by, All, Option, Some, None, IsSomeAnd, ◌==◌, if◌then◌else◌}
 use Rattle.std.specs.Fmt.{decimal}
 use Rattle.std.specs.List.{flat_map}
 use Rattle.wal_types.specs.LsnText.{lsn_text}
@@ -9,7 +9,9 @@ use Rattle.wal_types.specs.declared.record.Rel.{Rel}
 use Rattle.record_spelling.specs.Record.{is_free_manager}
 use Rattle.record_spelling.specs.Spelling.{image_bytes}
 use Rattle.wal_reader.specs.declared.found.FoundRecord.{FoundRecord}
-use Rattle.waldump_text.specs.declared.listed.Listed.{Listed}
+use Rattle.listing_filter.specs.declared.Filter.{Filter}
+use Rattle.listing_filter.specs.declared.listed.Listed.{Listed}
+use Rattle.listing_filter.specs.Keeping.{keeps}
 use Rattle.waldump_text.specs.Put.{joined, padded_left}
 use Rattle.waldump_text.specs.Names.{manager_name, record_word, fork_names, hexadecimal}
 
@@ -75,6 +77,28 @@ pub record IsListable (r : Listed) : Type 0 where
 abbrev pub listed_of : FoundRecord → Listed
 listed_of f = record { start = f.start; prev = f.prev; total = f.total; value = f.value }
 
+-- those of a log's records that a filter keeps
+abbrev pub kept_by : Filter → List FoundRecord → List FoundRecord
+kept_by by found = filter (λ f. keeps by (listed_of f)) found
+
+-- the front of a list up to a limit, where there is one
+abbrev pub up_to : Option ℕ → List FoundRecord → List FoundRecord
+up_to None found = found
+up_to (Some limit) found = take limit found
+
+-- the records that a filter lists: those that it keeps, up to its limit
+abbrev pub listed_by : Filter → List FoundRecord → List FoundRecord
+listed_by by found = up_to by.limit (kept_by by found)
+
+-- a filter's limit is listed: it has one, and keeps no fewer records
+abbrev pub IsLimitListed : Filter → List FoundRecord → Type 0
+IsLimitListed by found = IsSomeAnd by.limit (λ limit. limit ≤ length (kept_by by found))
+
 -- the lines of records, one behind another
-abbrev pub listing : List FoundRecord → List ℕ
-listing found = flat_map (λ f. line_text (listed_of f)) found
+abbrev pub lines_of : List FoundRecord → List ℕ
+lines_of found = flat_map (λ f. line_text (listed_of f)) found
+
+-- the listing of a log's records by a filter: the lines of those that it lists, or nothing where it
+-- is quiet
+abbrev pub listing : Filter → List FoundRecord → List ℕ
+listing by found = if by.quiet then [] else lines_of (listed_by by found)

@@ -1,5 +1,5 @@
 -- Texts put into a sink.
-use Rattle.std.specs.Prelude.{◌≡◌, ℕ, ◌+◌, ◌-◌, ◌^◌, ◌⊎◌, List, [], ◌∷◌, ◌++◌, length, take, replicate, Option, Result, Ok, Err}
+use Rattle.std.specs.Prelude.{◌≡◌, ℕ, ◌-◌, List, [], ◌∷◌, ◌++◌, length, take, replicate, Option, Result, Ok, Err}
 use Rattle.segment_disk.specs.Cause.{RoseByOne}
 use Rattle.segment_disk.specs.Stream.{with_behind}
 use Rattle.waldump_text.specs.declared.putting.SinkFault.{SinkFault}

@@ -1,17 +1,18 @@
-ghost use Rattle.std.specs.Prelude.{◌≡◌, IfSome};
+ghost use Rattle.std.specs.Prelude.{◌≡◌, [], IfSome, OnOk, if◌then◌else◌};
 ghost use Rattle.segment_disk.specs.Tape.{IsUncalled};
 ghost use Rattle.waldump_text.specs.Dump.{HasDumpCause, IsDump};
+ghost use Rattle.waldump_text.specs.Listing.{IsListable, line_text};
+ghost use Rattle.waldump_text.specs.Put.{Puts};
 
 use crate::line_buffer::LineBuffer;
 use crate::lines::put_line;
-use crate::listed::Listed;
 use crate::putting::SinkFault;
 use byte_position::Geometry;
+use listing_filter::{Filter, Listed};
 use segment_disk::{Disk, Sink};
 use std::alloc::Global;
 use thiserror::Error;
 use wal_reader::{ReadErr, Reader, Step};
-use wal_types::Lsn;
 
 /// Why a log was not listed to a clean end.
 #[derive(Clone, Copy, Debug, PartialEq, Eq, Error)]
@@ -45,22 +46,28 @@ impl From<SinkFault> for DumpErr {
     }
 }
 
-/// Lists what the disk's log decodes to from segment 1 on, a line for each record as it comes.
+/// Lists what the disk's log decodes to, by a filter, a line for each record as it comes, and
+/// answers how many records are listed. Reading begins on the page that holds the filter's start;
+/// once the limit is listed, nothing is read any more.
 pub fn dump<D: Disk, O: Sink>(
     alloc: Global,
     disk: &mut D,
     geometry: Geometry,
+    filter: &Filter,
     out: &mut O,
-) -> Result<(), DumpErr>
+) -> Result<u64, DumpErr>
     ensures listed { IfSome (D.tape disk.old)
-        (IsDump geometry (O.taken out.old) (O.taken out.new) result) }
+        (IsDump geometry filter.now (O.taken out.old) (O.taken out.new) result) }
     ensures uncalled { IsUncalled D.tape D.moment disk.old disk.new }
     ensures cause { HasDumpCause (D.faults disk.old) (D.faults disk.new) (O.faults out.old)
         (O.faults out.new) result }
 {
-    let mut reader = Reader::new(geometry, Lsn(geometry.segment_size()), None);
+    // That a log decodes to something rests on a valid size.
+    let _size = geometry.segment_size();
+    let mut reader = Reader::new(geometry, filter.start, filter.end);
     let mut buffer = LineBuffer::new();
-    'records: loop {
+    let mut count = 0;
+    'records: while !filter.is_full(count) {
         match reader.next(alloc, disk)? {
             Step::Record {
                 start,
@@ -75,9 +82,32 @@ pub fn dump<D: Disk, O: Sink>(
                     total,
                     value,
                 };
-                put_line(&mut buffer, &listed, out)?;
+                if filter.keeps(&listed) {
+                    print(&mut buffer, filter.quiet, &listed, out)?;
+                    count += 1;
+                }
             }
-            Step::End { .. } => return Ok(()),
+            Step::End { .. } => return Ok(count),
         }
     }
+    Ok(count)
+}
+
+// Puts a record's line, unless nothing is to be printed.
+fn print<O: Sink>(
+    buffer: &mut LineBuffer,
+    quiet: bool,
+    r: &Listed,
+    out: &mut O,
+) -> Result<(), SinkFault>
+    requires listable { IsListable r.now }
+    requires empty { buffer.old ≡ [] }
+    ensures put { Puts (O.taken out.old) (O.taken out.new) (O.faults out.old) (O.faults out.new)
+        (if quiet then [] else line_text r.now) result }
+    ensures empty { OnOk result (buffer.new ≡ []) }
+{
+    if quiet {
+        return Ok(());
+    }
+    put_line(buffer, r, out)
 }

@@ -6,13 +6,12 @@ mod dumping;
 mod laws;
 mod line_buffer;
 mod lines;
-mod listed;
 mod names;
 mod putting;
 
 pub use dumping::{DumpErr, dump};
-pub use laws::decoding_is_settled;
+pub use laws::{decoding_is_settled, everything_is_listed};
 pub use lines::line;
-pub use listed::Listed;
+pub use listing_filter::{Filter, Listed};
 pub use names::{ManagerName, RecordWord, fork_name, manager_name, record_word};
 pub use putting::{SinkFault, padding, put, put_all};

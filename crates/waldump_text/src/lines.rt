@@ -5,9 +5,9 @@ ghost use Rattle.waldump_text.specs.Listing.{IsListable, data_text, head_pieces,
 
 use crate::block_refs::{images_len, put_blocks};
 use crate::line_buffer::LineBuffer;
-use crate::listed::Listed;
 use crate::names::{manager_name, record_word};
 use crate::putting::SinkFault;
+use listing_filter::Listed;
 use segment_disk::Sink;
 
 /// Puts a record's line into a sink (PostgreSQL's pg_waldump.c, XLogDumpDisplayRecord): in one call

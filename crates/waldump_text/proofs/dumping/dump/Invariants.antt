@@ -1,12 +1,15 @@
-use Rattle.std.proofs.Common.{◌≡◌, []}
+use Rattle.std.proofs.Common.{◌≡◌, ◌+◌, ◌^◌, ◌≤◌, []}
 use Rattle.wal_reader.specs.LogReader.{left_of, reader_state}
 use Rattle.waldump_text.proofs.DumpLaws.{ListsLog}
+use Rattle.waldump_text.proofs.ListingLaws.{IsWithin}
 use Rattle.waldump_text.proofs.dumping.dump.Given as goal
 
 abbrev pub invariant-records : goal.invariant-records
 invariant-records g l = record {
   sized : (reader_state l.reader).size ≡ l.fn.geometry;
-  lists : ListsLog (g.D.Disk.tape l.initial.disk) l.fn.geometry l.reader (g.O.Sink.taken l.initial.out) (g.O.Sink.taken l.out);
+  lists : ListsLog (g.D.Disk.tape l.initial.disk) l.fn.geometry l.filter l.reader (g.O.Sink.taken l.initial.out) (g.O.Sink.taken l.out) l.count;
+  within : IsWithin l.filter.limit l.count;
+  bounded : l.count + left_of (reader_state l.reader) ≤ 2 ^ 60;
   empty : l.buffer ≡ [];
   tape : g.D.Disk.tape l.disk ≡ g.D.Disk.tape l.initial.disk;
   moment : g.D.Disk.moment l.disk ≡ g.D.Disk.moment l.initial.disk;
