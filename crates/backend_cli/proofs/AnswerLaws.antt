@@ -16,10 +16,10 @@ use Rattle.wal_script.specs.declared.line.Action.TheVariants as actions
 use Rattle.backend_cli.specs.Steps.{Steps, told_of_insert, told_of_commit, told_of_flush}
 use Rattle.wal_script.specs.Bodies.{IsActionOf}
 
-module _ (size capacity faults_at_open : ℕ) (s : LogHistory) (IsAfter : LogHistory → Type 0) (told : Told) where
+module _ (size capacity faults_at_open : ℕ) (s : LogHistory) (backend : ℕ) (IsAfter : LogHistory → Type 0) (told : Told) where
   -- whatever the line asks for whose action is an insert, a commit, a flush
   pub insert_steps : (asked : Asked) (action : Action) (body : Assembled) (answer : Result Receipt Refused) → action ≡ actions.Insert body → told ≡ told_of_insert answer → IsActionOf asked action
-      → ((value : Record) → body ≡ assembled value → IsWritable value → (after : LogHistory) × Inserts size capacity faults_at_open s value answer after × IsAfter after) → (after : LogHistory) × Steps size capacity faults_at_open s asked told after × IsAfter after
+      → ((value : Record) → body ≡ assembled value → IsWritable value → (after : LogHistory) × Inserts size capacity faults_at_open s backend value answer after × IsAfter after) → (after : LogHistory) × Steps size capacity faults_at_open s backend asked told after × IsAfter after
   insert_steps (asking.Insert value) action body answer is tells does inserts =
       let does_it : IsActionOf (asking.Insert value) (actions.Insert body) = subst (IsActionOf (asking.Insert value)) is does in
       let step = inserts value does_it.0 does_it.1 in
@@ -28,7 +28,7 @@ module _ (size capacity faults_at_open : ℕ) (s : LogHistory) (IsAfter : LogHis
   insert_steps asking.Flush action body answer is tells does inserts = absurd (let no : IsActionOf asking.Flush (actions.Insert body) = subst (IsActionOf asking.Flush) is does in no)
 
   pub commit_steps : (asked : Asked) (action : Action) (body : Assembled) (answer : Result Sealed Refused) → action ≡ actions.Commit body → told ≡ told_of_commit answer → IsActionOf asked action
-      → ((value : Record) → body ≡ assembled value → IsWritable value → (after : LogHistory) × Commits size capacity faults_at_open s value answer after × IsAfter after) → (after : LogHistory) × Steps size capacity faults_at_open s asked told after × IsAfter after
+      → ((value : Record) → body ≡ assembled value → IsWritable value → (after : LogHistory) × Commits size capacity faults_at_open s backend value answer after × IsAfter after) → (after : LogHistory) × Steps size capacity faults_at_open s backend asked told after × IsAfter after
   commit_steps (asking.Insert value) action body answer is tells does commits = absurd (let no : IsActionOf (asking.Insert value) (actions.Commit body) = subst (IsActionOf (asking.Insert value)) is does in no)
   commit_steps (asking.Commit value) action body answer is tells does commits =
       let does_it : IsActionOf (asking.Commit value) (actions.Commit body) = subst (IsActionOf (asking.Commit value)) is does in
@@ -37,7 +37,7 @@ module _ (size capacity faults_at_open : ℕ) (s : LogHistory) (IsAfter : LogHis
   commit_steps asking.Flush action body answer is tells does commits = absurd (let no : IsActionOf asking.Flush (actions.Commit body) = subst (IsActionOf asking.Flush) is does in no)
 
   pub flush_steps : (asked : Asked) (action : Action) (answer : Result Hard Refused) → action ≡ actions.Flush → told ≡ told_of_flush answer → IsActionOf asked action
-      → ((after : LogHistory) × Flushes size faults_at_open s (end_of size s.entries) answer after × IsAfter after) → (after : LogHistory) × Steps size capacity faults_at_open s asked told after × IsAfter after
+      → ((after : LogHistory) × Flushes size faults_at_open s (end_of size s.entries) answer after × IsAfter after) → (after : LogHistory) × Steps size capacity faults_at_open s backend asked told after × IsAfter after
   flush_steps (asking.Insert value) action answer is tells does step = absurd (let no : IsActionOf (asking.Insert value) actions.Flush = subst (IsActionOf (asking.Insert value)) is does in no)
   flush_steps (asking.Commit value) action answer is tells does step = absurd (let no : IsActionOf (asking.Commit value) actions.Flush = subst (IsActionOf (asking.Commit value)) is does in no)
   flush_steps asking.Flush action answer is tells does step = (step.0, (answer, tells, step.1), step.2)

@@ -1,18 +1,21 @@
 -- How a log stands behind its last flush.
-use Rattle.std.proofs.Common.{◌≡◌, ℕ, Option, Some, None, Result, Ok, Err, refl, sym, subst}
+use Rattle.std.proofs.Common.{◌≡◌, ℕ, List, [], ◌∷◌, ◌++◌, length, Option, Some, None, Result, Ok, Err, refl, sym, subst}
 use Rattle.std.specs.Prelude.{IfSome}
+use Rattle.std.proofs.lemmas.List.{append-nil}
 use Rattle.log_answers.specs.declared.Hard.{Hard}
 use Rattle.log_answers.specs.declared.Refused.{Refused}
 use Rattle.log_answers.specs.declared.Cause.{Cause}
 use Rattle.log_answers.specs.declared.Cause.TheVariants.{Full, Disk, Down}
 use Rattle.wal_types.specs.declared.lsn.Lsn.{Lsn}
-use Rattle.serial_log.specs.History.{LogHistory, end_of}
+use Rattle.serial_log.specs.History.{LogHistory, Promise, end_of}
 use Rattle.serial_log.specs.Steps.{Flushes, HasFlushed, RefusesFlush}
 use Rattle.backend_cli.proofs.StepCases.{to_end}
 
--- the entries are those before it, a disk that had failed still has, and one that has not is flushed to the log's end
+-- the entries are those before it, what was promised still is, a disk that had failed still has, and one that has not is flushed to the log's end
 pub record IsBehindFlush (size : ℕ) (before after : LogHistory) : Type 0 where
   pub same : after.entries ≡ before.entries
+  pub more : List Promise
+  pub promised : after.promises ≡ before.promises ++ more
   pub down : (faults : ℕ) → before.down ≡ Some faults → after.down ≡ Some faults
   pub up : after.down ≡ None → before.down ≡ None
   pub flushed : after.down ≡ None → after.flushed ≡ end_of size after.entries
@@ -26,6 +29,8 @@ module _ (size faults_at_open : ℕ) (before : LogHistory) (asked : ℕ) (all : 
   behind_refused (Full free) reserved after refuses = absurd refuses
   behind_refused (Disk faults) None after refuses = subst (IsBehindFlush size before) (sym refuses.after_is) (record {
     same = refl;
+    more = [];
+    promised = sym (append-nil before.promises);
     down = λ others some. absurd (not_both before.down others refuses.up some);
     up = λ none. refuses.up;
     flushed = λ none. absurd (let no : ⊥ = cc in no);
@@ -33,6 +38,8 @@ module _ (size faults_at_open : ℕ) (before : LogHistory) (asked : ℕ) (all : 
   behind_refused (Disk faults) (Some start) after refuses = absurd refuses
   behind_refused (Down faults) None after refuses = subst (IsBehindFlush size before) (sym refuses.same) (record {
     same = refl;
+    more = [];
+    promised = sym (append-nil before.promises);
     down = λ others some. some;
     up = λ none. none;
     flushed = λ none. absurd (not_both before.down faults none refuses.down);
@@ -42,9 +49,11 @@ module _ (size faults_at_open : ℕ) (before : LogHistory) (asked : ℕ) (all : 
   pub behind_flush : (answer : Result Hard Refused) (after : LogHistory) → Flushes size faults_at_open before asked answer after → IsBehindFlush size before after
   behind_flush (Ok done) after flushes = subst (IsBehindFlush size before) (sym flushes.after_is) (record {
     same = refl;
+    more = (record { upto = done.upto.0; moment = done.moment; count = length before.entries }) ∷ [];
+    promised = refl;
     down = λ faults some. some;
     up = λ none. none;
-    flushed = λ none. to_end size before done.upto.0 after (subst (λ (n : ℕ). HasFlushed size before n done.upto.0 after) all flushes);
+    flushed = λ none. to_end size before done.upto.0 done.moment after (subst (λ (n : ℕ). HasFlushed size before n done.upto.0 done.moment after) all flushes);
   })
   behind_flush (Err refusal) after flushes = behind_refused refusal.cause refusal.reserved after flushes
 

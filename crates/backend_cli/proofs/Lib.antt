@@ -10,6 +10,8 @@ pub mod ScriptLaws
 pub mod AnswerLaws
 pub mod PlayLaws
 pub mod WholeLaws
+pub mod PlayedPromises
+pub mod CrashLaws
 pub mod LastFlush
 pub mod Capacities
 pub mod RunLaws

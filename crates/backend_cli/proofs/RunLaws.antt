@@ -24,7 +24,9 @@ use Rattle.serial_log.specs.LogImage.{HoldsLog}
 use Rattle.serial_log.specs.Opening.{RefusesToOpen}
 use Rattle.serial_log.specs.declared.log.OpenFailure.TheVariants as failures
 use Rattle.serial_log.specs.LogState.{LogState, IsLog, IsUpOrDown, log_disk}
-use Rattle.serial_log.specs.History.{LogHistory, at_opening, end_of}
+use Rattle.serial_log.specs.History.{LogHistory, Promise, at_opening, end_of}
+use Rattle.serial_log.specs.OnDisk.{moments_of}
+use Rattle.serial_log.specs.Promises.{LeavesLog}
 use Rattle.backend_cli.specs.declared.printing.Summary.{Summary}
 use Rattle.backend_cli.specs.Told.{IsFullAnswer, IsRefused, SomeAnswer}
 use Rattle.backend_cli.specs.Texts.{run_text, summary_text, segments_upto, commits_of, all_commits_of, reserved_count, told_lines_of}
@@ -32,19 +34,27 @@ use Rattle.backend_cli.specs.Printing.{told_lines, summary_line, printed_text, S
 use Rattle.backend_cli.specs.Concluding.{Concludes}
 use Rattle.backend_cli.specs.Moments.{MomentsRise}
 use Rattle.segment_disk.specs.Cause.{Rose, RoseByOne}
-use Rattle.backend_cli.specs.Steps.{Plays}
+use Rattle.backend_cli.specs.Steps.{Plays, events_of}
+use Rattle.backend_cli.specs.Crash.{EachIsTimely, SurvivesCrashes}
 use Rattle.backend_cli.specs.Outside.{Outside, SourceView, Took}
 use Rattle.backend_cli.specs.Reading.{ScriptMeans}
 use Rattle.backend_cli.specs.Run.{EndsOpened, IsWhole, RunHolds}
 use Rattle.backend_cli.specs.Told.{order_of}
 use Rattle.wal_script.specs.Bodies.{AreLinesOf}
-use Rattle.backend_cli.proofs.PlayedEntries.{counted, played_order, played_chained, played_rises}
+use Rattle.backend_cli.proofs.PlayedEntries.{answers_in-events_of, counted, played_order, played_chained, played_rises}
 use Rattle.backend_cli.proofs.PlayedTells.{played_tells_order}
 use Rattle.backend_cli.proofs.PlayedDown.{played_stays_down}
 use Rattle.backend_cli.proofs.LastFlush.{IsBehindFlush, still_down}
 use Rattle.backend_cli.proofs.PlayedAnswers.{played_refusals, played_full, SomeTold-one}
 use Rattle.backend_cli.proofs.LineLaws.{told_lines_are}
 use Rattle.backend_cli.proofs.WholeLaws.{whole}
+use Rattle.backend_cli.proofs.CrashLaws.{leaves_front, played_survives, played_timely}
+use Rattle.std.proofs.lemmas.Option.{IfSome_then}
+
+-- the calls that were counted before an opening are within the disk's moment then
+opened_within : (tape : Option Tape) (moment : ℕ) → IfSome tape (λ t. moment ≡ length t.calls) → moments_of tape ≤ moment
+opened_within None moment counts = omega arith
+opened_within (Some t) moment counts = omega (arith, counts)
 
 -- a count that rose by one, or stands at its last value, rose
 pub rose : (old new : ℕ) → RoseByOne old new → Rose old new
@@ -137,43 +147,57 @@ text_is size list asked lines told es s are is count =
 module _ (D : Type 0) (tape : D → Option Tape) (moment faults : D → ℕ) (disk : D) (log : LogState D) (after last : LogHistory) (is_log : IsLog tape faults (tape disk) (faults disk) log last) (behind : IsBehindFlush log.size after last) where
   -- a run that opened the log holds what it promises
   pub opened_holds : (size capacity : ℕ) (list : Bool) (outcome : Outcome) (asked : List AskedLine) (lines : List Line) (told : List Told) (summary : Summary) (taken_before taken_after : Option (List ℕ)) (sink_before sink_after : ℕ) (printed : Result (Unit {0}) SinkFault) (source_before source_after : SourceView) (down : Option ℕ) (result : D) (lists : List (List Told))
-      → log.size ≡ size → log.capacity ≡ capacity → capacity ≤ 2 ^ 42 → log.sysid ≡ 1 → result ≡ log_disk log → lists ≡ told ∷ [] → Plays size capacity (faults disk) (at_opening size) asked told after → ScriptMeans source_before source_after (Ok (asked ∷ [])) → AreLinesOf asked lines
+      → log.size ≡ size → log.capacity ≡ capacity → capacity ≤ 2 ^ 42 → log.sysid ≡ 1 → result ≡ log_disk log → lists ≡ told ∷ [] → length asked ≡ length told → Plays size capacity (faults disk) (at_opening size) (events_of 0 asked told) after → ScriptMeans source_before source_after (Ok (asked ∷ [])) → AreLinesOf asked lines
       → Summarizes size log.bytes told summary → Puts taken_before taken_after sink_before sink_after (printed_text list lines told summary) printed → down ≡ writer_fault log.writer → Concludes down told (not (is_ok printed)) outcome → MomentsRise (moment disk) told (moment (log_disk log)) → IfSome (tape disk) (λ t. page_of_segment (state_now t 1) 0 ≡ None)
+      → IfSome (tape disk) (λ t. moment disk ≡ length t.calls)
       → (HoldsNothing (tape disk) → last.down ≡ None → last.flushed ≡ end_of log.size last.entries → IfSome (tape result) (λ t. HoldsLog log.size log.sysid last.entries t))
       → RunHolds (record { source_before = source_before; source_after = source_after; tape_before = tape disk; tape_after = tape result; moment_before = moment disk; moment_after = moment result; disk_before = faults disk; disk_after = faults result; taken_before = taken_before; taken_after = taken_after; sink_before = sink_before; sink_after = sink_after }) size capacity list outcome lists
-  opened_holds size capacity list outcome asked lines told summary taken_before taken_after sink_before sink_after printed source_before source_after down result lists same_size same_capacity small sysid same_disk same_lists plays means are summarizes puts told_down concludes rises empty settled =
+  opened_holds size capacity list outcome asked lines told summary taken_before taken_after sink_before sink_after printed source_before source_after down result lists same_size same_capacity small sysid same_disk same_lists same_length plays means are summarizes puts told_down concludes rises empty counts settled =
       let outside_of : D → Outside = λ d. record { source_before = source_before; source_after = source_after; tape_before = tape disk; tape_after = tape d; moment_before = moment disk; moment_after = moment d; disk_before = faults disk; disk_after = faults d; taken_before = taken_before; taken_after = taken_after; sink_before = sink_before; sink_after = sink_after } in
       let outside : Outside = outside_of (log_disk log) in
       let valid : IsSegmentSize size = subst IsSegmentSize same_size is_log.valid in
-      let order : order_of size (asked ∷ []) (told ∷ []) ≡ after.entries = played_order size capacity (faults disk) asked told after valid plays in
+      let order : order_of size (asked ∷ []) (told ∷ []) ≡ after.entries = played_order size capacity (faults disk) valid asked told after plays in
       let since = fell D tape faults (tape disk) (faults disk) log last is_log in
       let used : Summarizes size (rooms_of size after.entries) told summary = subst (λ (n : ℕ). Summarizes size n told summary) (is_log.bytes ∙ ap (λ (es : List Entry). rooms_of size es) behind.same) summarizes in
-      let text = text_is size list asked lines told after.entries summary are used (counted size capacity (faults disk) asked told after plays) in
+      let text = text_is size list asked lines told after.entries summary are used (counted size capacity (faults disk) (events_of 0 asked told) after plays ∙ ap reserved_count (answers_in-events_of 0 asked told same_length)) in
       let order_text : printed_text list lines told summary ≡ run_text size list (asked ∷ []) (told ∷ []) (order_of size (asked ∷ []) (told ∷ [])) = text ∙ ap (run_text size list (asked ∷ []) (told ∷ [])) (sym order) in
+      let within : rooms_of size after.entries ≤ 2 ^ 42 = omega (arith, is_log.within, ap (λ (es : List Entry). rooms_of size es) behind.same, same_size, same_capacity, small) in
       let whole_at_end : faults (log_disk log) ≡ faults disk → faults disk < 2 ^ 64 - 1 → HoldsNothing (tape disk) → IsWhole size (tape (log_disk log)) after.entries = λ same low nothing.
       (let none = quiet_is_up (faults disk) (faults (log_disk log)) last.down since same low in
       let held : IfSome (tape (log_disk log)) (HoldsLog log.size log.sysid last.entries) = subst (λ (d : D). IfSome (tape d) (HoldsLog log.size log.sysid last.entries)) same_disk (settled nothing none (behind.flushed none)) in
       let by_size : IfSome (tape (log_disk log)) (HoldsLog size log.sysid last.entries) = subst (λ (n : ℕ). IfSome (tape (log_disk log)) (HoldsLog n log.sysid last.entries)) same_size held in
       let by_sysid : IfSome (tape (log_disk log)) (HoldsLog size 1 last.entries) = subst (λ (n : ℕ). IfSome (tape (log_disk log)) (HoldsLog size n last.entries)) sysid by_size in
       let by_entries : IfSome (tape (log_disk log)) (HoldsLog size 1 after.entries) = subst (λ (es : List Entry). IfSome (tape (log_disk log)) (HoldsLog size 1 es)) behind.same by_sysid in
-      let within : rooms_of size after.entries ≤ 2 ^ 42 = omega (arith, is_log.within, ap (λ (es : List Entry). rooms_of size es) behind.same, same_capacity, small) in
-      whole size 1 after.entries (tape (log_disk log)) valid (omega arith) (omega arith) (played_chained size capacity (faults disk) asked told after plays) within by_entries) in
+      whole size 1 after.entries (tape (log_disk log)) valid (omega arith) (omega arith) (played_chained size capacity (faults disk) (events_of 0 asked told) after plays) within by_entries) in
+      let opened_before : moments_of (tape disk) ≤ moment disk = opened_within (tape disk) (moment disk) counts in
+      let leaves : HoldsNothing (tape disk) → IfSome (tape (log_disk log)) (LeavesLog size 1 (moments_of (tape disk)) after.entries after.promises) = λ nothing.
+      (let by_size = subst (λ (n : ℕ). IfSome (tape (log_disk log)) (LeavesLog n log.sysid (moments_of (tape disk)) last.entries last.promises)) same_size (is_log.left nothing) in
+      let by_sysid = subst (λ (n : ℕ). IfSome (tape (log_disk log)) (LeavesLog size n (moments_of (tape disk)) last.entries last.promises)) sysid by_size in
+      let by_entries = subst (λ (es : List Entry). IfSome (tape (log_disk log)) (LeavesLog size 1 (moments_of (tape disk)) es last.promises)) behind.same by_sysid in
+      let by_promises = subst (λ (promises : List Promise). IfSome (tape (log_disk log)) (LeavesLog size 1 (moments_of (tape disk)) after.entries promises)) behind.promised by_entries in
+      IfSome_then (tape (log_disk log)) by_promises (λ t left. leaves_front size 1 (moments_of (tape disk)) after.entries after.promises behind.more t left)) in
       let holds : RunHolds outside size capacity list outcome (told ∷ []) = (
         asked ∷ [],
         record {
           means = means;
           empty = empty;
-          told = played_tells_order size capacity (faults disk) (faults (log_disk log)) asked told after valid plays (still_down (faults (log_disk log)) after.down last.down behind.down (last_of (faults disk) (faults (log_disk log)) last.down since));
-          stays_down = (played_stays_down size capacity (faults disk) asked told after plays, tt);
-          gapless = subst (IsChained size) (sym order) (played_chained size capacity (faults disk) asked told after plays);
-          in_line_order = played_rises size capacity (faults disk) asked told after valid plays;
+          told = played_tells_order size capacity (faults disk) (faults (log_disk log)) valid asked told same_length after plays (still_down (faults (log_disk log)) after.down last.down behind.down (last_of (faults disk) (faults (log_disk log)) last.down since));
+          stays_down = (played_stays_down size capacity (faults disk) asked told same_length after plays, tt);
+          gapless = subst (IsChained size) (sym order) (played_chained size capacity (faults disk) (events_of 0 asked told) after plays);
+          in_line_order = played_rises size capacity (faults disk) valid asked told after plays;
           moments = (rises, tt);
+          crash = λ nothing. IfSome_then (tape (log_disk log)) (leaves nothing) (λ t left.
+              subst (λ (es : List Entry). SurvivesCrashes size (moment disk) es (told ∷ []) t) (sym order)
+              (played_survives size capacity (faults disk) valid 1 (omega arith) (omega arith) asked told same_length after plays within (moments_of (tape disk)) (moment disk) opened_before t left));
+          no_late_receipt = λ nothing. IfSome_then (tape (log_disk log)) (leaves nothing) (λ t left.
+              subst (λ (es : List Entry). EachIsTimely size (moment disk) es t 0 (asked ∷ []) (told ∷ [])) (sym order)
+              (played_timely size capacity (faults disk) valid 1 (omega arith) (omega arith) asked told same_length after plays within (moments_of (tape disk)) (moment disk) opened_before t left));
           whole = λ same low nothing. subst (IsWhole size (tape (log_disk log))) (sym order) (whole_at_end same low nothing);
           printed = subst (Took taken_before taken_after sink_before sink_after) order_text (took taken_before taken_after sink_before sink_after (printed_text list lines told summary) printed puts);
           ends = ends_opened outside told last.down (not (is_ok printed)) outcome (subst (λ (d : Option ℕ). Concludes d told (not (is_ok printed)) outcome) (told_down ∙ is_log.down) concludes) since (quiet D tape faults (tape disk) (faults disk) log last is_log)
-              (λ none refused. played_refusals size capacity (faults disk) asked told after plays (behind.up none) refused)
+              (λ none refused. played_refusals size capacity (faults disk) asked told same_length after plays (behind.up none) refused)
               (quiet_where_printed taken_before taken_after sink_before sink_after (printed_text list lines told summary) printed puts) (risen_where_not_printed taken_before taken_after sink_before sink_after (printed_text list lines told summary) printed puts);
-          full = λ found. let more = played_full size capacity (faults disk) asked told after plays (SomeTold-one IsFullAnswer told found) in omega (arith, more);
+          full = λ found. let more = played_full size capacity (faults disk) asked told same_length after plays (SomeTold-one IsFullAnswer told found) in omega (arith, more);
         },
       ) in
       subst (λ (t : List (List Told)). RunHolds (outside_of result) size capacity list outcome t) (sym same_lists) (subst (λ (d : D). RunHolds (outside_of d) size capacity list outcome (told ∷ [])) (sym same_disk) holds)

@@ -5,6 +5,7 @@ pub mod Tracked
 pub mod Steps
 pub mod Outcome
 pub mod Outside
+pub mod Crash
 pub mod Run
 pub mod Whole
 pub mod Dumping

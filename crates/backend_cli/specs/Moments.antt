@@ -1,4 +1,5 @@
--- The moments that receipts name.
+-- The moments that receipts name, as they follow each other. That what they promise survives each
+-- crash from then on, and that none is late, is said in specs/Crash.antt.
 use Rattle.std.specs.Prelude.{◌≡◌, ℕ, ◌<◌, ◌≤◌, Bool, true, false, List, [], ◌∷◌}
 use Rattle.backend_cli.specs.declared.told.Told.{Told}
 use Rattle.backend_cli.specs.declared.told.Told.TheVariants.{Wrote, Hard, Flushed, Refused}

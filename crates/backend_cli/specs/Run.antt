@@ -16,6 +16,7 @@ use Rattle.backend_cli.specs.declared.outcome.Outcome.TheVariants.{Done, OutOfMe
 use Rattle.backend_cli.specs.declared.told.Told.{Told}
 use Rattle.backend_cli.specs.Told.{TellsAll, EachStaysDown, order_of, RiseInLineOrder, IsFullAnswer, IsRefused, SomeTold}
 use Rattle.backend_cli.specs.Moments.{EachRises}
+use Rattle.backend_cli.specs.Crash.{EachIsTimely, SurvivesCrashes}
 use Rattle.backend_cli.specs.Texts.{run_text}
 use Rattle.backend_cli.specs.Reading.{ScriptMeans}
 use Rattle.segment_disk.specs.Cause.{Rose}
@@ -102,6 +103,10 @@ pub record HoldsOpened (outside : Outside) (size capacity : ℕ) (list : Bool) (
   pub gapless : IsChained size (order_of size script lists)
   pub in_line_order : RiseInLineOrder size 0 script lists
   pub moments : EachRises outside.moment_before lists outside.moment_after
+  pub crash : HoldsNothing outside.tape_before → IfSome outside.tape_after
+      (SurvivesCrashes size outside.moment_before (order_of size script lists) lists)
+  pub no_late_receipt : HoldsNothing outside.tape_before → IfSome outside.tape_after
+      (λ t. EachIsTimely size outside.moment_before (order_of size script lists) t 0 script lists)
   pub whole : outside.disk_after ≡ outside.disk_before → outside.disk_before < 2 ^ 64 - 1
       → HoldsNothing outside.tape_before
       → IsWhole size outside.tape_after (order_of size script lists)

@@ -1,3 +1,4 @@
+ghost use Rattle.std.specs.Prelude.{ℕ};
 ghost use Rattle.wal_script.specs.Asked.{Asked};
 ghost use Rattle.wal_script.specs.Bodies.{IsActionOf};
 ghost use Rattle.serial_log.specs.LogState.{IsSameLog, StepsLog};
@@ -12,9 +13,9 @@ use wal_script::Action;
 
 /// Does what a line asks for.
 pub(crate) fn answer<D: Disk>(log: &mut Log<D>, action: &Action) -> Told
-    ensures steps { (asked : Asked) → IsActionOf asked action.now
+    ensures steps { (backend : ℕ) (asked : Asked) → IsActionOf asked action.now
         → StepsLog D.tape D.faults log.old log.new (λ faults_at_open before after.
-        Steps log.old.size log.old.capacity faults_at_open before asked result after) }
+        Steps log.old.size log.old.capacity faults_at_open before backend asked result after) }
     ensures same { IsSameLog log.old log.new }
     ensures moments { (last : LastTold) → IsTracked D.moment last log.old
         → (next : LastTold) × MomentStep last result next × IsTracked D.moment next log.new }

@@ -82,7 +82,8 @@ pub fn pgwal<R: Threads + Wait + Sync, S: Source, O: Sink, E: Sink, D: Disk + Se
     gate: &G,
 ) -> Ended<D>
     // The status and its line on `err` are those of one outcome; for it the command's promises
-    // hold: of `run` told, gapless, whole, printed, and how it ends; of `dump` listed.
+    // hold: of `run` told, gapless, crash, no late receipt, whole, printed, and how it ends; of
+    // `dump` listed.
     ensures obeys { (outcome : Outcome) × (result.status ≡ status_of outcome)
         × Took (E.taken err.old) (E.taken err.new) (E.faults err.old) (E.faults err.new)
         (joined (outcome_text outcome))

@@ -12,7 +12,7 @@ loop-line-preserved g c =
     let now = c.loop-line in
     record {
       plays = IsPlayed_more g.row.D.Denot g.D.Disk.tape g.D.Disk.faults c.args.log.now c.args.lines.now now.log c.answer-answer.new.log now.line-index now.told.items c.push_reserved.new.self.items c.line-item.result c.answer-answer.result
-          now.invariant.plays now.invariant.same (omega arith) c.line-item.is c.push_reserved.ensures.items c.answer-answer.ensures.steps;
+          now.invariant.plays now.invariant.same (omega (arith, now.invariant.each)) (omega arith) c.line-item.is c.push_reserved.ensures.items c.answer-answer.ensures.steps;
       same = IsSameLog-trans c.args.log.now now.log c.answer-answer.new.log now.invariant.same c.answer-answer.ensures.same;
       moments = λ last tracked.
           let so_far = now.invariant.moments last tracked in

@@ -1,5 +1,5 @@
 -- The lines are played from the log's opening on, the log is flushed to its end, and what was told is printed.
-use Rattle.std.proofs.Common.{◌≡◌, ◌+◌, ap, ◌≤◌, ◌^◌, sym, ◌∙◌, subst, ℕ, arith, rules}
+use Rattle.std.proofs.Common.{◌≡◌, ◌+◌, length, ap, ◌≤◌, ◌^◌, sym, ◌∙◌, subst, ℕ, arith, rules}
 use Rattle.std.specs.Prelude.{not}
 use Rattle.byte_position.specs.Geometry.{IsSegmentSize}
 use Rattle.serial_log.specs.declared.shape.Shape.{Shape}
@@ -15,10 +15,11 @@ use Rattle.backend_cli.specs.Concluding.{Concludes}
 use Rattle.backend_cli.specs.Outside.{outside_of}
 use Rattle.backend_cli.specs.Run.{RunHolds}
 use Rattle.backend_cli.specs.declared.outcome.Outcome.TheVariants.{DiskFault, NotEmpty}
-use Rattle.backend_cli.specs.Steps.{Plays}
+use Rattle.backend_cli.specs.Steps.{Plays, events_of}
 use Rattle.backend_cli.specs.Moments.{MomentsRise}
 use Rattle.waldump_text.specs.Put.{Puts}
 use Rattle.backend_cli.proofs.LastFlush.{behind_flush}
+use Rattle.backend_cli.proofs.PlayLaws.{length-AreLinesOf}
 use Rattle.backend_cli.proofs.MomentLaws.{tracked_at_opening}
 use Rattle.serial_log.proofs.StepLaws.{IsSameLog-trans}
 use Rattle.backend_cli.proofs.RunLaws.{opened_holds, failed_to_open, found_a_log, no_memory}
@@ -43,8 +44,8 @@ returns-clause-holds g c = λ before after asked means ready.
     let made = c.in-Ok.ensures.shape in
     let size_is : opened.size ≡ size = made.0 ∙ ap (λ (r : Shape). r.geometry) ready.log in
     let capacity_is : opened.capacity ≡ capacity = made.1 ∙ ap (λ (r : Shape). capacity_of r.geometry r.cap_segments) ready.log in
-    let by_size = subst (λ (n : ℕ). Plays n opened.capacity (faults disk) (at_opening n) asked told played.0) size_is played.1 in
-    let plays = subst (λ (n : ℕ). Plays size n (faults disk) (at_opening size) asked told played.0) capacity_is by_size in
+    let by_size = subst (λ (n : ℕ). Plays n opened.capacity (faults disk) (at_opening n) (events_of 0 asked told) played.0) size_is played.1 in
+    let plays = subst (λ (n : ℕ). Plays size n (faults disk) (at_opening size) (events_of 0 asked told) played.0) capacity_is by_size in
     let valid : IsSegmentSize c.args.shape.geometry = search rules in
     let small : capacity ≤ 2 ^ 42 = capacity_of-le size c.args.shape.cap_segments valid c.args.shape.cap_high in
     let end = c.end-end.result.0 in
@@ -56,10 +57,11 @@ returns-clause-holds g c = λ before after asked means ready.
     (subst (λ t. Puts (g.O.Sink.taken c.args.out.now) (g.O.Sink.taken c.print.new.out) (g.O.Sink.faults c.args.out.now) (g.O.Sink.faults c.print.new.out) (printed_text c.args.list t c.deref-in-Ok-3.result.now c.summary_of-summary.result) c.print.result) c.deref-in-Ok-2.ensures.value c.print.ensures) in
     let concludes = subst (λ b. Concludes c.down.result told (not b) c.conclusion.result) c.is_ok-is_printed.ensures.value
     (subst (λ t. Concludes c.down.result t (not c.is_ok-is_printed.result) c.conclusion.result) c.deref-in-Ok-4.ensures.value c.conclusion.ensures) in
+    let same_length : length asked ≡ length told = omega (arith, length-AreLinesOf asked c.deref.result.now are, c.play.ensures.each) in
     let reached = c.play.ensures.moments _ (tracked_at_opening _ tape moment faults disk opened c.in-Ok.ensures.opened c.in-Ok.ensures.moment c.in-Ok.ensures.uncalled.same_moment) in
     let rises : MomentsRise (moment disk) told (moment (log_disk log)) = (reached.0, reached.1, omega (arith, reached.2.kept, reached.2.within, c.flush.ensures.leaves.moment_never_falls)) in
     opened_holds _ tape moment faults disk log played.0 flushed.0 flushed.2 behind size capacity c.args.list c.conclusion.result asked c.args.prepared.lines.items told c.summary_of-summary.result _ _ _ _ c.print.result before after c.down.result c.into_disk.result c.one.result
-    (same.size ∙ size_is) (same.capacity ∙ capacity_is) small (same.sysid ∙ made.2) c.into_disk.ensures.disk c.one.ensures plays means ready.lines summarizes puts c.down.ensures concludes rises c.in-Ok.ensures.empty
+    (same.size ∙ size_is) (same.capacity ∙ capacity_is) small (same.sysid ∙ made.2) c.into_disk.ensures.disk c.one.ensures same_length plays means ready.lines summarizes puts c.down.ensures concludes rises c.in-Ok.ensures.empty (g.met.D.Disk.counts disk)
     (c.into_disk.ensures.settled (tape disk) (faults disk) flushed.0 flushed.2)
 
 pub returns-clause-no_memory : goal.returns-clause-no_memory
