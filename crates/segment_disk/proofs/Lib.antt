@@ -4,3 +4,7 @@ pub mod Reading
 pub mod Presence
 pub mod Answering
 pub mod Spans
+pub mod Listed
+pub mod TakenWords
+pub mod SegmentLeft
+pub mod ImageLeft

@@ -76,7 +76,7 @@ Spans-undecided Sync size pages true there synced now writes not spans = absurd 
 Spans-undecided Sync size pages false there synced None writes not spans = Spans-same there pages synced None writes spans
 Spans-undecided Sync size pages false there synced (Some s) writes not spans = Spans-same there pages synced (Some s) writes spans
 
-writes_of-push : (calls : List Call) (call : Call) (segment : ℕ) → writes_of (calls ++ call ∷ []) segment ≡ writes_of calls segment ++ (if segment == call.segment then write_of call.kind else [])
+pub writes_of-push : (calls : List Call) (call : Call) (segment : ℕ) → writes_of (calls ++ call ∷ []) segment ≡ writes_of calls segment ++ (if segment == call.segment then write_of call.kind else [])
 writes_of-push [] call segment = append-nil (if segment == call.segment then write_of call.kind else [])
 writes_of-push (c ∷ calls) call segment =
     let front = if segment == c.segment then write_of c.kind else [] in

@@ -1,6 +1,7 @@
 //! Bodies in memory of the source, the sink and the disk, for tests and as models of what the real
 //! ones do.
 
+mod crash;
 mod disk;
 mod first;
 mod pick;
@@ -10,6 +11,7 @@ mod schedule;
 mod segments;
 mod sink;
 mod span;
+mod taking;
 mod source;
 
 ghost use Rattle.std.specs.Prelude.{◌≡◌};
