@@ -8,3 +8,4 @@ pub mod Listed
 pub mod TakenWords
 pub mod SegmentLeft
 pub mod ImageLeft
+pub mod PickLaws
