@@ -1,15 +1,14 @@
 -- What a crash leaves of a disk, made segment by segment.
-use Rattle.std.proofs.Common.{◌≡◌, ◌≢◌, ℕ, zero, suc, ◌+◌, ◌-◌, ◌*◌, ◌^◌, ◌<◌, ◌≤◌, Bool, true, false, IsTrue, List, [], ◌∷◌, ◌++◌, length, drop, min, Option, Some, None, is_some, option_map, refl, sym, ap, subst, ◌∙◌, ◌==◌, if◌then◌else◌, arith, inl, inr, add-one}
+use Rattle.std.proofs.Common.{◌≡◌, ◌≢◌, ℕ, zero, suc, ◌+◌, ◌-◌, ◌*◌, ◌<◌, ◌≤◌, Bool, true, false, IsTrue, List, [], ◌∷◌, ◌++◌, length, drop, Option, Some, None, is_some, option_map, refl, sym, ap, subst, ◌∙◌, ◌==◌, if◌then◌else◌, arith, inl, inr, add-one}
 use Rattle.std.proofs.lemmas.Bool.{cases_lt, false≢true, eq-eqb, ne_eqb}
-use Rattle.std.proofs.lemmas.List.{drop-drop, drop_min}
+use Rattle.std.proofs.lemmas.List.{drop-drop}
 use Rattle.segment_disk.specs.declared.memory.first.FirstSegment.{FirstSegment}
 use Rattle.segment_disk.specs.declared.memory.pick.Pick.{Pick}
-use Rattle.segment_disk.specs.Failing.{is_listed}
 use Rattle.segment_disk.specs.First.{durable_segment, first_at, first_state, page_at}
 use Rattle.segment_disk.specs.Tape.{Segment, DiskState}
 use Rattle.segment_disk.specs.DiskImage.{ImageSegment, DiskImage, image_as_read}
 use Rattle.segment_disk.specs.Picks.{IsPickedSegment, choice_of, undecided_before, undecided_in}
-use Rattle.segment_disk.specs.Crash.{first_behind, numbers_of}
+use Rattle.segment_disk.specs.Crash.{numbers_of}
 
 -- the image of a list of segments
 abbrev pub image_of : List FirstSegment → DiskImage

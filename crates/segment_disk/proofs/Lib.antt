@@ -9,3 +9,4 @@ pub mod TakenWords
 pub mod SegmentLeft
 pub mod ImageLeft
 pub mod PickLaws
+pub mod ListLaws

@@ -1,10 +1,9 @@
 -- The least number behind another in a list, and the numbers of a list of segments.
-use Rattle.std.proofs.Common.{◌≡◌, ◌≢◌, ℕ, ◌+◌, ◌<◌, ◌≤◌, Bool, true, false, ◌||◌, List, [], ◌∷◌, ◌++◌, length, get_or, take, min, Option, Some, None, is_some, unwrap_or, MatchOption, map, refl, sym, ap, subst, ◌∙◌, ◌==◌, nat_le, if◌then◌else◌, arith, inl, inr}
-use Rattle.std.proofs.lemmas.Bool.{ne_eqb, cases_lt, le-ltb}
+use Rattle.std.proofs.Common.{◌≡◌, ◌≢◌, ℕ, ◌+◌, ◌<◌, ◌≤◌, Bool, false, ◌||◌, List, [], ◌∷◌, ◌++◌, length, get_or, take, min, Option, Some, None, is_some, unwrap_or, MatchOption, sym, ap, subst, ◌∙◌, ◌==◌, if◌then◌else◌, arith}
+use Rattle.std.proofs.lemmas.Bool.{ne_eqb}
 use Rattle.std.proofs.lemmas.List.{take_more}
 use Rattle.std.proofs.lemmas.List.Folds.{list_any-append}
 use Rattle.segment_disk.specs.Failing.{is_listed}
-use Rattle.segment_disk.specs.Crash.{first_behind}
 
 -- no number of the list, from one on and below the next, if there is a next
 abbrev pub IsNextOf : List ℕ → ℕ → Option ℕ → Type 0

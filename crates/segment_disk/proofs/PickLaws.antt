@@ -1,5 +1,6 @@
 -- An image that a pick names is one that a crash may leave; and which segments it has.
-use Rattle.std.proofs.Common.{◌≡◌, ◌≢◌, ℕ, zero, suc, ◌+◌, ◌*◌, ◌<◌, ◌≤◌, ◌⊎◌, Bool, true, false, ◌||◌, IsTrue, List, [], ◌∷◌, ◌++◌, length, get_or, take, drop, Option, Some, None, is_some, option_map, map, refl, sym, ap, subst, ◌∙◌, ◌==◌, if◌then◌else◌, inl, inr, take-append-drop}
+use Rattle.std.proofs.Common.{◌≡◌, ℕ, zero, suc, ◌+◌, ◌<◌, ◌⊎◌, Bool, true, false, ◌||◌, IsTrue, List, [], ◌∷◌, ◌++◌, get_or, take, drop, Option, Some, None, is_some, option_map, map, refl, sym, ap, subst, ◌∙◌, ◌==◌, if◌then◌else◌, inl, inr, arith, take-append-drop}
+use Rattle.std.proofs.lemmas.Bool.{ne_eqb, false≢true}
 use Rattle.std.proofs.lemmas.Bool.Decides.{eqb_tells}
 use Rattle.segment_disk.specs.declared.disk.Call.{Call}
 use Rattle.segment_disk.specs.declared.disk.CallKind.{CallKind}
@@ -8,8 +9,8 @@ use Rattle.segment_disk.specs.declared.memory.first.FirstSegment.{FirstSegment}
 use Rattle.segment_disk.specs.Failing.{is_listed}
 use Rattle.segment_disk.specs.First.{durable_segment, first_at, first_state}
 use Rattle.segment_disk.specs.Tape.{Segment, DiskState, segment_after, after_call, after_calls}
-use Rattle.segment_disk.specs.DiskImage.{ImageSegment, DiskImage, word_of, IsWritten, MayLeavePage, MayLeaveSegment, MayLeave}
-use Rattle.segment_disk.specs.Picks.{Choice, IsPicked, IsPickedPage, IsPickedSegment, numbered_page, undecided_before, undecided_below, writes_to}
+use Rattle.segment_disk.specs.DiskImage.{ImageSegment, DiskImage, word_of, IsWritten, MayLeaveSegment, MayLeave}
+use Rattle.segment_disk.specs.Picks.{Choice, IsPicked, IsPickedSegment, numbered_page, undecided_before, writes_to}
 
 -- a call takes no segment away
 there_after : (kind : CallKind) (size : ℕ) (done : Bool) (s : Option Segment) → IsTrue (is_some s) → IsTrue (is_some (segment_after kind size done s))
@@ -84,3 +85,29 @@ left_segment choice before (Some s) (Some i) picked = (
 
 pub MayLeave-picked : (choice : Choice) (state : DiskState) (image : DiskImage) → IsPicked choice state image → MayLeave state image
 MayLeave-picked choice state image picked segment = left_segment choice (undecided_before state segment) (state segment) (image segment) (picked segment)
+
+-- the sum of a list
+abbrev pub total : List ℕ → ℕ
+total [] = 0
+total (n ∷ numbers) = n + total numbers
+
+-- no number above their sum is in a list
+not_listed-above : (numbers : List ℕ) (number : ℕ) → total numbers < number → is_listed numbers number ≡ false
+not_listed-above [] number above = refl
+not_listed-above (n ∷ numbers) number above =
+    let other : (n == number) ≡ false = ne_eqb n number (λ (same : n ≡ number). omega arith) in
+    let above_others : total numbers < number = omega arith in
+    ap (λ (b : Bool). b || is_listed numbers number) other ∙ not_listed-above numbers number above_others
+
+-- so finitely many segments are there
+pub gone_above : (state : DiskState) (calls : List Call) (numbers : List ℕ) → ((segment : ℕ) → is_listed numbers segment ≡ is_some (after_calls state calls segment)) → (count segment : ℕ) → total numbers < segment
+    → after_calls state (take count calls) segment ≡ None
+gone_above state calls numbers present count segment above =
+    gone (after_calls state (take count calls) segment) (λ there. there_now state calls count segment there)
+  where
+    never : is_some (after_calls state calls segment) ≡ false
+    never = sym (present segment) ∙ not_listed-above numbers segment above
+
+    gone : (s : Option Segment) → (IsTrue (is_some s) → IsTrue (is_some (after_calls state calls segment))) → s ≡ None
+    gone None later = refl
+    gone (Some s) later = absurd (false≢true (sym never ∙ later refl))

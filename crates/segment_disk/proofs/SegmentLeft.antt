@@ -1,14 +1,14 @@
 -- What a crash leaves of a segment, made page by page.
-use Rattle.std.proofs.Common.{◌≡◌, ◌≢◌, ℕ, zero, suc, ◌+◌, ◌-◌, ◌*◌, ◌%◌, ◌<◌, ◌≤◌, Bool, true, false, List, [], ◌∷◌, ◌++◌, length, get_or, take, drop, min, Option, Some, None, refl, sym, ap, subst, ◌∙◌, ◌==◌, nat_lt, if◌then◌else◌, arith, inl, inr, add-one}
+use Rattle.std.proofs.Common.{◌≡◌, ℕ, ◌+◌, ◌*◌, ◌<◌, ◌≤◌, Bool, true, List, [], ◌∷◌, ◌++◌, length, take, drop, min, Option, Some, None, refl, sym, ap, subst, ◌∙◌, nat_lt, if◌then◌else◌, arith, inl, inr, add-one}
 use Rattle.std.proofs.lemmas.Bool.{cases_lt, lt-ltb}
-use Rattle.std.proofs.lemmas.List.{get_or_append_left, get_or_push, length_push, get_or-drop, drop-drop, drop_min}
+use Rattle.std.proofs.lemmas.List.{get_or_append_left, get_or_push, length_push, get_or-drop, drop-drop}
 use Rattle.segment_disk.specs.declared.disk.Call.{Call}
 use Rattle.segment_disk.specs.declared.disk.PageBytes.{PageBytes}
 use Rattle.segment_disk.specs.declared.memory.pick.Pick.{Pick}
 use Rattle.segment_disk.specs.declared.memory.pick.Pick.TheVariants.{Old, New, Odd, List as Listed}
 use Rattle.segment_disk.specs.First.{page_at}
 use Rattle.segment_disk.specs.Tape.{Segment, DiskState, zero_page, new_segment, after_calls, page_as_read, page_of_segment, IsPageRead}
-use Rattle.segment_disk.specs.DiskImage.{ImageSegment, word_of}
+use Rattle.segment_disk.specs.DiskImage.{word_of}
 use Rattle.segment_disk.specs.Picks.{IsPickedPage, IsPickedSegment, choice_of, numbered_page, undecided_below, undecided_in, writes_to}
 use Rattle.segment_disk.specs.Crash.{HasPages, HoldTaken, IsSyncedUpto, IsWrittenSince, number_taken, numbers_of, writes_of}
 

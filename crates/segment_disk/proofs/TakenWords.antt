@@ -1,6 +1,6 @@
 -- The words of a page that a pick takes of one write behind another.
 use Rattle.std.proofs.Common.{◌≡◌, ◌≢◌, ℕ, zero, suc, ◌+◌, ◌-◌, ◌*◌, ◌%◌, ◌<◌, ◌≤◌, Bool, true, false, List, [], ◌∷◌, ◌++◌, length, get_or, take, drop, refl, sym, ap, subst, ◌∙◌, ◌==◌, if◌then◌else◌, add-one, arith, inl, inr}
-use Rattle.std.proofs.lemmas.Bool.{cases_lt, eq-eqb, ne_eqb}
+use Rattle.std.proofs.lemmas.Bool.{cases_lt}
 use Rattle.std.proofs.lemmas.Bool.Decides.{eqb_tells}
 use Rattle.std.proofs.lemmas.List.{get_or_append_left, get_or_push, get_or_past, length_push, take_more, append-nil, length-take-le, length-drop}
 use Rattle.std.proofs.lemmas.Slice.{between_is, between-put_mid, take-put_mid_below, drop-put_mid}
@@ -51,15 +51,15 @@ module _ (takes : ℕ → Bool) (old written bytes : List ℕ) (n : ℕ) (so_far
   taken_here count piece eight whole all is here =
       let long : length piece ≡ 8 = ap length is ∙ length-take-le 8 (drop (8 * n) written) (omega (arith, length-drop (8 * n) written)) in
       subst (λ (c : ℕ). TakenUpto takes old written (put_mid (8 * n) c bytes piece) (n + 1)) (sym eight) (record {
-    done = λ k below. elim (cases_lt k n) [
-      | inl less ↦ word_of-put_below n bytes piece long (omega arith) k less ∙ so_far.done k less
-      | inr on ↦
-          (let same : k ≡ n = omega arith in
-          ap (word_of (put_mid (8 * n) 8 bytes piece)) same ∙ word_of-put_at n bytes piece long (omega arith) ∙ is ∙ ap (word_of written) (sym same)
-          ∙ sym (ap (λ (b : Bool). if b then word_of written k else word_of old k) (ap takes same ∙ here)))
-    ];
-    ahead = λ k above below. word_of-put_above n bytes piece long (omega arith) k (omega arith) ∙ so_far.ahead k (omega arith) below;
-  })
+        done = λ k below. elim (cases_lt k n) [
+          | inl less ↦ word_of-put_below n bytes piece long (omega arith) k less ∙ so_far.done k less
+          | inr on ↦
+              (let same : k ≡ n = omega arith in
+              ap (word_of (put_mid (8 * n) 8 bytes piece)) same ∙ word_of-put_at n bytes piece long (omega arith) ∙ is ∙ ap (word_of written) (sym same)
+              ∙ sym (ap (λ (b : Bool). if b then word_of written k else word_of old k) (ap takes same ∙ here)))
+        ];
+        ahead = λ k above below. word_of-put_above n bytes piece long (omega arith) k (omega arith) ∙ so_far.ahead k (omega arith) below;
+      })
 
 -- the page of a number among writes with one more
 module _ (writes : List (List ℕ)) (written durable : List ℕ) where
@@ -90,7 +90,7 @@ takes-push (Listed numbers) rest writes written durable k = elim (eqb_tells (get
 ]
 
 -- before the first write each word is the durable one
-numbered-none : (durable : List ℕ) (n : ℕ) → numbered_page [] durable n ≡ durable
+pub numbered-none : (durable : List ℕ) (n : ℕ) → numbered_page [] durable n ≡ durable
 numbered-none durable zero = refl
 numbered-none durable (suc n) = refl
 

@@ -1,6 +1,6 @@
 -- How the image of a crash is made: the calls since a segment's last sync, and the numbers that a
 -- list has left.
-use Rattle.std.specs.Prelude.{◌≡◌, ℕ, ◌+◌, ◌*◌, ◌%◌, ◌≤◌, ◌<◌, Bool, true, false, List, [], ◌∷◌, ◌++◌, length, take, drop, Option, Some, None, ◌==◌, slice_index, if◌then◌else◌}
+use Rattle.std.specs.Prelude.{◌≡◌, ℕ, ◌+◌, ◌%◌, ◌≤◌, ◌<◌, Bool, true, false, List, [], ◌∷◌, ◌++◌, length, take, drop, Option, Some, None, ◌==◌, slice_index, if◌then◌else◌}
 use Rattle.segment_disk.specs.declared.disk.Call.{Call}
 use Rattle.segment_disk.specs.declared.disk.CallKind.{CallKind}
 use Rattle.segment_disk.specs.declared.disk.CallKind.TheVariants.{Create, Write, Sync}
@@ -74,6 +74,6 @@ HasPages (Some s) pages = pages ≡ s.pages
 -- this many of the calls lead to the segment's last sync
 pub record IsSyncedUpto (at_first : DiskState) (calls : List Call) (segment since : ℕ) : Type 0
   where
-  pub within : since ≤ length calls
-  pub written : IsWrittenSince (after_calls at_first (take since calls) segment)
-      (writes_of (drop since calls) segment) (after_calls at_first calls segment)
+    pub within : since ≤ length calls
+    pub written : IsWrittenSince (after_calls at_first (take since calls) segment)
+        (writes_of (drop since calls) segment) (after_calls at_first calls segment)

@@ -10,9 +10,9 @@ mod record;
 mod schedule;
 mod segments;
 mod sink;
+mod source;
 mod span;
 mod taking;
-mod source;
 
 ghost use Rattle.std.specs.Prelude.{◌≡◌};
 

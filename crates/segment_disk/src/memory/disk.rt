@@ -62,10 +62,16 @@ impl MemDisk {
 }
 
 impl MemDisk {
-    ghost use Rattle.std.specs.Prelude.{[], Some, min};
-    ghost use Rattle.segment_disk.specs.DiskImage.{LeftAt};
+    ghost use Rattle.std.specs.Prelude.{List, [], Some, min};
+    ghost use Rattle.segment_disk.specs.DiskImage.{DiskImage, LeftAt, MayLeave};
     ghost use Rattle.segment_disk.specs.MemDisk.{failing_reads, faults_of, first_image, limits_of, moment_of, state_behind, tape_of};
-    ghost use Rattle.segment_disk.specs.Picks.{IsPicked, choice_of};
+    ghost use Rattle.segment_disk.specs.Picks.{IsPicked, by_list, choice_of};
+
+    /// A law: every image that the state at a moment leaves is that of some list.
+    pub fn images_left_are_those_of_lists(&self)
+        ensures { (moment : ℕ) (image : DiskImage) → MayLeave (state_behind self.now moment) image
+            → (numbers : List ℕ) × IsPicked (by_list numbers) (state_behind self.now moment) image }
+    {}
 
     /// The disk that a crash leaves behind this many counted calls (behind all where there are
     /// fewer), with the words that the pick says. It has the same room, and nothing on it fails.

@@ -1,12 +1,11 @@
-use Rattle.std.proofs.Common.{◌≡◌, ◌+◌, ◌-◌, ◌≤◌, List, length, take, drop, min, arith, refl, sym, ap, subst, ◌∙◌, ℕ}
+use Rattle.std.proofs.Common.{◌≡◌, ◌-◌, List, length, take, drop, arith, subst}
 use Rattle.std.proofs.lemmas.List.{take_rest}
 use Rattle.segment_disk.specs.declared.disk.Call.{Call}
-use Rattle.segment_disk.specs.declared.disk.PageBytes.{PageBytes}
 use Rattle.segment_disk.specs.First.{first_state}
 use Rattle.segment_disk.specs.Tape.{after_calls}
 use Rattle.segment_disk.specs.Crash.{HoldTaken, writes_of}
 use Rattle.segment_disk.specs.Picks.{writes_to}
-use Rattle.segment_disk.proofs.SegmentLeft.{LeftUpto, LeftUpto-none, left_undecided, left_decided, left_whole}
+use Rattle.segment_disk.proofs.SegmentLeft.{LeftUpto-none, left_undecided, left_decided, left_whole}
 use Rattle.segment_disk.proofs.memory.crash.segment_left.Goals as goal
 use Rattle.segment_disk.proofs.memory.crash.segment_left.Goals.{then-take_writes-gt0, else-take_writes-gt0}
 

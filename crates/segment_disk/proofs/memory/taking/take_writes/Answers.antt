@@ -1,4 +1,4 @@
-use Rattle.std.proofs.Common.{◌≡◌, List, arith, refl, sym, ap, subst, ◌∙◌, length, take}
+use Rattle.std.proofs.Common.{List, arith, refl, subst}
 use Rattle.std.proofs.lemmas.List.{take_all}
 use Rattle.std.proofs.lemmas.Option.{MatchOption-at_some, MatchOption-at_none}
 use Rattle.segment_disk.specs.declared.disk.Call.{Call}

@@ -1,4 +1,4 @@
-use Rattle.std.proofs.Common.{◌≡◌, ℕ, min, length, take, map, IsTrue, is_some, List, sym, ap, subst, ◌∙◌, inl}
+use Rattle.std.proofs.Common.{ℕ, min, length, map, IsTrue, is_some, List, sym, ap, subst, ◌∙◌, inl}
 use Rattle.segment_disk.specs.declared.disk.Call.{Call}
 use Rattle.segment_disk.specs.declared.memory.first.FirstSegment.{FirstSegment}
 use Rattle.segment_disk.specs.Failing.{is_listed}

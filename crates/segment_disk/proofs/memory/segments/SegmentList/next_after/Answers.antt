@@ -1,8 +1,8 @@
-use Rattle.std.proofs.Common.{Option, ℕ, List, nat_le, take, sym, subst, ap, ◌∙◌, ◌≡◌, ◌≤◌, ◌<◌, true, false, arith, get_or, length, refl}
+use Rattle.std.proofs.Common.{ℕ, List, sym, subst, ap, ◌∙◌, ◌≡◌, ◌<◌, get_or, length}
 use Rattle.std.proofs.lemmas.List.{get_or_default}
 use Rattle.std.proofs.lemmas.Bool.{leb-true, leb-false}
 use Rattle.segment_disk.specs.Crash.{first_behind}
-use Rattle.segment_disk.proofs.Listed.{IsNextOf, next_kept, next_found}
+use Rattle.segment_disk.proofs.Listed.{next_kept, next_found}
 use Rattle.segment_disk.proofs.memory.segments.SegmentList.next_after.Goals as goal
 use Rattle.segment_disk.proofs.memory.segments.SegmentList.next_after.Goals.{then-is_behind, else-is_behind}
 
