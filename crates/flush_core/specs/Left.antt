@@ -88,6 +88,10 @@ PutHistory = ℕ → List (List ℕ)
 abbrev pub no_puts : PutHistory
 no_puts page = []
 
+-- each page as it was there at first
+abbrev pub first_puts : PutPages → PutHistory
+first_puts pages page = pages page ∷ []
+
 abbrev pub with_put : PutHistory → ℕ → List ℕ → PutHistory
 with_put puts number bytes page = if page == number then bytes ∷ puts page else puts page
 

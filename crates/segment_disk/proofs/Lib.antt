@@ -4,3 +4,9 @@ pub mod Reading
 pub mod Presence
 pub mod Answering
 pub mod Spans
+pub mod Listed
+pub mod TakenWords
+pub mod SegmentLeft
+pub mod ImageLeft
+pub mod PickLaws
+pub mod ListLaws

@@ -7,7 +7,7 @@ use Rattle.segment_disk.specs.declared.disk.CallKind.{CallKind}
 use Rattle.segment_disk.specs.declared.disk.CallKind.TheVariants.{Create, Write, Sync}
 use Rattle.segment_disk.specs.declared.memory.first.FirstSegment.{FirstSegment}
 use Rattle.segment_disk.specs.First.{durable_segment, first_at, first_state}
-use Rattle.segment_disk.specs.Tape.{Segment, DiskState, segment_after, after_call, after_calls}
+use Rattle.segment_disk.specs.Tape.{Segment, DiskState, segment_after, after_calls}
 use Rattle.segment_disk.specs.Crash.{HasPages, IsSyncedUpto, IsWrittenSince, write_of, writes_of}
 use Rattle.segment_disk.proofs.Reading.{after_calls-push}
 
@@ -76,7 +76,7 @@ Spans-undecided Sync size pages true there synced now writes not spans = absurd 
 Spans-undecided Sync size pages false there synced None writes not spans = Spans-same there pages synced None writes spans
 Spans-undecided Sync size pages false there synced (Some s) writes not spans = Spans-same there pages synced (Some s) writes spans
 
-writes_of-push : (calls : List Call) (call : Call) (segment : ℕ) → writes_of (calls ++ call ∷ []) segment ≡ writes_of calls segment ++ (if segment == call.segment then write_of call.kind else [])
+pub writes_of-push : (calls : List Call) (call : Call) (segment : ℕ) → writes_of (calls ++ call ∷ []) segment ≡ writes_of calls segment ++ (if segment == call.segment then write_of call.kind else [])
 writes_of-push [] call segment = append-nil (if segment == call.segment then write_of call.kind else [])
 writes_of-push (c ∷ calls) call segment =
     let front = if segment == c.segment then write_of c.kind else [] in
@@ -112,9 +112,11 @@ module _ (start : DiskState) (calls : List Call) (i segment pages since : ℕ) (
       (if here then segment_after call.kind call.geometry call.done (after_calls start (take i calls) segment) else after_calls start (take i calls) segment)
       → SpansAt start calls segment there pages since (i + 1)
   go_on here same spans =
-      let before : since ≤ i = kept.0 in
-      (omega arith, subst (λ (ws : List (ℕ × List ℕ)). Spans there pages (after_calls start (take since calls) segment) ws (after_calls start (take (i + 1) calls) segment)) (sym (written_is here same))
-      (subst (λ (s : Option Segment). Spans there pages (after_calls start (take since calls) segment) (writes_of (drop since (take i calls)) segment ++ (if here then write_of call.kind else [])) s) (sym (next_is here same)) spans))
+      let before : since ≤ i = kept.0 in (
+        omega arith,
+        subst (λ (ws : List (ℕ × List ℕ)). Spans there pages (after_calls start (take since calls) segment) ws (after_calls start (take (i + 1) calls) segment)) (sym (written_is here same))
+            (subst (λ (s : Option Segment). Spans there pages (after_calls start (take since calls) segment) (writes_of (drop since (take i calls)) segment ++ (if here then write_of call.kind else [])) s) (sym (next_is here same)) spans),
+      )
 
   pub spans_elsewhere : call.segment ≢ segment → SpansAt start calls segment there pages since (i + 1)
   spans_elsewhere other =
@@ -132,9 +134,11 @@ module _ (start : DiskState) (calls : List Call) (i segment pages since : ℕ) (
       → SpansAt start calls segment now_there now_pages (i + 1) (i + 1)
   begin now_there now_pages here spans =
       let long : length (take (i + 1) calls) ≡ i + 1 = length-take-le (i + 1) calls (omega arith) in
-      let none : drop (i + 1) (take (i + 1) calls) ≡ [] = drop_all (i + 1) (take (i + 1) calls) (omega arith) in
-      (omega arith, subst (λ (cs : List Call). Spans now_there now_pages (after_calls start (take (i + 1) calls) segment) (writes_of cs segment) (after_calls start (take (i + 1) calls) segment)) (sym none)
-      (subst (λ (s : Option Segment). Spans now_there now_pages s [] s) (sym (next_is true (eq-eqb segment call.segment (sym here)))) spans))
+      let none : drop (i + 1) (take (i + 1) calls) ≡ [] = drop_all (i + 1) (take (i + 1) calls) (omega arith) in (
+        omega arith,
+        subst (λ (cs : List Call). Spans now_there now_pages (after_calls start (take (i + 1) calls) segment) (writes_of cs segment) (after_calls start (take (i + 1) calls) segment)) (sym none)
+            (subst (λ (s : Option Segment). Spans now_there now_pages s [] s) (sym (next_is true (eq-eqb segment call.segment (sym here)))) spans),
+      )
 
   pub spans_created : call.segment ≡ segment → call.kind ≡ Create true → SpansAt start calls segment true (call.geometry / 8192) (i + 1) (i + 1)
   spans_created here kind =

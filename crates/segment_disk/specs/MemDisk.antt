@@ -1,7 +1,8 @@
 -- A disk in memory: what it holds, and what it fails at.
-use Rattle.std.specs.Prelude.{◌≡◌, ℕ, ◌+◌, Bool, false, IsTrue, List, length, Option, Some, is_some, nat_lt, not, ◌&&◌, ◌||◌, if◌then◌else◌}
+use Rattle.std.specs.Prelude.{◌≡◌, ℕ, ◌+◌, Bool, false, IsTrue, List, length, take, Option, Some, is_some, nat_lt, not, ◌&&◌, ◌||◌, if◌then◌else◌}
 use Rattle.segment_disk.specs.Failing.{Failing, is_listed}
 use Rattle.segment_disk.specs.First.{first_state}
+use Rattle.segment_disk.specs.DiskImage.{DiskImage, image_as_read}
 use Rattle.segment_disk.specs.Tape.{DiskState, Tape, IsUncalled, after_calls}
 use Rattle.segment_disk.specs.declared.memory.disk.MemDisk.{MemDisk}
 
@@ -25,6 +26,10 @@ abbrev pub tape_of : MemDisk → Option Tape
 tape_of disk =
     Some (record { at_first = first_state disk.first.items; calls = disk.calls.made.items })
 
+-- the image that was there at first
+abbrev pub first_image : MemDisk → DiskImage
+first_image disk = image_as_read (first_state disk.first.items)
+
 -- how many calls were counted
 abbrev pub moment_of : MemDisk → ℕ
 moment_of disk = length disk.calls.made.items
@@ -36,6 +41,10 @@ faults_of disk = disk.calls.faults
 -- the reads that fail
 abbrev pub failing_reads : MemDisk → Failing
 failing_reads disk = disk.reads
+
+-- the segments that were there after so many of the calls
+abbrev pub state_behind : MemDisk → ℕ → DiskState
+state_behind disk count = after_calls (first_state disk.first.items) (take count disk.calls.made.items)
 
 -- the segments that are there now
 abbrev pub disk_state_of : MemDisk → DiskState

@@ -1,6 +1,7 @@
 //! Bodies in memory of the source, the sink and the disk, for tests and as models of what the real
 //! ones do.
 
+mod crash;
 mod disk;
 mod first;
 mod pick;
@@ -9,8 +10,9 @@ mod record;
 mod schedule;
 mod segments;
 mod sink;
-mod span;
 mod source;
+mod span;
+mod taking;
 
 ghost use Rattle.std.specs.Prelude.{◌≡◌};
 

@@ -191,7 +191,7 @@ module _ (D : Type 0) (tape : D → Option Tape) (moment faults : D → ℕ) (ta
             written = λ empty.
                 let has = was.written empty in
                 let within : written_of log.writer ≤ end_of size es = subst (λ (n : ℕ). written_of log.writer ≤ end_address_of size (first_position size + n)) is.bytes reaches.spans.written_within in
-                writes.words word takes (record { pages = has.pages; put = has.put; words = HaveWords-more size log.sysid is.valid es pass value is.chained writable has.pages (written_of log.writer) within has.words });
+                writes.words word takes (record { pages = has.pages; put = has.put; as_written = has.as_written; words = HaveWords-more size log.sysid is.valid es pass value is.chained writable has.pages (written_of log.writer) within has.words });
           } in (
             after,
             record { reserved = is_reserved; end_is = end_is_more ∙ sym (end_of_more size log.sysid is.valid es pass value is.chained writable); after_is = refl },

@@ -17,7 +17,7 @@ use Rattle.segment_disk.specs.DiskImage.{ImageSegment}
 use Rattle.std.proofs.Math.Nat.{div-eq_of_lt}
 use Rattle.std.proofs.lemmas.Option.{IfSome_then}
 use Rattle.serial_log.specs.OnDisk.{LeavesOnly, moments_of}
-use Rattle.flush_core.specs.Writer.{HoldsOnly, IsReached, IsWriter, disk_of, writer_segment_size, written_of, is_unsynced, writer_fault}
+use Rattle.flush_core.specs.Writer.{HoldsOnly, IsMadeAsWritten, IsReached, IsWriter, disk_of, writer_segment_size, written_of, is_unsynced, writer_fault}
 use Rattle.serial_log.specs.Ring.{RingState, HoldsWords}
 use Rattle.serial_log.specs.Words.{words_upto}
 use Rattle.serial_log.specs.History.{at_opening}
@@ -95,9 +95,9 @@ module _ (D : Type 0) (size pages : ℕ) (ring : RingState) (writer : Writer D) 
   }
 
   pub IsLog-opened : (tape : D → Option Tape) (faults : D → ℕ) (disk : D) (capacity sysid flushed moment : ℕ) → writer_segment_size writer ≡ size → disk_of writer ≡ disk → writer_fault writer ≡ None → flushed ≡ size → HoldsWords ring (λ address. 0)
-      → (HoldsNothing (tape disk) → IsWriter tape writer no_pages) → (HoldsNothing (tape disk) → HoldsOnly tape writer moment no_puts) → IfSome (tape disk) (λ t. moment ≡ length t.calls)
+      → IsMadeAsWritten writer → (HoldsNothing (tape disk) → IsWriter tape writer no_pages) → (HoldsNothing (tape disk) → HoldsOnly tape writer moment no_puts) → IfSome (tape disk) (λ t. moment ≡ length t.calls)
       → IsLog tape faults (tape disk) (faults disk) (record { size = size; capacity = capacity; sysid = sysid; ring = ring; writer = writer; bytes = 0; prev = 0; flushed = flushed; moment = moment }) (at_opening size)
-  IsLog-opened tape faults disk capacity sysid flushed moment same_size same_disk up begun zeros is only counts = record {
+  IsLog-opened tape faults disk capacity sysid flushed moment same_size same_disk up begun zeros as_written is only counts = record {
     valid = valid;
     same_size = same_size;
     chained = tt;
@@ -113,6 +113,7 @@ module _ (D : Type 0) (size pages : ℕ) (ring : RingState) (writer : Writer D) 
       written = λ empty. record {
         pages = no_pages;
         put = is empty;
+        as_written = as_written;
         words = record { each = λ page n lt. word_of-zero_page n lt ∙ ap (to_le_bytes w64) (sym (no_words_upto size sysid (written_of writer) valid (page * 8192 + 8 * n) (omega arith))) };
       };
     };

@@ -16,10 +16,10 @@ pub match_ok_err : {T E P V W : Type 0} {F : E → Type 0} (r : Result T E) → 
 match_ok_err (Ok x) f g p e = f p
 match_ok_err (Err x) f g p e = g x e
 
--- a fact of an answer that four others give
-pub on_ok_four : {T E P Q S U V : Type 0} (R : Type 0) (r : Result T E) → (P → Q → S → U → V) → OnOk r P → MatchResult r (λ _. Q) (λ _. R) → OnOk r S → OnOk r U → OnOk r V
-on_ok_four R (Ok x) f p q s u = f p q s u
-on_ok_four R (Err e) f p q s u = tt
+-- a fact of an answer that five others give
+pub on_ok_five : {T E P W Q S U V : Type 0} (R : Type 0) (r : Result T E) → (P → W → Q → S → U → V) → OnOk r P → OnOk r W → MatchResult r (λ _. Q) (λ _. R) → OnOk r S → OnOk r U → OnOk r V
+on_ok_five R (Ok x) f p w q s u = f p w q s u
+on_ok_five R (Err e) f p w q s u = tt
 
 pub on_ok_two : {T E P Q V : Type 0} (r : Result T E) → (P → Q → V) → OnOk r P → OnOk r Q → OnOk r V
 on_ok_two (Ok x) f p q = f p q

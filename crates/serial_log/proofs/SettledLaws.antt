@@ -17,7 +17,7 @@ use Rattle.wal_page.proofs.OwnerLaws.{owner_at-none_before, owner_at-none_behind
 use Rattle.lawful_image.specs.ImageWords.{HasPageAt, image_word, segment_word, zero_word}
 use Rattle.lawful_image.specs.Lawful.{log_word_bytes}
 use Rattle.flush_core.specs.Pages.{ArePutUpto, PutPages, HoldsNothing, HoldsPages, HoldsPut, HoldsSegment, made_upto}
-use Rattle.flush_core.specs.Writer.{written_of, is_unsynced}
+use Rattle.flush_core.specs.Writer.{last_made, written_of, is_unsynced}
 use Rattle.flush_core.proofs.PutLaws.{HoldsPages-left}
 use Rattle.flush_core.proofs.LeftPuts.{div_rises}
 use Rattle.serial_log.specs.Words.{HaveWords, words_upto}
@@ -103,12 +103,15 @@ HoldsLog-settled D tape faults tape_at_open faults_at_open log s is empty up flu
     let synced : is_unsynced log.writer ≡ false = state.reaches.synced (is.flushed ∙ flushed ∙ end) in
     let have : HaveWords has.pages (words_upto (log_word size log.sysid es) (end_of size es)) = subst (λ (n : ℕ). HaveWords has.pages (words_upto (log_word size log.sysid es) n)) (sym end) has.words in
     let put_upto : ArePutUpto (end_of size es) has.pages = subst (λ (n : ℕ). ArePutUpto n has.pages) (sym end) has.put.put in
+    let made : last_made log.writer ≡ made_upto size (end_of size es) = has.as_written ∙ ap (λ (n : ℕ). made_upto n (written_of log.writer)) is.same_size ∙ ap (made_upto size) (sym end) in
     IfSome_then (tape (log_disk log)) has.put.holds (λ t put.
-    let sized : HoldsPut size (written_of log.writer) (is_unsynced log.writer) (state_now t) has.pages = subst (λ (m : ℕ). HoldsPut m (written_of log.writer) (is_unsynced log.writer) (state_now t) has.pages) is.same_size put in
-    let ended : HoldsPut size (end_of size es) (is_unsynced log.writer) (state_now t) has.pages = subst (λ (n : ℕ). HoldsPut size n (is_unsynced log.writer) (state_now t) has.pages) (sym end) sized in
-    let held : HoldsPut size (end_of size es) false (state_now t) has.pages = subst (λ (b : Bool). HoldsPut size (end_of size es) b (state_now t) has.pages) synced ended in
+    let Held = λ (n written made : ℕ) (b : Bool). HoldsPut n written made b (state_now t) has.pages in
+    let sized : Held size (written_of log.writer) (last_made log.writer) (is_unsynced log.writer) = subst (λ (m : ℕ). Held m (written_of log.writer) (last_made log.writer) (is_unsynced log.writer)) is.same_size put in
+    let ended : Held size (end_of size es) (last_made log.writer) (is_unsynced log.writer) = subst (λ (n : ℕ). Held size n (last_made log.writer) (is_unsynced log.writer)) (sym end) sized in
+    let whole : Held size (end_of size es) (made_upto size (end_of size es)) (is_unsynced log.writer) = subst (λ (n : ℕ). Held size (end_of size es) n (is_unsynced log.writer)) made ended in
+    let held : Held size (end_of size es) (made_upto size (end_of size es)) false = subst (Held size (end_of size es) (made_upto size (end_of size es))) synced whole in
     let image_of = IsLogImage-held size log.sysid is.valid es is.chained has.pages put_upto.whole have in
     record {
       read = image_of (image_as_read (state_now t)) held.read;
-      left = λ image leaves. image_of image (HoldsPages-left size (end_of size es) (state_now t) has.pages image put_upto held leaves);
+      left = λ image leaves. image_of image (HoldsPages-left size (end_of size es) (made_upto size (end_of size es)) (state_now t) has.pages image put_upto held leaves);
     })

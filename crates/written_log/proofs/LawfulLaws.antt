@@ -47,7 +47,7 @@ log_byte-front size sysid valid (e ∷ back) front chained a below =
     ∙ log_byte_push size sysid front e start a unowned
 
 -- an order around one of its entries
-around : (es : List Entry) (i : ℕ) (e : Entry) → slice_get es i ≡ Some e → es ≡ take i es ++ e ∷ drop (i + 1) es
+pub around : (es : List Entry) (i : ℕ) (e : Entry) → slice_get es i ≡ Some e → es ≡ take i es ++ e ∷ drop (i + 1) es
 around es i e got =
     let behind : drop i es ≡ e ∷ drop (i + 1) es = drop_more es i e (slice_get_within es i e got) ∙ ap (λ (x : Entry). x ∷ drop (i + 1) es) (get_or_from_slice_get es i e e got) in
     sym (take-append-drop i es) ∙ ap (λ (l : List Entry). take i es ++ l) behind

@@ -16,7 +16,7 @@ use Rattle.record_spelling.proofs.SpellingLaws.{length-filled, room_is}
 use Rattle.record_decode.specs.Reading.{reading_of}
 use Rattle.wal_record.proofs.SpellingReads.{spelling_reads}
 use Rattle.wal_types.specs.declared.lsn.Lsn.{Lsn}
-use Rattle.wal_page.specs.Order.{Entry, FollowsFrom, IsChained, rooms_of, end_position, prev_of, room_at}
+use Rattle.wal_page.specs.Order.{Entry, FollowsFrom, IsChained, rooms_of, end_position, prev_of, room_at, finish_of, position_behind}
 use Rattle.wal_page.specs.Log.{stream_of, log_byte}
 use Rattle.wal_page.proofs.LogByteLaws.{log_byte-stream, stream_of-entry}
 use Rattle.wal_page.proofs.OrderLaws.{FollowsFrom-parts}
@@ -33,6 +33,7 @@ use Rattle.wal_reader.proofs.SettledLaws.{same_read, size_in_header}
 use Rattle.written_log.specs.Torn.{IsSeenTorn, IsTorn, bytes_in}
 use Rattle.written_log.specs.Written.{found_entry}
 use Rattle.written_log.proofs.LawfulPages.{ArePagesOf}
+use Rattle.written_log.proofs.LogPositions.{address_of-below_end}
 use Rattle.written_log.proofs.ReadRecord.{IsFoundAt, found_at}
 use Rattle.written_log.proofs.RecordBytes.{take-filled}
 use Rattle.written_log.proofs.WordsOfBytes.{SameWord, ZeroWord, all_or_one, same_eight, same_four, zero_eight}
@@ -138,6 +139,16 @@ module _ (size sysid : ℕ) (pages : Pages) (es : List Entry) (upto : ℕ) (vali
         ext_get_or 0 here own (long ∙ sym (length-filled (assembled e.value) prev)) (λ j lt.
         let split : 8 * (j / 8) + j % 8 ≡ j = omega arith in
         subst (λ (i : ℕ). get_or here i 0 ≡ get_or own i 0) split (same (j / 8) (omega (arith, is, long)) (j % 8) (omega arith)))
+
+    -- so are those of an entry that ends at or below where the pages are the log's
+    pub whole_upto : finish_of size e ≤ upto → here ≡ own
+    whole_upto finish =
+        let is = room_is (assembled e.value) in
+        whole_record (λ k lt i less.
+        let j : ℕ = 8 * k + i in
+        let within : j < room = omega (arith, is, lt) in
+        let below = address_of-below_end size valid (e.start + j) (position_behind size e) (omega (arith, within)) in
+        here_byte j within ∙ are.below (address_of size (e.start + j)) (omega (arith, below, finish)) ∙ own_byte j within)
 
     is_torn : (k : ℕ) → k < room / 8 → word_at here k ≢ word_at own k → IsTorn size pages e prev
     is_torn k lt other = record {

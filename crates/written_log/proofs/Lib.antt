@@ -17,3 +17,4 @@ pub mod ReadRecord
 pub mod LawfulRecords
 pub mod LawfulFronts
 pub mod LawfulBeginning
+pub mod TornLaws

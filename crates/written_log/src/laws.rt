@@ -1,6 +1,7 @@
 ghost use Rattle.written_log.specs.Agreeing.{AgreeingLogsDecodeAlike};
 ghost use Rattle.written_log.specs.LawfulLog.{LawfulImagesDecodeToFronts, WholeLawfulImagesDecode};
 ghost use Rattle.written_log.specs.LogSegments.{SegmentsHoldLog};
+ghost use Rattle.written_log.specs.TornLaws.{EntriesUptoAreWhole, SeenTornFailsChecks};
 ghost use Rattle.written_log.specs.WrittenLog.{OwnPagesHoldLog, WrittenLogDecodes};
 
 /// What the writer puts into the log's pages, however many they are, reads back as exactly its
@@ -18,6 +19,13 @@ pub fn written_log_decodes()
 pub fn lawful_images_decode()
     ensures fronts { LawfulImagesDecodeToFronts }
     ensures whole { WholeLawfulImagesDecode }
+{}
+
+/// A law: what the premise on torn records says. An entry up to where an image has all that the
+/// order has is not torn; and a record is seen to be torn just where the reader stops at it.
+pub fn torn_records_are_seen()
+    ensures hard { EntriesUptoAreWhole }
+    ensures seen { SeenTornFailsChecks }
 {}
 
 /// A law: two logs that agree below an address, and are 0 from there on, decode to the same

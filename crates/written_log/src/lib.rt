@@ -4,4 +4,6 @@
 
 mod laws;
 
-pub use laws::{agreeing_logs_decode_alike, lawful_images_decode, written_log_decodes};
+pub use laws::{
+    agreeing_logs_decode_alike, lawful_images_decode, torn_records_are_seen, written_log_decodes,
+};

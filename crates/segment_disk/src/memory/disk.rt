@@ -9,7 +9,9 @@ ghost use Rattle.segment_disk.specs.Tape.{Answers, IsPageRead, IsUncalled, creat
 use crate::disk::{Call, CallKind, Disk, PageBytes};
 use crate::failed::{Failed, count_fault};
 use crate::memory::Memory;
+use crate::memory::crash::image_left;
 use crate::memory::first::FirstSegment;
+use crate::memory::pick::Pick;
 use crate::memory::reading::read_back;
 use crate::memory::record::CallRecord;
 use crate::memory::schedule::Schedule;
@@ -51,10 +53,48 @@ impl MemDisk {
             ≡ record { numbers = fail_reads.items; made = 0 }) }
     {
         Ok(MemDisk {
-            calls: CallRecord::new(alloc, calls, fail)?,
-            segments: SegmentList::new(alloc, segments)?,
+            calls: CallRecord::new(alloc, calls as usize, fail)?,
+            segments: SegmentList::new(alloc, segments as usize)?,
             reads: Schedule::new(fail_reads),
             first: Vec::new(alloc),
+        })
+    }
+}
+
+impl MemDisk {
+    ghost use Rattle.std.specs.Prelude.{List, [], Some, min};
+    ghost use Rattle.segment_disk.specs.DiskImage.{DiskImage, LeftAt, MayLeave};
+    ghost use Rattle.segment_disk.specs.MemDisk.{failing_reads, faults_of, first_image, limits_of, moment_of, state_behind, tape_of};
+    ghost use Rattle.segment_disk.specs.Picks.{IsPicked, by_list, choice_of};
+
+    /// A law: every image that the state at a moment leaves is that of some list.
+    pub fn images_left_are_those_of_lists(&self)
+        ensures { (moment : ℕ) (image : DiskImage) → MayLeave (state_behind self.now moment) image
+            → (numbers : List ℕ) × IsPicked (by_list numbers) (state_behind self.now moment) image }
+    {}
+
+    /// The disk that a crash leaves behind this many counted calls (behind all where there are
+    /// fewer), with the words that the pick says. It has the same room, and nothing on it fails.
+    pub fn crash(&self, alloc: Global, moment: u64, pick: Pick) -> Result<MemDisk, Memory>
+        ensures picked { IfOk result (λ disk. IsPicked (choice_of pick)
+            (state_behind self.now (min moment (moment_of self.now))) (first_image disk)) }
+        ensures left { IfOk result (λ disk. IfSome (tape_of self.now) (λ tape.
+            LeftAt tape (min moment (moment_of self.now)) (first_image disk))) }
+        ensures tape { IfOk result (λ disk. tape_of disk
+            ≡ Some (record { at_first = first_state disk.first.items; calls = [] })) }
+        ensures faults { IfOk result (λ disk. faults_of disk ≡ 0) }
+        ensures limits { IfOk result (λ disk. limits_of disk
+            ≡ record (limits_of self.now) { failing = [] }) }
+        ensures failing_reads { IfOk result (λ disk. failing_reads disk
+            ≡ record { numbers = []; made = 0 }) }
+    {
+        let calls = self.calls.front(moment);
+        let first = image_left(alloc, &self.first, calls, &self.segments, &pick)?;
+        Ok(MemDisk {
+            calls: self.calls.emptied(alloc)?,
+            segments: self.segments.list_of(alloc, &first)?,
+            reads: Schedule::new(Vec::new(alloc)),
+            first,
         })
     }
 }

@@ -1,4 +1,4 @@
-ghost use Rattle.std.specs.Prelude.{◌≡◌, ◌<◌, ◌≤◌, ◌+◌, [], ◌∷◌, ◌++◌, IfOk, IsErr, is_ok, nat_le, vec_capacity, length};
+ghost use Rattle.std.specs.Prelude.{◌≡◌, ◌<◌, ◌≤◌, ◌+◌, [], ◌∷◌, ◌++◌, IfOk, IsErr, is_ok, nat_le, min, take, vec_capacity, length};
 ghost use Rattle.segment_disk.specs.Cause.{HasCause};
 ghost use Rattle.segment_disk.specs.Failing.{is_listed as listed};
 
@@ -20,19 +20,36 @@ pub struct CallRecord {
 
 impl CallRecord {
     /// Takes room for as many calls as the limit says.
-    pub fn new(alloc: Global, limit: u32, fail: Vec<u64>) -> Result<CallRecord, Memory>
+    pub fn new(alloc: Global, limit: usize, fail: Vec<u64>) -> Result<CallRecord, Memory>
         ensures made { IfOk result (λ r. r.made.items ≡ []) }
         ensures limit { IfOk result (λ r. r.limit ≡ limit) }
         ensures fail { IfOk result (λ r. r.fail ≡ fail) }
         ensures faults { IfOk result (λ r. r.faults ≡ 0) }
     {
-        let limit = limit as usize;
         Ok(CallRecord {
             made: Vec::with_capacity(alloc, limit)?,
             limit,
             fail,
             faults: 0,
         })
+    }
+
+    /// A record of no calls with the same room, in which none is to fail.
+    pub fn emptied(&self, alloc: Global) -> Result<CallRecord, Memory>
+        ensures made { IfOk result (λ r. r.made.items ≡ []) }
+        ensures limit { IfOk result (λ r. r.limit ≡ self.now.limit) }
+        ensures fail { IfOk result (λ r. r.fail.items ≡ []) }
+        ensures faults { IfOk result (λ r. r.faults ≡ 0) }
+    {
+        CallRecord::new(alloc, self.limit, Vec::new(alloc))
+    }
+
+    /// The first calls, this many, or all where there are fewer.
+    pub fn front(&self, count: u64) -> &[Call]
+        ensures { result.now ≡ take (min count (length self.now.made.items)) self.now.made.items }
+    {
+        let count = count.min(self.made.len() as u64) as usize;
+        &self.made[..count]
     }
 
     /// Whether no further call can be counted.

@@ -3,7 +3,7 @@ use Rattle.std.specs.Option.{option_copied}
 use Rattle.segment_disk.specs.declared.disk.CallKind.TheVariants.{Create}
 use Rattle.segment_disk.specs.declared.memory.first.FirstSegment.{FirstSegment}
 use Rattle.segment_disk.specs.First.{first_state}
-use Rattle.segment_disk.proofs.Spans.{Decides, SpansAt, Spans-first, Spans-none, spans_elsewhere, spans_undecided, spans_created, spans_synced, spans_gone, spans_there, undecided_create, undecided_sync}
+use Rattle.segment_disk.proofs.Spans.{SpansAt, Spans-first, Spans-none, spans_elsewhere, spans_undecided, spans_created, spans_synced, spans_gone, spans_there, undecided_create, undecided_sync}
 use Rattle.segment_disk.proofs.memory.span.span_of.Goals as goal
 use Rattle.segment_disk.proofs.memory.span.span_of.Goals.{in-Some, in_default, then-call-segment+in-Create+then-made, then-call-segment+in-Create+else-made, then-call-segment+in-Sync+then-call, then-call-segment+in-Sync+else-call, then-call-segment+in-Write, else-call-segment}
 

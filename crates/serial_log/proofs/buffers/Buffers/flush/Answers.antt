@@ -17,7 +17,7 @@ returns-clause-writes g c =
     let made = c.harden.ensures in
     on_ok_two c.harden.result
     (λ done holds. WritesOn-synced D tape moment faults has c.args.self.now.writer c.write_upto.new.self.writer c.harden.new.self _
-    c.in_ok-write_upto.ensures.leaves.writes done made.size made.written made.moment_never_falls holds (Preserves-synced D tape moment faults has c.write_upto.new.self.writer c.harden.new.self made.keeps made.only))
+    c.in_ok-write_upto.ensures.leaves.writes done made.size made.written made.made made.moment_never_falls holds (Preserves-synced D tape moment faults has c.write_upto.new.self.writer c.harden.new.self made.keeps made.only))
     made.done made.holds
 
 pub returns-clause-fails : goal.returns-clause-fails
