@@ -1,6 +1,6 @@
 #!/usr/bin/env bash
 # Tries the built program where the gate cannot: standard streams that are closed, two runs side by
-# side in one folder, names that are in the way, and what a run leaves in its folder.
+# side in one folder, names that are in the way, what a run leaves in its folder, and little memory.
 #
 #     tests/program.sh            tries what the launcher ./pgwal starts
 #     tests/program.sh PROGRAM    tries another build
@@ -167,6 +167,16 @@ many_segments_are_whole() {
   equal 'four segments: all are listed' "$(dump | grep -c 'len (rec/tot)')" 400
 }
 
+# A record that says that it has four gigabytes is told by the first page that it lacks.
+the_largest_length_takes_no_memory() {
+  fresh
+  commits 700 1 | run >out
+  printf '\xff\xff\xff\xff' | dd of=$segment bs=1 seek=40 conv=notrunc status=none
+  (ulimit -v 8192; dump >out 2>err)
+  equal 'a length of four gigabytes in 8 MiB: the log is damaged' $? 6
+  equal 'a length of four gigabytes in 8 MiB: where' "$(cat err)" 'pgwal: damaged at 0/00102000: magic'
+}
+
 a_run_tells_its_commits
 closed_streams_fail
 full_output_fails
@@ -175,5 +185,6 @@ names_in_the_way
 files_are_the_users_own
 failed_segment_leaves_nothing
 many_segments_are_whole
+the_largest_length_takes_no_memory
 echo "$passed passed, $failed failed"
 [ $failed = 0 ]

@@ -210,10 +210,8 @@ fn dump_asked(options: &[String]) -> Option<Command>
     ensures in_range { AsksInRange result }
 {
     let geometry = given_options(false, options)?.geometry();
-    Some(
-        Command::Dump(DumpOptions {
-            geometry,
-            filter: Filter::everything_from(Lsn(geometry.segment_size())),
-        }),
-    )
+    Some(Command::Dump(DumpOptions {
+        geometry,
+        filter: Filter::everything_from(Lsn(geometry.segment_size())),
+    }))
 }

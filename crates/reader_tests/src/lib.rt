@@ -3,6 +3,8 @@
 #![tactic(auto)]
 
 #[cfg(test)]
+mod filters;
+#[cfg(test)]
 mod listing;
 #[cfg(test)]
 mod pages;

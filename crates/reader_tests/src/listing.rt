@@ -11,7 +11,7 @@ use std::process::Abort;
 use std::test::Fail;
 use wal_reader::{DamageKind, ReadErr, Stopped};
 use wal_types::{Block, BlockList, Bytes, Image, Lsn, Record, Xid};
-use waldump_text::{DumpErr, Listed, SinkFault, dump, line};
+use waldump_text::{DumpErr, Filter, Listed, SinkFault, dump, line};
 
 const COMMIT_LINE: &[u8; 133] =
     b"rmgr: Transaction len (rec/tot):     34/    34, tx:        700, lsn: 0/00100028, prev \
@@ -28,6 +28,11 @@ fn listed(alloc: Global, rmid: u8, info: u8, main: &[u8]) -> Result<Listed, Allo
         total: 34,
         value: record(alloc, rmid, info, main.to_vec(alloc)?),
     })
+}
+
+// All of the log from segment 1 on.
+fn everything() -> Filter {
+    Filter::everything_from(Lsn(0x10_0000))
 }
 
 fn sink(alloc: Global) -> Result<MemSink, Fail> {
@@ -92,7 +97,10 @@ fn a_log_is_listed_to_its_end(rt: HostRuntime) -> Result<(), Fail> {
     let alloc = rt.alloc();
     let mut disk = disk_of(alloc, &two_records(alloc)?, vec![in alloc; 2]?)?;
     let mut out = sink(alloc)?;
-    assert_eq!(rt; dump(alloc, &mut disk, smallest(), &mut out), Ok(()));
+    assert_eq!(rt;
+        dump(alloc, &mut disk, smallest(), &everything(), &mut out),
+        Ok(2)
+    );
     assert_eq!(rt;
         out.taken(),
         b"\
@@ -103,7 +111,7 @@ fn a_log_is_listed_to_its_end(rt: HostRuntime) -> Result<(), Fail> {
             .as_slice()
     );
     assert_eq!(rt;
-        dump(alloc, &mut disk, smallest(), &mut out),
+        dump(alloc, &mut disk, smallest(), &everything(), &mut out),
         Err(DumpErr::Read(ReadErr::Disk { faults: 1 }))
     );
     Ok(())
@@ -122,7 +130,7 @@ fn a_listing_stops_at_a_damaged_record(rt: HostRuntime) -> Result<(), Fail> {
         kind: DamageKind::Crc,
     };
     assert_eq!(rt;
-        dump(alloc, &mut disk, smallest(), &mut out),
+        dump(alloc, &mut disk, smallest(), &everything(), &mut out),
         Err(DumpErr::Read(ReadErr::Stopped(damaged)))
     );
     assert_eq!(rt; out.taken(), COMMIT_LINE.as_slice());
@@ -146,7 +154,10 @@ fn dumped(rt: &impl Abort, alloc: Global, r: &Record, out: &mut MemSink) -> Resu
     let mut pages = TwoPages::zeros();
     pages.put(alloc, r, 0, Lsn(0))?;
     let mut disk = disk_of(alloc, &pages, Vec::new(alloc))?;
-    assert_eq!(rt; dump(alloc, &mut disk, smallest(), out), Ok(()));
+    assert_eq!(rt;
+        dump(alloc, &mut disk, smallest(), &everything(), out),
+        Ok(1)
+    );
     Ok(())
 }
 
@@ -222,7 +233,10 @@ fn an_empty_log_has_no_lines(rt: HostRuntime) -> Result<(), Fail> {
     let alloc = rt.alloc();
     let mut disk = MemDisk::new(alloc, 1, 1, Vec::new(alloc), Vec::new(alloc))?;
     let mut out = sink(alloc)?;
-    assert_eq!(rt; dump(alloc, &mut disk, smallest(), &mut out), Ok(()));
+    assert_eq!(rt;
+        dump(alloc, &mut disk, smallest(), &everything(), &mut out),
+        Ok(0)
+    );
     assert_eq!(rt; out.taken(), b"".as_slice());
     Ok(())
 }
@@ -233,7 +247,7 @@ fn a_sink_that_fails_ends_the_listing(rt: HostRuntime) -> Result<(), Fail> {
     let mut disk = disk_of(alloc, &two_records(alloc)?, Vec::new(alloc))?;
     let mut out = MemSink::new(alloc, 400, vec![in alloc; 2]?)?;
     assert_eq!(rt;
-        dump(alloc, &mut disk, smallest(), &mut out),
+        dump(alloc, &mut disk, smallest(), &everything(), &mut out),
         Err(DumpErr::Sink(SinkFault { faults: 1 }))
     );
     assert_eq!(rt; out.taken(), COMMIT_LINE.as_slice());
