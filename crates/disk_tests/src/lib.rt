@@ -4,6 +4,8 @@
 
 pub mod calls;
 #[cfg(test)]
+mod crashes;
+#[cfg(test)]
 mod memory;
 #[cfg(test)]
 mod writing;

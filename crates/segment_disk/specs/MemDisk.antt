@@ -44,7 +44,8 @@ failing_reads disk = disk.reads
 
 -- the segments that were there after so many of the calls
 abbrev pub state_behind : MemDisk → ℕ → DiskState
-state_behind disk count = after_calls (first_state disk.first.items) (take count disk.calls.made.items)
+state_behind disk count =
+    after_calls (first_state disk.first.items) (take count disk.calls.made.items)
 
 -- the segments that are there now
 abbrev pub disk_state_of : MemDisk → DiskState

@@ -82,6 +82,7 @@ impl MemDisk {
             LeftAt tape (min moment (moment_of self.now)) (first_image disk))) }
         ensures tape { IfOk result (λ disk. tape_of disk
             ≡ Some (record { at_first = first_state disk.first.items; calls = [] })) }
+        ensures moment { IfOk result (λ disk. moment_of disk ≡ 0) }
         ensures faults { IfOk result (λ disk. faults_of disk ≡ 0) }
         ensures limits { IfOk result (λ disk. limits_of disk
             ≡ record (limits_of self.now) { failing = [] }) }
