@@ -4,6 +4,8 @@
 #[cfg(test)]
 mod causes;
 #[cfg(test)]
+mod crashes;
+#[cfg(test)]
 mod damage;
 #[cfg(test)]
 mod gates;
