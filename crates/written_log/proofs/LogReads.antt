@@ -20,7 +20,9 @@ use Rattle.wal_reader.specs.declared.record_place.RecordPlace.{RecordPlace}
 use Rattle.wal_reader.specs.declared.found.Answer.{Answer}
 use Rattle.wal_reader.specs.declared.found.FoundRecord.{FoundRecord}
 use Rattle.wal_reader.specs.Pages.{Pages}
-use Rattle.wal_reader.specs.Decodes.{ReadsRecords, read_at, place_behind, is_right_prev, opens_page, continuation_rows, continuation_rows_of, rows_of_pages, found_or}
+use Rattle.wal_reader.specs.Decodes.{ReadsRecords, place_behind, is_right_prev, opens_page, continuation_rows, continuation_rows_of, rows_of_pages}
+use Rattle.wal_reader.proofs.ReadAtLaws.{reads_at}
+use Rattle.wal_reader.specs.ReadAt.{read_at, found_or}
 use Rattle.written_log.specs.Written.{found_entry, found_from}
 use Rattle.written_log.proofs.Tables.{NoneHolds, NoneHolds-append}
 use Rattle.written_log.proofs.Tables.NoneHolds.{none, past}
@@ -188,4 +190,4 @@ module _ (size sysid : ℕ) (pages : Pages) (es : List Entry) (w : IsWritten siz
   entries_are_read (e ∷ others) k prev before found answer stand right behind =
       let next = address_of size e.start in
       let rest = entries_are_read others (k + room_at size e.start e.value) next (Some (record { 0 = next })) found answer (others_stand e others k prev stand before) (eq-eqb next next refl) behind in
-      (entry_is_read e others k prev stand before right, subst (λ (place : RecordPlace). ReadsRecords size pages None place (found_from size next others ++ found) answer) (sym (place_behind_entry e others k prev stand before)) rest)
+      (reads_at size pages None (log_place size k before) (Ok (found_entry size prev e)) (entry_is_read e others k prev stand before right), subst (λ (place : RecordPlace). ReadsRecords size pages None place (found_from size next others ++ found) answer) (sym (place_behind_entry e others k prev stand before)) rest)

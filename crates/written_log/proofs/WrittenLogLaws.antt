@@ -18,6 +18,7 @@ use Rattle.wal_reader.specs.declared.found.Answer.{Answer}
 use Rattle.wal_reader.specs.declared.found.Answer.TheVariants.{End}
 use Rattle.wal_reader.specs.Pages.{Pages}
 use Rattle.wal_reader.specs.Decodes.{Decodes, ReadsRecords, ReadsFrom, beginning, ended}
+use Rattle.wal_reader.proofs.ReadAtLaws.{reads_at}
 use Rattle.written_log.specs.Written.{found_entry, found_from, found_of}
 use Rattle.written_log.specs.WrittenLog.{HavePagesOfLog, OwnPagesHoldLog, WrittenLogDecodes}
 use Rattle.wal_reader.proofs.PagesLaws.{end_address_of-first_position}
@@ -98,7 +99,7 @@ module _ (size sysid : ℕ) (pages : Pages) (e : Entry) (es : List Entry) (w : I
   something_decodes holds =
       let all = e ∷ es in
       let end = ended size (end_position size all) in
-      let read = entries_are_read_first [] end (log_ends size sysid pages all holds w (last_start size None all)) in
+      let read = entries_are_read_first [] end (reads_at size pages None (log_place size (rooms_of size all) (last_start size None all)) (Err end) (log_ends size sysid pages all holds w (last_start size None all))) in
       record {
         read = found_of size all;
         reads = subst (λ (found : List FoundRecord). ReadsFrom size pages None (beginning size pages size) found end) (append-nil (found_of size all)) read;
