@@ -2,6 +2,7 @@ use crate::FIRST_HEADER;
 use byte_position::Geometry;
 use std::test::Fail;
 use wal_page::{PageErr, PageInfo, check_page};
+use wal_types::Lsn;
 
 #[test]
 fn each_fault_is_found(rt: HostRuntime) -> Result<(), Fail> {
@@ -18,16 +19,29 @@ fn each_fault_is_found(rt: HostRuntime) -> Result<(), Fail> {
         check_page(geometry, 129, &page, 1),
         Err(PageErr::LongInside)
     );
-    assert_eq!(rt; check_page(geometry, 256, &page, 1), Err(PageErr::Address));
-    assert_eq!(rt; check_page(geometry, 128, &page, 2), Err(PageErr::Timeline));
+    let found = Lsn(128 * 8192);
+    assert_eq!(rt;
+        check_page(geometry, 256, &page, 1),
+        Err(PageErr::Address { found })
+    );
+    assert_eq!(rt;
+        check_page(geometry, 128, &page, 2),
+        Err(PageErr::Timeline { found: 1 })
+    );
     for (at, byte, fault) in [
-        (1u8, 0xd0, PageErr::Magic),
-        (2, 22, PageErr::Flags),
+        (1u8, 0xd0, PageErr::Magic { found: 0xd013 }),
+        (2, 22, PageErr::Flags { found: 22 }),
         (2, 4, PageErr::NoLong),
-        (34, 0x20, PageErr::SegSize),
-        (37, 0x10, PageErr::PageSize),
+        (34, 0x20, PageErr::SegSize { found: 0x20_0000 }),
+        (37, 0x10, PageErr::PageSize { found: 0x1000 }),
         (24, 0, PageErr::SysId),
-        (12, 1, PageErr::Address),
+        (
+            12,
+            1,
+            PageErr::Address {
+                found: Lsn(0x1_0010_0000),
+            },
+        ),
     ] {
         let mut changed = page;
         changed[usize::from(at)] = byte;

@@ -164,7 +164,7 @@ fn a_page_of_zeros_behind_a_record_that_goes_on_is_damage(rt: HostRuntime) -> Re
     let mut disk = disk_of(alloc, &pages, Vec::new(alloc))?;
     let damaged = ReadErr::Stopped(Stopped::Damaged {
         at: Lsn(0x10_2000),
-        kind: DamageKind::Page(PageErr::Magic),
+        kind: DamageKind::Page(PageErr::Magic { found: 0 }),
     });
     let mut reader = Reader::new(smallest(), START, None);
     assert_eq!(rt; reader.next(alloc, &mut disk).err(), Some(damaged));

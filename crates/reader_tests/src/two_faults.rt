@@ -5,6 +5,7 @@ use record_decode::{RecErr, RecKind, decode};
 use std::alloc::{AllocError, Global};
 use std::test::Fail;
 use wal_page::{PageErr, check_page};
+use wal_types::Lsn;
 
 // What is told of a record with one block, whose header begins so.
 fn told_of_block(alloc: Global, head: &[u8]) -> Result<Option<RecErr>, AllocError> {
@@ -78,17 +79,32 @@ fn of_two_neighbouring_checks_of_a_page_the_first_is_told(rt: HostRuntime) {
     let sys_id = (24, 0);
     let address = (10, 0);
     let timeline = (4, 0);
-    assert_eq!(rt; told_of_page(&[magic, flags]), Some(PageErr::Magic));
-    assert_eq!(rt; told_of_page(&[flags, seg_size]), Some(PageErr::Flags));
+    assert_eq!(rt;
+        told_of_page(&[magic, flags]),
+        Some(PageErr::Magic { found: 0xd100 })
+    );
+    assert_eq!(rt;
+        told_of_page(&[flags, seg_size]),
+        Some(PageErr::Flags { found: 0x10 })
+    );
     assert_eq!(rt; told_of_page(&[no_long, seg_size]), Some(PageErr::NoLong));
     assert_eq!(rt;
         told_of_page(&[seg_size, page_size]),
-        Some(PageErr::SegSize)
+        Some(PageErr::SegSize { found: 0x20_0000 })
     );
-    assert_eq!(rt; told_of_page(&[page_size, sys_id]), Some(PageErr::PageSize));
+    assert_eq!(rt;
+        told_of_page(&[page_size, sys_id]),
+        Some(PageErr::PageSize { found: 0x1000 })
+    );
     assert_eq!(rt; told_of_page(&[sys_id, address]), Some(PageErr::SysId));
-    assert_eq!(rt; told_of_page(&[address, timeline]), Some(PageErr::Address));
-    assert_eq!(rt; told_of_page(&[timeline]), Some(PageErr::Timeline));
+    assert_eq!(rt;
+        told_of_page(&[address, timeline]),
+        Some(PageErr::Address { found: Lsn(0) })
+    );
+    assert_eq!(rt;
+        told_of_page(&[timeline]),
+        Some(PageErr::Timeline { found: 0 })
+    );
 }
 
 #[test]

@@ -10,3 +10,4 @@ pub mod OwnerLaws
 pub mod EntryWordLaws
 pub mod LogByteLaws
 pub mod LogWordLaws
+mod PageRows

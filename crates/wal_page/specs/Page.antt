@@ -44,19 +44,30 @@ is_long bytes = info_of bytes / 2 % 2 == 1
 abbrev pub is_overwritten : List ℕ → Bool
 is_overwritten bytes = info_of bytes / 8 % 2 == 1
 
--- the checks of a page, in their order; `last_timeline` is that of the page read before
+-- the checks of a long header, in their order, each with what it met
+abbrev pub long_header_rows : ℕ → List ℕ → List (Bool × PageErr)
+long_header_rows size bytes =
+    let segment_size = number_at w32 bytes 32 in
+    let page_size = number_at w32 bytes 36 in
+    (not (segment_size == size), SegSize segment_size)
+    ∷ (not (page_size == 8192), PageSize page_size)
+    ∷ (number_at w64 bytes 24 == 0, SysId)
+    ∷ []
+
+-- the checks of a page, in their order, each with what it met; `last_timeline` is that of the page
+-- read before
 abbrev pub page_rows : ℕ → ℕ → List ℕ → ℕ → List (Bool × PageErr)
 page_rows size page bytes last_timeline =
-    (not (number_at w16 bytes 0 == 0xD113), Magic)
-    ∷ (nat_lt 15 (info_of bytes), Flags)
+    let magic = number_at w16 bytes 0 in
+    let address = number_at w64 bytes 8 in
+    (not (magic == 0xD113), Magic magic)
+    ∷ (nat_lt 15 (info_of bytes), Flags (info_of bytes))
     ∷ (is_first_page size page && not (is_long bytes), NoLong)
     ∷ (not (is_first_page size page) && is_long bytes, LongInside)
-    ∷ (is_long bytes && not (number_at w32 bytes 32 == size), SegSize)
-    ∷ (is_long bytes && not (number_at w32 bytes 36 == 8192), PageSize)
-    ∷ (is_long bytes && (number_at w64 bytes 24 == 0), SysId)
-    ∷ (not (number_at w64 bytes 8 == page * 8192), Address)
-    ∷ (nat_lt (timeline_of bytes) last_timeline, Timeline)
-    ∷ []
+    ∷ ((if is_long bytes then long_header_rows size bytes else [])
+    ++ (not (address == page * 8192), Address (record { 0 = address }))
+    ∷ (nat_lt (timeline_of bytes) last_timeline, Timeline (timeline_of bytes))
+    ∷ [])
 
 -- the first check that fails
 abbrev pub page_fault : ℕ → ℕ → List ℕ → ℕ → Option PageErr

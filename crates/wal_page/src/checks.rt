@@ -3,32 +3,33 @@
 ghost use Rattle.std.specs.Prelude.{◌≡◌, ℕ, ◌+◌, ◌*◌, ◌/◌, ◌%◌, ◌^◌, ◌<◌, ◌≤◌, ◌==◌, IfOk, MatchResult, Some, None};
 ghost use Rattle.std.specs.Int.{w16, w32, w64};
 ghost use Rattle.record_spelling.specs.Numbers.{number_at};
-ghost use Rattle.wal_page.specs.Page.{info_of, page_fault, remaining_of, timeline_of};
+ghost use Rattle.wal_page.specs.Page.{first_fault, info_of, long_header_rows, page_fault, remaining_of, timeline_of};
 
 use crate::layout::*;
 use byte_position::{Geometry, PAGE_SIZE};
+use wal_types::Lsn;
 
-/// Which check of a page failed.
+/// Which check of a page failed, and what the field holds that the check looked at.
 #[derive(Clone, Copy, Debug, PartialEq, Eq)]
 pub enum PageErr {
     /// The magic number is not that of PostgreSQL 16.
-    Magic,
+    Magic { found: u16 },
     /// A flag is set that there is not.
-    Flags,
+    Flags { found: u16 },
     /// A segment's first page has a short header.
     NoLong,
     /// A page inside a segment has a long header.
     LongInside,
     /// A long header names another segment size.
-    SegSize,
+    SegSize { found: u32 },
     /// A long header names another page size.
-    PageSize,
+    PageSize { found: u32 },
     /// A long header has the system id 0.
     SysId,
-    /// The page belongs to another address.
-    Address,
+    /// The page belongs to another address: the one that it names.
+    Address { found: Lsn },
     /// The page's timeline is before that of the page read before it.
-    Timeline,
+    Timeline { found: u32 },
 }
 
 /// The fields of a page's header that a reader goes on with, as they stand (PostgreSQL's
@@ -85,41 +86,58 @@ pub fn check_page(
         (λ _. page_fault geometry page bytes.now last_timeline ≡ None)
         (λ e. page_fault geometry page bytes.now last_timeline ≡ Some e) }
 {
-    let found = PageInfo {
+    let header = PageInfo {
         info: u16_at(bytes, INFO_AT),
         timeline: u32_at(bytes, TIMELINE_AT),
         rem_len: u32_at(bytes, REM_LEN_AT),
     };
-    if u16_at(bytes, MAGIC_AT) != MAGIC {
-        return Err(PageErr::Magic);
+    let magic = u16_at(bytes, MAGIC_AT);
+    if magic != MAGIC {
+        return Err(PageErr::Magic { found: magic });
     }
-    if found.info > ALL_FLAGS {
-        return Err(PageErr::Flags);
+    if header.info > ALL_FLAGS {
+        return Err(PageErr::Flags { found: header.info });
     }
     let is_first = page % u64::from(geometry.pages()) == 0;
-    let is_long = found.is_long();
+    let is_long = header.is_long();
     if is_first && !is_long {
         return Err(PageErr::NoLong);
     }
     if !is_first && is_long {
         return Err(PageErr::LongInside);
     }
-    if is_long && u64::from(u32_at(bytes, SEGMENT_SIZE_AT)) != geometry.segment_size() {
-        return Err(PageErr::SegSize);
+    if is_long {
+        check_long_header(geometry, bytes)?;
     }
-    if is_long && u64::from(u32_at(bytes, PAGE_SIZE_AT)) != PAGE_SIZE {
-        return Err(PageErr::PageSize);
+    let address = Lsn(u64_at(bytes, ADDRESS_AT));
+    if !is_page_address(page, address.0) {
+        return Err(PageErr::Address { found: address });
     }
-    if is_long && u64_at(bytes, SYSTEM_ID_AT) == 0 {
+    if header.timeline < last_timeline {
+        let found = header.timeline;
+        return Err(PageErr::Timeline { found });
+    }
+    Ok(header)
+}
+
+// What a long header says besides: the sizes that the log is read with, and a system id.
+fn check_long_header(geometry: Geometry, bytes: &[u8; 8192]) -> Result<(), PageErr>
+    ensures { MatchResult result
+        (λ _. first_fault (long_header_rows geometry bytes.now) ≡ None)
+        (λ e. first_fault (long_header_rows geometry bytes.now) ≡ Some e) }
+{
+    let found = u32_at(bytes, SEGMENT_SIZE_AT);
+    if u64::from(found) != geometry.segment_size() {
+        return Err(PageErr::SegSize { found });
+    }
+    let found = u32_at(bytes, PAGE_SIZE_AT);
+    if u64::from(found) != PAGE_SIZE {
+        return Err(PageErr::PageSize { found });
+    }
+    if u64_at(bytes, SYSTEM_ID_AT) == 0 {
         return Err(PageErr::SysId);
     }
-    if !is_page_address(page, u64_at(bytes, ADDRESS_AT)) {
-        return Err(PageErr::Address);
-    }
-    if found.timeline < last_timeline {
-        return Err(PageErr::Timeline);
-    }
-    Ok(found)
+    Ok(())
 }
 
 // Whether a page begins at this address; none does whose address would not fit.

@@ -31,6 +31,9 @@ module _ (size : ℕ) (place : RecordPlace) (here : Option (List ℕ)) (bytes : 
   pub opening_claims : first_fault (page_answers size start_page bytes place.timeline) ≡ None → opens_page size place.position ≡ true → is_continued bytes ≡ true → opening_of size place here ≡ Some (damaged (address_of size place.position) kinds.Claims)
   opening_claims e f g = opening_parts ∙ ap (λ (o : Option Answer). first_of o (first_fault (last_row ∷ []))) e ∙ rw (f, g) refl
 
+  pub opening_passes : first_fault (page_answers size start_page bytes place.timeline) ≡ None → (opens_page size place.position && is_continued bytes) ≡ false → opening_of size place here ≡ None
+  opening_passes e f = opening_parts ∙ ap (λ (o : Option Answer). first_of o (first_fault (last_row ∷ []))) e ∙ rw f refl
+
 -- the cursor at a byte position, before any byte is gathered
 pub gathers_none : (size position : ℕ) (cursor : PageCursor) → IsSegmentSize size → cursor.page ≡ address_of size position / 8192 → cursor.offset ≡ address_of size position % 8192 → cursor.page < 2 ^ 47 → HasGathered size position 0 cursor
 gathers_none size position cursor valid page offset reach =

@@ -7,15 +7,15 @@ use Rattle.wal_reader.specs.declared.found.DamageKind.TheVariants.{Page, Claims,
 
 -- a page's check that failed
 abbrev pub page_name : PageErr → List ℕ
-page_name Magic = codes "magic"
-page_name Flags = codes "flags"
+page_name (Magic found) = codes "magic"
+page_name (Flags found) = codes "flags"
 page_name NoLong = codes "nolong"
 page_name LongInside = codes "longinside"
-page_name SegSize = codes "segsize"
-page_name PageSize = codes "pagesize"
+page_name (SegSize found) = codes "segsize"
+page_name (PageSize found) = codes "pagesize"
 page_name SysId = codes "sysid"
-page_name Address = codes "address"
-page_name Timeline = codes "timeline"
+page_name (Address found) = codes "address"
+page_name (Timeline found) = codes "timeline"
 
 -- a check that failed
 abbrev pub damage_name : DamageKind → List ℕ

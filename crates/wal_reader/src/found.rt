@@ -70,15 +70,15 @@ fn page_name(fault: PageErr) -> &'static str
     ensures { result.now ≡ page_name fault }
 {
     match fault {
-        PageErr::Magic => "magic",
-        PageErr::Flags => "flags",
+        PageErr::Magic { .. } => "magic",
+        PageErr::Flags { .. } => "flags",
         PageErr::NoLong => "nolong",
         PageErr::LongInside => "longinside",
-        PageErr::SegSize => "segsize",
-        PageErr::PageSize => "pagesize",
+        PageErr::SegSize { .. } => "segsize",
+        PageErr::PageSize { .. } => "pagesize",
         PageErr::SysId => "sysid",
-        PageErr::Address => "address",
-        PageErr::Timeline => "timeline",
+        PageErr::Address { .. } => "address",
+        PageErr::Timeline { .. } => "timeline",
     }
 }
 

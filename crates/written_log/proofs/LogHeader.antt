@@ -74,22 +74,16 @@ module _ (size sysid remaining : ℕ) (rest : List ℕ) (page : ℕ) (fits : siz
         (past refl
         (past (and_left _ true first)
         (past (and_right _ false refl)
-        (past refl
-        (past refl
-        (past refl
         (past (not_from_true _ (eq-eqb _ _ read_address))
-        (past (le-ltb 1 timeline early) none))))))))
+        (past (le-ltb 1 timeline early) none)))))
     short_passes false first =
         let read_address = from_le_bytes-to_le_bytes_8 (page * 8192) wide in
         past refl
         (past refl
         (past (and_left _ true first)
         (past (and_right _ false refl)
-        (past refl
-        (past refl
-        (past refl
         (past (not_from_true _ (eq-eqb _ _ read_address))
-        (past (le-ltb 1 timeline early) none))))))))
+        (past (le-ltb 1 timeline early) none)))))
 
   -- a header that an entry gives its page is sound, whatever stands behind it
   pub log_header_is_sound : IsSound size page remaining (page_header size sysid page remaining ++ rest)

@@ -10,9 +10,9 @@ use Rattle.wal_reader.specs.declared.found.DamageKind.TheVariants as kinds
 use Rattle.wal_reader.specs.Decodes.{opening_of, damaged, is_zero_word, opens_page, page_answers}
 use Rattle.wal_reader.specs.Pages.{Pages}
 use Rattle.wal_reader.specs.PageCursor.{Sees}
-use Rattle.wal_reader.proofs.RecordStages.{opening_page_fails, opening_claims, gathers_none, opens_at}
+use Rattle.wal_reader.proofs.RecordStages.{opening_page_fails, opening_claims, opening_passes, gathers_none, opens_at}
 use Rattle.wal_reader.proofs.record_start.open_page.Goals as goal
-use Rattle.wal_reader.proofs.record_start.open_page.Goals.{After-check_held, else-opens-via-then-opens+else-is_zero_word, else-opens-via-else-opens}
+use Rattle.wal_reader.proofs.record_start.open_page.Goals.{After-check_held, else-opens-via-then-opens+else-is_zero_word, else-opens-via-else-opens, else-opens-2-via-then-opens-2+else-is_continued, else-opens-2-via-else-opens-2}
 
 -- the page is there and held
 there : (g : _) (c : After-check_held g) (pages : Pages) → Sees (g.D.Disk.tape c.args.disk.now) c.args.cache.now pages → pages (address_of c.load.new.self.geometry c.args.at.position / 8192) ≡ Some c.load.new.self.bytes.value
@@ -64,6 +64,21 @@ returns-then-is_continued-clause-checks g c = λ pages sees.
     let first = opens g before ∙ eq-eqb _ _ c.if-opens-2.true in
     let continued = sym c.in_ok-info.ensures.continued ∙ sym c.is_continued.ensures ∙ c.if-is_continued.true in
     rw c.damaged.ensures (claims g before pages sees (checks_at g before None c.in_ok-info.ensures.checks) first continued)
+
+passes : (g : _) (c : After-check_held g) (pages : Pages) → Sees (g.D.Disk.tape c.args.disk.now) c.args.cache.now pages → checks_of g c None → (opens_page c.load.new.self.geometry c.args.at.position && is_continued c.load.new.self.bytes.value) ≡ false
+    → opening_of c.args.cache.now.geometry c.args.at (pages (address_of c.args.cache.now.geometry c.args.at.position / 8192)) ≡ None
+unfolding checks_of
+passes g c pages sees told last = rw (← c.in_ok-load.ensures.geometry) (opening_passes c.load.new.self.geometry c.args.at _ _ (there g c pages sees) (marked g c) told last)
+
+pub returns-clause-checks : goal.returns-clause-checks
+returns-clause-checks g c = λ pages sees.
+    let before = (goal.at.returns-clause-checks g c).After-check_held in
+    let last : (opens_page c.load.new.self.geometry c.args.at.position && is_continued c.load.new.self.bytes.value) ≡ false =
+        elim c.else-opens-2.branch [
+          | else-opens-2-via-then-opens-2+else-is_continued w ↦ and_right _ _ (sym c.in_ok-info.ensures.continued ∙ sym w.is_continued.ensures ∙ w.if-is_continued.false)
+          | else-opens-2-via-else-opens-2 w ↦ rw (opens g before, ne_eqb _ _ w.if-opens-2.false) refl
+        ] in
+    passes g before pages sees (checks_at g before None c.in_ok-info.ensures.checks) last
 
 pub returns-clause-cursor : goal.returns-clause-cursor
 returns-clause-cursor g c =
