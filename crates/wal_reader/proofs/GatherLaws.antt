@@ -12,7 +12,8 @@ use Rattle.wal_page.specs.Page.{header_size, first_fault, timeline_of}
 use Rattle.wal_reader.specs.declared.record_place.RecordPlace.{RecordPlace}
 use Rattle.wal_reader.specs.declared.found.Answer.{Answer}
 use Rattle.wal_reader.specs.declared.page_cursor.PageCursor.{PageCursor}
-use Rattle.wal_reader.specs.Pages.{Pages, byte_at, bytes_from}
+use Rattle.wal_reader.specs.Pages.{IsPage, Pages, as_byte, byte_at, bytes_from}
+use Rattle.wal_reader.proofs.PagesLaws.{as_byte-of}
 use Rattle.wal_reader.specs.Decodes.{continuation_rows, continuation_rows_of, page_of_byte, rows_of_pages, timeline_or}
 use Rattle.wal_reader.specs.declared.read_failure.ReadFailure.{ReadFailure}
 use Rattle.wal_reader.specs.PageCursor.{Crosses, HasGathered, HoldsPassed, StandsIn}
@@ -132,15 +133,18 @@ module _ (size position : ℕ) (cursor : PageCursor) (stands : StandsIn size pos
       omega arith
 
   -- the bytes that the page has from the cursor on
-  module _ (pages : Pages) (bytes : List ℕ) (here : pages cursor.page ≡ Some bytes) (whole : length bytes ≡ 8192) where
-    byte_from : (k : ℕ) → cursor.offset + k < 8192 → byte_at pages (address_of size (position + k)) ≡ get_or bytes (cursor.offset + k) 0
-    byte_from k within = rw (page_from k within, here, offset_from k within) refl
+  module _ (pages : Pages) (bytes : List ℕ) (here : pages cursor.page ≡ Some bytes) (whole : IsPage bytes) where
+    raw_byte_from : (k : ℕ) → cursor.offset + k < 8192 → byte_at pages (address_of size (position + k)) ≡ get_or bytes (cursor.offset + k) 0
+    raw_byte_from k within = rw (page_from k within, here, offset_from k within) refl
+
+    byte_from : (k : ℕ) → cursor.offset + k < 8192 → as_byte (byte_at pages (address_of size (position + k))) ≡ get_or bytes (cursor.offset + k) 0
+    byte_from k within = ap as_byte (raw_byte_from k within) ∙ as_byte-of (get_or bytes (cursor.offset + k) 0) (whole.1 (cursor.offset + k) 0 (omega (arith, whole.0)))
 
     bytes_from_cursor : (n k : ℕ) → cursor.offset + k + n ≤ 8192 → bytes_from size pages n (position + k) ≡ take n (drop (cursor.offset + k) bytes)
     unfolding bytes_from
     bytes_from_cursor zero k within = refl
     bytes_from_cursor (suc n) k within =
-        let at : cursor.offset + k < length bytes = omega arith in
+        let at : cursor.offset + k < length bytes = omega (arith, whole.0) in
         let next : position + k + 1 ≡ position + (k + 1) = omega arith in
         let others = ap (bytes_from size pages n) next ∙ bytes_from_cursor n (k + 1) (omega arith) in
         let further : cursor.offset + (k + 1) ≡ cursor.offset + k + 1 = omega arith in
@@ -163,7 +167,7 @@ bytes_from-append size pages zero k position =
 bytes_from-append size pages (suc n) k position =
     let e : suc n + k ≡ suc (n + k) = omega arith in
     let f : position + suc n ≡ position + 1 + n = omega arith in
-    rw (e, f) (ap (λ xs. byte_at pages (address_of size position) ∷ xs) (bytes_from-append size pages n k (position + 1)))
+    rw (e, f) (ap (λ xs. as_byte (byte_at pages (address_of size position)) ∷ xs) (bytes_from-append size pages n k (position + 1)))
 
 -- ---- the checks of the page behind a page's end
 
@@ -196,19 +200,19 @@ module _ (size : ℕ) (pages : Pages) (place : RecordPlace) (total n : ℕ) (cur
   page_turned (Err stop) same told = λ upto more. IsTold-weaker fault _ (λ answer. told_by_next upto answer more) stop told
 
 -- bytes that were gathered, and those that the page has behind them
-room_grows : (size position n : ℕ) (cursor : PageCursor) → StandsIn size (position + n) cursor → (pages : Pages) (bytes : List ℕ) → pages cursor.page ≡ Some bytes → length bytes ≡ 8192 → (count : ℕ) → cursor.offset + count ≤ 8192
+room_grows : (size position n : ℕ) (cursor : PageCursor) → StandsIn size (position + n) cursor → (pages : Pages) (bytes : List ℕ) → pages cursor.page ≡ Some bytes → IsPage bytes → (count : ℕ) → cursor.offset + count ≤ 8192
     → (room : List ℕ) → room ≡ bytes_from size pages n position → room ++ take count (drop cursor.offset bytes) ≡ bytes_from size pages (n + count) position
 room_grows size position n cursor stands pages bytes here whole count within room had =
     let more = bytes_in_page size (position + n) cursor stands pages bytes here whole count within in
     rw (had, ← more) (sym (bytes_from-append size pages n count position))
 
 -- the same of a room to which they were appended
-pub room_grown : (size position n m : ℕ) (cursor : PageCursor) → StandsIn size (position + n) cursor → (pages : Pages) (bytes page : List ℕ) → pages cursor.page ≡ Some bytes → page ≡ bytes → length page ≡ 8192 → (count : ℕ) → cursor.offset + count ≤ 8192 → m ≡ n + count
+pub room_grown : (size position n m : ℕ) (cursor : PageCursor) → StandsIn size (position + n) cursor → (pages : Pages) (bytes page : List ℕ) → pages cursor.page ≡ Some bytes → page ≡ bytes → IsPage page → (count : ℕ) → cursor.offset + count ≤ 8192 → m ≡ n + count
     → (room new : List ℕ) → room ≡ bytes_from size pages n position → new ≡ room ++ take count (drop cursor.offset page) → new ≡ bytes_from size pages m position
 room_grown size position n m cursor stands pages bytes page here same whole count within sum room new had added =
     added
     ∙ ap (λ (bs : List ℕ). room ++ take count (drop cursor.offset bs)) same
-    ∙ room_grows size position n cursor stands pages bytes here (ap length (sym same) ∙ whole) count within room had
+    ∙ room_grows size position n cursor stands pages bytes here (subst IsPage same whole) count within room had
     ∙ ap (λ (k : ℕ). bytes_from size pages k position) (sym sum)
 
 pub gathers_further : (size position n : ℕ) (cursor : PageCursor) → StandsIn size (position + n) cursor → (count m : ℕ) → 0 < count → cursor.offset + count ≤ 8192 → m ≡ n + count → HasGathered size position m (record cursor { offset = cursor.offset + count })

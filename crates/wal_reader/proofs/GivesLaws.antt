@@ -4,8 +4,10 @@ use Rattle.std.proofs.lemmas.Bool.{cond-true, cond-false, le-leb, lt-leb}
 use Rattle.wal_reader.specs.declared.found.FoundRecord.{FoundRecord}
 use Rattle.wal_reader.specs.declared.found.Answer.{Answer}
 use Rattle.wal_reader.specs.Pages.{Pages}
-use Rattle.wal_reader.specs.Decodes.{ReadsFrom, Decodes, beginning, place_behind, read_at}
+use Rattle.wal_reader.specs.Decodes.{ReadsFrom, Decodes, beginning, place_behind}
+use Rattle.wal_reader.specs.ReadAt.{read_at}
 use Rattle.wal_reader.specs.RecordRead.{IsRead}
+use Rattle.wal_reader.proofs.ReadAtLaws.{reads_at}
 use Rattle.wal_reader.specs.Steps.{GivesFrom, ComesNext}
 use Rattle.wal_reader.specs.declared.record_place.RecordPlace.{RecordPlace}
 use Rattle.wal_reader.specs.declared.read_failure.ReadFailure.{ReadFailure}
@@ -18,14 +20,14 @@ module _ (size : ℕ) (pages : Pages) (start : ℕ) (end : Option ℕ) where
   module _ (place : RecordPlace) where
     -- nothing stands at a place
     pub GivesFrom-stop : (answer : Answer) → read_at size pages end place ≡ Err answer → GivesFrom size pages start end place [] answer
-    GivesFrom-stop answer stops = record { read = []; reads = stops; given = refl }
+    GivesFrom-stop answer stops = record { read = []; reads = reads_at size pages end place (Err answer) stops; given = refl }
 
     module _ (found : FoundRecord) (next : RecordPlace) (reads : read_at size pages end place ≡ Ok found) (behind : next ≡ place_behind size pages place found) (others : List FoundRecord) (answer : Answer) (rest : GivesFrom size pages start end next others answer) where
       -- a record before the start is passed over
       pub GivesFrom-passed : found.start.0 < start → GivesFrom size pages start end place others answer
       GivesFrom-passed before = record {
         read = found ∷ rest.read;
-        reads = (reads, rw behind at rest.reads);
+        reads = (reads_at size pages end place (Ok found) reads, rw behind at rest.reads);
         given = rest.given ∙ sym (cond-false _ (found ∷ given rest.read) (given rest.read) (lt-leb start found.start.0 before));
       }
 
@@ -33,7 +35,7 @@ module _ (size : ℕ) (pages : Pages) (start : ℕ) (end : Option ℕ) where
       pub GivesFrom-given : start ≤ found.start.0 → GivesFrom size pages start end place (found ∷ others) answer
       GivesFrom-given at = record {
         read = found ∷ rest.read;
-        reads = (reads, rw behind at rest.reads);
+        reads = (reads_at size pages end place (Ok found) reads, rw behind at rest.reads);
         given = ap (λ (fs : List FoundRecord). found ∷ fs) rest.given ∙ sym (cond-true _ (found ∷ given rest.read) (given rest.read) (le-leb start found.start.0 at));
       }
 

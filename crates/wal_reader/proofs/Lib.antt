@@ -13,3 +13,4 @@ pub mod SettledLaws
 pub mod FailureLaws
 pub mod RunLaws
 pub mod ReachLaws
+pub mod ReadAtLaws

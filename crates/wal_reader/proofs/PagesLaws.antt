@@ -1,5 +1,7 @@
 -- Laws of the bytes and the pages that a record is read from.
-use Rattle.std.proofs.Common.{◌≡◌, ℕ, zero, suc, ◌+◌, ◌-◌, ◌%◌, ◌≤◌, [], ◌∷◌, take, refl, sym, ap, ◌∙◌, arith}
+use Rattle.std.proofs.Common.{◌≡◌, ℕ, zero, suc, ◌+◌, ◌-◌, ◌%◌, ◌<◌, ◌≤◌, [], ◌∷◌, All, cond, ltb, inl, inr, length, take, refl, sym, ap, ◌∙◌, arith}
+use Rattle.std.proofs.lemmas.Bool.{cases_lt, cond-true, cond-false, lt-ltb, le-ltb}
+use Rattle.std.proofs.lemmas.List.Elements.{All-cons, All-nil}
 use Rattle.std.proofs.Math.Nat.{mod-eq_of_lt}
 use Rattle.byte_position.specs.Geometry.{IsSegmentSize}
 use Rattle.byte_position.specs.Position.{position_of, address_of, end_address_of, first_position}
@@ -7,7 +9,7 @@ use Rattle.byte_position.proofs.SegmentSizes.{segment_size_in_pages}
 use Rattle.byte_position.proofs.Headers.{in_none}
 use Rattle.byte_position.proofs.PositionLaws.{end_address_of-next, position_of-outside, address_of-position_of}
 use Rattle.wal_reader.specs.declared.record_place.RecordPlace.{RecordPlace}
-use Rattle.wal_reader.specs.Pages.{Pages, byte_at, bytes_from}
+use Rattle.wal_reader.specs.Pages.{Pages, as_byte, byte_at, bytes_from}
 use Rattle.wal_reader.specs.Decodes.{rows_of_pages}
 
 -- no page is needed behind the one in which the bytes end
@@ -22,7 +24,33 @@ unfolding bytes_from
 take-bytes_from size pages zero n position within = refl
 take-bytes_from size pages (suc m) zero position within = absurd (omega arith)
 take-bytes_from size pages (suc m) (suc n) position within =
-    ap (λ bs. byte_at pages (address_of size position) ∷ bs) (take-bytes_from size pages m n (position + 1) (omega arith))
+    ap (λ bs. as_byte (byte_at pages (address_of size position)) ∷ bs) (take-bytes_from size pages m n (position + 1) (omega arith))
+
+-- ---- bytes
+
+pub as_byte-fits : (number : ℕ) → as_byte number < 256
+unfolding as_byte
+as_byte-fits number =
+    elim (cases_lt number 256) [
+      | inl below ↦ rw (cond-true (ltb number 256) number 0 (lt-ltb number 256 below)) below
+      | inr above ↦ rw (cond-false (ltb number 256) number 0 (le-ltb number 256 above)) (omega arith)
+    ]
+
+-- a byte is the byte that it is
+pub as_byte-of : (number : ℕ) → number < 256 → as_byte number ≡ number
+unfolding as_byte
+as_byte-of number below = cond-true (ltb number 256) number 0 (lt-ltb number 256 below)
+
+pub bytes_from-fits : (size : ℕ) (pages : Pages) (n position : ℕ) → All (λ b. b < 256) (bytes_from size pages n position)
+unfolding bytes_from
+bytes_from-fits size pages zero position = All-nil (λ b. b < 256)
+bytes_from-fits size pages (suc n) position =
+    All-cons (λ b. b < 256) (as_byte (byte_at pages (address_of size position))) (bytes_from size pages n (position + 1)) (as_byte-fits (byte_at pages (address_of size position))) (bytes_from-fits size pages n (position + 1))
+
+pub length-bytes_from : (size : ℕ) (pages : Pages) (n position : ℕ) → length (bytes_from size pages n position) ≡ n
+unfolding bytes_from
+length-bytes_from size pages zero position = refl
+length-bytes_from size pages (suc n) position = omega (arith, length-bytes_from size pages n (position + 1))
 
 -- where nothing was written, the log ends at the page's start
 pub end_address_of-first_position : (size : ℕ) → IsSegmentSize size → end_address_of size (first_position size) ≡ size

@@ -8,7 +8,8 @@ use Rattle.segment_disk.specs.Tape.{Tape, state_now}
 use Rattle.wal_reader.specs.declared.record_place.RecordPlace.{RecordPlace}
 use Rattle.wal_reader.specs.declared.page_cache.PageCache.{PageCache}
 use Rattle.wal_reader.specs.PageCursor.{Sees}
-use Rattle.wal_reader.specs.Decodes.{ended, is_at_end, read_at, read_in}
+use Rattle.wal_reader.specs.Decodes.{ended, is_at_end}
+use Rattle.wal_reader.specs.ReadAt.{read_at, read_in}
 use Rattle.wal_reader.specs.Pages.{Pages}
 use Rattle.wal_reader.specs.RecordPlace.{IsOutOfReach}
 use Rattle.wal_reader.proofs.RecordAt.{read_at-before, read_at-end}

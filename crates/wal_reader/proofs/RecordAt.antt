@@ -9,9 +9,10 @@ use Rattle.wal_page.specs.Page.{first_fault}
 use Rattle.wal_reader.specs.declared.record_place.RecordPlace.{RecordPlace}
 use Rattle.wal_reader.specs.declared.found.Answer.{Answer}
 use Rattle.wal_reader.specs.declared.page_cursor.PageCursor.{PageCursor}
-use Rattle.wal_reader.specs.Pages.{Pages, bytes_from}
+use Rattle.wal_reader.specs.Pages.{IsPage, Pages, bytes_from}
 use Rattle.wal_reader.specs.PageCursor.{HasGathered, StandsIn}
-use Rattle.wal_reader.specs.Decodes.{ended, found_or, is_at_end, is_zero_word, record_rows, answer_or, read_in, read_at, opening_of, opening_rows, size_rows, rest_rows}
+use Rattle.wal_reader.specs.Decodes.{ended, is_at_end, is_zero_word, record_rows, opening_of, opening_rows, size_rows, rest_rows}
+use Rattle.wal_reader.specs.ReadAt.{found_or, answer_or, read_in, read_at}
 use Rattle.wal_reader.specs.RecordRead.{said_of}
 use Rattle.wal_reader.proofs.GatherLaws.{bytes_in_page}
 use Rattle.wal_reader.proofs.PagesLaws.{take-bytes_from}
@@ -56,7 +57,7 @@ module _ (size : ℕ) (pages : Pages) (end : Option ℕ) (place : RecordPlace) w
       read_at-opened : read_at size pages end place ≡ answer_or size pages place (first_fault (record_rows size pages end place page))
       read_at-opened = read_at-before ∙ ap (read_in size pages end place) here
 
-      module _ (cursor : PageCursor) (first : cursor.page ≡ address_of size place.position / 8192) (gathered : HasGathered size place.position 0 cursor) (whole : length page ≡ 8192) (within : cursor.offset + 8 ≤ 8192) where
+      module _ (cursor : PageCursor) (first : cursor.page ≡ address_of size place.position / 8192) (gathered : HasGathered size place.position 0 cursor) (whole : IsPage page) (within : cursor.offset + 8 ≤ 8192) where
         word_bytes : bytes_from size pages 8 place.position ≡ take 8 (drop cursor.offset page)
         word_bytes =
             let e : place.position + 0 ≡ place.position = omega arith in

@@ -22,9 +22,10 @@ use Rattle.wal_reader.specs.declared.found.FoundRecord.{FoundRecord}
 use Rattle.wal_reader.specs.declared.record_place.RecordPlace.{RecordPlace}
 use Rattle.wal_reader.specs.declared.read_failure.ReadFailure.{ReadFailure}
 use Rattle.wal_reader.specs.declared.read_failure.ReadFailure.TheVariants as failures
-use Rattle.wal_reader.specs.Pages.{Pages, bytes_from}
+use Rattle.wal_reader.specs.Pages.{IsPage, Pages, bytes_from}
 use Rattle.wal_reader.specs.PageCursor.{Crosses, HasGathered, HoldsPassed, StandsIn}
-use Rattle.wal_reader.specs.Decodes.{found_or, page_of_byte, place_behind, rows_of_pages, crc_rows, header_rows, rest_rows}
+use Rattle.wal_reader.specs.Decodes.{page_of_byte, place_behind, rows_of_pages, crc_rows, header_rows, rest_rows}
+use Rattle.wal_reader.specs.ReadAt.{found_or}
 use Rattle.wal_reader.specs.RecordRead.{GoesOn, IsRead, said_of}
 use Rattle.wal_reader.specs.RecordPlace.{IsReachable}
 use Rattle.wal_reader.specs.ReadFailures.{IsTold}
@@ -201,7 +202,7 @@ goes_on_behind at next total reachable large bound e = (omega arith, record { al
 -- ---- a record that its first page has whole
 
 module _ (size : ℕ) (pages : Pages) (at : RecordPlace) (start : Lsn) (total : ℕ) (cursor : PageCursor) (page bytes : List ℕ) (starts : start.0 ≡ address_of size at.position) (first : cursor.page ≡ address_of size at.position / 8192) (gathered : HasGathered size at.position 0 cursor)
-    (here : pages cursor.page ≡ Some page) (whole_page : length page ≡ 8192) (large : 24 ≤ total) (within : cursor.offset + total ≤ 8192) (own : bytes ≡ take total (drop cursor.offset page)) where
+    (here : pages cursor.page ≡ Some page) (whole_page : IsPage page) (large : 24 ≤ total) (within : cursor.offset + total ≤ 8192) (own : bytes ≡ take total (drop cursor.offset page)) where
   abbrev said_here : Result FoundRecord Answer
   said_here = said_of size pages at total (first_fault (rest_rows size pages at total))
 

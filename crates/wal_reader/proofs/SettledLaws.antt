@@ -17,7 +17,8 @@ use Rattle.wal_reader.specs.declared.found.FoundRecord.{FoundRecord}
 use Rattle.wal_reader.specs.declared.found.Answer.{Answer}
 use Rattle.wal_reader.specs.declared.found.Answer.TheVariants as answers
 use Rattle.wal_reader.specs.declared.found.DamageKind.TheVariants as damages
-use Rattle.wal_reader.specs.Decodes.{ReadsRecords, ReadsFrom, answer_or, beginning, damaged, ended, found_or, is_at_end, is_zero_word, opening_rows, place_behind, read_at, read_in, record_rows, size_rows, rest_rows}
+use Rattle.wal_reader.specs.Decodes.{ReadsRecords, ReadsFrom, beginning, damaged, ended, is_at_end, is_zero_word, opening_rows, place_behind, record_rows, size_rows, rest_rows}
+use Rattle.wal_reader.specs.ReadAt.{ReadsComputed, answer_or, found_or, read_at, read_in}
 use Rattle.wal_reader.specs.LogReader.{ReaderState, GivesRecords, GivesAt, IsNext}
 use Rattle.wal_reader.specs.declared.standing.Standing.{Standing}
 use Rattle.wal_reader.specs.declared.standing.Standing.TheVariants.{NotBegun, At, Stopped}
@@ -25,6 +26,7 @@ use Rattle.wal_reader.specs.Pages.{Pages, bytes_from, pages_in}
 use Rattle.wal_reader.specs.Settled.{DecodingIsSettled, IsBounded, IsSettled, StepsTellDecoding, Tells, stop, step}
 use Rattle.wal_reader.specs.Standings.{told}
 use Rattle.wal_reader.proofs.PagesLaws.{take-bytes_from}
+use Rattle.wal_reader.proofs.ReadAtLaws.{reads_at, records_computed}
 use Rattle.wal_reader.proofs.RowLaws.{first_of, first_fault-append, number_at-take}
 
 cases_Result : {A B : Type 0} (r : Result A B) → ((x : A) × (r ≡ Ok x)) ⊎ ((e : B) × (r ≡ Err e))
@@ -39,15 +41,19 @@ same_read found other e = cc
 
 -- ---- there is one reading
 
-Reads-same : (size : ℕ) (pages : Pages) (end : Option ℕ) (place : RecordPlace) (found others : List FoundRecord) (answer other : Answer) → ReadsRecords size pages end place found answer → ReadsRecords size pages end place others other → (found ≡ others) × (answer ≡ other)
-Reads-same size pages end place [] [] answer other a b = (refl, cc)
-Reads-same size pages end place [] (g ∷ others) answer other a b = absurd (cc (a, b.0))
-Reads-same size pages end place (f ∷ found) [] answer other a b = absurd (cc (a.0, b))
-Reads-same size pages end place (f ∷ found) (g ∷ others) answer other a b =
+Computed-same : (size : ℕ) (pages : Pages) (end : Option ℕ) (place : RecordPlace) (found others : List FoundRecord) (answer other : Answer) → ReadsComputed size pages end place found answer → ReadsComputed size pages end place others other → (found ≡ others) × (answer ≡ other)
+Computed-same size pages end place [] [] answer other a b = (refl, cc)
+Computed-same size pages end place [] (g ∷ others) answer other a b = absurd (cc (a, b.0))
+Computed-same size pages end place (f ∷ found) [] answer other a b = absurd (cc (a.0, b))
+Computed-same size pages end place (f ∷ found) (g ∷ others) answer other a b =
     let same = same_read f g (sym a.0 ∙ b.0) in
-    let left = subst (λ (h : FoundRecord). ReadsRecords size pages end (place_behind size pages place h) found answer) same a.1 in
-    let behind = Reads-same size pages end (place_behind size pages place g) found others answer other left b.1 in
+    let left = subst (λ (h : FoundRecord). ReadsComputed size pages end (place_behind size pages place h) found answer) same a.1 in
+    let behind = Computed-same size pages end (place_behind size pages place g) found others answer other left b.1 in
     (ap (λ (h : FoundRecord). h ∷ found) same ∙ ap (λ (hs : List FoundRecord). g ∷ hs) behind.0, behind.1)
+
+Reads-same : (size : ℕ) (pages : Pages) (end : Option ℕ) (place : RecordPlace) (found others : List FoundRecord) (answer other : Answer) → ReadsRecords size pages end place found answer → ReadsRecords size pages end place others other → (found ≡ others) × (answer ≡ other)
+Reads-same size pages end place found others answer other a b =
+    Computed-same size pages end place found others answer other (records_computed size pages end place found answer a) (records_computed size pages end place others other b)
 
 ReadsFrom-same : (size : ℕ) (pages : Pages) (end : Option ℕ) (place : Result RecordPlace Answer) (found others : List FoundRecord) (answer other : Answer) → ReadsFrom size pages end place found answer → ReadsFrom size pages end place others other → (found ≡ others) × (answer ≡ other)
 ReadsFrom-same size pages end (Ok place) found others answer other a b = Reads-same size pages end place found others answer other a b
@@ -136,15 +142,15 @@ module _ (size : ℕ) (valid : IsSegmentSize size) (pages : Pages) (bounded : Is
       elim (cases_Result (read_at size pages end place)) [
         | inl (f, e) ↦ (let below = starts_below place f e in
             absurd (omega arith))
-        | inr (answer, e) ↦ ([], answer, e)
+        | inr (answer, e) ↦ ([], answer, reads_at size pages end place (Err answer) e)
       ]
   reading_from (suc turns) place near =
       elim (cases_Result (read_at size pages end place)) [
         | inl (f, e) ↦
             (let total = (record_read size pages end place f e).0 in
             let behind = reading_from turns (place_behind size pages place f) (omega arith) in
-            (f ∷ behind.0, behind.1, (e, behind.2)))
-        | inr (answer, e) ↦ ([], answer, e)
+            (f ∷ behind.0, behind.1, (reads_at size pages end place (Ok f) e, behind.2)))
+        | inr (answer, e) ↦ ([], answer, reads_at size pages end place (Err answer) e)
       ]
 
   reading_begun : (begun : Result RecordPlace Answer) → (found : List FoundRecord) × (answer : Answer) × ReadsFrom size pages end begun found answer

@@ -1,6 +1,7 @@
 -- What a log's pages decode to (PostgreSQL's xlogreader.c): records one behind another, and the
 -- first thing that is no record.
 use Rattle.std.specs.Prelude.{◌≡◌, ℕ, zero, suc, ◌+◌, ◌-◌, ◌*◌, ◌/◌, ◌%◌, ◌^◌, Bool, true, false, ◌&&◌, not, List, [], ◌∷◌, ◌++◌, take, drop, filter, map, slice_index, Option, Some, None, Result, Ok, Err, ◌==◌, nat_lt, nat_le, if◌then◌else◌}
+use Rattle.std.specs.Bool.{MatchBool}
 use Rattle.std.specs.List.{flat_map, range_with_len}
 use Rattle.std.specs.Int.{w32, w64}
 use Rattle.byte_position.specs.Position.{position_of, address_of, end_address_of}
@@ -9,9 +10,10 @@ use Rattle.wal_types.specs.declared.record.Record.{Record}
 use Rattle.wal_crc32c.specs.Crc32c.{crc32c}
 use Rattle.record_spelling.specs.Record.{is_free_manager}
 use Rattle.record_spelling.specs.Numbers.{number_at}
-use Rattle.record_decode.specs.Reading.{reading_of}
-use Rattle.record_decode.specs.declared.fault.RecErr.{RecErr}
-use Rattle.record_decode.specs.declared.fault.RecErr.TheVariants.{Memory, Malformed, Compressed}
+use Rattle.record_decode.specs.Fails.{FailsAt}
+use Rattle.record_decode.specs.Spells.{Spells}
+use Rattle.record_decode.specs.declared.fault.RecErr.TheVariants.{Malformed, Compressed}
+use Rattle.record_decode.specs.declared.fault.RecKind.{RecKind}
 use Rattle.wal_page.specs.Page.{header_size, timeline_of, remaining_of, is_continued, is_overwritten, first_fault, page_rows}
 use Rattle.wal_reader.specs.declared.found.FoundRecord.{FoundRecord}
 use Rattle.wal_reader.specs.declared.found.Answer.{Answer}
@@ -151,43 +153,50 @@ record_rows size pages end place bytes =
     opening_rows size place bytes
     ++ (size_rows size end place.position no_record total ++ rest_rows size pages place total)
 
--- what a record's bytes say: the record, or that it is malformed or has a compressed image
-abbrev pub found_or : ℕ → RecordPlace → ℕ → ℕ → Result Record RecErr → Result FoundRecord Answer
-found_or size place total prev (Ok value) =
-    Ok (record {
-      start = record { 0 = address_of size place.position };
-      end = record { 0 = end_address_of size (place.position + (total + 7) / 8 * 8) };
-      prev = record { 0 = prev };
-      total = total;
-      value = value;
-    })
-found_or size place total prev (Err Memory) =
-    Err (damaged (address_of size place.position) kinds.Malformed)
-found_or size place total prev (Err (Malformed at kind)) =
-    Err (damaged (address_of size place.position) kinds.Malformed)
-found_or size place total prev (Err (Compressed block)) =
-    Err (compressed (address_of size place.position))
+-- a record as it is found at a place
+abbrev pub found_record : ℕ → RecordPlace → ℕ → ℕ → Record → FoundRecord
+found_record size place total prev value = record {
+  start = record { 0 = address_of size place.position };
+  end = record { 0 = end_address_of size (place.position + (total + 7) / 8 * 8) };
+  prev = record { 0 = prev };
+  total = total;
+  value = value;
+}
+
+-- what a record's bytes say: the record that they spell, or the first check of theirs that fails,
+-- which is told as a malformed record or as a compressed image
+pub data Says (size : ℕ) (place : RecordPlace) (total prev : ℕ) (bytes : List ℕ)
+    : Result FoundRecord Answer → Type 0 where
+  spelled : (value : Record) → Spells bytes value
+      → Says size place total prev bytes (Ok (found_record size place total prev value))
+  malformed : (at : ℕ) (kind : RecKind) → FailsAt bytes (Malformed at kind)
+      → Says size place total prev bytes
+      (Err (damaged (address_of size place.position) kinds.Malformed))
+  has_compressed : (block : ℕ) → FailsAt bytes (Compressed block)
+      → Says size place total prev bytes (Err (compressed (address_of size place.position)))
 
 -- the first row that holds, or else what the record's bytes say
-abbrev pub answer_or : ℕ → Pages → RecordPlace → Option Answer → Result FoundRecord Answer
-answer_or size pages place (Some answer) = Err answer
-answer_or size pages place None =
+abbrev pub TellsOrSays : ℕ → Pages → RecordPlace → Option Answer → Result FoundRecord Answer
+    → Type 0
+TellsOrSays size pages place (Some answer) result = result ≡ Err answer
+TellsOrSays size pages place None result =
     let header = bytes_from size pages 24 place.position in
     let total = number_at w32 header 0 in
-    found_or size place total (number_at w64 header 8)
-    (reading_of (bytes_from size pages total place.position))
+    Says size place total (number_at w64 header 8) (bytes_from size pages total place.position)
+    result
 
-abbrev pub read_in : ℕ → Pages → Option ℕ → RecordPlace → Option (List ℕ)
-    → Result FoundRecord Answer
-read_in size pages end place None = Err (ended size place.position)
-read_in size pages end place (Some bytes) =
-    answer_or size pages place (first_fault (record_rows size pages end place bytes))
+abbrev pub ReadsIn : ℕ → Pages → Option ℕ → RecordPlace → Option (List ℕ)
+    → Result FoundRecord Answer → Type 0
+ReadsIn size pages end place None result = result ≡ Err (ended size place.position)
+ReadsIn size pages end place (Some bytes) result =
+    TellsOrSays size pages place (first_fault (record_rows size pages end place bytes)) result
 
 -- the record at a place, or what stands there instead; at an end that was given nothing is read
-unfoldable pub read_at : ℕ → Pages → Option ℕ → RecordPlace → Result FoundRecord Answer
-read_at size pages end place =
-    if is_at_end end (address_of size place.position) then Err (ended size place.position)
-    else read_in size pages end place (pages (address_of size place.position / 8192))
+unfoldable pub ReadsAt : ℕ → Pages → Option ℕ → RecordPlace → Result FoundRecord Answer → Type 0
+ReadsAt size pages end place result =
+    let address = address_of size place.position in
+    MatchBool (is_at_end end address) (result ≡ Err (ended size place.position))
+    (ReadsIn size pages end place (pages (address / 8192)) result)
 
 -- the place behind a record
 abbrev pub place_behind : ℕ → Pages → RecordPlace → FoundRecord → RecordPlace
@@ -199,9 +208,9 @@ place_behind size pages place found = record {
 
 -- from a place on these records are read, one behind another, and then this answer comes
 abbrev pub ReadsRecords : ℕ → Pages → Option ℕ → RecordPlace → List FoundRecord → Answer → Type 0
-ReadsRecords size pages end place [] answer = read_at size pages end place ≡ Err answer
+ReadsRecords size pages end place [] answer = ReadsAt size pages end place (Err answer)
 ReadsRecords size pages end place (found ∷ others) answer =
-    (read_at size pages end place ≡ Ok found)
+    ReadsAt size pages end place (Ok found)
     × ReadsRecords size pages end (place_behind size pages place found) others answer
 
 -- a place before any record is read

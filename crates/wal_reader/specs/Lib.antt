@@ -1,5 +1,6 @@
 pub mod Pages
 pub mod Decodes
+pub mod ReadAt
 pub mod Names
 pub mod Spelled
 pub mod Cache

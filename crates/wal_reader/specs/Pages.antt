@@ -1,5 +1,5 @@
 -- The pages of a log as a reader finds them in an image, by their numbers counted from address 0.
-use Rattle.std.specs.Prelude.{ℕ, zero, suc, ◌+◌, ◌*◌, ◌/◌, ◌%◌, ◌^◌, List, [], ◌∷◌, slice_index, Option, Some, None, nat_lt, nat_le, if◌then◌else◌}
+use Rattle.std.specs.Prelude.{◌≡◌, ℕ, zero, suc, ◌+◌, ◌*◌, ◌/◌, ◌%◌, ◌^◌, ◌<◌, All, length, List, [], ◌∷◌, slice_index, Option, Some, None, nat_lt, nat_le, if◌then◌else◌}
 use Rattle.byte_position.specs.Geometry.{pages_of}
 use Rattle.byte_position.specs.Position.{address_of}
 use Rattle.segment_disk.specs.DiskImage.{DiskImage, ImageSegment}
@@ -26,8 +26,16 @@ byte_in_page (Some bytes) k = slice_index bytes k
 abbrev pub byte_at : Pages → ℕ → ℕ
 byte_at pages address = byte_in_page (pages (address / 8192)) (address % 8192)
 
+-- a page: 8,192 bytes
+abbrev pub IsPage : List ℕ → Type 0
+IsPage bytes = (length bytes ≡ 8192) × All (λ b. b < 256) bytes
+
+-- a number as a byte; one that is none counts as 0
+unfoldable pub as_byte : ℕ → ℕ
+as_byte number = if nat_lt number 256 then number else 0
+
 -- n bytes from a byte position on, each at its own address: those of headers are left out
 unfoldable pub bytes_from : ℕ → Pages → ℕ → ℕ → List ℕ
 bytes_from size pages zero position = []
 bytes_from size pages (suc n) position =
-    byte_at pages (address_of size position) ∷ bytes_from size pages n (position + 1)
+    as_byte (byte_at pages (address_of size position)) ∷ bytes_from size pages n (position + 1)

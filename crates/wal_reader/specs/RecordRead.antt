@@ -12,7 +12,8 @@ use Rattle.wal_reader.specs.declared.read_failure.ReadFailure.TheVariants as fai
 use Rattle.wal_reader.specs.Pages.{Pages, bytes_from}
 use Rattle.wal_reader.specs.PageCursor.{HoldsPassed}
 use Rattle.wal_reader.specs.RecordPlace.{IsReachable}
-use Rattle.wal_reader.specs.Decodes.{found_or, place_behind}
+use Rattle.wal_reader.specs.Decodes.{place_behind}
+use Rattle.wal_reader.specs.ReadAt.{found_or}
 
 -- the first check that fails, or else what a record's bytes say
 abbrev pub said_of : ℕ → Pages → RecordPlace → ℕ → Option Answer → Result FoundRecord Answer

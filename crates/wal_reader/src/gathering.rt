@@ -6,7 +6,7 @@ ghost use Rattle.wal_page.specs.Page.{first_fault};
 ghost use Rattle.segment_disk.specs.Tape.{IsUncalled};
 ghost use Rattle.wal_reader.specs.PageCursor.{Crosses, HasGathered, HoldsPassed, IsOn, Sees, SeesStill, StandsIn};
 ghost use Rattle.wal_reader.specs.Decodes.{page_of_byte, rows_of_pages};
-ghost use Rattle.wal_reader.specs.Pages.{Pages, bytes_from};
+ghost use Rattle.wal_reader.specs.Pages.{IsPage, Pages, bytes_from};
 ghost use Rattle.wal_reader.specs.PagesPassed.{PassesPages};
 ghost use Rattle.wal_reader.specs.RecordPlace.{IsReachable};
 ghost use Rattle.wal_reader.specs.ReadFailures.{HasFailureCause, IsTold};
@@ -143,7 +143,7 @@ fn append(room: &mut Vec<u8>, page: &[u8; 8192], offset: u32, most: u32) -> Resu
         (drop offset page.now)) }
     ensures len { IfOk result (λ count. vec_len room.new ≡ vec_len room.old + count) }
     ensures kept { OnErr result (room.new.items ≡ room.old.items) }
-    ensures whole { length page.now ≡ 8192 }
+    ensures whole { IsPage page.now }
 {
     let count = (PAGE_LEN - offset).min(most);
     room.extend_from_slice(&page[offset as usize..(offset + count) as usize])?;

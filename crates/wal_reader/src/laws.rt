@@ -1,3 +1,10 @@
+ghost use Rattle.std.specs.Prelude.{◌≡◌, ◌↔◌, ℕ, Option, Result};
+ghost use Rattle.wal_reader.specs.declared.found.Answer.{Answer};
+ghost use Rattle.wal_reader.specs.declared.found.FoundRecord.{FoundRecord};
+ghost use Rattle.wal_reader.specs.declared.record_place.RecordPlace.{RecordPlace};
+ghost use Rattle.wal_reader.specs.Decodes.{ReadsAt};
+ghost use Rattle.wal_reader.specs.Pages.{Pages};
+ghost use Rattle.wal_reader.specs.ReadAt.{read_at};
 ghost use Rattle.wal_reader.specs.Runs.{RunsCompose, RunsGiveFronts};
 ghost use Rattle.wal_reader.specs.Settled.{DecodingIsSettled, StepsTellDecoding};
 
@@ -12,4 +19,11 @@ pub fn decoding_is_settled()
 pub fn runs_give_fronts()
     ensures compose { RunsCompose }
     ensures fronts { RunsGiveFronts }
+{}
+
+/// A law: what is read at a place, as its bytes spell it or fail to, is what is computed there.
+pub fn reading_is_computed()
+    ensures { (size : ℕ) (pages : Pages) (end : Option ℕ) (place : RecordPlace)
+        (result : Result FoundRecord Answer)
+        → ReadsAt size pages end place result ↔ (read_at size pages end place ≡ result) }
 {}

@@ -23,6 +23,6 @@ mod record_start;
 mod standing;
 
 pub use found::{Answer, DamageKind, FoundRecord, Stopped};
-pub use laws::{decoding_is_settled, runs_give_fronts};
+pub use laws::{decoding_is_settled, reading_is_computed, runs_give_fronts};
 pub use log_reader::Reader;
 pub use standing::{ReadErr, Step};

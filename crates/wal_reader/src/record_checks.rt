@@ -7,7 +7,8 @@ ghost use Rattle.wal_crc32c.specs.Crc32c.{crc32c};
 ghost use Rattle.wal_page.specs.Page.{first_fault};
 ghost use Rattle.record_spelling.specs.Numbers.{number_at};
 ghost use Rattle.record_decode.specs.Reading.{reading_of};
-ghost use Rattle.wal_reader.specs.Decodes.{found_or, crc_rows, header_rows};
+ghost use Rattle.wal_reader.specs.Decodes.{crc_rows, header_rows};
+ghost use Rattle.wal_reader.specs.ReadAt.{found_or};
 ghost use Rattle.wal_reader.specs.Spelled.{IsSpelled};
 ghost use Rattle.wal_reader.specs.ReadFailures.{Passes};
 

@@ -14,8 +14,9 @@ ghost use Rattle.byte_position.specs.Position.{address_of};
 ghost use Rattle.wal_page.specs.Page.{first_fault};
 ghost use Rattle.segment_disk.specs.Tape.{IsUncalled};
 ghost use Rattle.wal_reader.specs.PageCursor.{HasGathered, HoldsPassed, IsOn, Sees, SeesStill};
-ghost use Rattle.wal_reader.specs.Decodes.{read_at, rest_rows};
-ghost use Rattle.wal_reader.specs.Pages.{Pages};
+ghost use Rattle.wal_reader.specs.Decodes.{rest_rows};
+ghost use Rattle.wal_reader.specs.ReadAt.{read_at};
+ghost use Rattle.wal_reader.specs.Pages.{IsPage, Pages};
 ghost use Rattle.wal_reader.specs.RecordRead.{GoesOn, IsBehind, IsRead, IsRoomAfter, said_of};
 ghost use Rattle.wal_reader.specs.Spelled.{IsSpelled};
 ghost use Rattle.wal_reader.specs.RecordPlace.{IsOutOfReach, IsReachable};
@@ -90,6 +91,7 @@ fn read_in_page(
     requires gathered { HasGathered cache.now.geometry extent.at.position 0 cursor }
     requires within { cursor.offset + extent.total ≤ 8192 }
     requires page { cursor.page ≡ address_of cache.now.geometry extent.at.position / 8192 }
+    requires whole { IsPage cache.now.bytes.value }
     ensures goes_on { IfOk result (λ r. GoesOn extent.at r.1) }
     ensures behind { IfOk result (λ r. IsBehind cache.now.geometry r.0 r.1) }
     ensures spelled { IfOk result (λ r. IsSpelled r.0) }
@@ -112,7 +114,6 @@ fn part_of_page(page: &[u8; 8192], offset: u32, count: u32) -> &[u8]
     requires { offset + count ≤ 8192 }
     ensures bytes { result.now ≡ take count (drop offset page.now) }
     ensures len { length result.now ≡ count }
-    ensures whole { length page.now ≡ 8192 }
 {
     &page[offset as usize..(offset + count) as usize]
 }

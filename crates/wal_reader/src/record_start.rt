@@ -8,7 +8,7 @@ ghost use Rattle.wal_page.specs.Page.{first_fault};
 ghost use Rattle.record_spelling.specs.Numbers.{number_at};
 ghost use Rattle.segment_disk.specs.Tape.{IsUncalled};
 ghost use Rattle.wal_reader.specs.PageCursor.{HasGathered, IsOn, Sees, SeesStill};
-ghost use Rattle.wal_reader.specs.Pages.{Pages};
+ghost use Rattle.wal_reader.specs.Pages.{IsPage, Pages};
 ghost use Rattle.wal_reader.specs.Decodes.{opening_of, size_rows};
 ghost use Rattle.wal_reader.specs.RecordPlace.{IsReachable};
 ghost use Rattle.wal_reader.specs.ReadFailures.{HasFailureCause, Passes, Settles};
@@ -82,7 +82,7 @@ pub(crate) fn claimed(
     ensures extent { let total = number_at w32 cache.now.bytes.value cursor.offset in
         IfOk result (λ extent. (extent ≡ record { at = at; total = total })
         × (24 ≤ extent.total)) }
-    ensures whole { length cache.now.bytes.value ≡ 8192 }
+    ensures whole { IsPage cache.now.bytes.value }
     ensures checks { Passes
         (first_fault (size_rows cache.now.geometry (option_map (λ end. end.0) end) at.position
         (number_at w64 cache.now.bytes.value cursor.offset == 0)
@@ -106,7 +106,7 @@ pub(crate) fn claimed(
 pub(crate) fn is_zero_word(cache: &PageCache, offset: u32) -> bool
     requires { offset + 8 ≤ 8192 }
     ensures value { result ≡ (number_at w64 cache.now.bytes.value offset == 0) }
-    ensures whole { length cache.now.bytes.value ≡ 8192 }
+    ensures whole { IsPage cache.now.bytes.value }
 {
     word_at(&cache.bytes, offset) == 0
 }
@@ -114,7 +114,7 @@ pub(crate) fn is_zero_word(cache: &PageCache, offset: u32) -> bool
 fn word_at(page: &[u8; 8192], offset: u32) -> u64
     requires { offset + 8 ≤ 8192 }
     ensures value { result ≡ number_at w64 page.now offset }
-    ensures whole { length page.now ≡ 8192 }
+    ensures whole { IsPage page.now }
 {
     u64_at(page, offset as usize)
 }

@@ -16,8 +16,10 @@ use Rattle.wal_reader.specs.declared.found.FoundRecord.{FoundRecord}
 use Rattle.wal_reader.specs.declared.found.Answer.{Answer}
 use Rattle.wal_reader.specs.declared.found.DamageKind.TheVariants as damages
 use Rattle.written_log.specs.Agreeing.{AreWhole, AgreeingLogsDecodeAlike}
-use Rattle.wal_reader.specs.Decodes.{ReadsFrom, ReadsRecords, answer_or, begin_at, begin_in, beginning, continuation_rows, continuation_rows_of, crc_rows, damaged, ended, header_rows, is_at_end, is_zero_word, opening_rows, overwritten, page_answers, page_of_byte, place_behind, read_at, read_in, record_rows, rest_rows, rows_of_pages, size_rows}
-use Rattle.wal_reader.specs.Pages.{Pages, byte_at, byte_in_page, bytes_from}
+use Rattle.wal_reader.specs.Decodes.{ReadsFrom, ReadsRecords, begin_at, begin_in, beginning, continuation_rows, continuation_rows_of, crc_rows, damaged, ended, header_rows, is_at_end, is_zero_word, opening_rows, overwritten, page_answers, page_of_byte, place_behind, record_rows, rest_rows, rows_of_pages, size_rows}
+use Rattle.wal_reader.specs.ReadAt.{ReadsComputed, answer_or, read_at, read_in}
+use Rattle.wal_reader.specs.Pages.{Pages, as_byte, byte_at, byte_in_page, bytes_from}
+use Rattle.wal_reader.proofs.ReadAtLaws.{records_computed}
 use Rattle.wal_reader.proofs.SettledLaws.{passes_both, passes_row, same_read, size-passed, size_in_header, total_of}
 
 -- a page that begins with zeros has no magic number
@@ -59,8 +61,8 @@ module _ (one other : Pages) (whole : AreWhole one) (also : AreWhole other) (sam
   unfolding bytes_from
   bytes_same size zero position = refl
   bytes_same size (suc n) position =
-      ap (λ (b : ℕ). b ∷ bytes_from size one n (position + 1)) (same (address_of size position))
-      ∙ ap (λ (bs : List ℕ). byte_at other (address_of size position) ∷ bs) (bytes_same size n (position + 1))
+      ap (λ (b : ℕ). as_byte b ∷ bytes_from size one n (position + 1)) (same (address_of size position))
+      ∙ ap (λ (bs : List ℕ). as_byte (byte_at other (address_of size position)) ∷ bs) (bytes_same size n (position + 1))
 
   in_page : (page k : ℕ) → k < 8192 → byte_in_page (one page) k ≡ byte_in_page (other page) k
   in_page page k below =
@@ -212,18 +214,22 @@ module _ (one other : Pages) (whole : AreWhole one) (also : AreWhole other) (sam
   begins_alike (suc turns) size page timeline place e = begins_page turns size page timeline place (λ p t at begins. begins_alike turns size p t at begins) (one page) refl e
 
 module _ (one other : Pages) (whole : AreWhole one) (also : AreWhole other) (same : (address : ℕ) → byte_at one address ≡ byte_at other address) (size : ℕ) (valid : IsSegmentSize size) (end : Option ℕ) where
-  reads_alike : (place : RecordPlace) (found others : List FoundRecord) (answer told : Answer) → ReadsRecords size one end place found answer → ReadsRecords size other end place others told → found ≡ others
-  reads_alike place [] [] answer told a b = refl
-  reads_alike place [] (g ∷ others) answer told a b =
+  computed_alike : (place : RecordPlace) (found others : List FoundRecord) (answer told : Answer) → ReadsComputed size one end place found answer → ReadsComputed size other end place others told → found ≡ others
+  computed_alike place [] [] answer told a b = refl
+  computed_alike place [] (g ∷ others) answer told a b =
       absurd (cc (a, (read_alike other one also whole (λ address. sym (same address)) size valid end place g b.0).0))
-  reads_alike place (f ∷ found) [] answer told a b = absurd (cc ((read_alike one other whole also same size valid end place f a.0).0, b))
-  reads_alike place (f ∷ found) (g ∷ others) answer told a b =
+  computed_alike place (f ∷ found) [] answer told a b = absurd (cc ((read_alike one other whole also same size valid end place f a.0).0, b))
+  computed_alike place (f ∷ found) (g ∷ others) answer told a b =
       let here = read_alike one other whole also same size valid end place f a.0 in
       let fg = same_read f g (sym here.0 ∙ b.0) in
-      let left = subst (λ (p : RecordPlace). ReadsRecords size one end p found answer) here.1 a.1 in
-      let right = subst (λ (h : FoundRecord). ReadsRecords size other end (place_behind size other place h) others told) (sym fg) b.1 in
-      let rest = reads_alike (place_behind size other place f) found others answer told left right in
+      let left = subst (λ (p : RecordPlace). ReadsComputed size one end p found answer) here.1 a.1 in
+      let right = subst (λ (h : FoundRecord). ReadsComputed size other end (place_behind size other place h) others told) (sym fg) b.1 in
+      let rest = computed_alike (place_behind size other place f) found others answer told left right in
       ap (λ (h : FoundRecord). h ∷ found) fg ∙ ap (λ (hs : List FoundRecord). g ∷ hs) rest
+
+  reads_alike : (place : RecordPlace) (found others : List FoundRecord) (answer told : Answer) → ReadsRecords size one end place found answer → ReadsRecords size other end place others told → found ≡ others
+  reads_alike place found others answer told a b =
+      computed_alike place found others answer told (records_computed size one end place found answer a) (records_computed size other end place others told b)
 
   starts_alike : (first second : Result RecordPlace Answer) → ((p : RecordPlace) → first ≡ Ok p → second ≡ Ok p) → ((p : RecordPlace) → second ≡ Ok p → first ≡ Ok p) → (found others : List FoundRecord) (answer told : Answer)
       → ReadsFrom size one end first found answer → ReadsFrom size other end second others told → found ≡ others

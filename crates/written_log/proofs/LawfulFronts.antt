@@ -12,7 +12,8 @@ use Rattle.wal_reader.specs.declared.record_place.RecordPlace.{RecordPlace}
 use Rattle.wal_reader.specs.declared.found.FoundRecord.{FoundRecord}
 use Rattle.wal_reader.specs.declared.found.Answer.{Answer}
 use Rattle.wal_reader.specs.Pages.{Pages}
-use Rattle.wal_reader.specs.Decodes.{ReadsRecords, place_behind, read_at}
+use Rattle.wal_reader.specs.Decodes.{place_behind}
+use Rattle.wal_reader.specs.ReadAt.{ReadsComputed, read_at}
 use Rattle.written_log.specs.Torn.{IsSeenTorn, IsTorn, NoTornPass}
 use Rattle.written_log.specs.Written.{found_entry, found_from}
 use Rattle.written_log.proofs.LawfulPages.{ArePagesOf}
@@ -37,7 +38,7 @@ module _ (size sysid : ℕ) (pages : Pages) (es : List Entry) (upto : ℕ) (vali
 
   -- records that are read from an entry's place on are a front of those that stand there
   pub records_are_front : (rest front : List Entry) → es ≡ front ++ rest → (place : RecordPlace) → place.position ≡ end_position size front → prev_of size 0 front < 2 ^ 64 → (place.prev ≡ Some (record { 0 = prev_of size 0 front })) ⊎ (front ≡ []) → (found : List FoundRecord) (answer : Answer)
-      → ReadsRecords size pages None place found answer → (count : ℕ) × (count ≤ length rest) × (found ≡ found_from size (prev_of size 0 front) (take count rest))
+      → ReadsComputed size pages None place found answer → (count : ℕ) × (count ≤ length rest) × (found ≡ found_from size (prev_of size 0 front) (take count rest))
   records_are_front rest front parts place at fits known [] answer reads = (0, omega arith, refl)
   records_are_front [] front parts place at fits known (f ∷ found) answer reads =
       let all : front ≡ es = sym (parts ∙ append-nil front) in

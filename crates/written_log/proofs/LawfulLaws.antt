@@ -20,6 +20,7 @@ use Rattle.wal_reader.specs.declared.found.Answer.{Answer}
 use Rattle.wal_reader.specs.declared.found.FoundRecord.{FoundRecord}
 use Rattle.wal_reader.specs.Pages.{Pages, byte_at, pages_in}
 use Rattle.wal_reader.specs.Decodes.{Decodes, ReadsFrom, beginning}
+use Rattle.wal_reader.proofs.ReadAtLaws.{records_computed}
 use Rattle.written_log.specs.Torn.{NoTornPass}
 use Rattle.written_log.specs.Written.{found_from, found_of}
 use Rattle.written_log.specs.WrittenLog.{BeginsAsLogPage, HavePagesOfLog}
@@ -96,7 +97,7 @@ module _ (size sysid : ℕ) (pages : Pages) (es : List Entry) (upto : ℕ) (vali
     read_is_front (Err told) begins found answer reads = (0, omega arith, reads.0)
     read_is_front (Ok place) begins found answer reads =
         let first : place.position ≡ end_position size [] = begins_first size sysid pages es upto valid known narrow chained are place begins ∙ sym (add-zero (first_position size)) in
-        records_are_front size sysid pages es upto valid chained bounded are no_torn es [] refl place first (omega arith) (inr refl) found answer reads
+        records_are_front size sysid pages es upto valid chained bounded are no_torn es [] refl place first (omega arith) (inr refl) found answer (records_computed size pages None place found answer reads)
 
     pub front_decodes : (found : List FoundRecord) (answer : Answer) → Decodes size pages size None found answer → IsFrontUpto size es upto found
     front_decodes found answer decodes =

@@ -1,5 +1,5 @@
 -- A record that is read in pages that hold nothing but words of a log is the entry that stands there, where no torn record passes.
-use Rattle.std.proofs.Common.{◌≡◌, ◌⊎◌, ℕ, zero, suc, ◌+◌, ◌-◌, ◌*◌, ◌/◌, ◌%◌, ◌^◌, ◌<◌, ◌≤◌, Bool, true, eqb, List, [], ◌∷◌, ◌++◌, length, get_or, take, drop, Option, Some, None, Ok, inl, inr, refl, sym, ap, subst, ◌∙◌, append-nil, arith}
+use Rattle.std.proofs.Common.{◌≡◌, ◌⊎◌, ℕ, zero, suc, ◌+◌, ◌-◌, ◌*◌, ◌/◌, ◌%◌, ◌^◌, ◌<◌, ◌≤◌, Bool, true, eqb, List, [], ◌∷◌, ◌++◌, get_or, take, drop, Option, Some, None, Ok, inl, inr, sym, ap, subst, ◌∙◌, append-nil, arith}
 use Rattle.std.specs.Prelude.{◌≢◌}
 use Rattle.std.specs.Int.{w32, w64}
 use Rattle.std.proofs.lemmas.Bool.{eqb-true, eq-eqb, true≢false}
@@ -18,16 +18,17 @@ use Rattle.wal_record.proofs.SpellingReads.{spelling_reads}
 use Rattle.wal_types.specs.declared.lsn.Lsn.{Lsn}
 use Rattle.wal_page.specs.Order.{Entry, FollowsFrom, IsChained, rooms_of, end_position, prev_of, room_at, finish_of, position_behind}
 use Rattle.wal_page.specs.Log.{stream_of, log_byte}
-use Rattle.wal_page.proofs.LogByteLaws.{log_byte-stream, stream_of-entry}
+use Rattle.wal_page.proofs.LogByteLaws.{log_byte-fits, log_byte-stream, stream_of-entry}
 use Rattle.wal_page.proofs.OrderLaws.{FollowsFrom-parts}
 use Rattle.wal_page.proofs.OwnerLaws.{rooms_of-whole}
 use Rattle.wal_page.proofs.StreamLaws.{length-stream_of}
 use Rattle.wal_page.proofs.WordPositions.{first_position-whole}
 use Rattle.wal_reader.specs.declared.record_place.RecordPlace.{RecordPlace}
 use Rattle.wal_reader.specs.declared.found.FoundRecord.{FoundRecord}
-use Rattle.wal_reader.specs.Pages.{Pages, byte_at, bytes_from}
-use Rattle.wal_reader.specs.Decodes.{found_or, is_right_prev, read_at}
-use Rattle.wal_reader.proofs.PagesLaws.{take-bytes_from}
+use Rattle.wal_reader.specs.Pages.{Pages, as_byte, byte_at, bytes_from}
+use Rattle.wal_reader.specs.Decodes.{is_right_prev}
+use Rattle.wal_reader.specs.ReadAt.{found_or, read_at}
+use Rattle.wal_reader.proofs.PagesLaws.{as_byte-of, length-bytes_from, take-bytes_from}
 use Rattle.wal_reader.proofs.RowLaws.{number_at-take}
 use Rattle.wal_reader.proofs.SettledLaws.{same_read, size_in_header}
 use Rattle.written_log.specs.Torn.{IsSeenTorn, IsTorn, bytes_in}
@@ -40,18 +41,25 @@ use Rattle.written_log.proofs.WordsOfBytes.{SameWord, ZeroWord, all_or_one, same
 
 -- ---- the bytes from a position on
 
-pub get_or-bytes_from : (size : ℕ) (pages : Pages) (n p j : ℕ) → j < n → get_or (bytes_from size pages n p) j 0 ≡ byte_at pages (address_of size (p + j))
+get_or-bytes_from : (size : ℕ) (pages : Pages) (n p j : ℕ) → j < n → get_or (bytes_from size pages n p) j 0 ≡ as_byte (byte_at pages (address_of size (p + j)))
 unfolding bytes_from
 get_or-bytes_from size pages zero p j lt = absurd (omega arith)
-get_or-bytes_from size pages (suc n) p zero lt = ap (λ (q : ℕ). byte_at pages (address_of size q)) (omega arith)
-get_or-bytes_from size pages (suc n) p (suc j) lt = get_or-bytes_from size pages n (p + 1) j (omega arith) ∙ ap (λ (q : ℕ). byte_at pages (address_of size q)) (omega arith)
-
-pub length-bytes_from : (size : ℕ) (pages : Pages) (n p : ℕ) → length (bytes_from size pages n p) ≡ n
-unfolding bytes_from
-length-bytes_from size pages zero p = refl
-length-bytes_from size pages (suc n) p = omega (arith, length-bytes_from size pages n (p + 1))
+get_or-bytes_from size pages (suc n) p zero lt = ap (λ (q : ℕ). as_byte (byte_at pages (address_of size q))) (omega arith)
+get_or-bytes_from size pages (suc n) p (suc j) lt = get_or-bytes_from size pages n (p + 1) j (omega arith) ∙ ap (λ (q : ℕ). as_byte (byte_at pages (address_of size q))) (omega arith)
 
 module _ (size sysid : ℕ) (pages : Pages) (es : List Entry) (upto : ℕ) (valid : IsSegmentSize size) (chained : IsChained size es) (are : ArePagesOf size sysid pages es upto) where
+  -- what stands there are bytes
+  byte-fits : (address : ℕ) → byte_at pages address < 256
+  byte-fits address =
+      let at : 8 * (address / 8) + address % 8 ≡ address = omega arith in
+      elim (are.words (address / 8)) [
+        | inl zeros ↦ omega (arith, ap (byte_at pages) at, zeros (address % 8) (omega arith))
+        | inr own ↦ omega (arith, ap (byte_at pages) at, own (address % 8) (omega arith), log_byte-fits size sysid es chained (8 * (address / 8) + address % 8))
+      ]
+
+  byte_from : (n p j : ℕ) → j < n → get_or (bytes_from size pages n p) j 0 ≡ byte_at pages (address_of size (p + j))
+  byte_from n p j lt = get_or-bytes_from size pages n p j lt ∙ as_byte-of (byte_at pages (address_of size (p + j))) (byte-fits (address_of size (p + j)))
+
   -- a word of the records, by its position
   word_at_position : (p : ℕ) → p % 8 ≡ 0 → ((i : ℕ) → i < 8 → byte_at pages (address_of size (p + i)) ≡ 0) ⊎ ((i : ℕ) → i < 8 → byte_at pages (address_of size (p + i)) ≡ log_byte size sysid es (address_of size (p + i)))
   word_at_position p whole =
@@ -79,7 +87,7 @@ module _ (size sysid : ℕ) (pages : Pages) (es : List Entry) (upto : ℕ) (vali
       ] in
       let bytes = bytes_from size pages 24 p in
       let word = zero_eight bytes 0 (λ i lt. let at : 0 + i ≡ i = omega arith in
-      ap (λ (j : ℕ). get_or bytes j 0) at ∙ get_or-bytes_from size pages 24 p i (omega arith) ∙ zeros i lt) in
+      ap (λ (j : ℕ). get_or bytes j 0) at ∙ byte_from 24 p i (omega arith) ∙ zeros i lt) in
       let some = (found_at size pages place found reads).some_word in
       true≢false (sym (eq-eqb (number_at w64 bytes 0) 0 word) ∙ some)
 
@@ -118,7 +126,7 @@ module _ (size sysid : ℕ) (pages : Pages) (es : List Entry) (upto : ℕ) (vali
         ∙ ap (λ (l : List Entry). get_or (stream_of size l) (rooms_of size front + j) 0) parts ∙ stream_of-entry size front others e j lt
 
     here_byte : (j : ℕ) → j < room → get_or here j 0 ≡ byte_at pages (address_of size (e.start + j))
-    here_byte j lt = get_or-bytes_from size pages room e.start j lt
+    here_byte j lt = byte_from room e.start j lt
 
     -- each word of the record is zero or its own
     own_word : (k : ℕ) → 8 * k < room → ZeroWord here k ⊎ SameWord here own k

@@ -17,9 +17,10 @@ use Rattle.wal_page.proofs.LogByteLaws.{log_byte-stream}
 use Rattle.wal_page.proofs.StreamLaws.{length-stream_of}
 use Rattle.wal_types.specs.declared.lsn.Lsn.{Lsn}
 use Rattle.wal_reader.specs.Pages.{Pages, byte_in_page, bytes_from}
-use Rattle.wal_reader.specs.Decodes.{read_at, is_zero_word, opens_page, ended}
+use Rattle.wal_reader.specs.Decodes.{is_zero_word, opens_page, ended}
+use Rattle.wal_reader.specs.ReadAt.{read_at}
 use Rattle.written_log.specs.WrittenLog.{BeginsAsLogPage, HavePagesOfLog}
-use Rattle.wal_reader.proofs.PagesLaws.{take-bytes_from}
+use Rattle.wal_reader.proofs.PagesLaws.{as_byte-of, take-bytes_from}
 use Rattle.written_log.proofs.RecordRows.{IsIn, zero_word_ends, no_page_ends, zero_page_ends}
 use Rattle.written_log.proofs.LogPositions.{page_begins, page_from_first, page_of-start}
 use Rattle.written_log.proofs.LogHeader.{sound_answers}
@@ -70,7 +71,7 @@ module _ (size sysid : ℕ) (pages : Pages) (es : List Entry) (holds : HavePages
     bytes_from-behind : (n p : ℕ) → end_position size es ≤ p → bytes_from size pages n p ≡ replicate n 0
     unfolding bytes_from
     bytes_from-behind zero p behind = refl
-    bytes_from-behind (suc n) p behind = rw (byte_behind_on p behind (pages (address_of size p / 8192)) refl, bytes_from-behind n (p + 1) (omega arith)) refl
+    bytes_from-behind (suc n) p behind = rw (byte_behind_on p behind (pages (address_of size p / 8192)) refl, as_byte-of 0 (omega arith), bytes_from-behind n (p + 1) (omega arith)) refl
 
     -- and they fill a page that begins there
     pub page_begins_with_zeros : (page : ℕ) (bytes : List ℕ) → pages_of size ≤ page → pages page ≡ Some bytes → end_position size es ≤ position_of size (page * 8192) → is_zero_word bytes ≡ true

@@ -13,10 +13,11 @@ use Rattle.wal_page.specs.Order.{Entry, IsChained, rooms_of, end_position}
 use Rattle.wal_page.specs.Page.{page_header, header_size}
 use Rattle.wal_page.specs.Log.{stream_of, owner_of, remaining_at, header_byte, log_byte}
 use Rattle.wal_page.proofs.OwnerLaws.{owner_of-some}
-use Rattle.wal_page.proofs.LogByteLaws.{log_byte-header, log_byte-stream}
+use Rattle.wal_page.proofs.LogByteLaws.{log_byte-fits, log_byte-header, log_byte-stream}
 use Rattle.wal_page.proofs.PageLaws.{length-page_header}
 use Rattle.wal_page.proofs.StreamLaws.{length-stream_of}
-use Rattle.wal_reader.specs.Pages.{Pages, byte_at, bytes_from}
+use Rattle.wal_reader.specs.Pages.{Pages, as_byte, byte_at, bytes_from}
+use Rattle.wal_reader.proofs.PagesLaws.{as_byte-of}
 use Rattle.wal_reader.specs.Decodes.{opens_page, timeline_or}
 use Rattle.written_log.proofs.LogHeader.{IsSound, log_header_is_sound}
 use Rattle.written_log.proofs.LogPositions.{address_of-below_end, opening_position, page_of-start, position_of-log_page, start-le-address_of}
@@ -103,13 +104,14 @@ module _ (size sysid : ℕ) (pages : Pages) (es : List Entry) (w : IsWritten siz
 
   -- ---- the bytes of the records
 
-  byte_at-log : (k : ℕ) → k < rooms_of size es → byte_at pages (address_of size (first_position size + k)) ≡ get_or (stream_of size es) k 0
+  byte_at-log : (k : ℕ) → k < rooms_of size es → as_byte (byte_at pages (address_of size (first_position size + k))) ≡ get_or (stream_of size es) k 0
   byte_at-log k below =
       let p = first_position size + k in
       let a = address_of size p in
       let position = position_of-address_of size w.valid p in
       let back : position_of size a - first_position size ≡ k = omega (arith, position) in
-      w.each a (start-le-address_of size w.valid p (omega arith)) (address_of-below_end size w.valid p (end_position size es) (omega arith))
+      ap as_byte (w.each a (start-le-address_of size w.valid p (omega arith)) (address_of-below_end size w.valid p (end_position size es) (omega arith)))
+      ∙ as_byte-of (log_byte size sysid es a) (log_byte-fits size sysid es w.chained a)
       ∙ log_byte-stream size sysid es a (is_in_header-address_of size w.valid p) (omega (arith, position)) ∙ ap (λ (i : ℕ). get_or (stream_of size es) i 0) back
 
   -- bytes of the records stand in the pages as they do in the stream

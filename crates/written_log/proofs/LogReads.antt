@@ -20,8 +20,10 @@ use Rattle.wal_reader.specs.declared.record_place.RecordPlace.{RecordPlace}
 use Rattle.wal_reader.specs.declared.found.Answer.{Answer}
 use Rattle.wal_reader.specs.declared.found.FoundRecord.{FoundRecord}
 use Rattle.wal_reader.specs.Pages.{Pages}
-use Rattle.wal_reader.specs.Decodes.{ReadsRecords, read_at, place_behind, is_right_prev, opens_page, continuation_rows, continuation_rows_of, rows_of_pages, found_or}
+use Rattle.wal_reader.specs.Decodes.{ReadsRecords, place_behind, is_right_prev, opens_page, continuation_rows, continuation_rows_of, rows_of_pages}
+use Rattle.wal_reader.proofs.ReadAtLaws.{reads_at}
 use Rattle.wal_reader.proofs.SettledLaws.{same_read}
+use Rattle.wal_reader.specs.ReadAt.{ReadsComputed, read_at, found_or}
 use Rattle.written_log.specs.Written.{found_entry, found_from}
 use Rattle.written_log.proofs.Tables.{NoneHolds, NoneHolds-append}
 use Rattle.written_log.proofs.Tables.NoneHolds.{none, past}
@@ -189,10 +191,10 @@ module _ (size sysid : ℕ) (pages : Pages) (es : List Entry) (w : IsWritten siz
   entries_are_read (e ∷ others) k prev before found answer stand right behind =
       let next = address_of size e.start in
       let rest = entries_are_read others (k + room_at size e.start e.value) next (Some (record { 0 = next })) found answer (others_stand e others k prev stand before) (eq-eqb next next refl) behind in
-      (entry_is_read e others k prev stand before right, subst (λ (place : RecordPlace). ReadsRecords size pages None place (found_from size next others ++ found) answer) (sym (place_behind_entry e others k prev stand before)) rest)
+      (reads_at size pages None (log_place size k before) (Ok (found_entry size prev e)) (entry_is_read e others k prev stand before right), subst (λ (place : RecordPlace). ReadsRecords size pages None place (found_from size next others ++ found) answer) (sym (place_behind_entry e others k prev stand before)) rest)
 
   -- whatever is read where they stand begins with them
-  pub entries_come_first : (rest : List Entry) (k prev : ℕ) (before : Option Lsn) (found : List FoundRecord) (answer : Answer) → StandFrom size es k prev rest → is_right_prev before (address_of size (first_position size + k)) prev ≡ true → ReadsRecords size pages None (log_place size k before) found answer
+  pub entries_come_first : (rest : List Entry) (k prev : ℕ) (before : Option Lsn) (found : List FoundRecord) (answer : Answer) → StandFrom size es k prev rest → is_right_prev before (address_of size (first_position size + k)) prev ≡ true → ReadsComputed size pages None (log_place size k before) found answer
       → (others : List FoundRecord) × (found ≡ found_from size prev rest ++ others)
   entries_come_first [] k prev before found answer stand right reads = (found, refl)
   entries_come_first (e ∷ others) k prev before [] answer stand right reads = absurd (cc (entry_is_read e others k prev stand before right, reads))
@@ -200,7 +202,7 @@ module _ (size sysid : ℕ) (pages : Pages) (es : List Entry) (w : IsWritten siz
       let entry = found_entry size prev e in
       let next = address_of size e.start in
       let here : f ≡ entry = same_read f entry (sym reads.0 ∙ entry_is_read e others k prev stand before right) in
-      let behind = subst (λ (g : FoundRecord). ReadsRecords size pages None (place_behind size pages (log_place size k before) g) found answer) here reads.1 in
-      let at_next = subst (λ (place : RecordPlace). ReadsRecords size pages None place found answer) (place_behind_entry e others k prev stand before) behind in
+      let behind = subst (λ (g : FoundRecord). ReadsComputed size pages None (place_behind size pages (log_place size k before) g) found answer) here reads.1 in
+      let at_next = subst (λ (place : RecordPlace). ReadsComputed size pages None place found answer) (place_behind_entry e others k prev stand before) behind in
       let rest = entries_come_first others (k + room_at size e.start e.value) next (Some (record { 0 = next })) found answer (others_stand e others k prev stand before) (eq-eqb next next refl) at_next in
       (rest.0, ap (λ (g : FoundRecord). g ∷ found) here ∙ ap (λ (gs : List FoundRecord). entry ∷ gs) rest.1)

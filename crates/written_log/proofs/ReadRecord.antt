@@ -13,7 +13,8 @@ use Rattle.wal_reader.specs.declared.found.FoundRecord.{FoundRecord}
 use Rattle.wal_reader.specs.declared.found.Answer.{Answer}
 use Rattle.wal_reader.specs.declared.found.DamageKind.TheVariants as damages
 use Rattle.wal_reader.specs.Pages.{Pages, bytes_from}
-use Rattle.wal_reader.specs.Decodes.{answer_or, crc_rows, damaged, ended, found_or, header_rows, is_right_prev, is_zero_word, opening_rows, page_of_byte, read_at, read_in, record_rows, rest_rows, rows_of_pages, size_rows}
+use Rattle.wal_reader.specs.Decodes.{crc_rows, damaged, ended, header_rows, is_right_prev, is_zero_word, opening_rows, page_of_byte, record_rows, rest_rows, rows_of_pages, size_rows}
+use Rattle.wal_reader.specs.ReadAt.{answer_or, found_or, read_at, read_in}
 use Rattle.wal_reader.proofs.SettledLaws.{passes_both, passes_row}
 
 -- the record that is found at a place: its first word is not zero, it names the right record before it, its CRC is right, and its bytes spell it

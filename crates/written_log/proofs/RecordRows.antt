@@ -12,7 +12,8 @@ use Rattle.record_decode.specs.Reading.{reading_of}
 use Rattle.wal_page.specs.Page.{is_continued, first_fault}
 use Rattle.wal_reader.specs.declared.record_place.RecordPlace.{RecordPlace}
 use Rattle.wal_reader.specs.Pages.{Pages, bytes_from}
-use Rattle.wal_reader.specs.Decodes.{is_zero_word, opens_page, page_answers, rows_of_pages, page_of_byte, is_right_prev, opening_rows, record_rows, found_or, answer_or, read_in, read_at, ended}
+use Rattle.wal_reader.specs.Decodes.{is_zero_word, opens_page, page_answers, rows_of_pages, page_of_byte, is_right_prev, opening_rows, record_rows, ended}
+use Rattle.wal_reader.specs.ReadAt.{found_or, answer_or, read_in, read_at}
 use Rattle.written_log.proofs.Tables.{NoneHolds, NoneHolds-append, Tells, Tells-append, first_fault-none, first_fault-told}
 use Rattle.written_log.proofs.Tables.NoneHolds.{none, past}
 use Rattle.written_log.proofs.Tables.Tells.{at_once}

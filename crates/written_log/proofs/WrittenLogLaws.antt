@@ -17,6 +17,7 @@ use Rattle.wal_reader.specs.declared.found.Answer.{Answer}
 use Rattle.wal_reader.specs.declared.found.Answer.TheVariants.{End}
 use Rattle.wal_reader.specs.Pages.{Pages}
 use Rattle.wal_reader.specs.Decodes.{Decodes, ReadsRecords, ReadsFrom, beginning, ended, is_right_prev}
+use Rattle.wal_reader.proofs.ReadAtLaws.{reads_at, records_computed}
 use Rattle.written_log.specs.Written.{found_entry, found_from, found_of}
 use Rattle.written_log.specs.WrittenLog.{BeginsAsLogPage, HavePagesOfLog, OwnPagesHoldLog, WrittenLogDecodes}
 use Rattle.wal_reader.proofs.PagesLaws.{end_address_of-first_position}
@@ -104,13 +105,13 @@ module _ (size sysid : ℕ) (pages : Pages) (e : Entry) (es : List Entry) (w : I
   order_comes_first found answer reads =
       let all = e ∷ es in
       let begun = subst (λ (begun : Result RecordPlace Answer). ReadsFrom size pages None begun found answer) begins_at_first reads in
-      entries_come_first size sysid pages all w all 0 0 None found answer all_stand right_at_first begun
+      entries_come_first size sysid pages all w all 0 0 None found answer all_stand right_at_first (records_computed size pages None (log_place size 0 None) found answer begun)
 
   something_decodes : HavePagesOfLog size sysid pages (e ∷ es) → Decodes size pages size None (found_of size (e ∷ es)) (ended size (end_position size (e ∷ es)))
   something_decodes holds =
       let all = e ∷ es in
       let end = ended size (end_position size all) in
-      let read = entries_are_read_first [] end (log_ends size sysid pages all holds w (last_start size None all)) in
+      let read = entries_are_read_first [] end (reads_at size pages None (log_place size (rooms_of size all) (last_start size None all)) (Err end) (log_ends size sysid pages all holds w (last_start size None all))) in
       record {
         read = found_of size all;
         reads = subst (λ (found : List FoundRecord). ReadsFrom size pages None (beginning size pages size) found end) (append-nil (found_of size all)) read;

@@ -4,7 +4,7 @@ use Rattle.wal_types.specs.declared.lsn.Lsn.{Lsn}
 use Rattle.wal_reader.specs.declared.found.FoundRecord.{FoundRecord}
 use Rattle.wal_reader.specs.declared.record_place.RecordPlace.{RecordPlace}
 use Rattle.wal_reader.specs.declared.read_failure.ReadFailure.{ReadFailure}
-use Rattle.wal_reader.specs.Decodes.{read_at}
+use Rattle.wal_reader.specs.ReadAt.{read_at}
 use Rattle.wal_reader.specs.Pages.{Pages}
 use Rattle.wal_reader.specs.RecordRead.{IsRead}
 use Rattle.wal_reader.specs.RecordPlace.{IsOutOfReach}

@@ -8,22 +8,19 @@ use Rattle.wal_reader.proofs.record_reading.read_in_page.Goals.{After-part_of_pa
 own : (c : After-part_of_page-bytes) → c.part_of_page-bytes.result.now ≡ take c.args.extent.total (drop c.args.cursor.offset c.args.cache.now.bytes.value)
 own c = c.part_of_page-bytes.ensures.bytes ∙ ap (λ (page : List ℕ). take c.args.extent.total (drop c.args.cursor.offset page)) c.deref.ensures
 
-whole : (c : After-part_of_page-bytes) → length c.args.cache.now.bytes.value ≡ 8192
-whole c = ap length (sym c.deref.ensures) ∙ c.part_of_page-bytes.ensures.whole
-
 pub returns-in_err-check_header-clause-reads : goal.returns-in_err-check_header-clause-reads
 returns-in_err-check_header-clause-reads c = λ pages here.
     let before = (goal.at.returns-in_err-check_header-clause-reads c).After-part_of_page-bytes in
     let size = c.args.cache.now.geometry in
     let stop = err_from_is_err_and c.from_residual.result c.from_residual.ensures.1 in
-    rw (stop.1, stop.2) (header_fails_here size pages c.args.extent.at c.start-start.result c.args.extent.total c.args.cursor _ _ c.start-start.ensures c.requires.page c.requires.gathered here (whole before) c.requires.large c.requires.within (own before) _ c.in_err-check_header.ensures)
+    rw (stop.1, stop.2) (header_fails_here size pages c.args.extent.at c.start-start.result c.args.extent.total c.args.cursor _ _ c.start-start.ensures c.requires.page c.requires.gathered here c.requires.whole c.requires.large c.requires.within (own before) _ c.in_err-check_header.ensures)
 
 pub returns-in_err-check_crc-clause-reads : goal.returns-in_err-check_crc-clause-reads
 returns-in_err-check_crc-clause-reads c = λ pages here.
     let before = (goal.at.returns-in_err-check_crc-clause-reads c).After-part_of_page-bytes in
     let size = c.args.cache.now.geometry in
     let stop = err_from_is_err_and c.from_residual-in_err-check_crc.result c.from_residual-in_err-check_crc.ensures.1 in
-    rw (stop.1, stop.2) (crc_fails_here size pages c.args.extent.at c.start-start.result c.args.extent.total c.args.cursor _ _ c.start-start.ensures c.requires.page c.requires.gathered here (whole before) c.requires.large c.requires.within (own before) c.in_ok-check_header.ensures _ c.in_err-check_crc.ensures)
+    rw (stop.1, stop.2) (crc_fails_here size pages c.args.extent.at c.start-start.result c.args.extent.total c.args.cursor _ _ c.start-start.ensures c.requires.page c.requires.gathered here c.requires.whole c.requires.large c.requires.within (own before) c.in_ok-check_header.ensures _ c.in_err-check_crc.ensures)
 
 pub found-requires-clause-end : goal.found-requires-clause-end
 found-requires-clause-end c =
@@ -34,7 +31,7 @@ returns-in_err-found-2-clause-reads c = λ pages here.
     let before = (goal.at.returns-in_err-found-2-clause-reads c).After-part_of_page-bytes in
     let size = c.args.cache.now.geometry in
     let stop = err_from_is_err_and c.from_residual-in_err-found-2.result c.from_residual-in_err-found-2.ensures.1 in
-    let read = read_here size pages c.args.extent.at c.start-start.result c.args.extent.total c.args.cursor _ _ c.start-start.ensures c.requires.page c.requires.gathered here (whole before) c.requires.large c.requires.within (own before) c.in_ok-check_header.ensures c.in_ok-check_crc.ensures in
+    let read = read_here size pages c.args.extent.at c.start-start.result c.args.extent.total c.args.cursor _ _ c.start-start.ensures c.requires.page c.requires.gathered here c.requires.whole c.requires.large c.requires.within (own before) c.in_ok-check_header.ensures c.in_ok-check_crc.ensures in
     rw (stop.1, stop.2) (read ∙ sym c.in_ok-found.ensures.read ∙ c.in_err-found-2.was)
 
 pub returns-clause-goes_on : goal.returns-clause-goes_on
@@ -47,7 +44,7 @@ returns-clause-reads c = λ pages here.
     let before = (goal.at.returns-clause-reads c).After-part_of_page-bytes in
     let size = c.args.cache.now.geometry in
     let found = c.in_ok-found-2.found in
-    let read = read_here size pages c.args.extent.at c.start-start.result c.args.extent.total c.args.cursor _ _ c.start-start.ensures c.requires.page c.requires.gathered here (whole before) c.requires.large c.requires.within (own before) c.in_ok-check_header.ensures c.in_ok-check_crc.ensures in
+    let read = read_here size pages c.args.extent.at c.start-start.result c.args.extent.total c.args.cursor _ _ c.start-start.ensures c.requires.page c.requires.gathered here c.requires.whole c.requires.large c.requires.within (own before) c.in_ok-check_header.ensures c.in_ok-check_crc.ensures in
     let said = sym c.in_ok-found.ensures.read ∙ c.in_ok-found-2.was in
-    let behind = found_here size pages c.args.extent.at c.start-start.result c.args.extent.total c.args.cursor _ _ c.start-start.ensures c.requires.page c.requires.gathered here (whole before) c.requires.large c.requires.within (own before) found c.requires.on.1 said in
+    let behind = found_here size pages c.args.extent.at c.start-start.result c.args.extent.total c.args.cursor _ _ c.start-start.ensures c.requires.page c.requires.gathered here c.requires.whole c.requires.large c.requires.within (own before) found c.requires.on.1 said in
     (read ∙ said, c.behind.ensures ∙ behind)
