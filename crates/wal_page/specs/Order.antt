@@ -13,8 +13,8 @@ pub record Entry : Type 0 where
   pub start : ℕ
 
 -- how many bytes of the log a record takes up that starts at a byte position: its room, wherever it
--- starts; positions, orders and owners ask here, so that a record that takes the rest of its segment
--- changes no other definition
+-- starts; positions, orders and owners ask here, so that a record that takes the rest of its
+-- segment changes no other definition
 abbrev pub assembled_room_at : ℕ → ℕ → Assembled → ℕ
 assembled_room_at size start a = assembled_room a
 

@@ -1,10 +1,11 @@
 -- The relation by which pages decode is the function that is computed, for all pages.
-use Rattle.std.proofs.Common.{◌≡◌, ◌⊎◌, ℕ, zero, suc, ◌+◌, ◌/◌, ◌%◌, ◌<◌, Bool, true, false, cond, ltb, List, [], ◌∷◌, ◌++◌, All, Option, Some, None, Result, Ok, Err, inl, inr, is_some, ◌||◌, eqb, leb, refl, sym, ap, subst, ◌∙◌, arith}
+use Rattle.std.proofs.Common.{◌≡◌, ℕ, ◌+◌, ◌/◌, ◌%◌, ◌<◌, Bool, true, false, cond, List, [], ◌∷◌, ◌++◌, All, Option, Some, None, Result, Ok, Err, inl, inr, eqb, leb, refl, sym, ap, subst, ◌∙◌}
 use Rattle.std.specs.Bool.{MatchBool}
-use Rattle.std.specs.Prelude.{slice_index}
+use Rattle.std.specs.Prelude.{IfOk, slice_index}
 use Rattle.std.specs.Int.{w32, w64}
-use Rattle.std.proofs.lemmas.Bool.{cases_lt, cond-true, cond-false, lt-ltb, le-ltb}
-use Rattle.byte_position.specs.Position.{address_of}
+use Rattle.byte_position.specs.Geometry.{IsSegmentSize}
+use Rattle.byte_position.specs.Position.{address_of, position_of}
+use Rattle.byte_position.proofs.PositionLaws.{position_of-address_of}
 use Rattle.wal_types.specs.declared.record.Record.{Record}
 use Rattle.record_spelling.specs.Layout.{last_block_id, long_main_tag, origin_tag, short_main_tag, top_xid_tag}
 use Rattle.record_spelling.specs.Numbers.{number_at}
@@ -21,11 +22,13 @@ use Rattle.wal_page.specs.Page.{first_fault}
 use Rattle.wal_reader.specs.declared.found.FoundRecord.{FoundRecord}
 use Rattle.wal_reader.specs.declared.found.Answer.{Answer}
 use Rattle.wal_reader.specs.declared.record_place.RecordPlace.{RecordPlace}
-use Rattle.wal_reader.specs.Decodes.{ReadsAt, ReadsIn, ReadsRecords, Says, TellsOrSays, ended, is_at_end, malformed, has_compressed, place_behind, record_rows, spelled}
-use Rattle.wal_reader.specs.Pages.{Pages, as_byte, bytes_from}
+use Rattle.wal_reader.specs.Decodes.{found_record, ReadsAt, ReadsIn, ReadsRecords, Says, TellsOrSays, ended, is_at_end, malformed, has_compressed, place_behind, record_rows, spelled}
+use Rattle.wal_reader.specs.declared.read_failure.ReadFailure.{ReadFailure}
+use Rattle.wal_reader.specs.RecordRead.{HoldsFront, IsRead, IsRoomAfter, IsRoomAfterStep}
+use Rattle.wal_reader.specs.Spelled.{IsSpelledIn}
+use Rattle.wal_reader.specs.Pages.{Pages, bytes_from}
 use Rattle.wal_reader.specs.ReadAt.{ReadsComputed, answer_or, found_or, read_at, read_in}
 use Rattle.wal_reader.proofs.PagesLaws.{bytes_from-fits}
-use Rattle.wal_reader.proofs.RowLaws.{first_of, first_fault-append}
 
 -- ---- no check of a record's bytes tells want of memory
 
@@ -167,3 +170,63 @@ pub records_computed : (size : ℕ) (pages : Pages) (end : Option ℕ) (place : 
 records_computed size pages end place [] answer reads = read_at_of size pages end place (Err answer) reads
 records_computed size pages end place (found ∷ others) answer reads =
     (read_at_of size pages end place (Ok found) reads.0, records_computed size pages end (place_behind size pages place found) others answer reads.1)
+
+-- ---- the bytes of a record that is read
+
+same_found : (found other : FoundRecord) → (let read : Result FoundRecord Answer = Ok found in read ≡ Ok other) → found ≡ other
+same_found found other e = cc
+
+no_answer : (answer : Answer) (found : FoundRecord) → (let read : Result FoundRecord Answer = Err answer in read ≡ Ok found) → ⊥
+no_answer answer found e = absurd cc
+
+-- a record starts at an address, has a size, and these bytes spell it
+abbrev IsOf : ℕ → ℕ → List ℕ → FoundRecord → Type 0
+IsOf start total bytes found = Spells bytes found.value × (found.total ≡ total) × (found.start.0 ≡ start)
+
+of_says : (size : ℕ) (place : RecordPlace) (total prev : ℕ) (bytes : List ℕ) {result : Result FoundRecord Answer} → Says size place total prev bytes result → (found : FoundRecord) → result ≡ Ok found → IsOf (address_of size place.position) total bytes found
+of_says size place total prev bytes (spelled value spells) found e =
+    subst (IsOf (address_of size place.position) total bytes) (same_found (found_record size place total prev value) found e) (spells, refl, refl)
+of_says size place total prev bytes (malformed at kind fails) found e = absurd (no_answer _ found e)
+of_says size place total prev bytes (has_compressed block fails) found e = absurd (no_answer _ found e)
+
+either_way : (holds : Bool) (P Q R : Type 0) → (P → R) → (Q → R) → MatchBool holds P Q → R
+either_way true P Q R one other is = one is
+either_way false P Q R one other is = other is
+
+module _ (size : ℕ) (pages : Pages) (end : Option ℕ) (place : RecordPlace) (found : FoundRecord) where
+  abbrev IsReadThere : Type 0
+  IsReadThere = IsOf (address_of size place.position) found.total (bytes_from size pages found.total place.position) found
+
+  of_answer : (fault : Option Answer) → TellsOrSays size pages place fault (Ok found) → IsReadThere
+  of_answer (Some answer) e = absurd (no_answer answer found (sym e))
+  of_answer None says =
+      let header = bytes_from size pages 24 place.position in
+      let total = number_at w32 header 0 in
+      let is = of_says size place total (number_at w64 header 8) (bytes_from size pages total place.position) says found refl in
+      (subst (λ (n : ℕ). Spells (bytes_from size pages n place.position) found.value) (sym is.1) is.0, refl, is.2)
+
+  of_page : (page : Option (List ℕ)) → ReadsIn size pages end place page (Ok found) → IsReadThere
+  of_page None e = absurd (no_answer _ found (sym e))
+  of_page (Some bytes) says = of_answer (first_fault (record_rows size pages end place bytes)) says
+
+  read_there : ReadsAt size pages end place (Ok found) → IsReadThere
+  unfolding ReadsAt
+  read_there reads =
+      let page = pages (address_of size place.position / 8192) in
+      either_way (is_at_end end (address_of size place.position)) _ (ReadsIn size pages end place page (Ok found)) IsReadThere (λ e. absurd (no_answer _ found (sym e))) (of_page page) reads
+
+-- the bytes of a record that was read, in the pages, spell it
+pub read_is_spelled : (size : ℕ) (pages : Pages) (end : Option ℕ) (place : RecordPlace) → IsSegmentSize size → (result : Result (FoundRecord × RecordPlace) ReadFailure) → IsRead size pages place (read_at size pages end place) result → IfOk result (λ r. IsSpelledIn size pages r.0)
+unfolding IsSpelledIn
+read_is_spelled size pages end place valid (Ok read) is =
+    let there = read_there size pages end place read.0 (reads_at size pages end place (Ok read.0) is.0) in
+    let position : position_of size read.0.start.0 ≡ place.position = ap (position_of size) there.2 ∙ position_of-address_of size valid place.position in
+    subst (λ (p : ℕ). Spells (bytes_from size pages read.0.total p) read.0.value) (sym position) there.0
+read_is_spelled size pages end place valid (Err stop) is = tt
+
+-- ---- the room
+
+-- what a room has after one more record was read
+pub room_after_record : (size own : ℕ) (pages : Pages) (place : RecordPlace) (old mid new : List ℕ) → own ≡ size → IsRoomAfterStep size pages old mid → IsRoomAfter own pages place mid new → IsRoomAfterStep size pages old new
+room_after_record size own pages place old mid new same before (inl still) = subst (λ (room : List ℕ). IsRoomAfterStep size pages old room) (sym still) before
+room_after_record size own pages place old mid new same before (inr holds) = inr (place, subst (λ (n : ℕ). HoldsFront n pages place new) same holds)

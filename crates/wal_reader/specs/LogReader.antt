@@ -11,7 +11,7 @@ use Rattle.wal_reader.specs.declared.standing.ReadErr.{ReadErr}
 use Rattle.wal_reader.specs.declared.standing.ReadErr.TheVariants as reading
 use Rattle.wal_reader.specs.declared.log_reader.Reader.{Reader}
 use Rattle.wal_reader.specs.Decodes.{Decodes}
-use Rattle.wal_reader.specs.Buffers.{HoldsPageOf}
+use Rattle.wal_reader.specs.Buffers.{HoldsPageOf, room_in}
 use Rattle.wal_reader.specs.Pages.{Pages}
 use Rattle.wal_reader.specs.RecordRead.{IsBehind}
 use Rattle.wal_reader.specs.Standings.{found_as, left_at}
@@ -35,6 +35,10 @@ reader_state reader =
           (λ address. address.0) reader.end;
       standing = reader.standing;
     }
+
+-- what the room has in which a reader puts the bytes of a record together
+abbrev pub reader_room : Reader → List ℕ
+reader_room reader = room_in reader.buffers
 
 -- the page that a reader holds is one of these
 abbrev pub Knows : Reader → Pages → Type 0

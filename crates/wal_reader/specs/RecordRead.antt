@@ -12,7 +12,7 @@ use Rattle.wal_reader.specs.declared.read_failure.ReadFailure.TheVariants as fai
 use Rattle.wal_reader.specs.Pages.{Pages, bytes_from}
 use Rattle.wal_reader.specs.PageCursor.{HoldsPassed}
 use Rattle.wal_reader.specs.RecordPlace.{IsReachable}
-use Rattle.wal_reader.specs.Decodes.{place_behind}
+use Rattle.wal_reader.specs.Decodes.{opening_of, place_behind}
 use Rattle.wal_reader.specs.ReadAt.{found_or}
 
 -- the first check that fails, or else what a record's bytes say
@@ -44,9 +44,19 @@ abbrev pub IsBehind : ℕ → FoundRecord → RecordPlace → Type 0
 IsBehind size found at =
     (end_address_of size at.position ≡ found.end.0) × (at.prev ≡ Some found.start)
 
--- a room after reading: as it was, or it holds nothing of the record but what pages had that passed
--- their checks
-abbrev pub IsRoomAfter : ℕ → Pages → RecordPlace → List ℕ → List ℕ → Type 0
-IsRoomAfter size pages place old new =
+-- a room holds nothing but the first bytes of the record at a place, and all pages that have them
+-- passed their checks
+abbrev pub HoldsFront : ℕ → Pages → RecordPlace → List ℕ → Type 0
+HoldsFront size pages place room =
     let total = number_at w32 (bytes_from size pages 8 place.position) 0 in
-    (new ≡ old) ⊎ HoldsPassed size pages place total (address_of size place.position / 8192) new
+    let first = address_of size place.position / 8192 in
+    (opening_of size place (pages first) ≡ None) × HoldsPassed size pages place total first room
+
+-- a room after reading at a place: as it was, or it holds first bytes of the record there
+abbrev pub IsRoomAfter : ℕ → Pages → RecordPlace → List ℕ → List ℕ → Type 0
+IsRoomAfter size pages place old new = (new ≡ old) ⊎ HoldsFront size pages place new
+
+-- a room after a step: as it was, or it holds first bytes of one record
+abbrev pub IsRoomAfterStep : ℕ → Pages → List ℕ → List ℕ → Type 0
+IsRoomAfterStep size pages old new =
+    (new ≡ old) ⊎ ((place : RecordPlace) × HoldsFront size pages place new)

@@ -1,7 +1,7 @@
 //! What a reader works with.
 
-ghost use Rattle.std.specs.Prelude.{◌≡◌, None, IfOk, IsTrue, OnOk, is_some};
-ghost use Rattle.wal_reader.specs.Buffers.{HoldsPageOf};
+ghost use Rattle.std.specs.Prelude.{◌≡◌, [], None, IfOk, IsTrue, OnOk, is_some};
+ghost use Rattle.wal_reader.specs.Buffers.{AreFor, HoldsPageOf, room_in};
 ghost use Rattle.wal_reader.specs.Pages.{Pages};
 
 use crate::page_cache::PageCache;
@@ -22,6 +22,8 @@ pub(crate) fn set_up(
     geometry: Geometry,
 ) -> Result<(), AllocError>
     ensures ready { OnOk result (IsTrue (is_some buffers.new)) }
+    ensures fit { AreFor geometry buffers.old → AreFor geometry buffers.new }
+    ensures room { room_in buffers.new ≡ room_in buffers.old }
     ensures holds { (pages : Pages) → HoldsPageOf geometry buffers.old pages
         → HoldsPageOf geometry buffers.new pages }
 {
@@ -42,7 +44,7 @@ impl Buffers {
     // No page is held yet.
     fn new(alloc: Global, geometry: Geometry) -> Result<Buffers, AllocError>
         ensures { IfOk result (λ buffers. (buffers.cache.geometry ≡ geometry) ×
-            (buffers.cache.number ≡ None)) }
+            (buffers.cache.number ≡ None) × (buffers.room.items ≡ [])) }
     {
         Ok(Buffers {
             cache: PageCache::new(alloc, geometry)?,

@@ -56,48 +56,10 @@ pub(crate) fn gather<D: Disk>(
 {
     let mut cursor = cursor;
     'pages: while room.len() < upto as usize {
-        cursor = gather_more(cache, room, disk, extent, cursor, upto)?;
+        cursor = pass_border(cache, disk, extent, cursor, room.len() as u32)?;
+        cursor = take_bytes(cache, room, extent, cursor, upto)?;
     }
     Ok(cursor)
-}
-
-// Appends what the page that has the next byte has of the record, up to `upto` bytes in all.
-fn gather_more<D: Disk>(
-    cache: &mut PageCache,
-    room: &mut Vec<u8>,
-    disk: &mut D,
-    extent: RecordExtent,
-    cursor: PageCursor,
-    upto: u32,
-) -> Result<PageCursor, ReadFailure>
-    requires reachable { IsReachable extent.at }
-    requires upto { upto ≤ extent.total }
-    requires more { vec_len room.old < upto }
-    requires on { IsOn cache.old cursor }
-    requires stands { StandsIn cache.old.geometry (extent.at.position + vec_len room.old) cursor }
-    ensures geometry { cache.new.geometry ≡ cache.old.geometry }
-    ensures kept { OnErr result (room.new.items ≡ room.old.items) }
-    ensures len { OnOk result ((vec_len room.old < vec_len room.new) × (vec_len room.new ≤ upto)) }
-    ensures cursor { IfOk result (λ now. IsOn cache.new now
-        × HasGathered cache.old.geometry extent.at.position (vec_len room.new) now) }
-    ensures sees { SeesStill (D.tape disk.old) (D.tape disk.new) cache.old cache.new }
-    ensures bytes { (pages : Pages) → Sees (D.tape disk.old) cache.old pages → room.old.items
-        ≡ bytes_from cache.old.geometry pages (vec_len room.old) extent.at.position
-        → OnOk result (room.new.items ≡ bytes_from cache.old.geometry pages
-        (vec_len room.new) extent.at.position) }
-    ensures checks { (pages : Pages) → Sees (D.tape disk.old) cache.old pages
-        → PassesPages cache.old.geometry pages extent.at extent.total cursor.page upto result }
-
-    ensures uncalled { IsUncalled D.tape D.moment disk.old disk.new }
-    ensures cause { HasFailureCause (D.faults disk.old) (D.faults disk.new) result }
-{
-    let cursor = pass_border(cache, disk, extent, cursor, room.len() as u32)?;
-    let most = upto - room.len() as u32;
-    let count = append(room, &cache.bytes, cursor.offset, most)?;
-    Ok(PageCursor {
-        offset: cursor.offset + count,
-        ..cursor
-    })
 }
 
 // Goes on to the next page where the cursor is at a page's end; `gathered` bytes of the record are
@@ -133,6 +95,37 @@ fn pass_border<D: Disk>(
     }
     let start = extent.start(cache.geometry);
     turn_page(cache, disk, cursor, start, extent.total - gathered)
+}
+
+// Appends what the page that is held has of the record from a cursor on, up to `upto` bytes in all.
+fn take_bytes(
+    cache: &PageCache,
+    room: &mut Vec<u8>,
+    extent: RecordExtent,
+    cursor: PageCursor,
+    upto: u32,
+) -> Result<PageCursor, AllocError>
+    requires more { vec_len room.old < upto }
+    requires on { IsOn cache.now cursor }
+    requires stands { StandsIn cache.now.geometry (extent.at.position + vec_len room.old) cursor }
+    requires within { cursor.offset < 8192 }
+    ensures kept { OnErr result (room.new.items ≡ room.old.items) }
+    ensures len { OnOk result ((vec_len room.old < vec_len room.new) × (vec_len room.new ≤ upto)) }
+    ensures page { IfOk result (λ now. now.page ≡ cursor.page) }
+    ensures cursor { IfOk result (λ now. IsOn cache.now now
+        × HasGathered cache.now.geometry extent.at.position (vec_len room.new) now) }
+    ensures bytes { (pages : Pages) → pages cursor.page ≡ Some cache.now.bytes.value
+        → room.old.items
+        ≡ bytes_from cache.now.geometry pages (vec_len room.old) extent.at.position
+        → OnOk result (room.new.items ≡ bytes_from cache.now.geometry pages
+        (vec_len room.new) extent.at.position) }
+{
+    let most = upto - room.len() as u32;
+    let count = append(room, &cache.bytes, cursor.offset, most)?;
+    Ok(PageCursor {
+        offset: cursor.offset + count,
+        ..cursor
+    })
 }
 
 // Appends what a page has from an offset on, `most` bytes if it has so many, and answers how many.

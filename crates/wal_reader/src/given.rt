@@ -4,8 +4,8 @@ ghost use Rattle.std.specs.Prelude.{◌≡◌, ◌<◌, option_map, Some, IfOk, 
 ghost use Rattle.segment_disk.specs.Tape.{IsUncalled};
 ghost use Rattle.wal_reader.specs.PageCursor.{Sees};
 ghost use Rattle.wal_reader.specs.Pages.{Pages};
-ghost use Rattle.wal_reader.specs.RecordRead.{GoesOn, IsBehind};
-ghost use Rattle.wal_reader.specs.Spelled.{IsSpelled};
+ghost use Rattle.wal_reader.specs.RecordRead.{GoesOn, IsBehind, IsRoomAfterStep};
+ghost use Rattle.wal_reader.specs.Spelled.{IsSpelled, IsSpelledIn};
 ghost use Rattle.wal_reader.specs.RecordPlace.{IsOutOfReach, IsReachable};
 ghost use Rattle.wal_reader.specs.Steps.{ComesNext, IsFurther};
 ghost use Rattle.wal_reader.specs.ReadFailures.{HasFailureCause};
@@ -33,14 +33,19 @@ pub(crate) fn next_given<D: Disk>(
     requires { IfSome from IsReachable }
     ensures geometry { buffers.new.cache.geometry ≡ buffers.old.cache.geometry }
     ensures further { IfOk result (λ r. IsFurther from r.1) }
-    ensures unread { IfSome from (λ at. IsOutOfReach buffers.old.cache.geometry
-        (option_map (λ e. e.0) end) at.position → disk.new ≡ disk.old) }
-    ensures behind { IfOk result (λ r. IsBehind buffers.old.cache.geometry r.0 r.1) }
-    ensures spelled { IfOk result (λ r. IsSpelled r.0) }
     ensures next { (pages : Pages) → Sees (D.tape disk.old) buffers.old.cache pages
         → Sees (D.tape disk.new) buffers.new.cache pages
         × ComesNext buffers.old.cache.geometry pages start.0
         (option_map (λ e. e.0) end) from result }
+    ensures behind { IfOk result (λ r. IsBehind buffers.old.cache.geometry r.0 r.1) }
+    ensures spelled { IfOk result (λ r. IsSpelled r.0) }
+    ensures room { (pages : Pages) → Sees (D.tape disk.old) buffers.old.cache pages
+        → IsRoomAfterStep buffers.old.cache.geometry pages
+        buffers.old.room.items buffers.new.room.items }
+    ensures unread { IfSome from (λ at. IsOutOfReach buffers.old.cache.geometry
+        (option_map (λ e. e.0) end) at.position → disk.new ≡ disk.old) }
+    ensures spelled_there { (pages : Pages) → Sees (D.tape disk.old) buffers.old.cache pages
+        → IfOk result (λ r. IsSpelledIn buffers.old.cache.geometry pages r.0) }
 
     ensures uncalled { IsUncalled D.tape D.moment disk.old disk.new }
     ensures cause { HasFailureCause (D.faults disk.old) (D.faults disk.new) result }
@@ -64,14 +69,19 @@ fn read_given<D: Disk>(
     requires { IsReachable from }
     ensures geometry { buffers.new.cache.geometry ≡ buffers.old.cache.geometry }
     ensures further { IfOk result (λ r. GoesOn from r.1) }
-    ensures unread { IsOutOfReach buffers.old.cache.geometry
-        (option_map (λ e. e.0) end) from.position → disk.new ≡ disk.old }
-    ensures behind { IfOk result (λ r. IsBehind buffers.old.cache.geometry r.0 r.1) }
-    ensures spelled { IfOk result (λ r. IsSpelled r.0) }
     ensures next { (pages : Pages) → Sees (D.tape disk.old) buffers.old.cache pages
         → Sees (D.tape disk.new) buffers.new.cache pages
         × ComesNext buffers.old.cache.geometry pages start.0 (option_map (λ e. e.0) end)
         (Some from) result }
+    ensures behind { IfOk result (λ r. IsBehind buffers.old.cache.geometry r.0 r.1) }
+    ensures spelled { IfOk result (λ r. IsSpelled r.0) }
+    ensures room { (pages : Pages) → Sees (D.tape disk.old) buffers.old.cache pages
+        → IsRoomAfterStep buffers.old.cache.geometry pages
+        buffers.old.room.items buffers.new.room.items }
+    ensures unread { IsOutOfReach buffers.old.cache.geometry
+        (option_map (λ e. e.0) end) from.position → disk.new ≡ disk.old }
+    ensures spelled_there { (pages : Pages) → Sees (D.tape disk.old) buffers.old.cache pages
+        → IfOk result (λ r. IsSpelledIn buffers.old.cache.geometry pages r.0) }
 
     ensures uncalled { IsUncalled D.tape D.moment disk.old disk.new }
     ensures cause { HasFailureCause (D.faults disk.old) (D.faults disk.new) result }

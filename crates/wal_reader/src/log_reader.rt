@@ -1,6 +1,7 @@
 //! Reading a log record by record (PostgreSQL's XLogReadRecord of xlogreader.c).
 
 ghost use Rattle.std.specs.Prelude.{◌≡◌};
+ghost use Rattle.wal_reader.specs.Buffers.{AreFor, AreFor-prop};
 ghost use Rattle.wal_reader.specs.Standings.{IsOnWay, IsOnWay-prop};
 
 use crate::buffers::{Buffers, set_up};
@@ -22,6 +23,7 @@ pub struct Reader {
     /// What it reads into, once it has begun.
     buffers: Option<Buffers>,
     ghost on_way: { IsOnWay standing } by { IsOnWay-prop standing },
+    ghost fit: { AreFor geometry buffers } by { AreFor-prop geometry buffers },
 }
 
 impl Reader {
@@ -29,9 +31,10 @@ impl Reader {
     ghost use Rattle.segment_disk.specs.Tape.{IsUncalled};
     ghost use Rattle.wal_reader.specs.declared.standing.Standing.TheVariants.{NotBegun};
     ghost use Rattle.wal_reader.specs.Pages.{Pages};
+    ghost use Rattle.wal_reader.specs.RecordRead.{IsRoomAfterStep};
     ghost use Rattle.wal_reader.specs.PageCursor.{IsLogOf};
-    ghost use Rattle.wal_reader.specs.LogReader.{HoldsNoPage, IsNext, Knows, LeavesReader, NeedsNoPage, OnEnd, StandsAfter, reader_state};
-    ghost use Rattle.wal_reader.specs.Spelled.{GivesSpelled};
+    ghost use Rattle.wal_reader.specs.LogReader.{HoldsNoPage, IsNext, Knows, LeavesReader, NeedsNoPage, OnEnd, StandsAfter, reader_state, reader_room};
+    ghost use Rattle.wal_reader.specs.Spelled.{GivesSpelled, GivesSpelledIn};
     ghost use Rattle.wal_reader.specs.Standings.{HasReadCause, IsToldAgain};
 
     /// A reader of the records from the address `start` on, up to `end` where one is given. It
@@ -64,13 +67,19 @@ impl Reader {
             (reader_state self.old).size pages → Knows self.old pages → Knows self.new pages
             × IsNext pages (reader_state self.old) (reader_state self.new) result }
         ensures leaves { LeavesReader (reader_state self.old) (reader_state self.new) result }
-        ensures behind { (pages : Pages) → Knows self.old pages
-            → StandsAfter (reader_state self.old).size (reader_state self.new).standing result }
-        ensures forgets { (pages : Pages) → Knows self.old pages
-            → OnEnd result (HoldsNoPage self.new) }
-        ensures unread { (pages : Pages) → Knows self.old pages
-            → NeedsNoPage (reader_state self.old) self.old.standing → disk.new ≡ disk.old }
+        ensures behind { StandsAfter (reader_state self.old).size
+            (reader_state self.new).standing result }
+        ensures forgets { OnEnd result (HoldsNoPage self.new) }
+        ensures unread { NeedsNoPage (reader_state self.old) self.old.standing
+            → disk.new ≡ disk.old }
         ensures spelled { IfOk result GivesSpelled }
+        ensures spelled_there { (pages : Pages) → IsLogOf (D.tape disk.old)
+            (reader_state self.old).size pages → Knows self.old pages
+            → IfOk result (GivesSpelledIn (reader_state self.old).size pages) }
+        ensures room { (pages : Pages) → IsLogOf (D.tape disk.old)
+            (reader_state self.old).size pages → Knows self.old pages
+            → IsRoomAfterStep (reader_state self.old).size pages
+            (reader_room self.old) (reader_room self.new) }
         ensures stopped { IsToldAgain (reader_state self.old).standing result disk.old disk.new }
 
         ensures uncalled { IsUncalled D.tape D.moment disk.old disk.new }

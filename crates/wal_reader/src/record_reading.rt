@@ -18,7 +18,7 @@ ghost use Rattle.wal_reader.specs.Decodes.{rest_rows};
 ghost use Rattle.wal_reader.specs.ReadAt.{read_at};
 ghost use Rattle.wal_reader.specs.Pages.{IsPage, Pages};
 ghost use Rattle.wal_reader.specs.RecordRead.{GoesOn, IsBehind, IsRead, IsRoomAfter, said_of};
-ghost use Rattle.wal_reader.specs.Spelled.{IsSpelled};
+ghost use Rattle.wal_reader.specs.Spelled.{IsSpelled, IsSpelledIn};
 ghost use Rattle.wal_reader.specs.RecordPlace.{IsOutOfReach, IsReachable};
 ghost use Rattle.wal_reader.specs.ReadFailures.{HasFailureCause, IsNoDiskFault};
 
@@ -56,6 +56,8 @@ pub(crate) fn read_record<D: Disk>(
     ensures unread { IsOutOfReach cache.old.geometry (option_map (λ end. end.0) end) at.position
         → (disk.new ≡ disk.old) × OnOk result ⊥ }
     ensures spelled { IfOk result (λ r. IsSpelled r.0) }
+    ensures spelled_there { (pages : Pages) → Sees (D.tape disk.old) cache.old pages
+        → IfOk result (λ r. IsSpelledIn cache.old.geometry pages r.0) }
     ensures sees { SeesStill (D.tape disk.old) (D.tape disk.new) cache.old cache.new }
     ensures room { (pages : Pages) → Sees (D.tape disk.old) cache.old pages
         → IsRoomAfter cache.old.geometry pages at room.old.items room.new.items }

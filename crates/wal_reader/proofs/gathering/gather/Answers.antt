@@ -1,5 +1,6 @@
 use Rattle.std.proofs.Common.{◌<◌, vec_len, ◌∙◌, arith}
 use Rattle.std.proofs.lemmas.Result.{err_from_is_err_and}
+use Rattle.wal_reader.proofs.CacheLaws.{held_page}
 use Rattle.wal_reader.proofs.GatherLaws.{crosses_further, page_rises, told_behind}
 use Rattle.wal_reader.proofs.gathering.gather.Goals as goal
 
@@ -9,23 +10,29 @@ returns-in_err-cursor-clause-checks g c = λ pages sees.
     let place = c.args.extent.at in
     let inv = c.pages.invariant in
     let stop = err_from_is_err_and c.from_residual.result c.from_residual.ensures.1 in
-    let told = c.in_err-cursor.ensures.checks pages (inv.sees pages sees) in
     let more : vec_len c.pages.room < c.args.upto = omega (arith, c.len.ensures) in
+    let told = c.in_err-cursor.ensures.checks pages (inv.sees pages sees) c.args.upto (omega (arith, more, c.len-in-pages.ensures)) in
     rw (stop.1, stop.2) (told_behind size pages place c.args.extent.total c.args.cursor.page c.pages.cursor.page _ (inv.crosses pages sees) (page_rises size c.args.extent.at.position (vec_len c.pages.room) c.args.upto c.pages.cursor inv.gathered more) _ (rw inv.geometry at told))
 
 pub pages-preserved : goal.pages-preserved
 pages-preserved g c =
     let inv = c.pages.invariant in
-    let e = c.in_ok-cursor.ensures in
+    let turned = c.in_ok-cursor.ensures in
+    let took = c.in_ok-cursor-2.ensures in
+    let same = turned.geometry ∙ inv.geometry in
     record {
-      geometry = e.geometry ∙ inv.geometry;
-      len = e.len.1;
-      on = e.cursor.0;
-      gathered = rw inv.geometry at e.cursor.1;
-      sees = λ pages sees. e.sees pages (inv.sees pages sees);
-      bytes = λ pages sees had. (rw inv.geometry at (e.bytes pages (inv.sees pages sees))) (inv.bytes pages sees had);
-      crosses = λ pages sees. crosses_further _ pages _ _ _ _ _ (inv.crosses pages sees) (rw inv.geometry at (e.checks pages (inv.sees pages sees)));
-      tape = e.uncalled.same_tape ∙ inv.tape;
-      moment = e.uncalled.same_moment ∙ inv.moment;
-      faults = e.cause ∙ inv.faults;
+      geometry = same;
+      len = took.len.1;
+      on = took.cursor.0;
+      gathered = rw same at took.cursor.1;
+      sees = λ pages sees. turned.sees pages (inv.sees pages sees);
+      bytes = λ pages sees had.
+          (let here = held_page (g.D.Disk.tape c.pass_border.new.disk) c.pass_border.new.cache pages c.in_ok-cursor.cursor.page (turned.sees pages (inv.sees pages sees)) turned.cursor.0.0 in
+          (rw same at (took.bytes pages here)) (inv.bytes pages sees had));
+      crosses = λ pages sees.
+          (let crossed = crosses_further _ pages _ _ _ _ _ (inv.crosses pages sees) (rw inv.geometry at (turned.checks pages (inv.sees pages sees))) in
+          rw took.page crossed);
+      tape = turned.uncalled.same_tape ∙ inv.tape;
+      moment = turned.uncalled.same_moment ∙ inv.moment;
+      faults = turned.cause ∙ inv.faults;
     }

@@ -7,6 +7,8 @@ use Rattle.wal_reader.specs.declared.read_failure.ReadFailure.{ReadFailure}
 use Rattle.wal_reader.specs.ReadAt.{read_at}
 use Rattle.wal_reader.specs.Pages.{Pages}
 use Rattle.wal_reader.specs.RecordRead.{IsRead}
+use Rattle.wal_reader.specs.Spelled.{IsSpelledIn}
+use Rattle.wal_reader.proofs.ReadAtLaws.{room_after_record}
 use Rattle.wal_reader.specs.RecordPlace.{IsOutOfReach}
 use Rattle.wal_reader.proofs.GivesLaws.{GivesFrom-given, GivesFrom-passed, ComesNext-stopped}
 use Rattle.wal_reader.proofs.given.read_given.Goals as goal
@@ -52,6 +54,24 @@ returns-then-found-start-clause-next g c pages sees =
     let read = read_of c.records.buffers.cache.geometry size pages end c.records.at (Ok (found, c.in_ok-found.behind)) c.records.invariant.geometry (c.in_ok-found.ensures.reads pages before.0) in
     (now, λ others answer rest. before.1 (found ∷ others) answer (GivesFrom-given size pages c.args.start.0 end c.records.at found c.in_ok-found.behind read.0 read.1 others answer rest c.if-found-start.true))
 
+pub returns-in_err-found-clause-room : goal.returns-in_err-found-clause-room
+returns-in_err-found-clause-room g c pages sees =
+    let inv = c.records.invariant in
+    let seen = (inv.comes pages sees).0 in
+    room_after_record c.args.buffers.now.cache.geometry c.records.buffers.cache.geometry pages c.records.at _ _ _ inv.geometry (inv.room pages sees) (c.in_err-found.ensures.room pages seen)
+
+pub returns-then-found-start-clause-room : goal.returns-then-found-start-clause-room
+returns-then-found-start-clause-room g c pages sees =
+    let inv = c.records.invariant in
+    let seen = (inv.comes pages sees).0 in
+    room_after_record c.args.buffers.now.cache.geometry c.records.buffers.cache.geometry pages c.records.at _ _ _ inv.geometry (inv.room pages sees) (c.in_ok-found.ensures.room pages seen)
+
+pub returns-then-found-start-clause-spelled_there : goal.returns-then-found-start-clause-spelled_there
+returns-then-found-start-clause-spelled_there g c pages sees =
+    let inv = c.records.invariant in
+    let seen = (inv.comes pages sees).0 in
+    subst (λ (n : ℕ). IsSpelledIn n pages c.in_ok-found.found) inv.geometry (c.in_ok-found.ensures.spelled_there pages seen)
+
 pub records-preserved : goal.records-preserved
 records-preserved g c = record {
   geometry = c.in_ok-found.ensures.geometry ∙ c.records.invariant.geometry;
@@ -65,6 +85,7 @@ records-preserved g c = record {
       let end = option_map (λ (e : Lsn). e.0) c.args.end in
       let here = out_here c.records.buffers.cache.geometry c.args.buffers.now.cache.geometry end c.records.at c.args.from c.records.invariant.geometry first.0 out in
       absurd (c.in_ok-found.ensures.unread here).1);
+  room = λ pages sees. room_after_record c.args.buffers.now.cache.geometry c.records.buffers.cache.geometry pages c.records.at _ _ _ c.records.invariant.geometry (c.records.invariant.room pages sees) (c.in_ok-found.ensures.room pages (c.records.invariant.comes pages sees).0);
   comes = λ pages sees. (let before = c.records.invariant.comes pages sees in
       let now = c.in_ok-found.ensures.sees pages before.0 in
       let end = option_map (λ (e : Lsn). e.0) c.args.end in

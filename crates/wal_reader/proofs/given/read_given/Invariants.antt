@@ -4,6 +4,7 @@ use Rattle.wal_reader.specs.declared.found.FoundRecord.{FoundRecord}
 use Rattle.wal_reader.specs.declared.found.Answer.{Answer}
 use Rattle.wal_types.specs.declared.lsn.Lsn.{Lsn}
 use Rattle.wal_reader.specs.Pages.{Pages}
+use Rattle.wal_reader.specs.RecordRead.{IsRoomAfterStep}
 use Rattle.wal_reader.specs.RecordPlace.{IsOutOfReach, IsReachable}
 use Rattle.wal_reader.specs.Steps.{GivesFrom}
 use Rattle.wal_reader.proofs.given.read_given.Given as goal
@@ -17,6 +18,7 @@ invariant-records g l = record {
   reachable : IsReachable l.at;
   further : l.fn.from.position ≤ l.at.position;
   unread : IsOutOfReach l.fn.buffers.cache.geometry (option_map (λ (e : Lsn). e.0) l.fn.end) l.fn.from.position → (l.at ≡ l.fn.from) × (l.disk ≡ l.fn.disk);
+  room : (pages : Pages) → Sees (g.D.Disk.tape l.fn.disk) l.fn.buffers.cache pages → IsRoomAfterStep l.fn.buffers.cache.geometry pages l.fn.buffers.room.items l.buffers.room.items;
   comes : (pages : Pages) → Sees (g.D.Disk.tape l.fn.disk) l.fn.buffers.cache pages → Sees (g.D.Disk.tape l.disk) l.buffers.cache pages
       × ((others : List FoundRecord) (answer : Answer) → GivesFrom l.fn.buffers.cache.geometry pages l.fn.start.0 (option_map (λ (e : Lsn). e.0) l.fn.end) l.at others answer → GivesFrom l.fn.buffers.cache.geometry pages l.fn.start.0 (option_map (λ (e : Lsn). e.0) l.fn.end) l.fn.from others answer);
 }

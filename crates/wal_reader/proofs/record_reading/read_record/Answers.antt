@@ -9,6 +9,7 @@ use Rattle.wal_reader.specs.Pages.{Pages}
 use Rattle.wal_reader.proofs.CacheLaws.{held_page}
 use Rattle.wal_reader.proofs.ReachLaws.{is_before_end, no_page_above, read_at-out_of_reach}
 use Rattle.wal_reader.proofs.RecordAt.{size_in_page, read_at-not_opened, read_at-no_size, read_at-rest}
+use Rattle.wal_reader.proofs.ReadAtLaws.{read_is_spelled}
 use Rattle.wal_reader.proofs.RecordReads.{read_as, room_as, stop_tells}
 use Rattle.wal_reader.proofs.record_reading.read_record.Goals as goal
 use Rattle.wal_reader.proofs.record_reading.read_record.Goals.{After-claimed}
@@ -69,6 +70,14 @@ returns-else-extent-cursor-clause-reads g c = λ pages sees.
     let rest = read_at-rest size pages (option_map (λ (l : Lsn). l.0) c.args.end) c.args.at before _ there (opened.checks pages sees) c.in_ok-cursor.cursor opened.place.0 opened.cursor.1 c.in_ok-extent.ensures.whole opened.place.1 c.in_ok-extent.extent.total total extent.1 passes in
     read_as size pages c.args.at c.in_ok-extent.extent _ c.read_over_pages.result (ap (λ (e : RecordExtent). e.at) extent.0) rest (rw opened.geometry at (c.read_over_pages.ensures.reads pages (opened.sees pages sees)))
 
+pub returns-then-extent-cursor-clause-spelled_there : goal.returns-then-extent-cursor-clause-spelled_there
+returns-then-extent-cursor-clause-spelled_there g c = λ pages sees.
+    read_is_spelled c.args.cache.now.geometry pages (option_map (λ (l : Lsn). l.0) c.args.end) c.args.at c.in_ok-cursor.ensures.cursor.1.stands.valid c.read_in_page.result (returns-then-extent-cursor-clause-reads g c pages sees)
+
+pub returns-else-extent-cursor-clause-spelled_there : goal.returns-else-extent-cursor-clause-spelled_there
+returns-else-extent-cursor-clause-spelled_there g c = λ pages sees.
+    read_is_spelled c.args.cache.now.geometry pages (option_map (λ (l : Lsn). l.0) c.args.end) c.args.at c.in_ok-cursor.ensures.cursor.1.stands.valid c.read_over_pages.result (returns-else-extent-cursor-clause-reads g c pages sees)
+
 pub returns-else-extent-cursor-clause-room : goal.returns-else-extent-cursor-clause-room
 returns-else-extent-cursor-clause-room g c = λ pages sees.
     let at = (goal.at.returns-else-extent-cursor-clause-room g c).After-claimed in
@@ -78,4 +87,4 @@ returns-else-extent-cursor-clause-room g c = λ pages sees.
     let there = ap pages (sym opened.place.0) ∙ here g at pages sees in
     let extent = c.in_ok-extent.ensures.extent in
     let claimed = size_in_page size pages (option_map (λ (l : Lsn). l.0) c.args.end) c.args.at before _ there (opened.checks pages sees) c.in_ok-cursor.cursor opened.place.0 opened.cursor.1 c.in_ok-extent.ensures.whole opened.place.1 in
-    inr (room_as size pages c.args.at c.in_ok-extent.extent _ _ (ap (λ (e : RecordExtent). e.at) extent.0) (ap (λ (e : RecordExtent). e.total) extent.0 ∙ sym claimed) (rw opened.geometry at (c.read_over_pages.ensures.room pages (opened.sees pages sees))))
+    inr (opened.checks pages sees, room_as size pages c.args.at c.in_ok-extent.extent _ _ (ap (λ (e : RecordExtent). e.at) extent.0) (ap (λ (e : RecordExtent). e.total) extent.0 ∙ sym claimed) (rw opened.geometry at (c.read_over_pages.ensures.room pages (opened.sees pages sees))))

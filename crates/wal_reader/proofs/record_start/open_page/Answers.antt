@@ -74,10 +74,10 @@ pub returns-clause-checks : goal.returns-clause-checks
 returns-clause-checks g c = λ pages sees.
     let before = (goal.at.returns-clause-checks g c).After-check_held in
     let last : (opens_page c.load.new.self.geometry c.args.at.position && is_continued c.load.new.self.bytes.value) ≡ false =
-        elim c.else-opens-2.branch [
-          | else-opens-2-via-then-opens-2+else-is_continued w ↦ and_right _ _ (sym c.in_ok-info.ensures.continued ∙ sym w.is_continued.ensures ∙ w.if-is_continued.false)
-          | else-opens-2-via-else-opens-2 w ↦ rw (opens g before, ne_eqb _ _ w.if-opens-2.false) refl
-        ] in
+    elim c.else-opens-2.branch [
+      | else-opens-2-via-then-opens-2+else-is_continued w ↦ and_right _ _ (sym c.in_ok-info.ensures.continued ∙ sym w.is_continued.ensures ∙ w.if-is_continued.false)
+      | else-opens-2-via-else-opens-2 w ↦ rw (opens g before, ne_eqb _ _ w.if-opens-2.false) refl
+    ] in
     passes g before pages sees (checks_at g before None c.in_ok-info.ensures.checks) last
 
 pub returns-clause-cursor : goal.returns-clause-cursor

@@ -1,10 +1,12 @@
-use Rattle.std.proofs.Common.{◌≡◌, ℕ, [], ◌∷◌, Option, Some, Result, Ok, Err, option_map, subst, sym, ap, ◌∙◌}
+use Rattle.std.proofs.Common.{◌≡◌, ℕ, List, [], ◌∷◌, Option, Some, Result, Ok, Err, option_map, subst, sym, ap, ◌∙◌}
 use Rattle.wal_types.specs.declared.lsn.Lsn.{Lsn}
 use Rattle.wal_reader.specs.PageCursor.{IsLogOf, Sees}
 use Rattle.wal_reader.specs.Pages.{Pages}
-use Rattle.wal_reader.specs.Buffers.{HoldsPageOf}
-use Rattle.wal_reader.specs.LogReader.{Knows, NeedsNoPage, reader_state}
-use Rattle.wal_reader.specs.RecordRead.{IsBehind}
+use Rattle.std.specs.Prelude.{IfOk}
+use Rattle.wal_reader.specs.Buffers.{AreFor, HoldsPageOf, room_in}
+use Rattle.wal_reader.specs.LogReader.{Knows, NeedsNoPage, reader_state, reader_room}
+use Rattle.wal_reader.specs.RecordRead.{IsBehind, IsRoomAfterStep}
+use Rattle.wal_reader.specs.Spelled.{IsSpelledIn}
 use Rattle.wal_reader.specs.RecordPlace.{IsOutOfReach}
 use Rattle.wal_reader.specs.Steps.{ComesNext}
 use Rattle.wal_reader.specs.declared.buffers.Buffers.{Buffers}
@@ -19,6 +21,14 @@ use Rattle.wal_reader.proofs.log_reader.Reader.next.Goals.{After-next_given, in-
 
 in_buffers : (g : Over) (c : After-next_given g) (pages : Pages) → Knows c.args.self.now pages → HoldsPageOf c.args.self.now.geometry (Some c.in-Some.buffers) pages
 in_buffers g c pages knows = subst (λ (d : Option Buffers). HoldsPageOf c.args.self.now.geometry d pages) c.in-Some.is (c.set_up.ensures.holds pages knows)
+
+-- the buffers are those of the reader's log
+fit : (g : Over) (c : After-next_given g) → c.in-Some.buffers.cache.geometry ≡ c.args.self.now.geometry
+fit g c = subst (λ (d : Option Buffers). AreFor c.args.self.now.geometry d) c.in-Some.is (c.set_up.ensures.fit c.args.self.now.fit)
+
+-- and the room is that which the reader had
+room_before : (g : Over) (c : After-next_given g) → c.in-Some.buffers.room.items ≡ reader_room c.args.self.now
+room_before g c = subst (λ (d : Option Buffers). room_in d ≡ reader_room c.args.self.now) c.in-Some.is c.set_up.ensures.room
 
 sees : (g : Over) (c : After-next_given g) (pages : Pages) → IsLogOf (g.D.Disk.tape c.args.disk.now) c.args.self.now.geometry pages → Knows c.args.self.now pages → Sees (g.D.Disk.tape c.args.disk.now) c.in-Some.buffers.cache pages
 sees g c pages log knows =
@@ -50,9 +60,15 @@ returns-in-Ok-clause-gives g c pages log knows =
     (knows_still g before pages log knows, λ others answer rest. Gives-comes pages (reader_state c.args.self.now) c.match-self.from (c.in-Ok.found ∷ others) answer (stands g before) (next others answer rest))
 
 pub returns-in-Ok-clause-behind : goal.returns-in-Ok-clause-behind
-returns-in-Ok-clause-behind g c pages knows =
+returns-in-Ok-clause-behind g c =
     let before = (goal.at.returns-in-Ok-clause-behind g c).After-next_given in
-    subst (λ (n : ℕ). IsBehind n c.in-Ok.found c.in-Ok.behind) (in_buffers g before pages knows).0 c.in-Ok.ensures.behind
+    subst (λ (n : ℕ). IsBehind n c.in-Ok.found c.in-Ok.behind) (fit g before) c.in-Ok.ensures.behind
+
+pub returns-in-Ok-clause-spelled_there : goal.returns-in-Ok-clause-spelled_there
+returns-in-Ok-clause-spelled_there g c pages log knows =
+    let before = (goal.at.returns-in-Ok-clause-spelled_there g c).After-next_given in
+    let there = subst (λ (n : ℕ). IfOk c.next_given.result (λ r. IsSpelledIn n pages r.0)) (fit g before) (c.next_given.ensures.spelled_there pages (sees g before pages log knows)) in
+    subst (λ (r : Result (FoundRecord × RecordPlace) ReadFailure). IfOk r (λ read. IsSpelledIn c.args.self.now.geometry pages read.0)) c.in-Ok.is there
 
 pub returns-in-Err-Told-clause-gives : goal.returns-in-Err-Told-clause-gives
 returns-in-Err-Told-clause-gives g c pages log knows =
@@ -65,13 +81,13 @@ returns-in-Err-Told-clause-gives g c pages log knows =
     (rw c.forget_page.ensures (held.0, tt), rw c.told.ensures (IsNext-told pages (reader_state c.args.self.now) _ c.in-Err-Told.answer gives))
 
 pub returns-in-Err-Told-clause-forgets : goal.returns-in-Err-Told-clause-forgets
-returns-in-Err-Told-clause-forgets g c pages knows =
+returns-in-Err-Told-clause-forgets g c =
     let before = (goal.at.returns-in-Err-Told-clause-forgets g c).After-next_given in
-    let geometry = c.next_given.ensures.geometry ∙ (in_buffers g before pages knows).0 in
+    let geometry = c.next_given.ensures.geometry ∙ fit g before in
     rw c.told.ensures (OnEnd-told c.in-Err-Told.answer _ (λ others. rw c.forget_page.ensures (geometry, tt)))
 
 pub returns-in-Err-Told-clause-behind : goal.returns-in-Err-Told-clause-behind
-returns-in-Err-Told-clause-behind g c pages knows =
+returns-in-Err-Told-clause-behind g c =
     rw c.told.ensures (StandsAfter-told c.args.self.now.geometry _ c.in-Err-Told.answer)
 
 pub returns-in-Err-Told-clause-leaves : goal.returns-in-Err-Told-clause-leaves
@@ -79,14 +95,14 @@ returns-in-Err-Told-clause-leaves g c =
     rw (c.after-self.ensures, c.told.ensures) (Leaves-told (reader_state c.args.self.now) c.in-Err-Told.answer)
 
 -- where nothing is read the disk is left alone
-left_alone : (g : Over) (c : After-next_given g) (pages : Pages) → Knows c.args.self.now pages → NeedsNoPage (reader_state c.args.self.now) c.args.self.now.standing → c.next_given.new.disk ≡ c.args.disk.now
-left_alone g c pages knows needs =
+left_alone : (g : Over) (c : After-next_given g) → NeedsNoPage (reader_state c.args.self.now) c.args.self.now.standing → c.next_given.new.disk ≡ c.args.disk.now
+left_alone g c needs =
     elim c.match-self.branch [
       | in-NotBegun w ↦ absurd (rw w.in-NotBegun.is at needs)
       | in-At w ↦
           (let out : IsOutOfReach c.args.self.now.geometry (option_map (λ (e : Lsn). e.0) c.args.self.now.end) w.in-At.at.position = rw w.in-At.is at needs in
           let unread = rw w.from-is at c.next_given.ensures.unread in
-          unread (rw (in_buffers g c pages knows).0 out))
+          unread (rw (fit g c) out))
     ]
 
 pub returns-in-Ok-clause-unread : goal.returns-in-Ok-clause-unread
@@ -100,3 +116,22 @@ returns-in-Err-Memory-clause-unread g c = left_alone g (goal.at.returns-in-Err-M
 
 pub returns-in-Err-Disk-clause-unread : goal.returns-in-Err-Disk-clause-unread
 returns-in-Err-Disk-clause-unread g c = left_alone g (goal.at.returns-in-Err-Disk-clause-unread g c).After-next_given
+
+-- the room, once a step was made
+room_after : (g : Over) (c : After-next_given g) (pages : Pages) → IsLogOf (g.D.Disk.tape c.args.disk.now) c.args.self.now.geometry pages → Knows c.args.self.now pages → IsRoomAfterStep c.args.self.now.geometry pages (reader_room c.args.self.now) c.next_given.new.buffers.room.items
+room_after g c pages log knows =
+    subst (λ (items : List ℕ). IsRoomAfterStep c.args.self.now.geometry pages items c.next_given.new.buffers.room.items) (room_before g c)
+    (subst (λ (n : ℕ). IsRoomAfterStep n pages c.in-Some.buffers.room.items c.next_given.new.buffers.room.items) (fit g c) (c.next_given.ensures.room pages (sees g c pages log knows)))
+
+pub returns-in-Ok-clause-room : goal.returns-in-Ok-clause-room
+returns-in-Ok-clause-room g c = room_after g (goal.at.returns-in-Ok-clause-room g c).After-next_given
+
+pub returns-in-Err-Told-clause-room : goal.returns-in-Err-Told-clause-room
+returns-in-Err-Told-clause-room g c pages log knows =
+    rw c.forget_page.ensures (room_after g (goal.at.returns-in-Err-Told-clause-room g c).After-next_given pages log knows)
+
+pub returns-in-Err-Memory-clause-room : goal.returns-in-Err-Memory-clause-room
+returns-in-Err-Memory-clause-room g c = room_after g (goal.at.returns-in-Err-Memory-clause-room g c).After-next_given
+
+pub returns-in-Err-Disk-clause-room : goal.returns-in-Err-Disk-clause-room
+returns-in-Err-Disk-clause-room g c = room_after g (goal.at.returns-in-Err-Disk-clause-room g c).After-next_given
