@@ -1,6 +1,9 @@
 //! Which records a listing keeps, as the words of a command line say it.
 #![tactic(auto)]
 
+mod names;
+
+pub use names::{fork, fork_name, own_manager, own_manager_name};
 use wal_types::{Lsn, Rel, Xid};
 
 /// What a listing keeps and how much of it it prints (`pg_waldump`'s options). A rule that is not
