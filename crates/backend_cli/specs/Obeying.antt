@@ -1,14 +1,24 @@
 -- What a command line promises.
-use Rattle.std.specs.Prelude.{◌≡◌, List, [], Option, Some, None}
+use Rattle.std.specs.Prelude.{◌≡◌, ◌⊎◌, ℕ, List, []}
 use Rattle.serial_log.specs.History.{capacity_of}
 use Rattle.backend_cli.specs.declared.outcome.Outcome.{Outcome}
-use Rattle.backend_cli.specs.declared.outcome.Outcome.TheVariants.{Usage}
+use Rattle.backend_cli.specs.declared.outcome.Outcome.TheVariants.{OutOfMemory, Usage}
 use Rattle.backend_cli.specs.declared.told.Told.{Told}
-use Rattle.command_words.specs.declared.words.Command.{Command}
-use Rattle.command_words.specs.declared.words.Command.TheVariants.{Run, Dump}
-use Rattle.backend_cli.specs.Outside.{Outside, IsUntouched}
+use Rattle.command_words.specs.declared.commands.Command.TheVariants.{Run, Dump}
+use Rattle.command_line.specs.declared.asking.Request.{Request}
+use Rattle.command_line.specs.declared.asking.Request.TheVariants.{Command, Help, Version, Nothing}
+use Rattle.command_line.specs.Texts.{help, version}
+use Rattle.backend_cli.specs.Outside.{Outside, IsUntouched, Took}
 use Rattle.backend_cli.specs.Run.{RunHolds}
 use Rattle.backend_cli.specs.Dumping.{DumpHolds}
+
+-- want of memory before the command is known: nothing is called, read or printed, and nothing told
+pub record IsCutShort (outside : Outside) (outcome : Outcome) (lists : List (List Told)) : Type 0 where
+  pub memory : outcome ≡ OutOfMemory
+  pub untouched : IsUntouched outside
+  pub disk : outside.disk_after ≡ outside.disk_before
+  pub unread : outside.source_after ≡ outside.source_before
+  pub nothing_told : lists ≡ []
 
 -- words that ask for nothing: the disk is as it was, nothing is read or printed, and nothing told
 pub record IsUsage (outside : Outside) (outcome : Outcome) (lists : List (List Told)) : Type 0 where
@@ -18,16 +28,37 @@ pub record IsUsage (outside : Outside) (outcome : Outcome) (lists : List (List T
   pub unread : outside.source_after ≡ outside.source_before
   pub nothing_told : lists ≡ []
 
+-- words that ask for a text: it is printed, the disk is as it was, nothing is read, and nothing told
+pub record IsExplained (text : List ℕ) (outside : Outside) (outcome : Outcome)
+    (lists : List (List Told)) : Type 0 where
+  pub usage : outcome ≡ Usage
+  pub printed : Took outside.taken_before outside.taken_after outside.sink_before outside.sink_after
+      text
+  pub tape_same : outside.tape_after ≡ outside.tape_before
+  pub moment_same : outside.moment_after ≡ outside.moment_before
+  pub disk : outside.disk_after ≡ outside.disk_before
+  pub unread : outside.source_after ≡ outside.source_before
+  pub nothing_told : lists ≡ []
+
 -- what is asked for is done
-abbrev pub Obeys : Option Command → Outside → Outcome → List (List Told) → Type 0
-Obeys None outside outcome lists = IsUsage outside outcome lists
-Obeys (Some (Run options)) outside outcome lists =
+abbrev pub Obeys : Request → Outside → Outcome → List (List Told) → Type 0
+Obeys Nothing outside outcome lists = IsUsage outside outcome lists
+Obeys Help outside outcome lists = IsExplained help outside outcome lists
+Obeys Version outside outcome lists = IsExplained version outside outcome lists
+Obeys (Command (Run options)) outside outcome lists =
     RunHolds outside options.geometry (capacity_of options.geometry options.cap_segments)
     options.list outcome lists
-Obeys (Some (Dump options)) outside outcome lists = DumpHolds outside options outcome lists
+Obeys (Command (Dump options)) outside outcome lists = DumpHolds outside options outcome lists
+
+-- the same, or memory ran out before the command was known
+abbrev pub ObeysInMemory : Request → Outside → Outcome → List (List Told) → Type 0
+ObeysInMemory request outside outcome lists =
+    IsCutShort outside outcome lists ⊎ Obeys request outside outcome lists
 
 -- a run is asked for
-abbrev pub AsksRun : Option Command → Type 0
-AsksRun None = ⊥
-AsksRun (Some (Run options)) = Unit {0}
-AsksRun (Some (Dump options)) = ⊥
+abbrev pub AsksRun : Request → Type 0
+AsksRun Nothing = ⊥
+AsksRun Help = ⊥
+AsksRun Version = ⊥
+AsksRun (Command (Run options)) = Unit {0}
+AsksRun (Command (Dump options)) = ⊥

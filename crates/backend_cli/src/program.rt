@@ -1,21 +1,24 @@
 ghost use Rattle.std.specs.Prelude.{◌≡◌, map, string_bytes};
 ghost use Rattle.waldump_text.specs.Put.{joined};
-ghost use Rattle.command_words.specs.Words.{AsksInRange, asks};
+ghost use Rattle.command_line.specs.Asking.{AsksInRange, asks};
+ghost use Rattle.command_line.specs.Texts.{help, version};
 ghost use Rattle.backend_cli.specs.Outcome.{status_of, outcome_text};
-ghost use Rattle.backend_cli.specs.Outside.{Took, outside_of, source_view};
-ghost use Rattle.backend_cli.specs.Obeying.{Obeys, AsksRun};
+ghost use Rattle.backend_cli.specs.Outside.{SourceView, Took, outside_of, source_view};
+ghost use Rattle.backend_cli.specs.Obeying.{AsksRun, IsExplained, Obeys, ObeysInMemory};
 ghost use Rattle.backend_cli.specs.declared.outcome.Outcome.{Outcome};
 
 use crate::dump::list;
 use crate::outcome::Outcome;
 use crate::run::{Finished, run};
 use crate::told::ToldLists;
-use command_words::{Command, asked};
+use command_line::{Request, asked, help_text, version_text};
+use command_words::Command;
 use segment_disk::{Disk, Sink, Source};
 use serial_log::Shape;
-use std::alloc::Global;
+use std::alloc::{AllocError, Global};
 use std::sync::Wait;
 use std::thread::Threads;
+use waldump_text::put;
 
 /// Stands before each line of a script. The real one does nothing.
 pub trait Gate {
@@ -31,31 +34,48 @@ pub struct Ended<D> {
     pub told: ToldLists,
 }
 
+// Prints a text for who asks for it: the words are no command, and tell so by their status.
+fn explain<O: Sink, D: Disk>(alloc: Global, text: &str, disk: D, out: &mut O) -> Finished<D>
+    ensures { (source : SourceView) → IsExplained text.now (outside_of source source
+        D.tape D.moment D.faults disk result.disk O.taken O.faults out.old out.new)
+        result.outcome result.told }
+{
+    // A fault while it is printed changes no status.
+    let _ = put(out, text.as_bytes());
+    Finished {
+        outcome: Outcome::Usage,
+        disk,
+        told: ToldLists::none(alloc),
+    }
+}
+
 // Does what is asked for, and says how it ended.
 fn obey<S: Source, O: Sink, D: Disk, G: Gate>(
     alloc: Global,
-    command: Option<Command>,
+    request: Request,
     script: &mut S,
     disk: D,
     out: &mut O,
     gate: &G,
 ) -> Finished<D>
-    requires in_range { AsksInRange command }
-    ensures obeys { Obeys command (outside_of
+    requires in_range { AsksInRange request }
+    ensures obeys { Obeys request (outside_of
         (source_view S.left S.handed S.ends_told S.faults script.old)
         (source_view S.left S.handed S.ends_told S.faults script.new)
         D.tape D.moment D.faults disk result.disk O.taken O.faults out.old out.new)
         result.outcome result.told }
-    ensures as_handed_in { AsksRun command → result.outcome ≡ Outcome.OutOfMemory
+    ensures as_handed_in { AsksRun request → result.outcome ≡ Outcome.OutOfMemory
         → result.disk ≡ disk }
 {
-    match &command {
-        None => Finished {
+    match &request {
+        Request::Nothing => Finished {
             outcome: Outcome::Usage,
             disk,
             told: ToldLists::none(alloc),
         },
-        Some(Command::Run(options)) => {
+        Request::Help => explain(alloc, help_text(), disk, out),
+        Request::Version => explain(alloc, version_text(), disk, out),
+        Request::Command(Command::Run(options)) => {
             let shape = Shape::new(
                 options.geometry,
                 options.ring_pages,
@@ -63,7 +83,34 @@ fn obey<S: Source, O: Sink, D: Disk, G: Gate>(
             ).unwrap();
             run(alloc, shape, options.list, script, disk, out, gate)
         }
-        Some(Command::Dump(options)) => list(alloc, options, disk, out),
+        Request::Command(Command::Dump(options)) => list(alloc, options, disk, out),
+    }
+}
+
+// Does what the words ask for, where memory suffices to read them.
+fn obey_words<S: Source, O: Sink, D: Disk, G: Gate>(
+    alloc: Global,
+    words: &[String],
+    script: &mut S,
+    disk: D,
+    out: &mut O,
+    gate: &G,
+) -> Finished<D>
+    ensures obeys { ObeysInMemory (asks (map (λ w. string_bytes w) words.now)) (outside_of
+        (source_view S.left S.handed S.ends_told S.faults script.old)
+        (source_view S.left S.handed S.ends_told S.faults script.new)
+        D.tape D.moment D.faults disk result.disk O.taken O.faults out.old out.new)
+        result.outcome result.told }
+    ensures as_handed_in { AsksRun (asks (map (λ w. string_bytes w) words.now))
+        → result.outcome ≡ Outcome.OutOfMemory → result.disk ≡ disk }
+{
+    match asked(alloc, words) {
+        Ok(request) => obey(alloc, request, script, disk, out, gate),
+        Err(AllocError) => Finished {
+            outcome: Outcome::OutOfMemory,
+            disk,
+            told: ToldLists::none(alloc),
+        },
     }
 }
 
@@ -83,11 +130,12 @@ pub fn pgwal<R: Threads + Wait + Sync, S: Source, O: Sink, E: Sink, D: Disk + Se
 ) -> Ended<D>
     // The status and its line on `err` are those of one outcome; for it the command's promises
     // hold: of `run` told, gapless, crash, no late receipt, whole, printed, and how it ends; of
-    // `dump` listed.
+    // `dump` listed; of words that ask for help its text, and of others that are no command
+    // nothing. Or memory ran out before the command was known, with nothing called, read or printed.
     ensures obeys { (outcome : Outcome) × (result.status ≡ status_of outcome)
         × Took (E.taken err.old) (E.taken err.new) (E.faults err.old) (E.faults err.new)
         (joined (outcome_text outcome))
-        × Obeys (asks (map (λ w. string_bytes w) words.now)) (outside_of
+        × ObeysInMemory (asks (map (λ w. string_bytes w) words.now)) (outside_of
         (source_view S.left S.handed S.ends_told S.faults script.old)
         (source_view S.left S.handed S.ends_told S.faults script.new)
         D.tape D.moment D.faults disk result.disk O.taken O.faults out.old out.new)
@@ -100,7 +148,7 @@ pub fn pgwal<R: Threads + Wait + Sync, S: Source, O: Sink, E: Sink, D: Disk + Se
         outcome,
         disk,
         told,
-    } = obey(alloc, asked(words), script, disk, out, gate);
+    } = obey_words(alloc, words, script, disk, out, gate);
     // A fault while the status is told changes no status.
     let _ = outcome.tell(err);
     Ended {

@@ -1,6 +1,12 @@
-//! What the words of a command line ask for.
+//! What the words of a command line mean, each by itself, and the command that they make.
 #![tactic(auto)]
 
-mod words;
+mod commands;
+mod given;
+mod meanings;
 
-pub use words::{Command, DumpOptions, RunOptions, asked};
+pub use commands::{Command, DumpOptions, RunOptions};
+pub use given::GivenWords;
+pub use meanings::{
+    block_number, cap_segments, fork, limit, lsn, manager, relation, ring_pages, segment_size, xid,
+};

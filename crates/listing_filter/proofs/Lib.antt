@@ -1,1 +1,2 @@
 pub mod KeepingLaws
+pub mod Lookups

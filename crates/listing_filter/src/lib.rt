@@ -6,8 +6,10 @@ ghost use Rattle.std.specs.List.{list_any};
 ghost use Rattle.listing_filter.specs.Keeping.{asks_for_block, everything_from, has_image, is_reached, is_relation, keeps, meets_block};
 
 mod listed;
+mod names;
 
 pub use listed::Listed;
+pub use names::{fork, fork_name, own_manager, own_manager_name};
 use wal_types::{Block, Lsn, Rel, Xid};
 
 /// What a listing keeps and how much of it it prints (`pg_waldump`'s options). A rule that is not

@@ -1,0 +1,111 @@
+//! The command that is declared to `clap`.
+
+ghost use Rattle.std.specs.Prelude.{◌≡◌, IfOk, fold};
+ghost use Rattle.clap.specs.Words.{app_of, with_rule};
+ghost use Rattle.command_line.specs.Syntax.{block_rules, declared_command, extent_rules, list_rule, long_rule, option_rule, record_rules, run_rules, switch_rule};
+
+use crate::texts::VERSION;
+use clap::{Arg, ArgAction, Command};
+use std::alloc::{AllocError, Global};
+
+/// The one command that reads all command lines: a command's name is its first word that is no
+/// option, so options may stand on both sides of it.
+pub(crate) fn declared<'a>(alloc: Global) -> Result<Command<'a>, AllocError>
+    ensures { IfOk result (λ c. app_of c ≡ declared_command) }
+{
+    let command = Command::new(alloc, "pgwal").version(VERSION);
+    let command = command.arg(Arg::new(alloc, "command"))?;
+    let command = command.arg(Arg::new(alloc, "topic"))?;
+    let command = with_run_options(alloc, command)?;
+    let command = with_record_options(alloc, command)?;
+    let command = with_block_options(alloc, command)?;
+    with_extent_options(alloc, command)
+}
+
+fn with_run_options<'a>(alloc: Global, command: Command<'a>) -> Result<Command<'a>, AllocError>
+    ensures { IfOk result (λ c. app_of c ≡ fold with_rule (app_of command.entry) run_rules) }
+{
+    let command = with_long_option(alloc, command, "seg")?;
+    let command = with_long_option(alloc, command, "ring")?;
+    let command = with_long_option(alloc, command, "cap")?;
+    with_list(alloc, command)
+}
+
+fn with_list<'a>(alloc: Global, command: Command<'a>) -> Result<Command<'a>, AllocError>
+    ensures { IfOk result (λ c. app_of c ≡ with_rule (app_of command.entry) list_rule) }
+{
+    let list = Arg::new(alloc, "list")
+        .long("list")
+        .action(ArgAction::SetTrue);
+    command.arg(list)
+}
+
+// The options that say which records are listed.
+fn with_record_options<'a>(alloc: Global, command: Command<'a>) -> Result<Command<'a>, AllocError>
+    ensures { IfOk result (λ c. app_of c ≡ fold with_rule (app_of command.entry) record_rules) }
+{
+    let command = with_option(alloc, command, "rmgr", 'r')?;
+    let command = with_option(alloc, command, "xid", 'x')?;
+    with_switch(alloc, command, "fullpage", 'w')
+}
+
+// The options that say which blocks a listed record has.
+fn with_block_options<'a>(alloc: Global, command: Command<'a>) -> Result<Command<'a>, AllocError>
+    ensures { IfOk result (λ c. app_of c ≡ fold with_rule (app_of command.entry) block_rules) }
+{
+    let command = with_option(alloc, command, "relation", 'R')?;
+    let command = with_option(alloc, command, "block", 'B')?;
+    with_option(alloc, command, "fork", 'F')
+}
+
+// The options that say where a listing begins and ends.
+fn with_extent_options<'a>(alloc: Global, command: Command<'a>) -> Result<Command<'a>, AllocError>
+    ensures { IfOk result (λ c. app_of c ≡ fold with_rule (app_of command.entry) extent_rules) }
+{
+    let command = with_option(alloc, command, "start", 's')?;
+    let command = with_option(alloc, command, "end", 'e')?;
+    let command = with_option(alloc, command, "limit", 'n')?;
+    with_switch(alloc, command, "quiet", 'q')
+}
+
+// An option with a value, which has no letter.
+fn with_long_option<'a>(
+    alloc: Global,
+    command: Command<'a>,
+    name: &'a str,
+) -> Result<Command<'a>, AllocError>
+    ensures { IfOk result (λ c. app_of c
+        ≡ with_rule (app_of command.entry) (long_rule name.entry.now)) }
+{
+    command.arg(Arg::new(alloc, name).long(name))
+}
+
+// An option with a value.
+fn with_option<'a>(
+    alloc: Global,
+    command: Command<'a>,
+    name: &'a str,
+    letter: char,
+) -> Result<Command<'a>, AllocError>
+    ensures { IfOk result (λ c. app_of c
+        ≡ with_rule (app_of command.entry) (option_rule name.entry.now letter)) }
+{
+    command.arg(Arg::new(alloc, name).long(name).short(letter))
+}
+
+// An option without one.
+fn with_switch<'a>(
+    alloc: Global,
+    command: Command<'a>,
+    name: &'a str,
+    letter: char,
+) -> Result<Command<'a>, AllocError>
+    ensures { IfOk result (λ c. app_of c
+        ≡ with_rule (app_of command.entry) (switch_rule name.entry.now letter)) }
+{
+    let switch = Arg::new(alloc, name)
+        .long(name)
+        .short(letter)
+        .action(ArgAction::SetTrue);
+    command.arg(switch)
+}

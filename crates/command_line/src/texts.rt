@@ -1,0 +1,66 @@
+//! What is printed for who asks for help.
+
+ghost use Rattle.std.specs.Prelude.{◌≡◌};
+ghost use Rattle.command_line.specs.Texts.{help, version};
+
+pub(crate) const VERSION: &str = "0.1";
+
+const VERSION_LINE: &str = "pgwal 0.1
+";
+
+const HELP: &str = "pgwal writes a write-ahead log in PostgreSQL 16's format, and lists it.
+
+pgwal run [--seg N] [--ring N] [--cap N] [--list]
+    Writes a log into the folder pg_wal, from the script on standard input.
+    --seg N    a segment's size in bytes, a power of two from 1048576 to 1073741824
+               (16777216 where it is not given)
+    --ring N   how many pages the log keeps in memory, 4 to 64 (64)
+    --cap N    how many segments the log may fill, 1 to 4096 (64)
+    --list     prints a line for each line of the script
+    Example: an insert and a commit
+        printf 'I 700 10 00 aabb\\nC 700 0\\n' | pgwal run --list
+
+pgwal dump [--seg N] [FILTER]..
+    Lists the log in the folder pg_wal: a line for each record that all filters keep.
+    --seg N                the segments' size, as the log was written
+    -r, --rmgr NAME        records of a resource manager, as heap or custom128
+    -x, --xid N            of a transaction
+    -R, --relation T/D/R   of a relation: its tablespace, its database and its number
+    -B, --block N          of a block of that relation
+    -F, --fork NAME        of a fork: main, fsm, vm or init
+    -w, --fullpage         with a page's image
+    -s, --start LSN        from an address on, as 0/01000028
+    -e, --end LSN          that end below an address
+    -n, --limit N          at most so many
+    -q, --quiet            prints nothing: the status tells whether the log is sound
+    Example: the first ten changes of a block
+        pgwal dump --rmgr heap --relation 1663/5/16384 --block 8 --limit 10
+
+pgwal help, -h or --help prints this text, -V or --version the program's version.
+
+Status:
+    0  all is done
+    1  memory ran out
+    2  the command line is faulty, or asks for help
+    3  a line of the script is refused
+    4  the disk failed
+    5  the log is full
+    6  the log that is listed is damaged, or holds what is not read
+    7  the script could not be read
+    8  the output could not be written
+    9  a log is there already
+";
+
+/// What help prints: what each command does, its options with an example, and the statuses.
+pub fn help_text() -> &'static str
+    ensures { result.now ≡ help }
+{
+    HELP
+}
+
+/// The line that tells the program's version.
+pub fn version_text() -> &'static str
+    ensures { result.now ≡ version }
+{
+    VERSION_LINE
+}

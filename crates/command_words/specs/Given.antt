@@ -1,0 +1,180 @@
+-- The command that the words of a command line make, each word in the place that it was given for.
+use Rattle.std.specs.Prelude.{ℕ, ◌≤◌, Bool, false, ◌&&◌, ◌||◌, not, List, Option, Some, None, is_some, option_map, codes, if◌then◌else◌}
+use Rattle.std.specs.Borrow.{Bor}
+use Rattle.std.specs.Str.{bytes_eq}
+use Rattle.listing_filter.specs.Names.{fork_named}
+use Rattle.listing_filter.specs.declared.Filter.{Filter}
+use Rattle.command_words.specs.Meanings.{block_number_of, cap_segments_of, limit_of, lsn_of, manager_of, relation_of, ring_pages_of, segment_size_of, xid_of}
+use Rattle.command_words.specs.declared.commands.Command.{Command}
+use Rattle.command_words.specs.declared.commands.Command.TheVariants.{Run, Dump}
+use Rattle.command_words.specs.declared.given.GivenWords.{GivenWords}
+
+-- the words given: of the command's name, of what stands behind it, and of each option
+pub record Given : Type 0 where
+  pub command : Option (List ℕ)
+  pub topic : Option (List ℕ)
+  pub seg : Option (List ℕ)
+  pub ring : Option (List ℕ)
+  pub cap : Option (List ℕ)
+  pub list : Bool
+  pub rmgr : Option (List ℕ)
+  pub xid : Option (List ℕ)
+  pub relation : Option (List ℕ)
+  pub block : Option (List ℕ)
+  pub fork : Option (List ℕ)
+  pub fullpage : Bool
+  pub start : Option (List ℕ)
+  pub end : Option (List ℕ)
+  pub limit : Option (List ℕ)
+  pub quiet : Bool
+
+abbrev pub text_of : Option (Bor (List ℕ)) → Option (List ℕ)
+text_of = option_map (λ text. text.now)
+
+abbrev pub given_of : GivenWords → Given
+given_of words = record {
+  command = text_of words.command;
+  topic = text_of words.topic;
+  seg = text_of words.seg;
+  ring = text_of words.ring;
+  cap = text_of words.cap;
+  list = words.list;
+  rmgr = text_of words.rmgr;
+  xid = text_of words.xid;
+  relation = text_of words.relation;
+  block = text_of words.block;
+  fork = text_of words.fork;
+  fullpage = words.fullpage;
+  start = text_of words.start;
+  end = text_of words.end;
+  limit = text_of words.limit;
+  quiet = words.quiet;
+}
+
+-- what an option's word means, where the option is given; none where it means nothing
+abbrev pub settled : {A : Type 0} → Option (Option A) → Option (Option A)
+settled None = Some None
+settled (Some None) = None
+settled (Some (Some a)) = Some (Some a)
+
+abbrev pub read : {A : Type 0} → (List ℕ → Option A) → Option (List ℕ) → Option (Option A)
+read meaning word = settled (option_map meaning word)
+
+-- the same, with a value that stands where the option is not given
+abbrev pub or_default : {A : Type 0} → A → (List ℕ → Option A) → Option (List ℕ) → Option A
+or_default value meaning None = Some value
+or_default value meaning (Some word) = meaning word
+
+infixl 10 ◌>>=◌
+abbrev pub ◌>>=◌ : {A B : Type 0} → Option A → (A → Option B) → Option B
+None >>= next = None
+(Some a) >>= next = next a
+
+-- what holds where nothing else is given: segments of 16 MiB, a ring of 64 pages, 64 segments
+abbrev pub default_segment_size : ℕ
+default_segment_size = 16777216
+
+abbrev pub default_ring_pages : ℕ
+default_ring_pages = 64
+
+abbrev pub default_cap_segments : ℕ
+default_cap_segments = 64
+
+-- an option is given that only `run` takes
+abbrev pub gives_run : Given → Bool
+gives_run g = is_some g.ring || is_some g.cap || g.list
+
+abbrev pub gives_selection : Given → Bool
+gives_selection g =
+    is_some g.rmgr || is_some g.xid || is_some g.relation || is_some g.block || is_some g.fork
+    || g.fullpage
+
+abbrev pub gives_extent : Given → Bool
+gives_extent g = is_some g.start || is_some g.end || is_some g.limit || g.quiet
+
+-- an option is given that only `dump` takes
+abbrev pub gives_dump : Given → Bool
+gives_dump g = gives_selection g || gives_extent g
+
+abbrev pub run_of : Given → Option Command
+run_of g = if is_some g.topic || gives_dump g then None else do
+  size ← or_default default_segment_size segment_size_of g.seg
+  ring_pages ← or_default default_ring_pages ring_pages_of g.ring
+  cap_segments ← or_default default_cap_segments cap_segments_of g.cap
+  Some (Run (record {
+    geometry = size;
+    ring_pages = ring_pages;
+    cap_segments = cap_segments;
+    list = g.list;
+  }))
+
+-- what keeps every record from segment 1 on
+abbrev pub whole_log : ℕ → Filter
+whole_log size = record {
+  rmid = None;
+  xid = None;
+  rel = None;
+  blk = None;
+  fork = None;
+  fullpage = false;
+  start = record { 0 = size };
+  end = None;
+  limit = None;
+  quiet = false;
+}
+
+-- a filter with the rules on a record's manager, transaction and images
+abbrev pub with_record_rules : Given → Filter → Option Filter
+with_record_rules g filter = do
+  rmid ← read manager_of g.rmgr
+  xid ← read xid_of g.xid
+  Some (record filter { rmid = rmid; xid = xid; fullpage = g.fullpage })
+
+-- a block is given without its relation
+abbrev pub lacks_relation : Given → Bool
+lacks_relation g = is_some g.block && not (is_some g.relation)
+
+-- a filter with the rules on a record's blocks
+abbrev pub with_block_rules : Given → Filter → Option Filter
+with_block_rules g filter = if lacks_relation g then None else do
+  rel ← read relation_of g.relation
+  blk ← read block_number_of g.block
+  fork ← read fork_named g.fork
+  Some (record filter { rel = rel; blk = blk; fork = fork })
+
+-- a filter with a listing's begin and end
+abbrev pub with_extent : Given → Filter → Option Filter
+with_extent g filter = do
+  first ← or_default filter.start lsn_of g.start
+  last ← read lsn_of g.end
+  limit ← read limit_of g.limit
+  Some (record filter { start = first; end = last; limit = limit; quiet = g.quiet })
+
+abbrev pub filter_of : ℕ → Given → Option Filter
+filter_of size g = do
+  by_record ← with_record_rules g (whole_log size)
+  by_block ← with_block_rules g by_record
+  with_extent g by_block
+
+abbrev pub dump_of : Given → Option Command
+dump_of g = if is_some g.topic || gives_run g then None else do
+  size ← or_default default_segment_size segment_size_of g.seg
+  filter ← filter_of size g
+  Some (Dump (record { geometry = size; filter = filter }))
+
+abbrev pub named : Option (List ℕ) → Given → Option Command
+named None g = None
+named (Some name) g =
+    if bytes_eq name (codes "run") then run_of g
+    else (if bytes_eq name (codes "dump") then dump_of g else None)
+
+-- the command that the words make, with its own options alone
+abbrev pub command_of : Given → Option Command
+command_of g = named g.command g
+
+-- a run's ring has 4 to 64 pages, and its log fills 1 to 4096 segments
+abbrev pub IsInRange : Command → Type 0
+IsInRange (Run options) =
+    (4 ≤ options.ring_pages) × (options.ring_pages ≤ 64)
+    × (1 ≤ options.cap_segments) × (options.cap_segments ≤ 4096)
+IsInRange (Dump options) = Unit {0}

@@ -1,0 +1,107 @@
+-- What the word of each option means, as a function of that one word.
+use Rattle.std.specs.Prelude.{ℕ, ◌+◌, ◌-◌, ◌*◌, ◌^◌, Bool, ◌&&◌, ◌||◌, List, [], ◌∷◌, Option, Some, None, ◌==◌, codes, drop, if◌then◌else◌, length, map, nat_le, option_and_then, option_map, take}
+use Rattle.std.specs.Int.Digits.{number_from_digits}
+use Rattle.std.specs.List.{list_all}
+use Rattle.byte_position.specs.Geometry.{is_segment_size}
+use Rattle.decimal_numbers.specs.Numbers.{number_of}
+use Rattle.listing_filter.specs.Names.{is_same_name, own_manager_of}
+use Rattle.wal_types.specs.declared.lsn.Lsn.{Lsn}
+use Rattle.wal_types.specs.declared.record.Rel.{Rel}
+use Rattle.wal_types.specs.declared.record.Xid.{Xid}
+
+-- a number in decimal digits, within bounds
+abbrev pub number_within : ℕ → ℕ → List ℕ → Option ℕ
+number_within least most word =
+    option_and_then (λ n. if nat_le least n then Some n else None) (number_of most word)
+
+-- `--seg`: a power of two from 1 MiB to 1 GiB
+abbrev pub segment_size_of : List ℕ → Option ℕ
+segment_size_of word =
+    option_and_then (λ n. if is_segment_size n then Some n else None) (number_of (2 ^ 64 - 1) word)
+
+-- `--ring`: how many pages
+abbrev pub ring_pages_of : List ℕ → Option ℕ
+ring_pages_of word = number_within 4 64 word
+
+-- `--cap`: how many segments
+abbrev pub cap_segments_of : List ℕ → Option ℕ
+cap_segments_of word = number_within 1 4096 word
+
+-- `--limit`: how many records, from 1
+abbrev pub limit_of : List ℕ → Option ℕ
+limit_of word = number_within 1 (2 ^ 64 - 1) word
+
+-- `--xid`
+abbrev pub xid_of : List ℕ → Option Xid
+xid_of word = option_map (λ n. record { 0 = n }) (number_of (2 ^ 32 - 1) word)
+
+-- `--block`: up to the largest number that blocks have
+abbrev pub block_number_of : List ℕ → Option ℕ
+block_number_of word = number_of (2 ^ 32 - 2) word
+
+abbrev pub behind_byte : ℕ → Option (List ℕ × List ℕ) → Option (List ℕ × List ℕ)
+behind_byte c None = None
+behind_byte c (Some parts) = Some (c ∷ parts.0, parts.1)
+
+-- what stands before the first slash (47) of a text, and what behind it
+abbrev pub cut_at_slash : List ℕ → Option (List ℕ × List ℕ)
+cut_at_slash [] = None
+cut_at_slash (c ∷ cs) = if c == 47 then Some ([], cs) else behind_byte c (cut_at_slash cs)
+
+abbrev pub relation_by : Option ℕ → Option ℕ → Option ℕ → Option Rel
+relation_by (Some tablespace) (Some database) (Some relation) =
+    Some (record { spc = tablespace; db = database; rel = relation })
+relation_by spc db rel = None
+
+abbrev pub object_of : List ℕ → Option ℕ
+object_of word = number_of (2 ^ 32 - 1) word
+
+abbrev pub relation_behind : List ℕ → Option (List ℕ × List ℕ) → Option Rel
+relation_behind tablespace None = None
+relation_behind tablespace (Some parts) =
+    relation_by (object_of tablespace) (object_of parts.0) (object_of parts.1)
+
+-- `--relation`: the numbers of a tablespace, a database and a relation, parted by slashes
+abbrev pub relation_of : List ℕ → Option Rel
+relation_of word =
+    option_and_then (λ parts. relation_behind parts.0 (cut_at_slash parts.1)) (cut_at_slash word)
+
+-- a hexadecimal digit, in either case: 48 is `0`, 65 `A` and 97 `a`
+abbrev pub is_hexadecimal_digit : ℕ → Bool
+is_hexadecimal_digit c =
+    (nat_le 48 c && nat_le c 57) || (nat_le 65 c && nat_le c 70) || (nat_le 97 c && nat_le c 102)
+
+abbrev pub hexadecimal_digit : ℕ → ℕ
+hexadecimal_digit c =
+    if nat_le c 57 then c - 48 else (if nat_le c 70 then c - 55 else c - 87)
+
+-- a number in 1 to 8 hexadecimal digits
+abbrev pub hexadecimal_of : List ℕ → Option ℕ
+hexadecimal_of word =
+    if nat_le 1 (length word) && nat_le (length word) 8 && list_all is_hexadecimal_digit word
+    then Some (number_from_digits 16 (map hexadecimal_digit word)) else None
+
+abbrev pub lsn_with : Option ℕ → Option ℕ → Option Lsn
+lsn_with (Some high) (Some low) = Some (record { 0 = high * 2 ^ 32 + low })
+lsn_with high low = None
+
+-- `--start` and `--end`: the upper and the lower four bytes of an address, parted by a slash
+abbrev pub lsn_of : List ℕ → Option Lsn
+lsn_of word =
+    option_and_then (λ parts. lsn_with (hexadecimal_of parts.0) (hexadecimal_of parts.1))
+    (cut_at_slash word)
+
+abbrev pub number_behind_custom : List ℕ → Option ℕ
+number_behind_custom word =
+    if length word == 9 && is_same_name (take 6 word) (codes "custom")
+    then option_and_then (λ n. if nat_le 128 n then Some n else None) (number_of 255 (drop 6 word))
+    else None
+
+abbrev pub or_custom : List ℕ → Option ℕ → Option ℕ
+or_custom word (Some rmid) = Some rmid
+or_custom word None = number_behind_custom word
+
+-- `--rmgr`: the name of one of PostgreSQL's own managers, or `custom128` to `custom255`, in any
+-- case of ASCII letters
+abbrev pub manager_of : List ℕ → Option ℕ
+manager_of word = or_custom word (own_manager_of word)
