@@ -27,8 +27,8 @@ abbrev pub told_of_flush : Result hard.Hard refused.Refused → Told
 told_of_flush (Ok done) = Flushed done.upto done.moment
 told_of_flush (Err refusal) = Refused refusal.cause refusal.reserved
 
--- one line of backend 0: the standing before it, what it asks for, what it is told, and the standing
--- after it
+-- one line of backend 0: the standing before it, what it asks for, what it is told, and the
+-- standing after it
 abbrev pub Steps : ℕ → ℕ → ℕ → LogHistory → Asked → Told → LogHistory → Type 0
 Steps size capacity faults_at_open before (Insert value) told after =
     (answer : Result Receipt refused.Refused) × (told ≡ told_of_insert answer) × IsWritable value

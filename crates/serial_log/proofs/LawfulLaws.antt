@@ -87,9 +87,9 @@ module _ (size sysid : ℕ) (valid : IsSegmentSize size) (es : List Entry) where
       let whole = segment_size_in_pages size valid in
       let product : segment * size ≡ segment * (8192 * pages_of size) = ap (λ (m : ℕ). segment * m) whole.0 in
       λ n low.
-          let at : (segment * pages_of size + page) * 8192 + 8 * n ≡ segment * size + page * 8192 + 8 * n = omega arith in
-          subst (λ (address : ℕ). IsLawfulWord size sysid es address (word_of bytes.bytes n)) at
-          (put_word n (log_word size sysid es ((segment * pages_of size + page) * 8192 + 8 * n)) (word_of bytes.bytes n) (puts (segment * pages_of size + page)) low (has (segment * pages_of size + page) n low) (fits.2 n low))
+      let at : (segment * pages_of size + page) * 8192 + 8 * n ≡ segment * size + page * 8192 + 8 * n = omega arith in
+      subst (λ (address : ℕ). IsLawfulWord size sysid es address (word_of bytes.bytes n)) at
+      (put_word n (log_word size sysid es ((segment * pages_of size + page) * 8192 + 8 * n)) (word_of bytes.bytes n) (puts (segment * pages_of size + page)) low (has (segment * pages_of size + page) n low) (fits.2 n low))
   write_lawful puts has geometry segment Sync fits = tt
 
   pub WritesLawful-fits : (puts : PutHistory) → HasWord puts → (calls : List Call) → All (CallFits size (IsWordPut puts)) calls → All (WritesLawful size sysid es) calls

@@ -66,7 +66,7 @@ module _ (size sysid opening : ℕ) where
   -- one that was kept is kept of a longer log on a disk that made more calls, where every crash still leaves it
   IsKeptPromise-carried : (before : Tape) (more : List Call) (es others : List Entry) (promise : Promise) → IsKeptPromise size sysid opening es before promise
       → (let t : Tape = record before { calls = before.calls ++ more } in
-        ((moment : ℕ) (image : DiskImage) → promise.moment ≤ moment → LeftAt t moment image → IsLawful size sysid image (es ++ others) promise.upto) → IsKeptPromise size sysid opening (es ++ others) t promise)
+      ((moment : ℕ) (image : DiskImage) → promise.moment ≤ moment → LeftAt t moment image → IsLawful size sysid image (es ++ others) promise.upto) → IsKeptPromise size sysid opening (es ++ others) t promise)
   IsKeptPromise-carried before more es others promise was kept =
       let same : take promise.count es ≡ take promise.count (es ++ others) = sym (take-before es others promise.count was.counted) in
       let calls : take promise.moment before.calls ≡ take promise.moment (before.calls ++ more) = sym (take-before before.calls more promise.moment was.passed) in
