@@ -1,8 +1,8 @@
 -- A tape that goes on leaves at earlier moments what it left before.
-use Rattle.std.proofs.Common.{◌≡◌, ℕ, zero, suc, ◌+◌, ◌<◌, ◌≤◌, inl, inr, List, [], ◌∷◌, ◌++◌, length, take, Option, Some, None, slice_get, refl, sym, ap, subst, ◌∙◌, arith}
+use Rattle.std.proofs.Common.{◌≡◌, ℕ, zero, suc, ◌<◌, ◌≤◌, inl, inr, List, [], ◌∷◌, ◌++◌, length, take, Option, Some, None, slice_get, refl, sym, ap, ◌∙◌, arith}
 use Rattle.std.proofs.lemmas.List.{append-nil, append_assoc}
 use Rattle.segment_disk.specs.declared.disk.Call.{Call}
-use Rattle.segment_disk.specs.Tape.{Tape, Fails, failed_call, with_call}
+use Rattle.segment_disk.specs.Tape.{Tape, failed_call, with_call}
 use Rattle.segment_disk.specs.DiskImage.{DiskImage, LeftAt}
 use Rattle.flush_core.specs.Calls.{AreMade, BreaksOff, with_calls}
 use Rattle.flush_core.proofs.LeftLaws.{left_moved}

@@ -56,13 +56,13 @@ pub record IsWriter {D : Type 0} (tape : D → Option Tape) (writer : Writer D) 
   pub holds : IfSome (tape writer.disk) (λ t.
       HoldsPut writer.geometry writer.written.0 writer.made writer.unsynced (state_now t) pages)
 
--- no segment is made but those that all that is written fills or begins to fill: as in a log that is
--- new
+-- no segment is made but those that all that is written fills or begins to fill: as in a log that
+-- is new
 abbrev pub IsMadeAsWritten : {D : Type 0} → Writer D → Type 0
 IsMadeAsWritten writer = writer.made ≡ made_upto writer.geometry writer.written.0
 
--- a disk holds just these pages of a log that is there, all of them durable: all below a position is
--- written, in segments from 1 to a last one
+-- a disk holds just these pages of a log that is there, all of them durable: all below a position
+-- is written, in segments from 1 to a last one
 pub record HoldsLogPages (size written made : ℕ) (tape : Option Tape) (pages : PutPages)
     : Type 0 where
   pub begun : size ≤ written

@@ -1,6 +1,6 @@
 -- The words of a disk's image, each at its address in the log. Everywhere `size` is the size of a
 -- segment in bytes.
-use Rattle.std.specs.Prelude.{ℕ, ◌*◌, ◌/◌, ◌%◌, ◌<◌, List, replicate, Option, Some, None, nat_lt, if◌then◌else◌}
+use Rattle.std.specs.Prelude.{ℕ, ◌/◌, ◌%◌, ◌<◌, List, replicate, Option, Some, None, nat_lt, if◌then◌else◌}
 use Rattle.std.specs.Option.{IsSomeAnd}
 use Rattle.segment_disk.specs.DiskImage.{DiskImage, ImageSegment, word_of}
 

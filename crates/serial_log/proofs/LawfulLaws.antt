@@ -1,5 +1,5 @@
 -- Images that fit what was put are lawful.
-use Rattle.std.proofs.Common.{◌≡◌, ℕ, ◌+◌, ◌-◌, ◌*◌, ◌/◌, ◌%◌, ◌<◌, ◌≤◌, ◌⊎◌, inl, inr, true, nat_lt, All, List, [], ◌∷◌, drop, Option, Some, None, IsSome, refl, sym, ap, subst, ◌∙◌, if◌then◌else◌, arith}
+use Rattle.std.proofs.Common.{◌≡◌, ℕ, ◌+◌, ◌-◌, ◌*◌, ◌/◌, ◌%◌, ◌<◌, ◌≤◌, ◌⊎◌, inl, inr, All, List, [], ◌∷◌, Option, Some, None, IsSome, refl, sym, ap, subst, ◌∙◌, if◌then◌else◌, arith}
 use Rattle.std.specs.Int.{w64, to_le_bytes}
 use Rattle.std.specs.Option.{IsSomeAnd}
 use Rattle.std.proofs.lemmas.Bool.{cases_lt, lt-ltb}
@@ -16,7 +16,7 @@ use Rattle.wal_page.proofs.LogWordLaws.{log_word-unowned}
 use Rattle.wal_page.proofs.OwnerLaws.{owner_at-none_before}
 use Rattle.lawful_image.specs.ImageWords.{HasPageAt, image_word, segment_word, zero_word}
 use Rattle.lawful_image.specs.Lawful.{IsLawful, IsLawfulWord, IsLawfulWrite, WritesLawful, log_word_bytes}
-use Rattle.flush_core.specs.Pages.{PutPages, made_upto}
+use Rattle.flush_core.specs.Pages.{PutPages}
 use Rattle.flush_core.specs.Left.{CallFits, DiskImageFits, IsKeptWord, IsMadeUpto, IsNowhere, IsWordOf, IsWordPut, KindFits, PutHistory, SegmentFits}
 use Rattle.flush_core.proofs.LeftPuts.{div_rises}
 use Rattle.serial_log.specs.OnDisk.{AreWordOrZero}
@@ -87,9 +87,9 @@ module _ (size sysid : ℕ) (valid : IsSegmentSize size) (es : List Entry) where
       let whole = segment_size_in_pages size valid in
       let product : segment * size ≡ segment * (8192 * pages_of size) = ap (λ (m : ℕ). segment * m) whole.0 in
       λ n low.
-          let at : (segment * pages_of size + page) * 8192 + 8 * n ≡ segment * size + page * 8192 + 8 * n = omega arith in
-          subst (λ (address : ℕ). IsLawfulWord size sysid es address (word_of bytes.bytes n)) at
-          (put_word n (log_word size sysid es ((segment * pages_of size + page) * 8192 + 8 * n)) (word_of bytes.bytes n) (puts (segment * pages_of size + page)) low (has (segment * pages_of size + page) n low) (fits.2 n low))
+      let at : (segment * pages_of size + page) * 8192 + 8 * n ≡ segment * size + page * 8192 + 8 * n = omega arith in
+      subst (λ (address : ℕ). IsLawfulWord size sysid es address (word_of bytes.bytes n)) at
+      (put_word n (log_word size sysid es ((segment * pages_of size + page) * 8192 + 8 * n)) (word_of bytes.bytes n) (puts (segment * pages_of size + page)) low (has (segment * pages_of size + page) n low) (fits.2 n low))
   write_lawful puts has geometry segment Sync fits = tt
 
   pub WritesLawful-fits : (puts : PutHistory) → HasWord puts → (calls : List Call) → All (CallFits size (IsWordPut puts)) calls → All (WritesLawful size sysid es) calls

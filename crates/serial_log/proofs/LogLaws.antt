@@ -1,5 +1,5 @@
 -- How a log stands behind a record that is put into it, and behind a flush.
-use Rattle.std.proofs.Common.{◌≡◌, ℕ, ◌+◌, ◌<◌, ◌≤◌, ◌⊎◌, inl, inr, false, List, [], ◌∷◌, ◌++◌, ◌%◌, length, IfSome, Option, Some, None, Result, refl, sym, ap, subst, ◌∙◌, arith}
+use Rattle.std.proofs.Common.{◌≡◌, ℕ, ◌+◌, ◌<◌, ◌≤◌, ◌⊎◌, inl, inr, false, List, [], ◌∷◌, ◌%◌, length, IfSome, Option, Some, None, Result, refl, sym, ap, subst, ◌∙◌, arith}
 use Rattle.std.proofs.lemmas.Bool.{cases_lt}
 use Rattle.std.proofs.lemmas.List.{append-nil}
 use Rattle.std.proofs.lemmas.List.Elements.{All-push}
@@ -12,7 +12,7 @@ use Rattle.wal_types.specs.declared.lsn.Lsn.{Lsn}
 use Rattle.record_spelling.specs.Spelling.{Assembled, assembled, assembled_room, IsWritable}
 use Rattle.segment_disk.specs.Cause.{Rose}
 use Rattle.segment_disk.specs.Tape.{Tape}
-use Rattle.wal_page.specs.Order.{Entry, IsChained, rooms_of, prev_of}
+use Rattle.wal_page.specs.Order.{Entry, rooms_of, prev_of}
 use Rattle.wal_page.specs.Log.{log_word}
 use Rattle.wal_page.specs.Placed.{PlacedState}
 use Rattle.wal_page.proofs.OrderLaws.{rooms_of_push, prev_of_push}

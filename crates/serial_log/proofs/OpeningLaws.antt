@@ -1,19 +1,18 @@
 -- A log that is opened: it has no words, and nothing is written.
-use Rattle.std.proofs.Common.{◌≡◌, ℕ, ◌+◌, ◌-◌, ◌*◌, ◌%◌, ◌^◌, ◌≤◌, false, [], take, drop, replicate, length, Option, Some, None, IfSome, refl, sym, ap, subst, ◌∙◌, ◌/◌, inl, inr, add-zero, arith}
+use Rattle.std.proofs.Common.{◌≡◌, ℕ, ◌+◌, ◌-◌, ◌*◌, ◌%◌, ◌^◌, ◌≤◌, false, [], length, Option, Some, None, IfSome, refl, sym, ap, subst, ◌∙◌, ◌/◌, inl, inr, add-zero, arith}
 use Rattle.std.specs.Int.{w64, to_le_bytes}
 use Rattle.std.proofs.lemmas.Bool.{cases_lt}
 use Rattle.std.proofs.lemmas.List.Elements.{All-nil}
 use Rattle.byte_position.specs.Geometry.{IsSegmentSize, pages_of}
 use Rattle.byte_position.specs.Position.{end_address_of, first_position}
 use Rattle.byte_position.proofs.SegmentSizes.{segment_size_in_pages}
-use Rattle.segment_disk.specs.Tape.{Segment, Tape, state_now}
+use Rattle.segment_disk.specs.Tape.{Tape}
 use Rattle.wal_page.specs.Log.{log_word}
 use Rattle.wal_page.proofs.WordPositions.{end_address_of-first_position}
 use Rattle.wal_page.proofs.LogWordLaws.{log_word-unowned}
 use Rattle.flush_core.specs.declared.writer.Writer.{Writer}
 use Rattle.flush_core.specs.Pages.{HoldsNothing, made_upto, no_pages}
-use Rattle.flush_core.specs.Left.{IsKeptWord, IsMadeUpto, IsNowhere, IsWordPut, SegmentAssures, SegmentFits, TapeAssures, no_puts}
-use Rattle.segment_disk.specs.DiskImage.{ImageSegment}
+use Rattle.flush_core.specs.Left.{IsKeptWord, IsMadeUpto, IsNowhere, IsWordPut, TapeAssures, no_puts}
 use Rattle.std.proofs.Math.Nat.{div-eq_of_lt}
 use Rattle.std.proofs.lemmas.Option.{IfSome_then}
 use Rattle.serial_log.specs.OnDisk.{LeavesOnly, moments_of}

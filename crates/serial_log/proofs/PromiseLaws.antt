@@ -1,7 +1,7 @@
 -- How promises are given, and kept from call to call.
-use Rattle.std.proofs.Common.{◌≡◌, ℕ, zero, suc, ◌+◌, ◌%◌, ◌<◌, ◌≤◌, All, List, [], ◌∷◌, ◌++◌, length, take, drop, Option, Some, None, IfSome, refl, sym, ap, subst, ◌∙◌, arith}
+use Rattle.std.proofs.Common.{◌≡◌, ℕ, zero, suc, ◌%◌, ◌≤◌, All, List, [], ◌∷◌, ◌++◌, length, take, drop, Option, Some, None, IfSome, refl, sym, ap, subst, ◌∙◌, arith}
 use Rattle.std.proofs.lemmas.List.{length-append}
-use Rattle.std.proofs.lemmas.List.Elements.{All-nil, All-push, All-same, All-take}
+use Rattle.std.proofs.lemmas.List.Elements.{All-nil, All-push, All-take}
 use Rattle.byte_position.specs.Geometry.{IsSegmentSize}
 use Rattle.segment_disk.specs.declared.disk.Call.{Call}
 use Rattle.segment_disk.specs.Tape.{Tape}
@@ -13,9 +13,9 @@ use Rattle.flush_core.specs.Left.{IsKeptWord, IsMadeUpto, IsNowhere, IsWordPut, 
 use Rattle.flush_core.specs.Writer.{writer_segment_size}
 use Rattle.flush_core.proofs.GrowingTapes.{GoesOn, LeftAt-before, take-before, with_calls-none, with_calls-some}
 use Rattle.serial_log.specs.History.{Promise, end_of}
-use Rattle.serial_log.specs.Promises.{IsKeptPromise, LeavesLog, entries_at}
-use Rattle.serial_log.specs.OnDisk.{KeepsBelow, LeavesOnly, moments_of}
-use Rattle.serial_log.specs.LogState.{AssuresLog, IsAssured, LogState, log_disk}
+use Rattle.serial_log.specs.Promises.{IsKeptPromise, LeavesLog}
+use Rattle.serial_log.specs.OnDisk.{KeepsBelow, LeavesOnly}
+use Rattle.serial_log.specs.LogState.{IsAssured, LogState, log_disk}
 use Rattle.serial_log.proofs.LawfulLaws.{IsLawful-kept, IsLawful-only, WritesLawful-fits}
 
 -- ---- lists
@@ -66,7 +66,7 @@ module _ (size sysid opening : ℕ) where
   -- one that was kept is kept of a longer log on a disk that made more calls, where every crash still leaves it
   IsKeptPromise-carried : (before : Tape) (more : List Call) (es others : List Entry) (promise : Promise) → IsKeptPromise size sysid opening es before promise
       → (let t : Tape = record before { calls = before.calls ++ more } in
-        ((moment : ℕ) (image : DiskImage) → promise.moment ≤ moment → LeftAt t moment image → IsLawful size sysid image (es ++ others) promise.upto) → IsKeptPromise size sysid opening (es ++ others) t promise)
+      ((moment : ℕ) (image : DiskImage) → promise.moment ≤ moment → LeftAt t moment image → IsLawful size sysid image (es ++ others) promise.upto) → IsKeptPromise size sysid opening (es ++ others) t promise)
   IsKeptPromise-carried before more es others promise was kept =
       let same : take promise.count es ≡ take promise.count (es ++ others) = sym (take-before es others promise.count was.counted) in
       let calls : take promise.moment before.calls ≡ take promise.moment (before.calls ++ more) = sym (take-before before.calls more promise.moment was.passed) in

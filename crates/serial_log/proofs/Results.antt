@@ -3,10 +3,10 @@ use Rattle.std.proofs.Common.{Result, Ok, Err}
 use Rattle.std.specs.Result.{IfErr, IfOk, MatchResult, OnOk}
 
 -- what an answer says in either case
-pub match_of : {T E P Q S V W : Type 0} {F : E → Type 0} (Q_else S_else : Type 0) (r : Result T E) → (P → Q → S → V) → ((e : E) → F e → W)
-    → OnOk r P → MatchResult r (λ _. Q) (λ _. Q_else) → MatchResult r (λ _. S) (λ _. S_else) → IfErr r F → MatchResult r (λ _. V) (λ _. W)
-match_of Q_else S_else (Ok x) f g p q s e = f p q s
-match_of Q_else S_else (Err x) f g p q s e = g x e
+pub match_of : {T E P R Q S V W : Type 0} {F : E → Type 0} (Q_else S_else : Type 0) (r : Result T E) → (P → R → Q → S → V) → ((e : E) → F e → W)
+    → OnOk r P → OnOk r R → MatchResult r (λ _. Q) (λ _. Q_else) → MatchResult r (λ _. S) (λ _. S_else) → IfErr r F → MatchResult r (λ _. V) (λ _. W)
+match_of Q_else S_else (Ok x) f g p o q s e = f p o q s
+match_of Q_else S_else (Err x) f g p o q s e = g x e
 
 pub match_then : {T E P Q V W : Type 0} (r : Result T E) → (P → V) → (Q → W) → MatchResult r (λ _. P) (λ _. Q) → MatchResult r (λ _. V) (λ _. W)
 match_then (Ok x) f g p = f p

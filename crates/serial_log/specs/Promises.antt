@@ -1,5 +1,5 @@
--- What every crash leaves of a log, on a disk that held nothing when the log was opened: nothing but
--- its words, and all that its flushes promised. `opening` is the disk's moment at the opening.
+-- What every crash leaves of a log, on a disk that held nothing when the log was opened: nothing
+-- but its words, and all that its flushes promised. `opening` is the disk's moment at the opening.
 use Rattle.std.specs.Prelude.{ℕ, ◌<◌, ◌≤◌, All, List, drop, length, take}
 use Rattle.segment_disk.specs.Tape.{Tape}
 use Rattle.segment_disk.specs.DiskImage.{DiskImage, LeftAt}

@@ -72,7 +72,8 @@ abbrev pub Inserts : ℕ → ℕ → ℕ → LogHistory → ℕ → Record → R
 Inserts size capacity faults_at_open before pass value (Ok receipt) after =
     HasInserted size capacity before pass value receipt.start.0 receipt.end.0 after
 Inserts size capacity faults_at_open before pass value (Err refused) after =
-    RefusesRecord size capacity faults_at_open before pass value refused.cause refused.reserved after
+    RefusesRecord size capacity faults_at_open before pass value refused.cause refused.reserved
+    after
 
 -- ---- the log is flushed
 

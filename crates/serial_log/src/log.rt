@@ -3,6 +3,7 @@ ghost use Rattle.segment_disk.specs.Tape.{Tape, page_of_segment, state_now};
 ghost use Rattle.record_spelling.specs.Spelling.{RecordOf, assembled_room};
 ghost use Rattle.flush_core.specs.Pages.{HoldsNothing};
 ghost use Rattle.flush_core.specs.Writer.{writer_fault};
+ghost use Rattle.serial_log.specs.DeviceCalls.{MakesFlush};
 ghost use Rattle.serial_log.specs.LogImage.{HoldsLog};
 ghost use Rattle.serial_log.specs.OnDisk.{moments_of};
 ghost use Rattle.serial_log.specs.Promises.{LeavesLog};
@@ -194,7 +195,7 @@ impl<D: Disk> Log<D> {
     /// Makes all records durable, where the log is not flushed as far as the position asked for,
     /// and answers how far it is. A position above the log's end is never reached: then the log is
     /// flushed to its end, and the answer's position tells so.
-    #[tactic(auto, using(crate::proofs::CallLaws::makes_no_flush))]
+    #[tactic(auto, using(crate::proofs::CallLaws::makes_no_writes))]
     pub fn flush(&mut self, upto: Lsn) -> Result<Hard, Refused>
         ensures flushes { StepsLog D.tape D.faults self.old self.new (λ faults_at_open before after.
             Flushes self.old.size faults_at_open before upto.0 result after) }
@@ -205,6 +206,8 @@ impl<D: Disk> Log<D> {
         ensures flushed { OnOk result (log_end self.old ≤ upto.0
             → self.new.flushed ≡ log_end self.new) }
         ensures tells_moment { IfOk result (λ hard. hard.moment ≡ self.new.moment) }
+        ensures makes { OnOk result (self.old.flushed < upto.0 → self.old.flushed < log_end self.old
+            → MakesFlush D.tape D.moment self.old.writer self.new.writer) }
         ensures reached { (upto.0 ≤ self.old.flushed) ⊎ (self.old.flushed ≡ log_end self.old)
             → self.new ≡ self.old }
         ensures tells_disk_moment { OnOk result (self.old.flushed < upto.0
@@ -234,6 +237,8 @@ impl<D: Disk> Log<D> {
         ensures down_again { IfSome (writer_fault self.old.writer) (λ faults.
             (result ≡ Err (down_again faults)) × (self.new ≡ self.old)) }
         ensures leaves { FlushLeaves D.tape D.moment D.faults self.old self.new result }
+        ensures makes { OnOk result
+            (MakesFlush D.tape D.moment self.old.writer self.new.writer) }
         ensures left_by_refusal { IfErr result (λ refused.
             IsLeftBy refused.cause self.old self.new) }
         ensures flushed { OnOk result (self.new.flushed ≡ log_end self.new) }
@@ -304,6 +309,8 @@ impl<D: Disk> Log<D> {
         ensures flushes { StepsLog D.tape D.faults self.old self.new (λ faults_at_open before after.
             Flushes self.old.size faults_at_open before asked.0 result after) }
         ensures leaves { FlushLeaves D.tape D.moment D.faults self.old self.new result }
+        ensures makes { OnOk result
+            (MakesFlush D.tape D.moment self.old.writer self.new.writer) }
         ensures has_failed { IfErr result (λ refused. HasFailed refused.cause self.new) }
         ensures flushed { OnOk result (self.new.flushed ≡ log_end self.new) }
         ensures tells_moment { IfOk result (λ hard. hard.moment ≡ self.new.moment) }

@@ -40,7 +40,7 @@ returns-clause-leaves g c =
           put.put put.as_written put.written put.done put.moment_rises;
       fails = if_err_then c.put_page.result (λ e tells. GoesDown-told D tape old new moment faults _ put.size (RingHas ring c.args.upto.0) e.faults c.requires.up put.moment_never_falls preserves tells) put.failed;
       calls = match_of _ _ c.put_page.result
-          (λ done written_is last. MakesWrites-page D tape moment old new page end bytes at rises within put.size written_is last done.made)
+          (λ done waits written_is last. MakesWrites-page D tape moment old new page end bytes at rises within put.size written_is last waits done.made)
           (λ e tells. BreaksWrites-page D tape moment old new page end bytes at rises within (breaks-told D tape old new moment faults _ put.size e.faults c.requires.up tells))
-          put.done put.written put.made put.failed;
+          put.done put.synced put.written put.made put.failed;
     }

@@ -49,6 +49,12 @@ returns-in_err-start-clause-leaves g c =
       moment_never_falls = refused.moment_never_falls;
     })
 
+-- its record is not flushed before, so the flush writes, and syncs
+pub returns-in-Ok-clause-makes : goal.returns-in-Ok-clause-makes
+returns-in-Ok-clause-makes g c =
+    let first = c.in_ok-start.ensures.leaves in
+    MakesFlush-then g.row.D.Denot g.D.Disk.tape g.D.Disk.moment c.args.self.now.writer c.insert.new.self.writer c.flush.new.self.writer first.calls (c.in-Ok.ensures.makes (omega (arith, first.unflushed.flushed, first.end)) first.unflushed.flushed)
+
 pub returns-in-Ok-clause-leaves : goal.returns-in-Ok-clause-leaves
 returns-in-Ok-clause-leaves g c =
     let D = g.row.D.Denot in
@@ -65,7 +71,7 @@ returns-in-Ok-clause-leaves g c =
           let behind = first.keeps tape_at_open faults_at_open s moment position is within kept in
           keeps_committed D tape faults tape_at_open faults_at_open log c.insert.new.self c.flush.new.self.writer s between.0 0 known.value is between.2 first.same_log known.writable (ap (λ (h : LogHistory). h.entries) between.1.after_is) (ap (λ (h : LogHistory). h.flushed) between.1.after_is) between.1.reserved.up moment position within behind
           (second.keeps tape_at_open faults_at_open between.0 moment position between.2);
-      calls = MakesFlush-then D tape g.D.Disk.moment log.writer c.insert.new.self.writer c.flush.new.self.writer first.calls second.calls;
+      calls = inl (MakesFlush-then D tape g.D.Disk.moment log.writer c.insert.new.self.writer c.flush.new.self.writer first.calls (c.in-Ok.ensures.makes (omega (arith, first.unflushed.flushed, first.end)) first.unflushed.flushed));
       same_log = IsSameLog-trans log c.insert.new.self c.flush.new.self first.same_log second.same_log;
       told_moment_same = tt;
       moment_never_falls = omega (arith, first.moment_never_falls, second.moment_never_falls);

@@ -1,5 +1,5 @@
 -- The position asked for is flushed already, or all of the log is.
-use Rattle.std.proofs.Common.{rules, ◌≡◌, ◌≤◌, ◌⊎◌, None, inl, inr, refl, ap, sym, subst, ◌∙◌}
+use Rattle.std.proofs.Common.{rules, ◌≡◌, ◌≤◌, ◌⊎◌, None, inl, inr, refl, ap, sym, ◌∙◌}
 use Rattle.flush_core.specs.Writer.{writer_fault}
 use Rattle.serial_log.specs.LogState.{LogState, end_behind, log_end}
 use Rattle.serial_log.proofs.LogLaws.{flushed_already}

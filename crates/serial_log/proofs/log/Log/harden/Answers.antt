@@ -1,5 +1,5 @@
 -- All is written and synced, or the disk fails.
-use Rattle.std.proofs.Common.{◌≡◌, ◌<◌, ℕ, None, IfSome, length, inr, refl, sym, ap, subst, ◌∙◌}
+use Rattle.std.proofs.Common.{◌≡◌, ◌<◌, ℕ, None, IfSome, length, inl, inr, refl, sym, ap, subst, ◌∙◌}
 use Rattle.flush_core.specs.Writer.{disk_of, writer_fault}
 use Rattle.serial_log.specs.Ring.{RingState}
 use Rattle.serial_log.specs.LogState.{LogState, IsLog, log_end}
@@ -52,7 +52,7 @@ returns-in-Ok-clause-leaves g c =
     rw (← c.self.view_is) (record {
       keeps = λ tape_at_open faults_at_open s moment position is within kept.
           keeps_flushed D g.D.Disk.tape g.D.Disk.moment g.D.Disk.faults tape_at_open faults_at_open log up s is c.args.asked.0 c.flush.new.self.writer c.args.end.0 end done.writes.preserves moment position within kept;
-      calls = done.calls;
+      calls = inl done.calls;
       same_log = record { size = refl; capacity = refl; sysid = refl };
       told_moment_same = tt;
       moment_never_falls = done.writes.moment_never_falls;
@@ -74,3 +74,6 @@ returns-in-Err-clause-leaves g c =
       told_moment_same = refl;
       moment_never_falls = done.fails.moment_never_falls;
     })
+
+pub returns-in-Ok-clause-makes : goal.returns-in-Ok-clause-makes
+returns-in-Ok-clause-makes g c = rw (← c.self.view_is) c.in-Ok.ensures.calls
