@@ -59,6 +59,17 @@ fn listed_words_are_left(rt: HostRuntime) -> Result<(), Fail> {
     Ok(())
 }
 
+/// Numbers up to the later of two places: 1 at both, 0 elsewhere.
+fn ones_at(alloc: Global, first: u32, last: u32) -> Result<Vec<u32>, Fail>
+    requires { last < 2048 }
+{
+    let mut numbers = Vec::new(alloc);
+    for place in 0..last + 1 {
+        numbers.push(u32::from(place == first || place == last))?;
+    }
+    Ok(numbers)
+}
+
 #[test]
 fn listed_words_go_on_in_the_next_page(rt: HostRuntime) -> Result<(), Fail> {
     let alloc = rt.alloc();
@@ -67,14 +78,7 @@ fn listed_words_go_on_in_the_next_page(rt: HostRuntime) -> Result<(), Fail> {
     assert_eq!(rt; create(&mut disk, 1), Ok(()));
     assert_eq!(rt; write_page(&mut disk, 2, 0, 6), Ok(()));
     assert_eq!(rt; write_page(&mut disk, 1, 5, 5), Ok(()));
-    let mut numbers = vec![in alloc; 0; 1026]?;
-    if let Some(last) = numbers.get_mut(1023) {
-        *last = 1;
-    }
-    if let Some(next) = numbers.get_mut(1025) {
-        *next = 1;
-    }
-    let mut left = disk.crash(alloc, 4, Pick::List(numbers))?;
+    let mut left = disk.crash(alloc, 4, Pick::List(ones_at(alloc, 1023, 1025)?))?;
     assert_eq!(rt; words(&mut left, 1, 5), Ok(Some([0, 0, 0, 5])));
     assert_eq!(rt; words(&mut left, 2, 0), Ok(Some([0, 6, 0, 0])));
     Ok(())
