@@ -19,7 +19,7 @@ use Rattle.wal_script.specs.Bodies.{IsActionOf}
 module _ (size capacity faults_at_open : ℕ) (s : LogHistory) (IsAfter : LogHistory → Type 0) (told : Told) where
   -- whatever the line asks for whose action is an insert, a commit, a flush
   pub insert_steps : (asked : Asked) (action : Action) (body : Assembled) (answer : Result Receipt Refused) → action ≡ actions.Insert body → told ≡ told_of_insert answer → IsActionOf asked action
-      → ((value : Record) → body ≡ assembled value → IsWritable value → (after : LogHistory) × Inserts size capacity faults_at_open s value answer after × IsAfter after) → (after : LogHistory) × Steps size capacity faults_at_open s asked told after × IsAfter after
+      → ((value : Record) → body ≡ assembled value → IsWritable value → (after : LogHistory) × Inserts size capacity faults_at_open s 0 value answer after × IsAfter after) → (after : LogHistory) × Steps size capacity faults_at_open s asked told after × IsAfter after
   insert_steps (asking.Insert value) action body answer is tells does inserts =
       let does_it : IsActionOf (asking.Insert value) (actions.Insert body) = subst (IsActionOf (asking.Insert value)) is does in
       let step = inserts value does_it.0 does_it.1 in
@@ -28,7 +28,7 @@ module _ (size capacity faults_at_open : ℕ) (s : LogHistory) (IsAfter : LogHis
   insert_steps asking.Flush action body answer is tells does inserts = absurd (let no : IsActionOf asking.Flush (actions.Insert body) = subst (IsActionOf asking.Flush) is does in no)
 
   pub commit_steps : (asked : Asked) (action : Action) (body : Assembled) (answer : Result Sealed Refused) → action ≡ actions.Commit body → told ≡ told_of_commit answer → IsActionOf asked action
-      → ((value : Record) → body ≡ assembled value → IsWritable value → (after : LogHistory) × Commits size capacity faults_at_open s value answer after × IsAfter after) → (after : LogHistory) × Steps size capacity faults_at_open s asked told after × IsAfter after
+      → ((value : Record) → body ≡ assembled value → IsWritable value → (after : LogHistory) × Commits size capacity faults_at_open s 0 value answer after × IsAfter after) → (after : LogHistory) × Steps size capacity faults_at_open s asked told after × IsAfter after
   commit_steps (asking.Insert value) action body answer is tells does commits = absurd (let no : IsActionOf (asking.Insert value) (actions.Commit body) = subst (IsActionOf (asking.Insert value)) is does in no)
   commit_steps (asking.Commit value) action body answer is tells does commits =
       let does_it : IsActionOf (asking.Commit value) (actions.Commit body) = subst (IsActionOf (asking.Commit value)) is does in

@@ -44,7 +44,7 @@ module _ (size faults_at_open : ℕ) (before : LogHistory) (asked : ℕ) (all : 
     same = refl;
     down = λ faults some. some;
     up = λ none. none;
-    flushed = λ none. to_end size before done.upto.0 after (subst (λ (n : ℕ). HasFlushed size before n done.upto.0 after) all flushes);
+    flushed = λ none. to_end size before done.upto.0 done.moment after (subst (λ (n : ℕ). HasFlushed size before n done.upto.0 done.moment after) all flushes);
   })
   behind_flush (Err refusal) after flushes = behind_refused refusal.cause refusal.reserved after flushes
 

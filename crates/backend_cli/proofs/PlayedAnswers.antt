@@ -66,8 +66,8 @@ record AsksFor (size capacity : ℕ) (before : LogHistory) (action : Asked) (tol
 abbrev TakesRoom : ℕ → ℕ → StepFact
 TakesRoom size capacity before action told after = AsksFor size capacity before action told after
 
-next_rooms : (size : ℕ) (s : LogHistory) (value : Record) → rooms_of size (with_entry size s.entries value) ≤ rooms_of size s.entries + room_behind size s.entries value
-next_rooms size s value = omega (arith, rooms_of_push size s.entries (next_entry size s.entries value))
+next_rooms : (size : ℕ) (s : LogHistory) (value : Record) → rooms_of size (with_entry size s.entries 0 value) ≤ rooms_of size s.entries + room_behind size s.entries value
+next_rooms size s value = omega (arith, rooms_of_push size s.entries (next_entry size s.entries 0 value))
 
 steps_room : (size capacity faults_at_open : ℕ) → HoldsOfSteps size capacity faults_at_open (TakesRoom size capacity)
 steps_room size capacity faults_at_open = record {

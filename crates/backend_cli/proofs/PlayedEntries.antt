@@ -23,7 +23,7 @@ AddsEntry size before action told after = after.entries ≡ before.entries ++ op
 
 -- the entry of a record that starts where the others end
 entry_at_end : (size : ℕ) → IsSegmentSize size → (es : List Entry) (value : Record) (start : Lsn) → start.0 ≡ address_of size (first_position size + rooms_of size es)
-    → es ++ next_entry size es value ∷ [] ≡ es ++ (record { pass = Some 0; value = value; start = position_of size start.0 }) ∷ []
+    → es ++ next_entry size es 0 value ∷ [] ≡ es ++ (record { pass = Some 0; value = value; start = position_of size start.0 }) ∷ []
 entry_at_end size valid es value start at =
     let position : position_of size start.0 ≡ first_position size + rooms_of size es = ap (position_of size) at ∙ position_of-address_of size valid (first_position size + rooms_of size es) in
     ap (λ (n : ℕ). es ++ (record { pass = Some 0; value = value; start = n }) ∷ []) (sym position)
@@ -62,8 +62,8 @@ played_entries size capacity faults_at_open lines told after valid plays = sym (
 abbrev KeepsChain : ℕ → StepFact
 KeepsChain size before action told after = IsChained size before.entries → IsChained size after.entries
 
-next_chained : (size capacity : ℕ) (s : LogHistory) (value : Record) (start : ℕ) → Reserves size capacity s value start → IsChained size s.entries → IsChained size (with_entry size s.entries value)
-next_chained size capacity s value start reserves chained = IsChained_push size s.entries (next_entry size s.entries value) chained refl reserves.writable
+next_chained : (size capacity : ℕ) (s : LogHistory) (value : Record) (start : ℕ) → Reserves size capacity s value start → IsChained size s.entries → IsChained size (with_entry size s.entries 0 value)
+next_chained size capacity s value start reserves chained = IsChained_push size s.entries (next_entry size s.entries 0 value) chained refl reserves.writable
 
 steps_chained : (size capacity faults_at_open : ℕ) → HoldsOfSteps size capacity faults_at_open (KeepsChain size)
 steps_chained size capacity faults_at_open = record {
@@ -107,13 +107,13 @@ CountsEntry before action told after = length after.entries ≡ length before.en
 
 steps_counted : (size capacity faults_at_open : ℕ) → HoldsOfSteps size capacity faults_at_open CountsEntry
 steps_counted size capacity faults_at_open = record {
-  wrote = λ s value start end reserves ends. length_push s.entries (next_entry size s.entries value);
+  wrote = λ s value start end reserves ends. length_push s.entries (next_entry size s.entries 0 value);
   insert_full = λ s value free up left short. omega arith;
-  insert_failed = λ s value start faults reserves rose. length_push s.entries (next_entry size s.entries value);
+  insert_failed = λ s value start faults reserves rose. length_push s.entries (next_entry size s.entries 0 value);
   insert_down = λ s value faults down. omega arith;
-  hard = λ s value start end moment reserves ends. length_push s.entries (next_entry size s.entries value);
+  hard = λ s value start end moment reserves ends. length_push s.entries (next_entry size s.entries 0 value);
   commit_full = λ s value free up left short. omega arith;
-  commit_failed = λ s value start faults reserves rose. length_push s.entries (next_entry size s.entries value);
+  commit_failed = λ s value start faults reserves rose. length_push s.entries (next_entry size s.entries 0 value);
   commit_down = λ s value faults down. omega arith;
   flushed = λ s upto moment up at. omega arith;
   flush_failed = λ s faults up rose. omega arith;

@@ -79,8 +79,8 @@ start_at_end size valid es start at = at ∙ ap (address_of size) (sym (position
 
 -- the new entry ends where the entries with it do
 behind_at_end : (size : ℕ) → IsSegmentSize size → (es : List Entry) (value : Record) (start : Lsn) → start.0 ≡ address_of size (first_position size + rooms_of size es)
-    → position_of size start.0 + room_at size (position_of size start.0) value ≡ first_position size + rooms_of size (es ++ next_entry size es value ∷ [])
-behind_at_end size valid es value start at = omega (arith, position_at_end size valid es start at, rooms_of_push size es (next_entry size es value))
+    → position_of size start.0 + room_at size (position_of size start.0) value ≡ first_position size + rooms_of size (es ++ next_entry size es 0 value ∷ [])
+behind_at_end size valid es value start at = omega (arith, position_at_end size valid es start at, rooms_of_push size es (next_entry size es 0 value))
 
 full_line : (size capacity faults_at_open last : ℕ) (order es more : List Entry) (value : Record) (free : ℕ) → order ≡ es ++ more → free + rooms_of size es ≡ capacity → free < room_behind size es value
     → MayBeFull (logged_of size capacity order faults_at_open last) (first_position size + rooms_of size es) value free
@@ -103,7 +103,7 @@ flushed_line size capacity faults_at_open last valid order es more upto parts at
     (omega (arith, at), omega (arith, at, rises))
 
 -- a record that was reserved stands at its place
-placed_line : (size capacity : ℕ) → IsSegmentSize size → (s : LogHistory) (value : Record) (start end : Lsn) → Reserves size capacity s value start.0 → end.0 ≡ finish_of size (next_entry size s.entries value) → IsPlaced size value start.0 end.0
+placed_line : (size capacity : ℕ) → IsSegmentSize size → (s : LogHistory) (value : Record) (start end : Lsn) → Reserves size capacity s value start.0 → end.0 ≡ finish_of size (next_entry size s.entries 0 value) → IsPlaced size value start.0 end.0
 placed_line size capacity valid s value start end reserves ends =
     let position = position_at_end size valid s.entries start reserves.reserved.start_is in
     record {

@@ -11,7 +11,7 @@ use Rattle.log_answers.specs.declared.Sealed.{Sealed}
 use Rattle.log_answers.specs.declared.Refused as refused
 use Rattle.log_answers.specs.declared.Cause.{Cause}
 use Rattle.log_answers.specs.declared.Cause.TheVariants.{Full, Disk, Down}
-use Rattle.serial_log.specs.History.{LogHistory, end_of, next_entry, with_entry}
+use Rattle.serial_log.specs.History.{LogHistory, end_of, next_entry, with_entry, with_promise}
 use Rattle.serial_log.specs.Steps.{Inserts, Commits, Flushes, HasFlushed, IsReserved, RefusesRecord, RefusesFlush}
 use Rattle.serial_log.proofs.StepLaws.{HasCommitted-of, RefusesRecord-of}
 use Rattle.wal_script.specs.Asked.{Asked}
@@ -27,32 +27,32 @@ StepFact = LogHistory → Asked → Told → LogHistory → Type 0
 -- what is known of a record that was reserved: it can be written, it fits, and it starts where the others end
 pub record Reserves (size capacity : ℕ) (before : LogHistory) (value : Record) (start : ℕ) : Type 0 where
   pub writable : IsWritable value
-  pub reserved : IsReserved size capacity before value start
+  pub reserved : IsReserved size capacity before 0 value start
 
 -- the fact holds of each kind of step
 pub record HoldsOfSteps (size capacity faults_at_open : ℕ) (P : StepFact) : Type 0 where
-  pub wrote : (s : LogHistory) (value : Record) (start end : Lsn) → Reserves size capacity s value start.0 → end.0 ≡ finish_of size (next_entry size s.entries value)
-      → P s (Insert value) (Wrote start end) (record s { entries = with_entry size s.entries value })
+  pub wrote : (s : LogHistory) (value : Record) (start end : Lsn) → Reserves size capacity s value start.0 → end.0 ≡ finish_of size (next_entry size s.entries 0 value)
+      → P s (Insert value) (Wrote start end) (record s { entries = with_entry size s.entries 0 value })
   pub insert_full : (s : LogHistory) (value : Record) (free : ℕ) → s.down ≡ None → free + rooms_of size s.entries ≡ capacity → free < room_behind size s.entries value → P s (Insert value) (Refused (Full free) None) s
   pub insert_failed : (s : LogHistory) (value : Record) (start : Lsn) (faults : ℕ) → Reserves size capacity s value start.0 → Rose faults_at_open faults
-      → P s (Insert value) (Refused (Disk faults) (Some start)) (record s { entries = with_entry size s.entries value; down = Some faults })
+      → P s (Insert value) (Refused (Disk faults) (Some start)) (record s { entries = with_entry size s.entries 0 value; down = Some faults })
   pub insert_down : (s : LogHistory) (value : Record) (faults : ℕ) → s.down ≡ Some faults → P s (Insert value) (Refused (Down faults) None) s
-  pub hard : (s : LogHistory) (value : Record) (start end : Lsn) (moment : ℕ) → Reserves size capacity s value start.0 → end.0 ≡ finish_of size (next_entry size s.entries value)
-      → P s (Commit value) (Hard start end moment) (record s { entries = with_entry size s.entries value; flushed = end.0 })
+  pub hard : (s : LogHistory) (value : Record) (start end : Lsn) (moment : ℕ) → Reserves size capacity s value start.0 → end.0 ≡ finish_of size (next_entry size s.entries 0 value)
+      → P s (Commit value) (Hard start end moment) (with_promise (record s { entries = with_entry size s.entries 0 value }) end.0 moment)
   pub commit_full : (s : LogHistory) (value : Record) (free : ℕ) → s.down ≡ None → free + rooms_of size s.entries ≡ capacity → free < room_behind size s.entries value → P s (Commit value) (Refused (Full free) None) s
   pub commit_failed : (s : LogHistory) (value : Record) (start : Lsn) (faults : ℕ) → Reserves size capacity s value start.0 → Rose faults_at_open faults
-      → P s (Commit value) (Refused (Disk faults) (Some start)) (record s { entries = with_entry size s.entries value; down = Some faults })
+      → P s (Commit value) (Refused (Disk faults) (Some start)) (record s { entries = with_entry size s.entries 0 value; down = Some faults })
   pub commit_down : (s : LogHistory) (value : Record) (faults : ℕ) → s.down ≡ Some faults → P s (Commit value) (Refused (Down faults) None) s
-  pub flushed : (s : LogHistory) (upto : Lsn) (moment : ℕ) → s.down ≡ None → upto.0 ≡ end_of size s.entries → P s Flush (Flushed upto moment) (record s { flushed = upto.0 })
+  pub flushed : (s : LogHistory) (upto : Lsn) (moment : ℕ) → s.down ≡ None → upto.0 ≡ end_of size s.entries → P s Flush (Flushed upto moment) (with_promise s upto.0 moment)
   pub flush_failed : (s : LogHistory) (faults : ℕ) → s.down ≡ None → Rose faults_at_open faults → P s Flush (Refused (Disk faults) None) (record s { down = Some faults })
   pub flush_down : (s : LogHistory) (faults : ℕ) → s.down ≡ Some faults → P s Flush (Refused (Down faults) None) s
 
 -- a flush that asks for the log's end reaches it
-pub to_end : (size : ℕ) (s : LogHistory) (upto : ℕ) (after : LogHistory) → HasFlushed size s (end_of size s.entries) upto after → upto ≡ end_of size s.entries
-to_end size s upto after flushed = elim flushed.upto_is [ inl reached ↦ omega (arith, flushed.within, reached.0, reached.1) | inr all ↦ all.1 ]
+pub to_end : (size : ℕ) (s : LogHistory) (upto moment : ℕ) (after : LogHistory) → HasFlushed size s (end_of size s.entries) upto moment after → upto ≡ end_of size s.entries
+to_end size s upto moment after flushed = elim flushed.upto_is [ inl reached ↦ omega (arith, flushed.within, reached.0, reached.1) | inr all ↦ all.1 ]
 
 module _ (size capacity faults_at_open : ℕ) (P : StepFact) (holds : HoldsOfSteps size capacity faults_at_open P) where
-  insert_refused : (s : LogHistory) (value : Record) (cause : Cause) (reserved : Option Lsn) (after : LogHistory) → IsWritable value → RefusesRecord size capacity faults_at_open s value cause reserved after → P s (Insert value) (Refused cause reserved) after
+  insert_refused : (s : LogHistory) (value : Record) (cause : Cause) (reserved : Option Lsn) (after : LogHistory) → IsWritable value → RefusesRecord size capacity faults_at_open s 0 value cause reserved after → P s (Insert value) (Refused cause reserved) after
   insert_refused s value (Full free) None after writable step = subst (P s (Insert value) (Refused (Full free) None)) (sym step.same) (holds.insert_full s value free step.up step.left step.small)
   insert_refused s value (Full free) (Some start) after writable step = absurd step
   insert_refused s value (Disk faults) None after writable step = absurd step
@@ -61,12 +61,12 @@ module _ (size capacity faults_at_open : ℕ) (P : StepFact) (holds : HoldsOfSte
   insert_refused s value (Down faults) None after writable step = subst (P s (Insert value) (Refused (Down faults) None)) (sym step.same) (holds.insert_down s value faults step.down)
   insert_refused s value (Down faults) (Some start) after writable step = absurd step
 
-  inserts : (s : LogHistory) (value : Record) (answer : Result Receipt refused.Refused) (after : LogHistory) → IsWritable value → Inserts size capacity faults_at_open s value answer after → P s (Insert value) (told_of_insert answer) after
+  inserts : (s : LogHistory) (value : Record) (answer : Result Receipt refused.Refused) (after : LogHistory) → IsWritable value → Inserts size capacity faults_at_open s 0 value answer after → P s (Insert value) (told_of_insert answer) after
   inserts s value (Ok receipt) after writable step =
       subst (P s (Insert value) (Wrote receipt.start receipt.end)) (sym step.after_is) (holds.wrote s value receipt.start receipt.end (record { writable = writable; reserved = step.reserved }) step.end_is)
   inserts s value (Err refusal) after writable step = insert_refused s value refusal.cause refusal.reserved after writable step
 
-  commit_refused : (s : LogHistory) (value : Record) (cause : Cause) (reserved : Option Lsn) (after : LogHistory) → IsWritable value → RefusesRecord size capacity faults_at_open s value cause reserved after → P s (Commit value) (Refused cause reserved) after
+  commit_refused : (s : LogHistory) (value : Record) (cause : Cause) (reserved : Option Lsn) (after : LogHistory) → IsWritable value → RefusesRecord size capacity faults_at_open s 0 value cause reserved after → P s (Commit value) (Refused cause reserved) after
   commit_refused s value (Full free) None after writable step = subst (P s (Commit value) (Refused (Full free) None)) (sym step.same) (holds.commit_full s value free step.up step.left step.small)
   commit_refused s value (Full free) (Some start) after writable step = absurd step
   commit_refused s value (Disk faults) None after writable step = absurd step
@@ -75,11 +75,11 @@ module _ (size capacity faults_at_open : ℕ) (P : StepFact) (holds : HoldsOfSte
   commit_refused s value (Down faults) None after writable step = subst (P s (Commit value) (Refused (Down faults) None)) (sym step.same) (holds.commit_down s value faults step.down)
   commit_refused s value (Down faults) (Some start) after writable step = absurd step
 
-  commits : (s : LogHistory) (value : Record) (answer : Result Sealed refused.Refused) (after : LogHistory) → IsWritable value → Commits size capacity faults_at_open s value answer after → P s (Commit value) (told_of_commit answer) after
+  commits : (s : LogHistory) (value : Record) (answer : Result Sealed refused.Refused) (after : LogHistory) → IsWritable value → Commits size capacity faults_at_open s 0 value answer after → P s (Commit value) (told_of_commit answer) after
   commits s value (Ok sealed) after writable commit =
-      let step = HasCommitted-of size capacity faults_at_open s after value sealed commit in
+      let step = HasCommitted-of size capacity faults_at_open s after 0 value sealed commit in
       subst (P s (Commit value) (Hard sealed.start sealed.end sealed.moment)) (sym step.after_is) (holds.hard s value sealed.start sealed.end sealed.moment (record { writable = writable; reserved = step.reserved }) step.end_is)
-  commits s value (Err refusal) after writable commit = commit_refused s value refusal.cause refusal.reserved after writable (RefusesRecord-of size capacity faults_at_open s after value refusal commit)
+  commits s value (Err refusal) after writable commit = commit_refused s value refusal.cause refusal.reserved after writable (RefusesRecord-of size capacity faults_at_open s after 0 value refusal commit)
 
   flush_refused : (s : LogHistory) (asked : ℕ) (cause : Cause) (reserved : Option Lsn) (after : LogHistory) → RefusesFlush faults_at_open s asked cause reserved after → P s Flush (Refused cause reserved) after
   flush_refused s asked (Full free) reserved after step = absurd step
@@ -89,7 +89,7 @@ module _ (size capacity faults_at_open : ℕ) (P : StepFact) (holds : HoldsOfSte
   flush_refused s asked (Down faults) (Some start) after step = absurd step
 
   flushes : (s : LogHistory) (answer : Result hard.Hard refused.Refused) (after : LogHistory) → Flushes size faults_at_open s (end_of size s.entries) answer after → P s Flush (told_of_flush answer) after
-  flushes s (Ok done) after step = subst (P s Flush (Flushed done.upto done.moment)) (sym step.after_is) (holds.flushed s done.upto done.moment step.up (to_end size s done.upto.0 after step))
+  flushes s (Ok done) after step = subst (P s Flush (Flushed done.upto done.moment)) (sym step.after_is) (holds.flushed s done.upto done.moment step.up (to_end size s done.upto.0 done.moment after step))
   flushes s (Err refusal) after step = flush_refused s (end_of size s.entries) refusal.cause refusal.reserved after step
 
   -- what holds of each kind of step holds of each step

@@ -27,14 +27,15 @@ abbrev pub told_of_flush : Result hard.Hard refused.Refused → Told
 told_of_flush (Ok done) = Flushed done.upto done.moment
 told_of_flush (Err refusal) = Refused refusal.cause refusal.reserved
 
--- one line: the standing before it, what it asks for, what it is told, and the standing after it
+-- one line of backend 0: the standing before it, what it asks for, what it is told, and the
+-- standing after it
 abbrev pub Steps : ℕ → ℕ → ℕ → LogHistory → Asked → Told → LogHistory → Type 0
 Steps size capacity faults_at_open before (Insert value) told after =
     (answer : Result Receipt refused.Refused) × (told ≡ told_of_insert answer) × IsWritable value
-    × Inserts size capacity faults_at_open before value answer after
+    × Inserts size capacity faults_at_open before 0 value answer after
 Steps size capacity faults_at_open before (Commit value) told after =
     (answer : Result Sealed refused.Refused) × (told ≡ told_of_commit answer) × IsWritable value
-    × Commits size capacity faults_at_open before value answer after
+    × Commits size capacity faults_at_open before 0 value answer after
 Steps size capacity faults_at_open before Flush told after =
     (answer : Result hard.Hard refused.Refused) × (told ≡ told_of_flush answer)
     × Flushes size faults_at_open before (end_of size before.entries) answer after

@@ -1,5 +1,7 @@
 -- A crash leaves what a state assures, and each call that fits goes on assuring it.
-use Rattle.std.proofs.Common.{◌≡◌, ℕ, zero, suc, ◌+◌, ◌*◌, ◌<◌, ◌≤◌, ◌⊎◌, inl, inr, Bool, true, false, List, [], ◌∷◌, ◌++◌, length, take, Option, Some, None, IfSome, slice_get, refl, sym, ap, subst, ◌∙◌, ◌==◌, if◌then◌else◌, arith}
+use Rattle.std.proofs.Common.{◌≡◌, ℕ, zero, suc, ◌+◌, ◌*◌, ◌<◌, ◌≤◌, ◌⊎◌, inl, inr, All, Bool, true, false, List, [], ◌∷◌, ◌++◌, length, take, drop, Option, Some, None, IfSome, slice_get, refl, sym, ap, subst, ◌∙◌, ◌==◌, if◌then◌else◌, arith}
+use Rattle.std.specs.List.{AllByRecursion}
+use Rattle.std.proofs.lemmas.List.Elements.{All-nil, All-push, All-same}
 use Rattle.std.specs.Option.{IsSomeAnd}
 use Rattle.std.proofs.lemmas.Bool.{cases_eq, eq-eqb, ne_eqb}
 use Rattle.std.proofs.lemmas.Option.{slice_get_past}
@@ -11,7 +13,7 @@ use Rattle.segment_disk.specs.Tape.{Segment, DiskState, Tape, zero_page, after_w
 use Rattle.segment_disk.specs.DiskImage.{DiskImage, ImageSegment, word_of, IsWritten, MayLeaveSegment, MayLeave, when_done}
 use Rattle.segment_disk.proofs.Reading.{after_calls-push}
 use Rattle.flush_core.specs.Calls.{store_calls, with_calls, BreaksOff}
-use Rattle.flush_core.specs.Left.{SegmentFits, DiskImageFits, SegmentAssures, StateAssures, TapeAssures}
+use Rattle.flush_core.specs.Left.{KindFits, CallFits, SegmentFits, DiskImageFits, SegmentAssures, StateAssures, TapeAssures}
 use Rattle.flush_core.proofs.StateLaws.{after_each}
 
 take_none : {A : Type 0} (m : ℕ) → take {A = A} m [] ≡ []
@@ -53,11 +55,26 @@ at_end [] (suc m) behind = refl
 at_end (c ∷ calls) zero behind = absurd (omega arith)
 at_end (c ∷ calls) (suc m) behind = ap (λ (l : List Call). c ∷ l) (at_end calls m (omega arith))
 
+drop_none : {A : Type 0} (m : ℕ) → drop {A = A} m [] ≡ []
+drop_none zero = refl
+drop_none (suc m) = refl
+
+drop_behind : (calls : List Call) (m : ℕ) → length calls ≤ m → drop m calls ≡ []
+drop_behind [] m behind = drop_none m
+drop_behind (c ∷ calls) zero behind = absurd (omega arith)
+drop_behind (c ∷ calls) (suc m) behind = drop_behind calls m (omega arith)
+
+-- what holds of all calls from a moment on, and of the next one
+drop_fits : (P : Call → Type 0) (m : ℕ) (calls : List Call) (call : Call) → All P (drop m calls) → P call → All P (drop m (calls ++ call ∷ []))
+drop_fits P zero calls call all one = All-push P calls call all one
+drop_fits P (suc m) [] call all one = All-same P (drop m []) [] (drop_none m) (All-nil P)
+drop_fits P (suc m) (c ∷ calls) call all one = drop_fits P m calls call all one
+
 -- what a crash leaves behind these calls, where this one is next
-abbrev LeftBehind : DiskState → DiskImage → List Call → Option Call → Type 0
+abbrev pub LeftBehind : DiskState → DiskImage → List Call → Option Call → Type 0
 LeftBehind at_first image front next = MayLeave (after_calls at_first front) image ⊎ IsSomeAnd next (λ call. IsSomeAnd (when_done call) (λ whole. MayLeave (after_call (after_calls at_first front) whole) image))
 
-left_moved : (at_first : DiskState) (image : DiskImage) (front other : List Call) (next last : Option Call) → front ≡ other → next ≡ last → LeftBehind at_first image front next → LeftBehind at_first image other last
+pub left_moved : (at_first : DiskState) (image : DiskImage) (front other : List Call) (next last : Option Call) → front ≡ other → next ≡ last → LeftBehind at_first image front next → LeftBehind at_first image other last
 left_moved at_first image front other next last same_front same_next leaves = subst (λ (n : Option Call). LeftBehind at_first image other n) same_next (subst (λ (f : List Call). LeftBehind at_first image f next) same_front leaves)
 
 module _ (size : ℕ) (IsThere : ℕ → Type 0) (Fits : ℕ → ℕ → List ℕ → Type 0) where
@@ -76,20 +93,11 @@ module _ (size : ℕ) (IsThere : ℕ → Type 0) (Fits : ℕ → ℕ → List �
   pub ImageFits-left : (state : DiskState) (image : DiskImage) → StateAssures size IsThere Fits state → MayLeave state image → DiskImageFits size IsThere Fits image
   ImageFits-left state image assures leaves = λ n. left_fits n (state n) (image n) (assures n) (leaves n)
 
-  -- a call fits: the zeros that it makes, and the page that it writes
-  abbrev pub KindFits : ℕ → ℕ → CallKind → Type 0
-  KindFits geometry segment (Create made) = (geometry ≡ size) × ((page word : ℕ) → page < pages_of size → word < 1024 → Fits (segment * pages_of size + page) word (word_of zero_page word))
-  KindFits geometry segment (Write page bytes) = page < pages_of size → (word : ℕ) → word < 1024 → Fits (segment * pages_of size + page) word (word_of bytes.bytes word)
-  KindFits geometry segment Sync = Unit {0}
-
-  abbrev pub CallFits : Call → Type 0
-  CallFits call = KindFits call.geometry call.segment call.kind
-
+  -- each of these calls fits
   abbrev pub AllFit : List Call → Type 0
-  AllFit [] = Unit {0}
-  AllFit (call ∷ calls) = CallFits call × AllFit calls
+  AllFit calls = AllByRecursion (CallFits size Fits) calls
 
-  assured_after : (segment geometry : ℕ) (kind : CallKind) (done : Bool) (s : Option Segment) → KindFits geometry segment kind → SegmentAssures size IsThere Fits segment s → SegmentAssures size IsThere Fits segment (segment_after kind geometry done s)
+  assured_after : (segment geometry : ℕ) (kind : CallKind) (done : Bool) (s : Option Segment) → KindFits size Fits geometry segment kind → SegmentAssures size IsThere Fits segment s → SegmentAssures size IsThere Fits segment (segment_after kind geometry done s)
   assured_after segment geometry (Create false) done s fits assures = assures
   assured_after segment geometry (Create true) done s fits assures = (
     ap pages_of fits.0,
@@ -103,7 +111,7 @@ module _ (size : ℕ) (IsThere : ℕ → Type 0) (Fits : ℕ → ℕ → List �
       | inr written ↦ elim (IsWritten-push s.writes (page, bytes.bytes) n word found written) [
         | inl older ↦ assures.1 n word within low found (inr older)
         | inr last ↦ subst (Fits (segment * pages_of size + n) word) (sym last.1)
-            (subst (λ (m : ℕ). m < pages_of size → (k : ℕ) → k < 1024 → Fits (segment * pages_of size + m) k (word_of bytes.bytes k)) last.0 fits within word low)
+            (subst (λ (m : ℕ). (k : ℕ) → k < 1024 → Fits (segment * pages_of size + m) k (word_of bytes.bytes k)) last.0 fits.2 word low)
       ]
     ],
   )
@@ -114,12 +122,12 @@ module _ (size : ℕ) (IsThere : ℕ → Type 0) (Fits : ℕ → ℕ → List �
     λ n word within low found may. elim may [ inl read ↦ assures.1 n word within low found (read_word s.writes n word (s.durable n) found read) | inr none ↦ absurd none ],
   )
 
-  StateAssures-after : (state : DiskState) (call : Call) → CallFits call → StateAssures size IsThere Fits state → StateAssures size IsThere Fits (after_call state call)
+  StateAssures-after : (state : DiskState) (call : Call) → CallFits size Fits call → StateAssures size IsThere Fits state → StateAssures size IsThere Fits (after_call state call)
   StateAssures-after state call fits assures =
-      λ n. after_each state call (SegmentAssures size IsThere Fits n) n (λ same. assured_after n call.geometry call.kind call.done (state n) (subst (λ (m : ℕ). KindFits call.geometry m call.kind) (sym same) fits) (assures n)) (λ _. assures n)
+      λ n. after_each state call (SegmentAssures size IsThere Fits n) n (λ same. assured_after n call.geometry call.kind call.done (state n) (subst (λ (m : ℕ). KindFits size Fits call.geometry m call.kind) (sym same) fits) (assures n)) (λ _. assures n)
 
   -- a call that the crash cut short
-  ImageFits-cut_short : (geometry segment : ℕ) (kind : CallKind) (done : Bool) (state : DiskState) (image : DiskImage) → KindFits geometry segment kind → StateAssures size IsThere Fits state
+  ImageFits-cut_short : (geometry segment : ℕ) (kind : CallKind) (done : Bool) (state : DiskState) (image : DiskImage) → KindFits size Fits geometry segment kind → StateAssures size IsThere Fits state
       → (let call : Call = record { geometry = geometry; segment = segment; kind = kind; done = done } in IsSomeAnd (when_done call) (λ whole. MayLeave (after_call state whole) image)) → DiskImageFits size IsThere Fits image
   ImageFits-cut_short geometry segment (Create made) done state image fits assures leaves =
       ImageFits-left _ image (StateAssures-after state (record { geometry = geometry; segment = segment; kind = Create true; done = true }) fits assures) leaves
@@ -132,6 +140,7 @@ module _ (size : ℕ) (IsThere : ℕ → Type 0) (Fits : ℕ → ℕ → List �
   -- from the moment of the last call on a crash leaves what the state assures
   pub TapeAssures-now : (moment : ℕ) (t : Tape) → moment ≡ length t.calls → StateAssures size IsThere Fits (state_now t) → TapeAssures size IsThere Fits moment t
   TapeAssures-now moment t count assures = record {
+    calls = All-same (CallFits size Fits) (drop moment t.calls) [] (drop_behind t.calls moment (omega arith)) (All-nil (CallFits size Fits));
     now = assures;
     left = λ m later image leaves. elim (left_moved t.at_first image (take m t.calls) t.calls (slice_get t.calls m) None (at_end t.calls m (omega arith)) (slice_get_past t.calls m (omega arith)) leaves) [
       | inl now ↦ ImageFits-left (state_now t) image assures now
@@ -139,11 +148,12 @@ module _ (size : ℕ) (IsThere : ℕ → Type 0) (Fits : ℕ → ℕ → List �
     ];
   }
 
-  tape_with_call : (moment : ℕ) (tape : Tape) (call : Call) → CallFits call → TapeAssures size IsThere Fits moment tape → TapeAssures size IsThere Fits moment (record tape { calls = tape.calls ++ call ∷ [] })
+  tape_with_call : (moment : ℕ) (tape : Tape) (call : Call) → CallFits size Fits call → TapeAssures size IsThere Fits moment tape → TapeAssures size IsThere Fits moment (record tape { calls = tape.calls ++ call ∷ [] })
   tape_with_call moment tape call fits assures =
       let calls = tape.calls ++ call ∷ [] in
       let after : StateAssures size IsThere Fits (after_calls tape.at_first calls) = subst (StateAssures size IsThere Fits) (sym (after_calls-push tape.at_first tape.calls call)) (StateAssures-after (state_now tape) call fits assures.now) in
       record {
+        calls = drop_fits (CallFits size Fits) moment tape.calls call assures.calls fits;
         now = after;
         left = λ m later image leaves. elim (moments tape.calls call m) [
           | inl before ↦ assures.left m later image (left_moved tape.at_first image (take m calls) (take m tape.calls) (slice_get calls m) (slice_get tape.calls m) before.0 before.1 leaves)
@@ -158,7 +168,7 @@ module _ (size : ℕ) (IsThere : ℕ → Type 0) (Fits : ℕ → ℕ → List �
         ];
       }
 
-  pub TapeAssures-with_call : (moment : ℕ) (tape : Option Tape) (call : Call) → CallFits call → IfSome tape (TapeAssures size IsThere Fits moment) → IfSome (with_call tape call) (TapeAssures size IsThere Fits moment)
+  pub TapeAssures-with_call : (moment : ℕ) (tape : Option Tape) (call : Call) → CallFits size Fits call → IfSome tape (TapeAssures size IsThere Fits moment) → IfSome (with_call tape call) (TapeAssures size IsThere Fits moment)
   TapeAssures-with_call moment None call fits assures = tt
   TapeAssures-with_call moment (Some t) call fits assures = tape_with_call moment t call fits assures
 
@@ -167,20 +177,20 @@ module _ (size : ℕ) (IsThere : ℕ → Type 0) (Fits : ℕ → ℕ → List �
   TapeAssures-with_calls moment tape [] fit assures = assures
   TapeAssures-with_calls moment tape (call ∷ calls) fit assures = TapeAssures-with_calls moment (with_call tape call) calls fit.1 (TapeAssures-with_call moment tape call fit.0 assures)
 
-  failed_fits : (geometry segment : ℕ) (kind : CallKind) (done made : Bool) → KindFits geometry segment kind → (let call : Call = record { geometry = geometry; segment = segment; kind = kind; done = done } in CallFits (failed_call made call))
+  failed_fits : (geometry segment : ℕ) (kind : CallKind) (done made : Bool) → KindFits size Fits geometry segment kind → (let call : Call = record { geometry = geometry; segment = segment; kind = kind; done = done } in CallFits size Fits (failed_call made call))
   failed_fits geometry segment (Create any) done made fits = fits
   failed_fits geometry segment (Write page bytes) done made fits = fits
   failed_fits geometry segment Sync done made fits = fits
 
   -- a call that failed
-  pub TapeAssures-failed : (moment : ℕ) (old new : Option Tape) (old_moment new_moment : ℕ) (call : Call) → CallFits call → Fails old new old_moment new_moment call
+  pub TapeAssures-failed : (moment : ℕ) (old new : Option Tape) (old_moment new_moment : ℕ) (call : Call) → CallFits size Fits call → Fails old new old_moment new_moment call
       → IfSome old (TapeAssures size IsThere Fits moment) → IfSome new (TapeAssures size IsThere Fits moment)
   TapeAssures-failed moment old new old_moment new_moment call fits (inl failed) assures =
       subst (λ (t : Option Tape). IfSome t (TapeAssures size IsThere Fits moment)) (sym failed.1.tape)
       (TapeAssures-with_call moment old (failed_call failed.0 call) (failed_fits call.geometry call.segment call.kind call.done failed.0 fits) assures)
   TapeAssures-failed moment old new old_moment new_moment call fits (inr not_made) assures = subst (λ (t : Option Tape). IfSome t (TapeAssures size IsThere Fits moment)) (sym not_made.same_tape) assures
 
-  front_fits : (front : List Call) (next : Call) (others : List Call) → AllFit (front ++ next ∷ others) → AllFit front × CallFits next
+  front_fits : (front : List Call) (next : Call) (others : List Call) → AllFit (front ++ next ∷ others) → AllFit front × CallFits size Fits next
   front_fits [] next others fit = (tt, fit.0)
   front_fits (c ∷ front) next others fit = let behind = front_fits front next others fit.1 in ((fit.0, behind.0), behind.1)
 
@@ -194,25 +204,31 @@ module _ (size : ℕ) (IsThere : ℕ → Type 0) (Fits : ℕ → ℕ → List �
       TapeAssures-failed moment (with_calls old broken.front) new _ new_moment next parts.1 broken.fails front
 
   -- the calls that store a page fit where the page does, and zeros do where its segment is made
-  pub store_fits : (segment page : ℕ) (bytes : List ℕ) (is_new is_full : Bool) → (is_new ≡ true → (k word : ℕ) → k < pages_of size → word < 1024 → Fits (segment * pages_of size + k) word (word_of zero_page word))
+  pub store_fits : (segment page : ℕ) (bytes : List ℕ) (is_new is_full : Bool) → page < pages_of size → (is_new ≡ true → (k word : ℕ) → k < pages_of size → word < 1024 → Fits (segment * pages_of size + k) word (word_of zero_page word))
       → ((word : ℕ) → word < 1024 → Fits (segment * pages_of size + page) word (word_of bytes word)) → AllFit (store_calls size segment page is_new is_full bytes)
-  store_fits segment page bytes true true zeros fits = ((refl, zeros refl), ((λ _. fits), (tt, tt)))
-  store_fits segment page bytes true false zeros fits = ((refl, zeros refl), ((λ _. fits), tt))
-  store_fits segment page bytes false true zeros fits = ((λ _. fits), (tt, tt))
-  store_fits segment page bytes false false zeros fits = ((λ _. fits), tt)
+  store_fits segment page bytes true true within zeros fits = ((refl, zeros refl), ((refl, within, fits), (tt, tt)))
+  store_fits segment page bytes true false within zeros fits = ((refl, zeros refl), ((refl, within, fits), tt))
+  store_fits segment page bytes false true within zeros fits = ((refl, within, fits), (tt, tt))
+  store_fits segment page bytes false false within zeros fits = ((refl, within, fits), tt)
 
   -- what is asked may grow weaker
-  module _ (Others : ℕ → ℕ → List ℕ → Type 0) (weaker : (page word : ℕ) (bytes : List ℕ) → Fits page word bytes → Others page word bytes) where
-    fits_weaker : (segment : ℕ) (i : Option ImageSegment) → SegmentFits size IsThere Fits segment i → SegmentFits size IsThere Others segment i
-    fits_weaker segment None fits = fits
+  module _ (Asked : ℕ → Type 0) (Others : ℕ → ℕ → List ℕ → Type 0) (fewer : (segment : ℕ) → Asked segment → IsThere segment) (weaker : (page word : ℕ) (bytes : List ℕ) → Fits page word bytes → Others page word bytes) where
+    fits_weaker : (segment : ℕ) (i : Option ImageSegment) → SegmentFits size IsThere Fits segment i → SegmentFits size Asked Others segment i
+    fits_weaker segment None fits = λ asked. fits (fewer segment asked)
     fits_weaker segment (Some i) fits = (fits.0, λ page word within low. weaker _ _ _ (fits.1 page word within low))
 
-    assures_weaker : (segment : ℕ) (s : Option Segment) → SegmentAssures size IsThere Fits segment s → SegmentAssures size IsThere Others segment s
-    assures_weaker segment None assures = assures
+    assures_weaker : (segment : ℕ) (s : Option Segment) → SegmentAssures size IsThere Fits segment s → SegmentAssures size Asked Others segment s
+    assures_weaker segment None assures = λ asked. assures (fewer segment asked)
     assures_weaker segment (Some s) assures = (assures.0, λ page word within low found may. weaker _ _ _ (assures.1 page word within low found may))
 
-    pub TapeAssures-weaker : (moment : ℕ) (t : Tape) → TapeAssures size IsThere Fits moment t → TapeAssures size IsThere Others moment t
+    kind_weaker : (geometry segment : ℕ) (kind : CallKind) → KindFits size Fits geometry segment kind → KindFits size Others geometry segment kind
+    kind_weaker geometry segment (Create made) fits = (fits.0, λ page word within low. weaker _ _ _ (fits.1 page word within low))
+    kind_weaker geometry segment (Write page bytes) fits = (fits.0, fits.1, λ word low. weaker _ _ _ (fits.2 word low))
+    kind_weaker geometry segment Sync fits = tt
+
+    pub TapeAssures-weaker : (moment : ℕ) (t : Tape) → TapeAssures size IsThere Fits moment t → TapeAssures size Asked Others moment t
     TapeAssures-weaker moment t assures = record {
+      calls = λ k call within. kind_weaker _ _ _ (assures.calls k call within);
       now = λ n. assures_weaker n (state_now t n) (assures.now n);
       left = λ m later image leaves. (let fits = assures.left m later image leaves in λ n. fits_weaker n (image n) (fits n));
     }

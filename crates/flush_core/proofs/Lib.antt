@@ -5,3 +5,4 @@ pub mod PutLaws
 pub mod WriterLaws
 pub mod LeftLaws
 pub mod LeftPuts
+pub mod GrowingTapes

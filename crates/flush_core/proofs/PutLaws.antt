@@ -1,8 +1,8 @@
 -- A page that is put is held, and all is held durably once it is synced.
 use Rattle.std.proofs.Common.{◌≡◌, ◌≢◌, ℕ, ◌+◌, ◌-◌, ◌*◌, ◌/◌, ◌%◌, ◌<◌, ◌≤◌, inl, inr, Bool, max, nat_lt, true, false, not, List, [], length, Option, Some, None, refl, sym, ap, subst, ◌∙◌, ◌==◌, arith}
-use Rattle.std.proofs.lemmas.Bool.{cases_eq, eq-eqb, ne_eqb, eqb-true, both_ways, lt-ltb, le-ltb}
+use Rattle.std.proofs.lemmas.Bool.{cases_eq, eq-eqb, ne_eqb, both_ways, ltb-true, ltb-false}
 use Rattle.std.proofs.lemmas.Nat.{div-mul-add}
-use Rattle.std.proofs.Math.Nat.{div-add-mod, div-div-eq-div-mul, mul-le-mul_right, max-eq_right, le-max_right}
+use Rattle.std.proofs.Math.Nat.{div-add-mod, div-div-eq-div-mul, mul-le-mul_right, max-eq_left, max-eq_right, le-max_right}
 use Rattle.byte_position.specs.Geometry.{IsSegmentSize, pages_of}
 use Rattle.byte_position.proofs.SegmentSizes.{segment_size_in_pages}
 use Rattle.segment_disk.specs.Tape.{Segment, DiskState, zero_page, after_call, after_calls, after_writes, sync_call}
@@ -35,24 +35,32 @@ made_at_start size n positive begun start =
 positive_from_test : (n : ℕ) → (n == 0) ≡ false → 0 < n
 positive_from_test n test = elim (cases_eq n 0) [ inl none ↦ absurd (both_ways _ test (eq-eqb n 0 none)) | inr some ↦ omega arith ]
 
-module _ (size segment page : ℕ) (state : DiskState) (pages : PutPages) (bytes : List ℕ) (positive : 0 < segment) (within : page < pages_of size) where
-  -- what stands before a page is stored
+module _ (size made segment page : ℕ) (state : DiskState) (pages : PutPages) (bytes : List ℕ) (positive : 0 < segment) (within : page < pages_of size) where
+  -- what stands before a page is stored: its segment is the next to be made, or is made
   pub record StandsBefore (is_new : Bool) : Type 0 where
-    pub anew : is_new ≡ true → Stands size (segment - 1) segment state pages
+    pub stands : Stands size made segment state pages
+    pub next : is_new ≡ true → made ≡ segment - 1
     pub zeros : is_new ≡ true → (k : ℕ) → k < pages_of size → pages (segment * pages_of size + k) ≡ zero_page
-    pub there : is_new ≡ false → Stands size segment segment state pages
+    pub there : is_new ≡ false → segment ≤ made
 
   abbrev stored : PutPages
   stored = with_page pages (segment * pages_of size + page) bytes
 
   -- it is stored, and nothing waits for a sync where its segment is full
-  stands_stored : (is_new : Bool) → StandsBefore is_new → Stands size segment segment (after_calls state (store_calls size segment page is_new false bytes)) stored
-  stands_stored true before = stands_written size segment page pages bytes within _ positive (stands_created size segment state pages positive (before.zeros refl) (before.anew refl))
-  stands_stored false before = stands_written size segment page pages bytes within state positive (before.there refl)
+  stands_stored : (is_new : Bool) → StandsBefore is_new → Stands size (max made segment) segment (after_calls state (store_calls size segment page is_new false bytes)) stored
+  stands_stored true before =
+      let stands = subst (λ (n : ℕ). Stands size n segment state pages) (before.next refl) before.stands in
+      let last : segment ≡ max made segment = sym (max-eq_right (omega (arith, before.next refl))) in
+      subst (λ (n : ℕ). Stands size n segment (after_calls state (store_calls size segment page true false bytes)) stored) last
+      (stands_written size segment page pages bytes within segment _ positive (omega arith) (stands_created size segment state pages positive (before.zeros refl) stands))
+  stands_stored false before =
+      let last : made ≡ max made segment = sym (max-eq_left (before.there refl)) in
+      subst (λ (n : ℕ). Stands size n segment (after_calls state (store_calls size segment page false false bytes)) stored) last
+      (stands_written size segment page pages bytes within made state positive (before.there refl) before.stands)
 
-  stands_full : (is_new : Bool) (other : ℕ) → StandsBefore is_new → Stands size segment other (after_calls state (store_calls size segment page is_new true bytes)) stored
-  stands_full true other before = stands_synced size segment segment other _ stored (stands_stored true before)
-  stands_full false other before = stands_synced size segment segment other _ stored (stands_stored false before)
+  stands_full : (is_new : Bool) (other : ℕ) → StandsBefore is_new → Stands size (max made segment) other (after_calls state (store_calls size segment page is_new true bytes)) stored
+  stands_full true other before = stands_synced size (max made segment) segment other _ stored (stands_stored true before)
+  stands_full false other before = stands_synced size (max made segment) segment other _ stored (stands_stored false before)
 
 -- where a page that is put lies, by its segment and its number there, and which segments are made before and behind
 record IsPlaced (size written upto page segment number : ℕ) : Type 0 where
@@ -104,13 +112,6 @@ module _ (size written upto page : ℕ) (valid : IsSegmentSize size) (begun : si
         starts = λ start. (let product : size * (written / size) ≡ 8192 * count * segment = ap (λ (m : ℕ). m * (written / size)) whole.0 ∙ ap (λ (m : ℕ). 8192 * count * m) of_written in omega arith);
       }
 
-  -- its segment is not made just where the written position begins it
-  is_new : (made : ℕ) → made ≡ made_upto size written → nat_lt made (page / pages_of size) ≡ (written % size == 0)
-  is_new made is = elim (cases_eq (written % size) 0) [
-    | inl start ↦ lt-ltb made (page / pages_of size) (omega (arith, is, placed.made_new start, placed.positive)) ∙ sym (eq-eqb (written % size) 0 start)
-    | inr inside ↦ (let some : 0 < written % size = omega arith in le-ltb made (page / pages_of size) (omega (arith, is, placed.made_there some)) ∙ sym (ne_eqb (written % size) 0 inside))
-  ]
-
   -- behind it all segments are made up to that of the page
   pub put_makes : (made : ℕ) → made ≡ made_upto size written → max made (page / pages_of size) ≡ made_upto size upto
   put_makes made is =
@@ -120,48 +121,52 @@ module _ (size written upto page : ℕ) (valid : IsSegmentSize size) (begun : si
       ] in
       max-eq_right low ∙ sym placed.made_behind
 
+  pub put_covers : (made : ℕ) → made_upto size upto ≤ max made (page / pages_of size)
+  put_covers made = omega (arith, placed.made_behind, le-max_right made (page / pages_of size))
+
   pub put_reaches : (made : ℕ) → upto ≤ max made (page / pages_of size) * size + size
   put_reaches made = page_reaches size upto page valid below made
 
-  module _ (state : DiskState) (pages : PutPages) (bytes : List ℕ) (unsynced : Bool) (put : ArePutUpto written pages) (holds : HoldsPut size written unsynced state pages) where
-    before : (is_new : Bool) → is_new ≡ (written % size == 0) → StandsBefore size (page / pages_of size) (page % pages_of size) state pages bytes placed.positive placed.within is_new
-    before is_new is =
-        let standing = λ (last : ℕ) (same : made_upto size written ≡ last). let stands : Stands size last (page / pages_of size) state pages = record {
-          read = subst (λ (m : ℕ). HoldsPages size m (image_as_read state) pages) same holds.read;
-          synced = λ n other. holds.synced n (inl (λ here. other (here ∙ placed.of_written)));
-        } in stands in
-        let start = λ (new : is_new ≡ true). eqb-true (written % size) 0 (sym is ∙ new) in
-        let inside = λ (old : is_new ≡ false). positive_from_test (written % size) (sym is ∙ old) in
-        record {
-          anew = λ new. standing (page / pages_of size - 1) (placed.made_new (start new));
-          zeros = λ new k low. put.behind (page / pages_of size * pages_of size + k) (omega (arith, placed.starts (start new)));
-          there = λ old. standing (page / pages_of size) (placed.made_there (inside old));
-        }
+  module _ (made : ℕ) (state : DiskState) (pages : PutPages) (bytes : List ℕ) (unsynced : Bool) (made_as_far : made_upto size written ≤ made) (put : ArePutUpto written pages) (holds : HoldsPut size written made unsynced state pages) where
+    abbrev segment_of : ℕ
+    segment_of = page / pages_of size
 
-    held : (is_full : Bool) → is_full ≡ (upto % size == 0)
-        → HoldsPut size upto (not is_full) (after_calls state (store_calls size (page / pages_of size) (page % pages_of size) (written % size == 0) is_full bytes)) (with_page pages page bytes)
-    held true is =
-        let stands = λ (other : ℕ). subst (λ (m : ℕ). Stands size (page / pages_of size) other (after_calls state (store_calls size (page / pages_of size) (page % pages_of size) (written % size == 0) true bytes)) (with_page pages m bytes)) placed.is_number
-        (stands_full size (page / pages_of size) (page % pages_of size) state pages bytes placed.positive placed.within (written % size == 0) other (before (written % size == 0) refl)) in
+    -- a segment that is new is the next one, and begins where all that is written ends
+    starts_at : nat_lt made segment_of ≡ true → written % size ≡ 0
+    starts_at new = elim (cases_eq (written % size) 0) [
+      | inl start ↦ start
+      | inr inside ↦ absurd (let some : 0 < written % size = omega arith in omega (arith, ltb-true made segment_of new, placed.made_there some))
+    ]
+
+    before : (is_new : Bool) → is_new ≡ nat_lt made segment_of → StandsBefore size made segment_of (page % pages_of size) state pages bytes placed.positive placed.within is_new
+    before is_new is = record {
+      stands = record { read = holds.read; synced = λ n other. holds.synced n (inl (λ here. other (here ∙ placed.of_written))) };
+      next = λ new. (let test : nat_lt made segment_of ≡ true = sym is ∙ new in omega (arith, ltb-true made segment_of test, placed.made_new (starts_at test)));
+      zeros = λ new k low. put.behind (segment_of * pages_of size + k) (omega (arith, placed.starts (starts_at (sym is ∙ new))));
+      there = λ old. omega (arith, ltb-false made segment_of (sym is ∙ old));
+    }
+
+    held : (is_new is_full : Bool) → is_new ≡ nat_lt made segment_of → is_full ≡ (upto % size == 0)
+        → HoldsPut size upto (max made segment_of) (not is_full) (after_calls state (store_calls size segment_of (page % pages_of size) is_new is_full bytes)) (with_page pages page bytes)
+    held is_new true new is =
+        let stands = λ (other : ℕ). subst (λ (m : ℕ). Stands size (max made segment_of) other (after_calls state (store_calls size segment_of (page % pages_of size) is_new true bytes)) (with_page pages m bytes)) placed.is_number
+        (stands_full size made segment_of (page % pages_of size) state pages bytes placed.positive placed.within is_new other (before is_new new)) in
         record {
-          read = subst (λ (m : ℕ). HoldsPages size m (image_as_read (after_calls state (store_calls size (page / pages_of size) (page % pages_of size) (written % size == 0) true bytes))) (with_page pages page bytes)) (sym placed.made_behind) (stands 0).read;
+          read = (stands 0).read;
           synced = λ n _. (stands (n + 1)).synced n (λ same. absurd (omega arith));
         }
-    held false is =
-        let stands = subst (λ (m : ℕ). Stands size (page / pages_of size) (page / pages_of size) (after_calls state (store_calls size (page / pages_of size) (page % pages_of size) (written % size == 0) false bytes)) (with_page pages m bytes)) placed.is_number
-        (stands_stored size (page / pages_of size) (page % pages_of size) state pages bytes placed.positive placed.within (written % size == 0) (before (written % size == 0) refl)) in
+    held is_new false new is =
+        let stands = subst (λ (m : ℕ). Stands size (max made segment_of) segment_of (after_calls state (store_calls size segment_of (page % pages_of size) is_new false bytes)) (with_page pages m bytes)) placed.is_number
+        (stands_stored size made segment_of (page % pages_of size) state pages bytes placed.positive placed.within is_new (before is_new new)) in
         let inside = positive_from_test (upto % size) (sym is) in
         record {
-          read = subst (λ (m : ℕ). HoldsPages size m (image_as_read (after_calls state (store_calls size (page / pages_of size) (page % pages_of size) (written % size == 0) false bytes))) (with_page pages page bytes)) (sym placed.made_behind) stands.read;
+          read = stands.read;
           synced = λ n may. elim may [ inl other ↦ stands.synced n (λ here. other (here ∙ sym (placed.of_upto inside))) | inr none ↦ absurd (cc) ];
         }
 
     -- a page that is put is held
-    pub HoldsPut-put : (made : ℕ) → made ≡ made_upto size written
-        → HoldsPut size upto (not (upto % size == 0)) (after_calls state (put_calls size made page upto bytes)) (with_page pages page bytes)
-    HoldsPut-put made is =
-        subst (λ (b : Bool). HoldsPut size upto (not (upto % size == 0)) (after_calls state (store_calls size (page / pages_of size) (page % pages_of size) b (upto % size == 0) bytes)) (with_page pages page bytes))
-        (sym (is_new made is)) (held (upto % size == 0) refl)
+    pub HoldsPut-put : HoldsPut size upto (max made segment_of) (not (upto % size == 0)) (after_calls state (put_calls size made page upto bytes)) (with_page pages page bytes)
+    HoldsPut-put = held (nat_lt made segment_of) (upto % size == 0) refl refl
 
   pub ArePutUpto-put : (pages : PutPages) (bytes : List ℕ) → ArePutUpto written pages → length bytes ≡ 8192 → written ≤ upto → ArePutUpto upto (with_page pages page bytes)
   ArePutUpto-put pages bytes put whole rises = record {
@@ -170,12 +175,12 @@ module _ (size written upto page : ℕ) (valid : IsSegmentSize size) (begun : si
   }
 
 -- what waits for a sync is synced
-pub HoldsPut-synced : (size written : ℕ) (state : DiskState) (pages : PutPages) → HoldsPut size written true state pages → HoldsPut size written false (after_call state (sync_call size (written / size))) pages
-HoldsPut-synced size written state pages holds =
-    let stands : Stands size (made_upto size written) (written / size) state pages = record { read = holds.read; synced = λ n other. holds.synced n (inl other) } in
+pub HoldsPut-synced : (size written made : ℕ) (state : DiskState) (pages : PutPages) → HoldsPut size written made true state pages → HoldsPut size written made false (after_call state (sync_call size (written / size))) pages
+HoldsPut-synced size written made state pages holds =
+    let stands : Stands size made (written / size) state pages = record { read = holds.read; synced = λ n other. holds.synced n (inl other) } in
     record {
-      read = (stands_synced size (made_upto size written) (written / size) 0 state pages stands).read;
-      synced = λ n _. (stands_synced size (made_upto size written) (written / size) (n + 1) state pages stands).synced n (λ same. absurd (omega arith));
+      read = (stands_synced size made (written / size) 0 state pages stands).read;
+      synced = λ n _. (stands_synced size made (written / size) (n + 1) state pages stands).synced n (λ same. absurd (omega arith));
     }
 
 -- ---- images
@@ -198,8 +203,8 @@ left_absent None None absent leaves = refl
 left_absent None (Some i) absent leaves = absurd leaves
 left_absent (Some s) i absent leaves = (cc)
 
-pub HoldsPages-left : (size written : ℕ) (state : DiskState) (pages : PutPages) (image : DiskImage) → ArePutUpto written pages → HoldsPut size written false state pages → MayLeave state image → HoldsPages size (made_upto size written) image pages
-HoldsPages-left size written state pages image put holds leaves = record {
+pub HoldsPages-left : (size written made : ℕ) (state : DiskState) (pages : PutPages) (image : DiskImage) → ArePutUpto written pages → HoldsPut size written made false state pages → MayLeave state image → HoldsPages size made image pages
+HoldsPages-left size written made state pages image put holds leaves = record {
   there = λ n low high. left_segment size n pages (state n) (image n) put.whole (holds.read.there n low high) (holds.synced n (inr refl)) (leaves n);
   others = λ n none. left_absent (state n) (image n) (holds.read.others n none) (leaves n);
 }

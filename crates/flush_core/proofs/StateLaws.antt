@@ -1,5 +1,5 @@
 -- What each call leaves of the pages that a disk holds.
-use Rattle.std.proofs.Common.{◌≡◌, ◌≢◌, ℕ, ◌+◌, ◌-◌, ◌*◌, ◌/◌, ◌<◌, inl, inr, true, List, [], ◌∷◌, ◌++◌, Option, Some, None, refl, sym, ap, subst, ◌∙◌, ◌==◌, if◌then◌else◌, arith}
+use Rattle.std.proofs.Common.{◌≡◌, ◌≢◌, ℕ, ◌+◌, ◌-◌, ◌*◌, ◌/◌, ◌<◌, ◌≤◌, inl, inr, true, List, [], ◌∷◌, ◌++◌, Option, Some, None, refl, sym, ap, subst, ◌∙◌, ◌==◌, if◌then◌else◌, arith}
 use Rattle.std.proofs.lemmas.Bool.{cases_eq, eq-eqb, ne_eqb}
 use Rattle.std.proofs.lemmas.Nat.{div-mul-add}
 use Rattle.byte_position.specs.Geometry.{pages_of}
@@ -85,13 +85,13 @@ module _ (size segment page : ℕ) (pages : PutPages) (bytes : List ℕ) (within
   )
 
   -- a page is written
-  pub stands_written : (state : DiskState) → 0 < segment → Stands size segment segment state pages → Stands size segment segment (after_call state (write_call size segment page bytes)) (with_page pages number bytes)
-  stands_written state positive stands =
+  pub stands_written : (last : ℕ) (state : DiskState) → 0 < segment → segment ≤ last → Stands size last segment state pages → Stands size last segment (after_call state (write_call size segment page bytes)) (with_page pages number bytes)
+  stands_written last state positive made stands =
       let call = write_call size segment page bytes in
       record {
         read = record {
           there = λ n low high. after_each state call (ReadsAsPut size (with_page pages number bytes) n) n
-              (λ same. subst (λ (m : ℕ). ReadsAsPut size (with_page pages number bytes) m (segment_after call.kind call.geometry call.done (state m))) (sym same) (put_here (state segment) (stands.read.there segment positive (omega arith))))
+              (λ same. subst (λ (m : ℕ). ReadsAsPut size (with_page pages number bytes) m (segment_after call.kind call.geometry call.done (state m))) (sym same) (put_here (state segment) (stands.read.there segment positive made)))
               (λ other. put_elsewhere n (state n) other (stands.read.there n low high));
           others = λ n none. after_each state call IsAbsent n (λ same. absurd (elim none [ inl z ↦ omega arith | inr h ↦ omega arith ])) (λ other. stands.read.others n none);
         };

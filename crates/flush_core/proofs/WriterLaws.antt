@@ -10,7 +10,7 @@ use Rattle.flush_core.specs.Calls.{store_calls, put_calls, harden_calls, with_ca
 use Rattle.flush_core.specs.Pages.{PutPages, with_page, HoldsPut}
 use Rattle.flush_core.specs.Writer.{IsWriter, TellsFault}
 use Rattle.flush_core.proofs.CallLaws.{holds-with_calls, breaks_off}
-use Rattle.flush_core.proofs.PutLaws.{HoldsPut-put, HoldsPut-synced, ArePutUpto-put, put_makes, put_reaches}
+use Rattle.flush_core.proofs.PutLaws.{HoldsPut-put, HoldsPut-synced, ArePutUpto-put, put_covers, put_reaches}
 
 -- the calls of a page's place are those that put it
 pub put_calls_are : (size made page upto segment number size_now : ℕ) (bytes : List ℕ) → segment ≡ page / pages_of size → number ≡ page % pages_of size → size_now ≡ size
@@ -24,16 +24,17 @@ module _ (D : Type 0) (tape : D → Option Tape) (old : Writer D) (disk : D) whe
       → IsWriter tape (record { disk = disk; geometry = old.geometry; written = upto; made = made; unsynced = not (upto.0 % size == 0); fault = old.fault }) (with_page pages page bytes)
   IsWriter-put page upto bytes size made stored valid at rises above below whole are_made are same makes pages is =
       let calls = put_calls old.geometry old.made page upto.0 bytes in
-      let held = IfSome_then (tape old.disk) is.holds (λ t holds. HoldsPut-put old.geometry old.written.0 upto.0 page valid is.begun at above below (state_now t) pages bytes old.unsynced is.put holds old.made is.made) in
-      let after = holds-with_calls (λ (s : DiskState). HoldsPut old.geometry upto.0 (not (upto.0 % old.geometry == 0)) s (with_page pages page bytes)) (tape old.disk) calls held in
+      let held = IfSome_then (tape old.disk) is.holds (λ t holds. HoldsPut-put old.geometry old.written.0 upto.0 page valid is.begun at above below old.made (state_now t) pages bytes old.unsynced is.made is.put holds) in
+      let after = holds-with_calls (λ (s : DiskState). HoldsPut old.geometry upto.0 (max old.made (page / pages_of old.geometry)) (not (upto.0 % old.geometry == 0)) s (with_page pages page bytes)) (tape old.disk) calls held in
       record {
         up = is.up;
         begun = omega (arith, is.begun);
         reached = subst (λ (m : ℕ). upto.0 ≤ m * old.geometry + old.geometry) (sym makes) (put_reaches old.geometry old.written.0 upto.0 page valid is.begun at above below old.made);
-        made = makes ∙ put_makes old.geometry old.written.0 upto.0 page valid is.begun at above below old.made is.made;
+        made = omega (arith, makes, put_covers old.geometry old.written.0 upto.0 page valid is.begun at above below old.made);
         put = ArePutUpto-put old.geometry old.written.0 upto.0 page valid is.begun at above below pages bytes is.put whole rises;
-        holds = subst (λ (n : ℕ). IfSome (tape disk) (λ t. HoldsPut old.geometry upto.0 (not (upto.0 % n == 0)) (state_now t) (with_page pages page bytes))) (sym same)
-            (subst (λ (o : Option Tape). IfSome o (λ t. HoldsPut old.geometry upto.0 (not (upto.0 % old.geometry == 0)) (state_now t) (with_page pages page bytes))) (sym (are_made ∙ ap (with_calls (tape old.disk)) are)) after);
+        holds = subst (λ (n : ℕ). IfSome (tape disk) (λ t. HoldsPut old.geometry upto.0 made (not (upto.0 % n == 0)) (state_now t) (with_page pages page bytes))) (sym same)
+            (subst (λ (m : ℕ). IfSome (tape disk) (λ t. HoldsPut old.geometry upto.0 m (not (upto.0 % old.geometry == 0)) (state_now t) (with_page pages page bytes))) (sym makes)
+            (subst (λ (o : Option Tape). IfSome o (λ t. HoldsPut old.geometry upto.0 (max old.made (page / pages_of old.geometry)) (not (upto.0 % old.geometry == 0)) (state_now t) (with_page pages page bytes))) (sym (are_made ∙ ap (with_calls (tape old.disk)) are)) after));
       }
 
   -- what waited for a sync was synced
@@ -41,15 +42,15 @@ module _ (D : Type 0) (tape : D → Option Tape) (old : Writer D) (disk : D) whe
   IsWriter-synced waits made pages is =
       let size = old.geometry in
       let written = old.written.0 in
-      let held = IfSome_then (tape old.disk) is.holds (λ t holds. HoldsPut-synced size written (state_now t) pages (subst (λ b. HoldsPut size written b (state_now t) pages) waits holds)) in
-      let after = holds-with_calls (λ (s : DiskState). HoldsPut size written false s pages) (tape old.disk) (sync_call size (written / size) ∷ []) held in
+      let held = IfSome_then (tape old.disk) is.holds (λ t holds. HoldsPut-synced size written old.made (state_now t) pages (subst (λ b. HoldsPut size written old.made b (state_now t) pages) waits holds)) in
+      let after = holds-with_calls (λ (s : DiskState). HoldsPut size written old.made false s pages) (tape old.disk) (sync_call size (written / size) ∷ []) held in
       record {
         up = is.up;
         begun = is.begun;
         reached = is.reached;
         made = is.made;
         put = is.put;
-        holds = subst (λ (o : Option Tape). IfSome o (λ t. HoldsPut size written false (state_now t) pages)) (sym made) after;
+        holds = subst (λ (o : Option Tape). IfSome o (λ t. HoldsPut size written old.made false (state_now t) pages)) (sym made) after;
       }
 
   -- the sync failed

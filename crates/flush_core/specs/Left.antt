@@ -1,7 +1,10 @@
 -- What a crash leaves of a log: the pages below a position whole and as they were put, and nothing
 -- anywhere but what was put.
-use Rattle.std.specs.Prelude.{◌≡◌, ℕ, ◌+◌, ◌*◌, ◌<◌, ◌≤◌, ◌⊎◌, List, [], ◌∷◌, Option, Some, None, ◌==◌, if◌then◌else◌}
+use Rattle.std.specs.Prelude.{◌≡◌, ℕ, ◌+◌, ◌*◌, ◌<◌, ◌≤◌, ◌⊎◌, All, List, [], ◌∷◌, drop, Option, Some, None, ◌==◌, if◌then◌else◌}
 use Rattle.byte_position.specs.Geometry.{pages_of}
+use Rattle.segment_disk.specs.declared.disk.Call.{Call}
+use Rattle.segment_disk.specs.declared.disk.CallKind.{CallKind}
+use Rattle.segment_disk.specs.declared.disk.CallKind.TheVariants.{Create, Write, Sync}
 use Rattle.segment_disk.specs.Tape.{Segment, DiskState, Tape, state_now, zero_page}
 use Rattle.segment_disk.specs.DiskImage.{DiskImage, ImageSegment, word_of, IsWritten, LeftAt}
 use Rattle.flush_core.specs.Pages.{PutPages, made_upto}
@@ -36,10 +39,25 @@ abbrev pub StateAssures : ℕ → (ℕ → Type 0) → (ℕ → ℕ → List ℕ
 StateAssures size IsThere Fits state =
     (segment : ℕ) → SegmentAssures size IsThere Fits segment (state segment)
 
--- every crash from a moment on has left an image of which it holds, and a disk's state assures it
--- now
+-- a call leaves nothing else: so is each word of the page that it writes, and each zero of the
+-- segment that it makes
+abbrev pub KindFits : ℕ → (ℕ → ℕ → List ℕ → Type 0) → ℕ → ℕ → CallKind → Type 0
+KindFits size Fits geometry segment (Create made) = (geometry ≡ size)
+    × ((page word : ℕ) → page < pages_of size → word < 1024
+    → Fits (segment * pages_of size + page) word (word_of zero_page word))
+KindFits size Fits geometry segment (Write page bytes) = (geometry ≡ size)
+    × (page < pages_of size) × ((word : ℕ) → word < 1024
+    → Fits (segment * pages_of size + page) word (word_of bytes.bytes word))
+KindFits size Fits geometry segment Sync = Unit {0}
+
+abbrev pub CallFits : ℕ → (ℕ → ℕ → List ℕ → Type 0) → Call → Type 0
+CallFits size Fits call = KindFits size Fits call.geometry call.segment call.kind
+
+-- each call from a moment on leaves nothing else, every crash from it on has left an image of which
+-- it holds, and a disk's state assures it now
 pub record TapeAssures (size : ℕ) (IsThere : ℕ → Type 0) (Fits : ℕ → ℕ → List ℕ → Type 0)
     (moment : ℕ) (tape : Tape) : Type 0 where
+  pub calls : All (CallFits size Fits) (drop moment tape.calls)
   pub now : StateAssures size IsThere Fits (state_now tape)
   pub left : (m : ℕ) → moment ≤ m → (image : DiskImage) → LeftAt tape m image
       → DiskImageFits size IsThere Fits image
@@ -69,6 +87,10 @@ PutHistory = ℕ → List (List ℕ)
 
 abbrev pub no_puts : PutHistory
 no_puts page = []
+
+-- each page as it was there at first
+abbrev pub first_puts : PutPages → PutHistory
+first_puts pages page = pages page ∷ []
 
 abbrev pub with_put : PutHistory → ℕ → List ℕ → PutHistory
 with_put puts number bytes page = if page == number then bytes ∷ puts page else puts page

@@ -39,11 +39,12 @@ abbrev pub unsynced_writes : Option Segment → List (ℕ × List ℕ)
 unsynced_writes None = []
 unsynced_writes (Some s) = s.writes
 
--- what a disk holds where all below a position is written: as it is read just the pages that were
--- put; only the segment of that position may have writes that wait for a sync, if any has
-pub record HoldsPut (size written : ℕ) (unsynced : Bool) (state : DiskState) (pages : PutPages)
-    : Type 0 where
-  pub read : HoldsPages size (made_upto size written) (image_as_read state) pages
+-- what a disk holds where all below a position is written and the segments up to a last one are
+-- made: as it is read just the pages that were put; only the segment of that position may have
+-- writes that wait for a sync, if any has
+pub record HoldsPut (size written made : ℕ) (unsynced : Bool) (state : DiskState)
+    (pages : PutPages) : Type 0 where
+  pub read : HoldsPages size made (image_as_read state) pages
   pub synced : (segment : ℕ) → (segment ≢ written / size) ⊎ (unsynced ≡ false)
       → unsynced_writes (state segment) ≡ []
 

@@ -1,5 +1,5 @@
 -- A writer: what its fields tell, what it holds, and what a call of it leaves.
-use Rattle.std.specs.Prelude.{◌≡◌, ℕ, ◌+◌, ◌*◌, ◌≤◌, ◌⊎◌, Bool, List, Option, Some, None, IfSome}
+use Rattle.std.specs.Prelude.{◌≡◌, ℕ, ◌+◌, ◌*◌, ◌≤◌, ◌⊎◌, Bool, false, List, Option, Some, None, IfSome}
 use Rattle.segment_disk.specs.declared.disk.Call.{Call}
 use Rattle.segment_disk.specs.Cause.{Rose}
 use Rattle.segment_disk.specs.Tape.{Tape, state_now}
@@ -51,10 +51,25 @@ pub record IsWriter {D : Type 0} (tape : D → Option Tape) (writer : Writer D) 
   pub up : writer.fault ≡ None
   pub begun : writer.geometry ≤ writer.written.0
   pub reached : IsReached writer
-  pub made : writer.made ≡ made_upto writer.geometry writer.written.0
+  pub made : made_upto writer.geometry writer.written.0 ≤ writer.made
   pub put : ArePutUpto writer.written.0 pages
-  pub holds : IfSome (tape writer.disk)
-      (λ t. HoldsPut writer.geometry writer.written.0 writer.unsynced (state_now t) pages)
+  pub holds : IfSome (tape writer.disk) (λ t.
+      HoldsPut writer.geometry writer.written.0 writer.made writer.unsynced (state_now t) pages)
+
+-- no segment is made but those that all that is written fills or begins to fill: as in a log that
+-- is new
+abbrev pub IsMadeAsWritten : {D : Type 0} → Writer D → Type 0
+IsMadeAsWritten writer = writer.made ≡ made_upto writer.geometry writer.written.0
+
+-- a disk holds just these pages of a log that is there, all of them durable: all below a position
+-- is written, in segments from 1 to a last one
+pub record HoldsLogPages (size written made : ℕ) (tape : Option Tape) (pages : PutPages)
+    : Type 0 where
+  pub begun : size ≤ written
+  pub reached : written ≤ made * size + size
+  pub made_as_far : made_upto size written ≤ made
+  pub put : ArePutUpto written pages
+  pub holds : IfSome tape (λ t. HoldsPut size written made false (state_now t) pages)
 
 -- each crash from a moment on leaves the pages below a position: their segments, and in them each
 -- word below it as it was put; none of these segments is made anew, since all that is written lies
@@ -66,8 +81,8 @@ IsKept tape writer moment position pages =
     × IfSome (tape writer.disk)
     (TapeAssures size (IsMadeUpto size position) (IsKeptWord position pages) moment)
 
--- each crash from a moment on leaves nothing but what was put: in whatever segment is there, each
--- word is zeros or was put there
+-- each crash from a moment on leaves nothing but what was put, and no call from it on writes
+-- anything else: in whatever segment is there, each word is zeros or was put there
 abbrev pub HoldsOnly : {D : Type 0} → (D → Option Tape) → Writer D → ℕ → PutHistory → Type 0
 HoldsOnly tape writer moment puts =
     IfSome (tape writer.disk) (TapeAssures writer.geometry IsNowhere (IsWordPut puts) moment)

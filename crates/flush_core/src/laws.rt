@@ -1,14 +1,23 @@
 //! Laws of the definitions, each proved by a function that does nothing.
 
-ghost use Rattle.std.specs.Prelude.{ℕ, false};
-ghost use Rattle.segment_disk.specs.Tape.{DiskState};
-ghost use Rattle.segment_disk.specs.DiskImage.{DiskImage, MayLeave};
-ghost use Rattle.flush_core.specs.Pages.{ArePutUpto, HoldsPages, HoldsPut, PutPages, made_upto};
+ghost use Rattle.std.specs.Prelude.{ℕ, ◌<◌, ◌++◌, false, List, length};
+ghost use Rattle.segment_disk.specs.declared.disk.Call.{Call};
+ghost use Rattle.segment_disk.specs.Tape.{DiskState, Tape};
+ghost use Rattle.segment_disk.specs.DiskImage.{DiskImage, LeftAt, MayLeave};
+ghost use Rattle.flush_core.specs.Pages.{ArePutUpto, HoldsPages, HoldsPut, PutPages};
 
 /// A law: where nothing waits for a sync, every image that a crash leaves holds just the pages that
 /// were put.
 pub fn synced_images_hold_what_was_put()
-    ensures { (size written : ℕ) (state : DiskState) (pages : PutPages) (image : DiskImage)
-        → ArePutUpto written pages → HoldsPut size written false state pages → MayLeave state image
-        → HoldsPages size (made_upto size written) image pages }
+    ensures { (size written made : ℕ) (state : DiskState) (pages : PutPages) (image : DiskImage)
+        → ArePutUpto written pages → HoldsPut size written made false state pages
+        → MayLeave state image → HoldsPages size made image pages }
+{}
+
+/// A law: a disk whose calls go on leaves at earlier moments what it left before.
+pub fn later_calls_change_no_earlier_image()
+    ensures { (tape : Tape) (more : List Call) (moment : ℕ) (image : DiskImage)
+        → moment < length tape.calls
+        → LeftAt (record tape { calls = tape.calls ++ more }) moment image
+        → LeftAt tape moment image }
 {}

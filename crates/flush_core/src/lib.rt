@@ -6,5 +6,5 @@ mod laws;
 mod store;
 mod writer;
 
-pub use laws::synced_images_hold_what_was_put;
+pub use laws::{later_calls_change_no_earlier_image, synced_images_hold_what_was_put};
 pub use writer::{DiskFault, Writer};

@@ -1,8 +1,8 @@
 ghost use Rattle.std.specs.Prelude.{◌≡◌, ℕ, ◌+◌, ◌*◌, ◌/◌, ◌%◌, ◌<◌, ◌≤◌, false, max, not, ◌==◌, OnOk, IfOk, IfErr, MatchResult};
 ghost use Rattle.byte_position.specs.Geometry.{pages_of};
-ghost use Rattle.flush_core.specs.Left.{PutHistory, SameBelow, no_puts, with_put};
+ghost use Rattle.flush_core.specs.Left.{PutHistory, SameBelow, first_puts, no_puts, with_put};
 ghost use Rattle.flush_core.specs.Pages.{HoldsNothing, PutPages, no_pages, with_page};
-ghost use Rattle.flush_core.specs.Writer.{HasDone, HoldsOnly, IsKept, IsWriter, TellsFault, calls_to_harden, calls_to_put, disk_of, last_made, writer_fault, is_unsynced, writer_segment_size, written_of};
+ghost use Rattle.flush_core.specs.Writer.{HasDone, HoldsLogPages, HoldsOnly, IsKept, IsMadeAsWritten, IsWriter, TellsFault, calls_to_harden, calls_to_put, disk_of, last_made, writer_fault, is_unsynced, writer_segment_size, written_of};
 
 use crate::store::{place_of, store_page};
 use byte_position::{Geometry, PAGE_SIZE};
@@ -48,6 +48,7 @@ impl<D: Disk> Writer<D> {
         ensures made { last_made result ≡ 0 }
         ensures synced { is_unsynced result ≡ false }
         ensures up { writer_fault result ≡ None }
+        ensures as_written { IsMadeAsWritten result }
         ensures holds { HoldsNothing (D.tape disk) → IsWriter D.tape result no_pages }
         ensures only { HoldsNothing (D.tape disk)
             → HoldsOnly D.tape result (D.moment disk) no_puts }
@@ -57,6 +58,35 @@ impl<D: Disk> Writer<D> {
             geometry,
             written: Lsn(geometry.segment_size()),
             made: 0,
+            unsynced: false,
+            fault: None,
+        }
+    }
+
+    /// A writer of a log that is there already: all below `written` is written and durable, in the
+    /// segments from 1 to `made`. It makes no device call.
+    pub fn resume(disk: D, geometry: Geometry, written: Lsn, made: u64) -> Writer<D>
+        ensures disk { disk_of result ≡ disk }
+        ensures size { writer_segment_size result ≡ geometry }
+        ensures written { written_of result ≡ written.0 }
+        ensures made { last_made result ≡ made }
+        ensures synced { is_unsynced result ≡ false }
+        ensures up { writer_fault result ≡ None }
+        ensures holds { (pages : PutPages)
+            → HoldsLogPages geometry written.0 made (D.tape disk) pages
+            → IsWriter D.tape result pages }
+        ensures kept { (pages : PutPages)
+            → HoldsLogPages geometry written.0 made (D.tape disk) pages
+            → IsKept D.tape result (D.moment disk) written.0 pages }
+        ensures only { (pages : PutPages)
+            → HoldsLogPages geometry written.0 made (D.tape disk) pages
+            → HoldsOnly D.tape result (D.moment disk) (first_puts pages) }
+    {
+        Writer {
+            disk,
+            geometry,
+            written,
+            made,
             unsynced: false,
             fault: None,
         }
@@ -128,6 +158,8 @@ impl<D: Disk> Writer<D> {
             (λ _. last_made self.new
             ≡ max (last_made self.old) (page / pages_of (writer_segment_size self.old)))
             (λ _. last_made self.new ≡ last_made self.old) }
+        ensures as_written { OnOk result (writer_segment_size self.old ≤ written_of self.old
+            → IsMadeAsWritten self.old → IsMadeAsWritten self.new) }
         ensures size { writer_segment_size self.new ≡ writer_segment_size self.old }
         ensures moment_rises { OnOk result
             (D.moment (disk_of self.old) < D.moment (disk_of self.new)) }

@@ -9,7 +9,7 @@ use Rattle.flush_core.specs.declared.writer.Writer.{Writer}
 use Rattle.flush_core.specs.Calls.{BreaksOff}
 use Rattle.flush_core.specs.Pages.{PutPages, with_page}
 use Rattle.flush_core.specs.Left.{PutHistory, SameBelow, with_put}
-use Rattle.flush_core.specs.Writer.{HoldsOnly, IsKept, IsWriter, HasDone, TellsFault, disk_of, writer_segment_size, written_of, writer_fault}
+use Rattle.flush_core.specs.Writer.{HoldsOnly, IsKept, IsMadeAsWritten, IsWriter, HasDone, TellsFault, disk_of, writer_segment_size, written_of, writer_fault}
 use Rattle.serial_log.specs.Ring.{RingState, IsMapped, HoldsWords, ring_word}
 use Rattle.serial_log.specs.Words.{HaveWords, HasWritten, words_upto}
 use Rattle.serial_log.specs.OnDisk.{AreWordOrZero, Preserves}
@@ -44,11 +44,12 @@ HaveWords-put pages word ring written upto end page bytes at rises ends mapped h
 module _ (D : Type 0) (tape : D → Option Tape) (old new : Writer D) where
   -- a page of the ring is put, as far as a position
   pub HasWritten-put : (word : ℕ → ℕ) (ring : RingState) (upto end page : ℕ) (bytes : List ℕ) → page ≡ written_of old / 8192 → Spans ring old upto → written_of old < upto → end ≡ min upto ((page + 1) * 8192) → written_of new ≡ end
-      → ((n : ℕ) → n < 1024 → word_of bytes n ≡ to_le_bytes w64 (ring_word ring page n)) → ((pages : PutPages) → IsWriter tape old pages → IsWriter tape new (with_page pages page bytes))
+      → ((n : ℕ) → n < 1024 → word_of bytes n ≡ to_le_bytes w64 (ring_word ring page n)) → ((pages : PutPages) → IsWriter tape old pages → IsWriter tape new (with_page pages page bytes)) → (writer_segment_size old ≤ written_of old → IsMadeAsWritten old → IsMadeAsWritten new)
       → HoldsWords ring (words_upto word upto) → HasWritten tape old word → HasWritten tape new word
-  HasWritten-put word ring upto end page bytes at spans rises ends written put puts holds has = record {
+  HasWritten-put word ring upto end page bytes at spans rises ends written put puts makes holds has = record {
     pages = with_page has.pages page bytes;
     put = puts has.pages has.put;
+    as_written = makes has.put.begun has.as_written;
     words = subst (λ (n : ℕ). HaveWords (with_page has.pages page bytes) (words_upto word n)) (sym written)
         (HaveWords-put has.pages word ring (written_of old) upto end page bytes at rises ends (omega (arith, spans.mapped_beyond), omega (arith, spans.left_written)) holds put has.words);
   }

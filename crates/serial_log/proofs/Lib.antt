@@ -8,6 +8,9 @@ pub mod CallLaws
 pub mod Copying
 pub mod ShapeLaws
 pub mod LogWords
+pub mod ZeroWords
+pub mod LawfulLaws
+pub mod PromiseLaws
 pub mod LogLaws
 pub mod OpeningLaws
 pub mod SettledLaws

@@ -38,12 +38,12 @@ module _ (size sysid : ℕ) (valid : IsSegmentSize size) where
         | inr behind ↦ words_upto-behind (log_word size sysid es) (end_of size es) address behind ∙ sym (log_word-behind size sysid valid es chained address behind)
       ]
 
-  module _ (es : List Entry) (value : Record) (chained : IsChained size es) (writable : IsWritable value) where
+  module _ (es : List Entry) (pass : ℕ) (value : Record) (chained : IsChained size es) (writable : IsWritable value) where
     abbrev entry : Entry
-    entry = next_entry size es value
+    entry = next_entry size es pass value
 
     abbrev more : List Entry
-    more = with_entry size es value
+    more = with_entry size es pass value
 
     pub chained_more : IsChained size more
     chained_more = IsChained_push size es entry chained refl writable

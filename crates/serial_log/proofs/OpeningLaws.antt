@@ -2,7 +2,7 @@
 use Rattle.std.proofs.Common.{◌≡◌, ℕ, ◌+◌, ◌-◌, ◌*◌, ◌%◌, ◌^◌, ◌≤◌, false, [], take, drop, replicate, length, Option, Some, None, IfSome, refl, sym, ap, subst, ◌∙◌, ◌/◌, inl, inr, add-zero, arith}
 use Rattle.std.specs.Int.{w64, to_le_bytes}
 use Rattle.std.proofs.lemmas.Bool.{cases_lt}
-use Rattle.std.proofs.lemmas.List.{drop-replicate, take-replicate}
+use Rattle.std.proofs.lemmas.List.Elements.{All-nil}
 use Rattle.byte_position.specs.Geometry.{IsSegmentSize, pages_of}
 use Rattle.byte_position.specs.Position.{end_address_of, first_position}
 use Rattle.byte_position.proofs.SegmentSizes.{segment_size_in_pages}
@@ -16,14 +16,18 @@ use Rattle.flush_core.specs.Left.{IsKeptWord, IsMadeUpto, IsNowhere, IsWordPut, 
 use Rattle.segment_disk.specs.DiskImage.{ImageSegment}
 use Rattle.std.proofs.Math.Nat.{div-eq_of_lt}
 use Rattle.std.proofs.lemmas.Option.{IfSome_then}
-use Rattle.serial_log.specs.OnDisk.{moments_of}
-use Rattle.flush_core.specs.Writer.{HoldsOnly, IsReached, IsWriter, disk_of, writer_segment_size, written_of, is_unsynced, writer_fault}
+use Rattle.serial_log.specs.OnDisk.{LeavesOnly, moments_of}
+use Rattle.flush_core.specs.Writer.{HoldsOnly, IsMadeAsWritten, IsReached, IsWriter, disk_of, writer_segment_size, written_of, is_unsynced, writer_fault}
 use Rattle.serial_log.specs.Ring.{RingState, HoldsWords}
 use Rattle.serial_log.specs.Words.{words_upto}
 use Rattle.serial_log.specs.History.{at_opening}
-use Rattle.serial_log.specs.LogState.{IsInOrder, IsLog, PartsReach, end_behind}
+use Rattle.serial_log.specs.LogState.{IsAssured, IsInOrder, IsLog, PartsReach, end_behind}
 use Rattle.serial_log.proofs.RingLaws.{words_upto-below, words_upto-behind}
 use Rattle.serial_log.proofs.LogWords.{HoldsWords-same}
+use Rattle.serial_log.proofs.ZeroWords.{word_of-zero_page}
+use Rattle.serial_log.proofs.PromiseLaws.{LeavesLog-none}
+use Rattle.flush_core.proofs.LeftLaws.{TapeAssures-weaker}
+use Rattle.serial_log.specs.Promises.{LeavesLog}
 
 -- a log without entries has no words
 no_words : (size sysid : ℕ) → IsSegmentSize size → (address : ℕ) → address % 8 ≡ 0 → log_word size sysid [] address ≡ 0
@@ -36,29 +40,18 @@ no_words_upto size sysid upto valid address whole =
       | inr behind ↦ words_upto-behind (log_word size sysid []) upto address behind
     ]
 
--- the words of a page of zeros
-word_of-zeros : (m k : ℕ) → k + 8 ≤ m → take 8 (drop k (replicate {A = ℕ} m 0)) ≡ replicate {A = ℕ} 8 0
-word_of-zeros m k within = ap (take 8) (drop-replicate {X = ℕ} k m 0) ∙ take-replicate {X = ℕ} 8 (m - k) 0 (omega arith)
-
 -- where a log begins and ends
 pub end_behind-none : (size : ℕ) → IsSegmentSize size → end_behind size 0 ≡ size
 end_behind-none size valid = ap (end_address_of size) (add-zero (first_position size)) ∙ end_address_of-first_position size valid
 
 -- what a disk that held nothing leaves before anything was put: no segment need be there, and each word is zero
-module _ (size position : ℕ) (none : (segment : ℕ) → IsMadeUpto size position segment → ⊥) where
-  segment_assured : (segment : ℕ) (s : Option Segment) → SegmentAssures size IsNowhere (IsWordPut no_puts) segment s → SegmentAssures size (IsMadeUpto size position) (IsKeptWord position no_pages) segment s
-  segment_assured segment None assures = none segment
-  segment_assured segment (Some s) assures = (assures.0, λ page word within lt bytes which low. assures.1 page word within lt bytes which)
-
-  segment_fits : (segment : ℕ) (i : Option ImageSegment) → SegmentFits size IsNowhere (IsWordPut no_puts) segment i → SegmentFits size (IsMadeUpto size position) (IsKeptWord position no_pages) segment i
-  segment_fits segment None fits = none segment
-  segment_fits segment (Some i) fits = (fits.0, λ page word within lt low. fits.1 page word within lt)
-
 kept_of_none : (size position moment : ℕ) (t : Tape) → ((segment : ℕ) → IsMadeUpto size position segment → ⊥) → TapeAssures size IsNowhere (IsWordPut no_puts) moment t → TapeAssures size (IsMadeUpto size position) (IsKeptWord position no_pages) moment t
-kept_of_none size position moment t none left = record {
-  now = λ segment. segment_assured size position none segment (state_now t segment) (left.now segment);
-  left = λ m from image leaves segment. segment_fits size position none segment (image segment) (left.left m from image leaves segment);
-}
+kept_of_none size position moment t none left = TapeAssures-weaker size IsNowhere (IsWordPut no_puts) (IsMadeUpto size position) (IsKeptWord position no_pages) none (λ page word bytes put below. put) moment t left
+
+-- the moment of an opening is one of the disk's
+at_opening_moment : (before : Option Tape) (moment : ℕ) → IfSome before (λ t. moment ≡ length t.calls) → IfSome before (λ t. (moments_of before ≤ moment) × (moment ≤ length t.calls))
+at_opening_moment None moment counts = tt
+at_opening_moment (Some t) moment counts = (omega (arith, counts), omega (arith, counts))
 
 -- the moment of an opening is how many calls the disk had counted
 at_moments : {D : Type 0} (tape : D → Option Tape) (writer : Writer D) (moment : ℕ) (before : Option Tape) → tape (disk_of writer) ≡ before → IfSome before (λ t. moment ≡ length t.calls) → HoldsOnly tape writer moment no_puts → HoldsOnly tape writer (moments_of before) no_puts
@@ -102,9 +95,9 @@ module _ (D : Type 0) (size pages : ℕ) (ring : RingState) (writer : Writer D) 
   }
 
   pub IsLog-opened : (tape : D → Option Tape) (faults : D → ℕ) (disk : D) (capacity sysid flushed moment : ℕ) → writer_segment_size writer ≡ size → disk_of writer ≡ disk → writer_fault writer ≡ None → flushed ≡ size → HoldsWords ring (λ address. 0)
-      → (HoldsNothing (tape disk) → IsWriter tape writer no_pages) → (HoldsNothing (tape disk) → HoldsOnly tape writer moment no_puts) → IfSome (tape disk) (λ t. moment ≡ length t.calls)
+      → IsMadeAsWritten writer → (HoldsNothing (tape disk) → IsWriter tape writer no_pages) → (HoldsNothing (tape disk) → HoldsOnly tape writer moment no_puts) → IfSome (tape disk) (λ t. moment ≡ length t.calls)
       → IsLog tape faults (tape disk) (faults disk) (record { size = size; capacity = capacity; sysid = sysid; ring = ring; writer = writer; bytes = 0; prev = 0; flushed = flushed; moment = moment }) (at_opening size)
-  IsLog-opened tape faults disk capacity sysid flushed moment same_size same_disk up begun zeros is only counts = record {
+  IsLog-opened tape faults disk capacity sysid flushed moment same_size same_disk up begun zeros as_written is only counts = record {
     valid = valid;
     same_size = same_size;
     chained = tt;
@@ -120,19 +113,32 @@ module _ (D : Type 0) (size pages : ℕ) (ring : RingState) (writer : Writer D) 
       written = λ empty. record {
         pages = no_pages;
         put = is empty;
-        words = record { each = λ page n lt. word_of-zeros 8192 (8 * n) (omega arith) ∙ ap (to_le_bytes w64) (sym (no_words_upto size sysid (written_of writer) valid (page * 8192 + 8 * n) (omega arith))) };
+        as_written = as_written;
+        words = record { each = λ page n lt. word_of-zero_page n lt ∙ ap (to_le_bytes w64) (sym (no_words_upto size sysid (written_of writer) valid (page * 8192 + 8 * n) (omega arith))) };
       };
     };
-    left = λ empty. record {
-      only = record {
-        puts = no_puts;
-        left = at_moments tape writer moment (tape disk) (ap tape same_disk) counts (only empty);
-        words = λ page n lt. tt;
-      };
+    left = λ empty.
+        subst (λ (o : Option Tape). IfSome (tape (disk_of writer)) (LeavesLog size sysid (moments_of o) [] [])) refl
+        (LeavesLog-none D tape (record { size = size; capacity = capacity; sysid = sysid; ring = ring; writer = writer; bytes = 0; prev = 0; flushed = flushed; moment = moment }) [] valid same_size tt (moments_of (tape disk)) (only_none empty));
+    assured = λ empty. record {
+      only = only_none empty;
       kept = record {
         pages = no_pages;
         left = (reached same_size, IfSome_then (tape (disk_of writer)) (only empty) (λ t left. kept_of_none writer.geometry flushed moment t (at_start flushed begun same_size) left));
-        words = λ page n lt end. word_of-zeros 8192 (8 * n) (omega arith) ∙ ap (to_le_bytes w64) (sym (no_words size sysid valid (page * 8192 + 8 * n) (omega arith)));
+        words = λ page n lt end. word_of-zero_page n lt ∙ ap (to_le_bytes w64) (sym (no_words size sysid valid (page * 8192 + 8 * n) (omega arith)));
       };
+      whole = begun_whole;
+      since = subst (λ (o : Option Tape). IfSome o (λ t. (moments_of (tape disk) ≤ moment) × (moment ≤ length t.calls))) (sym (ap tape same_disk)) (at_opening_moment (tape disk) moment counts);
+      promised = All-nil (IsAssured tape (record { size = size; capacity = capacity; sysid = sysid; ring = ring; writer = writer; bytes = 0; prev = 0; flushed = flushed; moment = moment }) []);
     };
   }
+    where
+      only_none : HoldsNothing (tape disk) → LeavesOnly tape writer (moments_of (tape disk)) (log_word size sysid [])
+      only_none empty = record {
+        puts = no_puts;
+        left = at_moments tape writer moment (tape disk) (ap tape same_disk) counts (only empty);
+        words = λ page n lt. tt;
+      }
+
+      begun_whole : flushed % 8 ≡ 0
+      begun_whole = let whole = segment_size_in_pages size valid in omega (arith, begun, whole.0)

@@ -9,19 +9,19 @@ use Rattle.log_answers.specs.declared.Refused.{Refused}
 use Rattle.log_answers.specs.declared.Cause.{Cause}
 use Rattle.log_answers.specs.declared.Cause.TheVariants.{Full, Disk, Down}
 use Rattle.wal_page.specs.Order.{finish_of}
-use Rattle.serial_log.specs.History.{LogHistory, end_of, next_entry, with_entry}
+use Rattle.serial_log.specs.History.{LogHistory, end_of, next_entry, with_entry, with_promise}
 use Rattle.serial_log.specs.LogState.{IsSameLog, LogState}
 use Rattle.serial_log.specs.Steps.{Commits, HasFlushed, HasInserted, InsertsThenFlushes, IsReserved, RefusesFlush, RefusesRecord}
 
 -- ---- how a commit is made
 
-module _ (size capacity faults_at_open : ℕ) (s mid after : LogHistory) (value : Record) (receipt : Receipt) (inserted : HasInserted size capacity s value receipt.start.0 receipt.end.0 mid) where
-  pub InsertsThenFlushes-ok : (hard : Hard) → receipt.end.0 ≡ end_of size (with_entry size s.entries value) → HasFlushed size mid receipt.end.0 hard.upto.0 after
-      → InsertsThenFlushes size capacity faults_at_open s value receipt (Ok (record { upto = receipt.end; moment = hard.moment })) after
+module _ (size capacity faults_at_open : ℕ) (s mid after : LogHistory) (pass : ℕ) (value : Record) (receipt : Receipt) (inserted : HasInserted size capacity s pass value receipt.start.0 receipt.end.0 mid) where
+  pub InsertsThenFlushes-ok : (hard : Hard) → receipt.end.0 ≡ end_of size (with_entry size s.entries pass value) → HasFlushed size mid receipt.end.0 hard.upto.0 hard.moment after
+      → InsertsThenFlushes size capacity faults_at_open s pass value receipt (Ok (record { upto = receipt.end; moment = hard.moment })) after
   InsertsThenFlushes-ok hard end_is flushed =
       let end : end_of size mid.entries ≡ receipt.end.0 = ap (λ (m : LogHistory). end_of size m.entries) inserted.after_is ∙ sym end_is in
       let same : hard.upto.0 ≡ receipt.end.0 = elim flushed.upto_is [ inl reached ↦ omega (arith, flushed.within, end, reached.0, reached.1) | inr all ↦ all.1 ∙ end ] in
-      record { between = mid; inserts = inserted; flushes = subst (λ (n : ℕ). HasFlushed size mid receipt.end.0 n after) same flushed }
+      record { between = mid; inserts = inserted; flushes = subst (λ (n : ℕ). HasFlushed size mid receipt.end.0 n hard.moment after) same flushed }
 
   -- a flush names no record
   unnamed : (cause : Cause) (reserved : Option Lsn) → RefusesFlush faults_at_open mid receipt.end.0 cause reserved after → RefusesFlush faults_at_open mid receipt.end.0 cause None after
@@ -32,27 +32,27 @@ module _ (size capacity faults_at_open : ℕ) (s mid after : LogHistory) (value 
   unnamed (Down faults) (Some start) refuses = absurd refuses
 
   pub InsertsThenFlushes-err : (refused : Refused) → RefusesFlush faults_at_open mid receipt.end.0 refused.cause refused.reserved after
-      → InsertsThenFlushes size capacity faults_at_open s value receipt (Err (record { cause = refused.cause; reserved = None })) after
+      → InsertsThenFlushes size capacity faults_at_open s pass value receipt (Err (record { cause = refused.cause; reserved = None })) after
   InsertsThenFlushes-err refused refuses = record { between = mid; inserts = inserted; flushes = unnamed refused.cause refused.reserved refuses }
 
 -- ---- what follows of a commit
 
--- the record is in the log, which is flushed to its end
-pub record HasCommitted (size capacity : ℕ) (before : LogHistory) (value : Record) (start end : ℕ) (after : LogHistory) : Type 0 where
-  pub reserved : IsReserved size capacity before value start
-  pub end_is : end ≡ finish_of size (next_entry size before.entries value)
-  pub after_is : after ≡ record before { entries = with_entry size before.entries value; flushed = end }
+-- the record is in the log, which is flushed to its end, and that is told
+pub record HasCommitted (size capacity : ℕ) (before : LogHistory) (pass : ℕ) (value : Record) (start end moment : ℕ) (after : LogHistory) : Type 0 where
+  pub reserved : IsReserved size capacity before pass value start
+  pub end_is : end ≡ finish_of size (next_entry size before.entries pass value)
+  pub after_is : after ≡ with_promise (record before { entries = with_entry size before.entries pass value }) end moment
 
-module _ (size capacity faults_at_open : ℕ) (s after : LogHistory) (value : Record) where
-  pub HasCommitted-of : (sealed : Sealed) → Commits size capacity faults_at_open s value (Ok sealed) after → HasCommitted size capacity s value sealed.start.0 sealed.end.0 after
+module _ (size capacity faults_at_open : ℕ) (s after : LogHistory) (pass : ℕ) (value : Record) where
+  pub HasCommitted-of : (sealed : Sealed) → Commits size capacity faults_at_open s pass value (Ok sealed) after → HasCommitted size capacity s pass value sealed.start.0 sealed.end.0 sealed.moment after
   HasCommitted-of sealed commits = record {
     reserved = commits.inserts.reserved;
     end_is = commits.inserts.end_is;
-    after_is = commits.flushes.after_is ∙ ap (λ (m : LogHistory). record m { flushed = sealed.end.0 }) commits.inserts.after_is;
+    after_is = commits.flushes.after_is ∙ ap (λ (m : LogHistory). with_promise m sealed.end.0 sealed.moment) commits.inserts.after_is;
   }
 
-  refuses_at : (receipt : Receipt) (cause : Cause) (reserved : Option Lsn) → reserved ≡ Some receipt.start → InsertsThenFlushes size capacity faults_at_open s value receipt (Err (record { cause = cause; reserved = None })) after
-      → RefusesRecord size capacity faults_at_open s value cause (Some receipt.start) after
+  refuses_at : (receipt : Receipt) (cause : Cause) (reserved : Option Lsn) → reserved ≡ Some receipt.start → InsertsThenFlushes size capacity faults_at_open s pass value receipt (Err (record { cause = cause; reserved = None })) after
+      → RefusesRecord size capacity faults_at_open s pass value cause (Some receipt.start) after
   refuses_at receipt (Full free) reserved named then_flushes = absurd then_flushes.flushes
   refuses_at receipt (Disk faults) reserved named then_flushes = record {
     reserved = then_flushes.inserts.reserved;
@@ -63,10 +63,10 @@ module _ (size capacity faults_at_open : ℕ) (s after : LogHistory) (value : Re
       let up : then_flushes.between.down ≡ None = ap (λ (m : LogHistory). m.down) then_flushes.inserts.after_is ∙ then_flushes.inserts.reserved.up in
       absurd (let differ : None ≡ Some faults = sym up ∙ then_flushes.flushes.down in cc)
 
-  pub RefusesRecord-of : (refused : Refused) → Commits size capacity faults_at_open s value (Err refused) after → RefusesRecord size capacity faults_at_open s value refused.cause refused.reserved after
+  pub RefusesRecord-of : (refused : Refused) → Commits size capacity faults_at_open s pass value (Err refused) after → RefusesRecord size capacity faults_at_open s pass value refused.cause refused.reserved after
   RefusesRecord-of refused (inl refuses) = refuses
   RefusesRecord-of refused (inr (receipt, named, then_flushes)) =
-      subst (λ (reserved : Option Lsn). RefusesRecord size capacity faults_at_open s value refused.cause reserved after) (sym named) (refuses_at receipt refused.cause refused.reserved named then_flushes)
+      subst (λ (reserved : Option Lsn). RefusesRecord size capacity faults_at_open s pass value refused.cause reserved after) (sym named) (refuses_at receipt refused.cause refused.reserved named then_flushes)
 
 -- ---- two calls of the same log
 

@@ -5,9 +5,9 @@ use Rattle.segment_disk.specs.Cause.{Rose}
 use Rattle.segment_disk.specs.Tape.{Tape}
 use Rattle.flush_core.specs.declared.writer.Writer.{Writer}
 use Rattle.segment_disk.specs.declared.disk.Call.{Call}
-use Rattle.flush_core.specs.Pages.{PutPages}
+use Rattle.flush_core.specs.Pages.{PutPages, made_upto}
 use Rattle.flush_core.specs.Left.{PutHistory}
-use Rattle.flush_core.specs.Writer.{HasDone, HoldsOnly, IsKept, IsWriter, disk_of, written_of, writer_fault, writer_segment_size}
+use Rattle.flush_core.specs.Writer.{HasDone, HoldsOnly, IsKept, IsWriter, disk_of, last_made, written_of, writer_fault, writer_segment_size}
 use Rattle.serial_log.specs.Words.{HasWritten, HaveWords, words_upto}
 use Rattle.serial_log.specs.OnDisk.{KeepsBelow, Preserves}
 use Rattle.serial_log.proofs.RingLaws.{words_upto-below}
@@ -76,14 +76,14 @@ module _ (D : Type 0) (tape : D → Option Tape) (moment faults : D → ℕ) whe
     }
 
     -- what is written is synced
-    pub WritesOn-synced : (a b c : Writer D) (calls : List Call) → WritesOn tape moment faults Has a b → HasDone tape moment faults b c calls → writer_segment_size c ≡ writer_segment_size b → written_of c ≡ written_of b → moment (disk_of b) ≤ moment (disk_of c)
+    pub WritesOn-synced : (a b c : Writer D) (calls : List Call) → WritesOn tape moment faults Has a b → HasDone tape moment faults b c calls → writer_segment_size c ≡ writer_segment_size b → written_of c ≡ written_of b → last_made c ≡ last_made b → moment (disk_of b) ≤ moment (disk_of c)
         → ((pages : PutPages) → IsWriter tape b pages → IsWriter tape c pages) → Preserves tape Has b c → WritesOn tape moment faults Has a c
-    WritesOn-synced a b c calls first done size same never holds preserves = WritesOn-then a b c first (record {
+    WritesOn-synced a b c calls first done size same same_made never holds preserves = WritesOn-then a b c first (record {
       up = record { size = size; up = done.is_up; faults_same = done.quiet };
       moment_never_falls = never;
       moment_rises = λ more. absurd (omega arith);
       written_never_falls = omega arith;
-      words = λ word has written. record { pages = written.pages; put = holds written.pages written.put; words = subst (λ (n : ℕ). HaveWords written.pages (words_upto word n)) (sym same) written.words };
+      words = λ word has written. record { pages = written.pages; put = holds written.pages written.put; as_written = same_made ∙ written.as_written ∙ ap (λ (n : ℕ). made_upto n (written_of b)) (sym size) ∙ ap (made_upto (writer_segment_size c)) (sym same); words = subst (λ (n : ℕ). HaveWords written.pages (words_upto word n)) (sym same) written.words };
       preserves = preserves;
     })
 

@@ -23,14 +23,14 @@ pub record InsertLeaves {D : Type 0} (tape : D → Option Tape) (moment faults :
   pub end : IfOk answer (λ receipt. receipt.end.0 ≡ log_end new)
   pub moment_never_falls : moment (log_disk old) ≤ moment (log_disk new)
 
--- a flush, and a commit, leaves what was flushed as it was and ends its writes with a sync; where
--- it is refused, it tells no moment
+-- a flush, and a commit, leaves what was flushed as it was and ends its writes with a sync, or does
+-- nothing; where it is refused, it tells no moment
 pub record FlushLeaves {D T : Type 0} (tape : D → Option Tape) (moment faults : D → ℕ)
     (old new : LogState D) (answer : Result T Refused) : Type 0 where
   pub keeps : KeepsFlushed tape faults old new
   pub calls : MatchResult answer
-      (λ _. MakesFlush tape moment old.writer new.writer)
-      (λ _. MakesFlush tape moment old.writer new.writer
+      (λ _. MakesFlush tape moment old.writer new.writer ⊎ (new ≡ old))
+      (λ _. MakesWrites tape moment old.writer new.writer
       ⊎ BreaksFlush tape moment old.writer new.writer)
   pub same_log : IsSameLog old new
   pub told_moment_same : OnErr answer (new.moment ≡ old.moment)

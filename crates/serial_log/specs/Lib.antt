@@ -6,6 +6,7 @@ pub mod Buffers
 pub mod Shape
 pub mod LogMemory
 pub mod History
+pub mod Promises
 pub mod Steps
 pub mod LogState
 pub mod Refusing

@@ -1,28 +1,28 @@
 -- Images and disks that hold a log whole.
-use Rattle.std.specs.Prelude.{◌≡◌, ℕ, ◌+◌, ◌-◌, ◌*◌, ◌/◌, ◌<◌, ◌≤◌, ◌⊎◌, List, Option, Some, None}
+use Rattle.std.specs.Prelude.{◌≡◌, ℕ, ◌-◌, ◌/◌, ◌<◌, ◌≤◌, ◌⊎◌, List, length, None}
+use Rattle.std.specs.Option.{IsSomeAnd}
 use Rattle.byte_position.specs.Geometry.{pages_of}
 use Rattle.segment_disk.specs.Tape.{Tape, state_now}
 use Rattle.segment_disk.specs.DiskImage.{DiskImage, ImageSegment, MayLeave, image_as_read}
 use Rattle.wal_page.specs.Order.{Entry}
-use Rattle.wal_page.specs.LogPage.{IsLogPage}
+use Rattle.lawful_image.specs.Lawful.{IsLawful}
 use Rattle.serial_log.specs.History.{end_of}
 
 -- the last segment that a log with these entries fills or begins to fill; 0 where there is none
 abbrev pub last_segment : ℕ → List Entry → ℕ
 last_segment size es = (end_of size es - 1) / size
 
--- a segment of an image has all its pages, and each is the log's
-abbrev pub HoldsLogSegment : ℕ → ℕ → List Entry → ℕ → Option ImageSegment → Type 0
-HoldsLogSegment size sysid es segment None = ⊥
-HoldsLogSegment size sysid es segment (Some i) = (i.pages ≡ pages_of size)
-    × ((page : ℕ) → page < pages_of size
-    → IsLogPage size sysid es (segment * pages_of size + page) (i.page page))
+-- a segment of an image is there with all its pages, each whole
+abbrev pub IsWholeSegment : ℕ → ImageSegment → Type 0
+IsWholeSegment size i = (i.pages ≡ pages_of size)
+    × ((page : ℕ) → page < pages_of size → length (i.page page) ≡ 8192)
 
--- an image is that of the whole log with these entries: the segments from 1 to its last one, and no
--- other
+-- an image is that of the whole log with these entries: it has the log's words to its end, and the
+-- segments from 1 to its last one, whole, and no other
 pub record IsLogImage (size sysid : ℕ) (es : List Entry) (image : DiskImage) : Type 0 where
+  pub lawful : IsLawful size sysid image es (end_of size es)
   pub there : (segment : ℕ) → 1 ≤ segment → segment ≤ last_segment size es
-      → HoldsLogSegment size sysid es segment (image segment)
+      → IsSomeAnd (image segment) (IsWholeSegment size)
   pub others : (segment : ℕ) → (segment ≡ 0) ⊎ (last_segment size es < segment)
       → image segment ≡ None
 

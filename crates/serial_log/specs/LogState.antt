@@ -1,5 +1,5 @@
 -- The state of a log between two calls.
-use Rattle.std.specs.Prelude.{◌≡◌, ℕ, ◌+◌, ◌%◌, ◌^◌, ◌<◌, ◌≤◌, false, List, Option, Some, None}
+use Rattle.std.specs.Prelude.{◌≡◌, ℕ, ◌+◌, ◌%◌, ◌^◌, ◌<◌, ◌≤◌, false, All, List, length, Option, Some, None, IfSome}
 use Rattle.byte_position.specs.Geometry.{IsSegmentSize}
 use Rattle.byte_position.specs.Position.{end_address_of, first_position}
 use Rattle.segment_disk.specs.Cause.{Rose}
@@ -13,7 +13,8 @@ use Rattle.serial_log.specs.Ring.{RingState, HoldsWords}
 use Rattle.serial_log.specs.Words.{HasWritten}
 use Rattle.serial_log.specs.OnDisk.{KeepsBelow, LeavesOnly, moments_of}
 use Rattle.serial_log.specs.Buffers.{Spans}
-use Rattle.serial_log.specs.History.{LogHistory}
+use Rattle.serial_log.specs.History.{LogHistory, Promise}
+use Rattle.serial_log.specs.Promises.{LeavesLog}
 
 -- a log: its segments' size, how many bytes its records may take up, its system id, its last pages
 -- in memory, its disk's writer, how many bytes its records take up, the last one's start (0 for
@@ -90,12 +91,25 @@ IsUpOrDown tape faults tape_at_open faults_at_open log es None =
 IsUpOrDown tape faults tape_at_open faults_at_open log es (Some down) =
     IsDown faults faults_at_open log down
 
--- what every crash leaves of a log on a disk that held nothing when it was opened: from then on
--- nothing but its words and zeros, and from the moment told last on all that is flushed
-pub record LeavesLog {D : Type 0} (tape : D → Option Tape) (tape_at_open : Option Tape)
-    (log : LogState D) (es : List Entry) : Type 0 where
+-- a promise that a log's writer assures: it was flushed so far, and is kept from its moment on
+pub record IsAssured {D : Type 0} (tape : D → Option Tape) (log : LogState D) (es : List Entry)
+    (promise : Promise) : Type 0 where
+  pub flushed : promise.upto ≤ log.flushed
+  pub whole : promise.upto % 8 ≡ 0
+  pub kept : KeepsBelow tape log.writer promise.moment promise.upto
+      (log_word log.size log.sysid es)
+
+-- what a log's writer assures of every crash, where its disk held nothing when the log was opened:
+-- nothing is left but the log's words and zeros, all that is flushed from the moment told last on,
+-- and what each promise says from its own on. `LeavesLog` follows, and it goes from call to call
+pub record AssuresLog {D : Type 0} (tape : D → Option Tape) (tape_at_open : Option Tape)
+    (log : LogState D) (es : List Entry) (promises : List Promise) : Type 0 where
   pub only : LeavesOnly tape log.writer (moments_of tape_at_open) (log_word log.size log.sysid es)
   pub kept : KeepsBelow tape log.writer log.moment log.flushed (log_word log.size log.sysid es)
+  pub whole : log.flushed % 8 ≡ 0
+  pub since : IfSome (tape (log_disk log))
+      (λ t. (moments_of tape_at_open ≤ log.moment) × (log.moment ≤ length t.calls))
+  pub promised : All (λ promise. IsAssured tape log es promise) promises
 
 -- a log that was opened on a disk with this tape and count of faults stands at this history
 pub record IsLog {D : Type 0} (tape : D → Option Tape) (faults : D → ℕ)
@@ -110,7 +124,10 @@ pub record IsLog {D : Type 0} (tape : D → Option Tape) (faults : D → ℕ)
   pub flushed : log.flushed ≡ s.flushed
   pub down : writer_fault log.writer ≡ s.down
   pub state : IsUpOrDown tape faults tape_at_open faults_at_open log s.entries s.down
-  pub left : HoldsNothing tape_at_open → LeavesLog tape tape_at_open log s.entries
+  pub left : HoldsNothing tape_at_open → IfSome (tape (log_disk log))
+      (LeavesLog log.size log.sysid (moments_of tape_at_open) s.entries s.promises)
+  pub assured : HoldsNothing tape_at_open
+      → AssuresLog tape tape_at_open log s.entries s.promises
 
 -- whatever disk a log was opened on, and whatever history it stands at: a call takes it to a
 -- history as the step says, which is told the count of faults at the opening and both histories

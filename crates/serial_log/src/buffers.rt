@@ -2,7 +2,7 @@ ghost use Rattle.std.specs.Prelude.{◌≡◌, ℕ, ◌+◌, ◌*◌, ◌/◌, �
 ghost use Rattle.wal_page.specs.Placed.{placed_end};
 ghost use Rattle.flush_core.specs.Pages.{HoldsNothing, no_pages};
 ghost use Rattle.flush_core.specs.Left.{no_puts};
-ghost use Rattle.flush_core.specs.Writer.{HoldsOnly, IsWriter, disk_of, writer_fault, writer_segment_size, is_unsynced, written_of};
+ghost use Rattle.flush_core.specs.Writer.{HoldsOnly, IsMadeAsWritten, IsWriter, disk_of, writer_fault, writer_segment_size, is_unsynced, written_of};
 ghost use Rattle.serial_log.specs.DeviceCalls.{BreaksFlush, MakesFlush};
 ghost use Rattle.serial_log.specs.OnDisk.{KeepsBelow};
 ghost use Rattle.serial_log.specs.Words.{HasWritten};
@@ -47,6 +47,7 @@ impl<D: Disk> Buffers<D> {
         ensures written { written_of result.writer ≡ geometry }
         ensures synced { is_unsynced result.writer ≡ false }
         ensures up { writer_fault result.writer ≡ None }
+        ensures as_written { IsMadeAsWritten result.writer }
         ensures pages { HoldsNothing (D.tape disk) → IsWriter D.tape result.writer no_pages }
         ensures only { HoldsNothing (D.tape disk)
             → HoldsOnly D.tape result.writer (D.moment disk) no_puts }

@@ -3,7 +3,10 @@ ghost use Rattle.segment_disk.specs.Tape.{Tape, page_of_segment, state_now};
 ghost use Rattle.record_spelling.specs.Spelling.{RecordOf, assembled_room};
 ghost use Rattle.flush_core.specs.Pages.{HoldsNothing};
 ghost use Rattle.flush_core.specs.Writer.{writer_fault};
+ghost use Rattle.serial_log.specs.DeviceCalls.{MakesFlush};
 ghost use Rattle.serial_log.specs.LogImage.{HoldsLog};
+ghost use Rattle.serial_log.specs.OnDisk.{moments_of};
+ghost use Rattle.serial_log.specs.Promises.{LeavesLog};
 ghost use Rattle.serial_log.specs.LogState.{IsLog, HasUnwritten, StepsLog, log_disk, log_end};
 ghost use Rattle.segment_disk.specs.Tape.{IsUncalled};
 ghost use Rattle.serial_log.specs.Opening.{RefusesToOpen};
@@ -134,6 +137,11 @@ impl<D: Disk> Log<D> {
             → IsLog D.tape D.faults tape_at_open faults_at_open self s
             → HoldsNothing tape_at_open → s.down ≡ None → s.flushed ≡ end_of self.size s.entries
             → IfSome (D.tape result) (λ t. HoldsLog self.size self.sysid s.entries t) }
+        ensures left { (tape_at_open : Option Tape) (faults_at_open : ℕ) (s : LogHistory)
+            → IsLog D.tape D.faults tape_at_open faults_at_open self s
+            → HoldsNothing tape_at_open
+            → IfSome (D.tape result) (LeavesLog self.size self.sysid (moments_of tape_at_open)
+            s.entries s.promises) }
     {
         self.buffers.into_disk()
     }
@@ -163,9 +171,9 @@ impl<D: Disk> Log<D> {
     /// Puts a record behind the others. It is not durable before a flush.
     #[tactic(auto, using(crate::proofs::CallLaws::makes_no_writes))]
     pub fn insert(&mut self, body: &Body) -> Result<Receipt, Refused>
-        ensures inserts { (known : RecordOf body.now)
+        ensures inserts { (pass : ℕ) (known : RecordOf body.now)
             → StepsLog D.tape D.faults self.old self.new (λ faults_at_open before after.
-            Inserts self.old.size self.old.capacity faults_at_open before known.value
+            Inserts self.old.size self.old.capacity faults_at_open before pass known.value
             result after) }
         ensures known { RecordOf body.now }
         ensures down_again { IfSome (writer_fault self.old.writer) (λ faults.
@@ -187,7 +195,7 @@ impl<D: Disk> Log<D> {
     /// Makes all records durable, where the log is not flushed as far as the position asked for,
     /// and answers how far it is. A position above the log's end is never reached: then the log is
     /// flushed to its end, and the answer's position tells so.
-    #[tactic(auto, using(crate::proofs::CallLaws::makes_no_flush))]
+    #[tactic(auto, using(crate::proofs::CallLaws::makes_no_writes))]
     pub fn flush(&mut self, upto: Lsn) -> Result<Hard, Refused>
         ensures flushes { StepsLog D.tape D.faults self.old self.new (λ faults_at_open before after.
             Flushes self.old.size faults_at_open before upto.0 result after) }
@@ -198,6 +206,8 @@ impl<D: Disk> Log<D> {
         ensures flushed { OnOk result (log_end self.old ≤ upto.0
             → self.new.flushed ≡ log_end self.new) }
         ensures tells_moment { IfOk result (λ hard. hard.moment ≡ self.new.moment) }
+        ensures makes { OnOk result (self.old.flushed < upto.0 → self.old.flushed < log_end self.old
+            → MakesFlush D.tape D.moment self.old.writer self.new.writer) }
         ensures reached { (upto.0 ≤ self.old.flushed) ⊎ (self.old.flushed ≡ log_end self.old)
             → self.new ≡ self.old }
         ensures tells_disk_moment { OnOk result (self.old.flushed < upto.0
@@ -219,14 +229,16 @@ impl<D: Disk> Log<D> {
 
     /// Puts a record behind the others, and makes all of them durable: an insert, then a flush.
     pub fn commit(&mut self, body: &Body) -> Result<Sealed, Refused>
-        ensures commits { (known : RecordOf body.now)
+        ensures commits { (pass : ℕ) (known : RecordOf body.now)
             → StepsLog D.tape D.faults self.old self.new (λ faults_at_open before after.
-            Commits self.old.size self.old.capacity faults_at_open before known.value
+            Commits self.old.size self.old.capacity faults_at_open before pass known.value
             result after) }
         ensures known { RecordOf body.now }
         ensures down_again { IfSome (writer_fault self.old.writer) (λ faults.
             (result ≡ Err (down_again faults)) × (self.new ≡ self.old)) }
         ensures leaves { FlushLeaves D.tape D.moment D.faults self.old self.new result }
+        ensures makes { OnOk result
+            (MakesFlush D.tape D.moment self.old.writer self.new.writer) }
         ensures left_by_refusal { IfErr result (λ refused.
             IsLeftBy refused.cause self.old self.new) }
         ensures flushed { OnOk result (self.new.flushed ≡ log_end self.new) }
@@ -268,9 +280,9 @@ impl<D: Disk> Log<D> {
     fn append(&mut self, body: &Body) -> Result<Receipt, Refused>
         requires up { writer_fault self.old.writer ≡ None }
         requires fits { self.old.bytes + assembled_room body.now ≤ self.old.capacity }
-        ensures inserts { (known : RecordOf body.now)
+        ensures inserts { (pass : ℕ) (known : RecordOf body.now)
             → StepsLog D.tape D.faults self.old self.new (λ faults_at_open before after.
-            Inserts self.old.size self.old.capacity faults_at_open before known.value
+            Inserts self.old.size self.old.capacity faults_at_open before pass known.value
             result after) }
         ensures leaves { InsertLeaves D.tape D.moment D.faults self.old self.new result }
     {
@@ -297,6 +309,8 @@ impl<D: Disk> Log<D> {
         ensures flushes { StepsLog D.tape D.faults self.old self.new (λ faults_at_open before after.
             Flushes self.old.size faults_at_open before asked.0 result after) }
         ensures leaves { FlushLeaves D.tape D.moment D.faults self.old self.new result }
+        ensures makes { OnOk result
+            (MakesFlush D.tape D.moment self.old.writer self.new.writer) }
         ensures has_failed { IfErr result (λ refused. HasFailed refused.cause self.new) }
         ensures flushed { OnOk result (self.new.flushed ≡ log_end self.new) }
         ensures tells_moment { IfOk result (λ hard. hard.moment ≡ self.new.moment) }

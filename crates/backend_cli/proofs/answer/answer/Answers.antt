@@ -14,14 +14,14 @@ returns-in-Insert-clause-steps g c =
     let log = c.args.log.now in
     λ action does tape_at_open faults_at_open s is_log.
     insert_steps log.size log.capacity faults_at_open s (IsLog g.D.Disk.tape g.D.Disk.faults tape_at_open faults_at_open c.insert.new.self) c.of_insert.result action c.args.action.now c.in-Insert.body c.insert.result c.in-Insert.is c.of_insert.ensures does
-    (λ value is writable. c.insert.ensures.inserts (record { value = value; writable = writable; same = is }) tape_at_open faults_at_open s is_log)
+    (λ value is writable. c.insert.ensures.inserts 0 (record { value = value; writable = writable; same = is }) tape_at_open faults_at_open s is_log)
 
 pub returns-in-Commit-clause-steps : goal.returns-in-Commit-clause-steps
 returns-in-Commit-clause-steps g c =
     let log = c.args.log.now in
     λ action does tape_at_open faults_at_open s is_log.
     commit_steps log.size log.capacity faults_at_open s (IsLog g.D.Disk.tape g.D.Disk.faults tape_at_open faults_at_open c.commit.new.self) c.of_commit.result action c.args.action.now c.in-Commit.body c.commit.result c.in-Commit.is c.of_commit.ensures does
-    (λ value is writable. c.commit.ensures.commits (record { value = value; writable = writable; same = is }) tape_at_open faults_at_open s is_log)
+    (λ value is writable. c.commit.ensures.commits 0 (record { value = value; writable = writable; same = is }) tape_at_open faults_at_open s is_log)
 
 pub returns-in-Flush-clause-steps : goal.returns-in-Flush-clause-steps
 returns-in-Flush-clause-steps g c =

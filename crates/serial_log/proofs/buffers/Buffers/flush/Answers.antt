@@ -17,7 +17,7 @@ returns-clause-writes g c =
     let made = c.harden.ensures in
     on_ok_two c.harden.result
     (λ done holds. WritesOn-synced D tape moment faults has c.args.self.now.writer c.write_upto.new.self.writer c.harden.new.self _
-    c.in_ok-write_upto.ensures.leaves.writes done made.size made.written made.moment_never_falls holds (Preserves-synced D tape moment faults has c.write_upto.new.self.writer c.harden.new.self made.keeps made.only))
+    c.in_ok-write_upto.ensures.leaves.writes done made.size made.written made.made made.moment_never_falls holds (Preserves-synced D tape moment faults has c.write_upto.new.self.writer c.harden.new.self made.keeps made.only))
     made.done made.holds
 
 pub returns-clause-fails : goal.returns-clause-fails
@@ -56,8 +56,8 @@ returns-clause-calls g c =
     let made = c.harden.ensures in
     let writes = c.in_ok-write_upto.ensures.leaves.calls in
     match_ok_err c.harden.result
-    (λ done. MakesFlush-then D tape moment old written new writes (MakesFlush-sync D tape moment written new _ made.written made.made done.made))
-    (λ e tells. BreaksFlush-behind D tape moment old written new writes (BreaksFlush-sync D tape moment written new _ (breaks-told D tape written new moment g.D.Disk.faults _ made.size e.faults c.in_ok-write_upto.ensures.leaves.writes.up.up tells)))
+    (λ done. MakesFlush-then D tape moment old written new writes (MakesFlush-sync D tape moment written new made.written made.made done.made))
+    (λ e tells. BreaksFlush-behind D tape moment old written new writes (BreaksFlush-sync D tape moment written new (breaks-told D tape written new moment g.D.Disk.faults _ made.size e.faults c.in_ok-write_upto.ensures.leaves.writes.up.up tells)))
     made.done made.failed
 
 pub returns-in_err-write_upto-clause-calls : goal.returns-in_err-write_upto-clause-calls

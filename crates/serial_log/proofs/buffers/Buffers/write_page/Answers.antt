@@ -6,7 +6,7 @@ use Rattle.flush_core.specs.Writer.{written_of}
 use Rattle.serial_log.specs.Buffers.{RingHas}
 use Rattle.serial_log.specs.Ring.{ring_word}
 use Rattle.serial_log.specs.OnDisk.{Preserves}
-use Rattle.serial_log.proofs.Results.{if_err_then, match_of, on_ok_four}
+use Rattle.serial_log.proofs.Results.{if_err_then, match_of, on_ok_five}
 use Rattle.serial_log.proofs.BufferLaws.{breaks-told, GoesDown-told, HasWritten-put, Preserves-put, WritesOn-page}
 use Rattle.serial_log.proofs.CallLaws.{BreaksWrites-page, MakesWrites-page}
 use Rattle.serial_log.proofs.buffers.Buffers.write_page.Goals as goal
@@ -32,15 +32,15 @@ returns-clause-leaves g c =
     let words : (n : ℕ) → n < 1024 → word_of bytes n ≡ to_le_bytes w64 (ring_word ring page n) = λ n lt. ap (λ (bytes : List ℕ). word_of bytes n) c.deref.ensures ∙ c.put_bytes.ensures n lt in
     let preserves : Preserves tape (RingHas ring c.args.upto.0) old new = Preserves-put D tape old new ring c.args.upto.0 page bytes at c.requires.spans c.requires.rises words put.keeps put.only in
     record {
-      writes = on_ok_four _ c.put_page.result
-          (λ puts written_is done later.
+      writes = on_ok_five _ c.put_page.result
+          (λ puts makes written_is done later.
           WritesOn-page D tape old new moment faults _ put.size ring c.args.upto.0 end rises done written_is later
-          (λ word holds has. HasWritten-put D tape old new word ring c.args.upto.0 end page bytes at c.requires.spans c.requires.rises end_is written_is words puts holds has)
+          (λ word holds has. HasWritten-put D tape old new word ring c.args.upto.0 end page bytes at c.requires.spans c.requires.rises end_is written_is words puts makes holds has)
           preserves)
-          put.put put.written put.done put.moment_rises;
+          put.put put.as_written put.written put.done put.moment_rises;
       fails = if_err_then c.put_page.result (λ e tells. GoesDown-told D tape old new moment faults _ put.size (RingHas ring c.args.upto.0) e.faults c.requires.up put.moment_never_falls preserves tells) put.failed;
       calls = match_of _ _ c.put_page.result
-          (λ done written_is last. MakesWrites-page D tape moment old new page end bytes at rises within put.size written_is last done.made)
+          (λ done waits written_is last. MakesWrites-page D tape moment old new page end bytes at rises within put.size written_is last waits done.made)
           (λ e tells. BreaksWrites-page D tape moment old new page end bytes at rises within (breaks-told D tape old new moment faults _ put.size e.faults c.requires.up tells))
-          put.done put.written put.made put.failed;
+          put.done put.synced put.written put.made put.failed;
     }

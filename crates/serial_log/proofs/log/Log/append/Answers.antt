@@ -9,6 +9,7 @@ use Rattle.segment_disk.specs.Tape.{Tape}
 use Rattle.flush_core.specs.Writer.{writer_fault}
 use Rattle.serial_log.specs.LogState.{LogState}
 use Rattle.serial_log.proofs.LogLaws.{IsPlace, appended_ok, appended_err, inserts_at, keeps_appended, placed_next, unwritten}
+use Rattle.serial_log.proofs.CallLaws.{GoesOn-broken_writes, GoesOn-writes}
 use Rattle.serial_log.proofs.log.Log.append.Goals.{in-Ok, in-Err}
 use Rattle.serial_log.proofs.log.Log.append.Goals as goal
 
@@ -27,7 +28,7 @@ returns-clause-inserts g c =
     let body = c.args.body.now in
     let up : writer_fault log.writer ≡ None = ap (λ (v : LogState D). writer_fault v.writer) c.self.view_is ∙ c.requires.up in
     let reaches = c.self.invariant.1.reaches up in
-    rw (← c.self.view_is) (λ known tape_at_open faults_at_open s is.
+    rw (← c.self.view_is) (λ pass known tape_at_open faults_at_open s is.
     let place : IsPlace D tape moment faults tape_at_open faults_at_open log up copied.ring copied.writer l.first c.from.result start end body from = record {
       begins = c.self.invariant.0;
       room_is = c.from.ensures ∙ c.room.ensures.room;
@@ -39,11 +40,11 @@ returns-clause-inserts g c =
     elim c.match-copy.branch [
       | in-Ok w ↦
           (let done = w.in-Ok.ensures in
-          inserts_at log.size log.capacity faults_at_open s known.value c.match-copy.result _ _ w.result-is
-          (appended_ok D tape moment faults tape_at_open faults_at_open log up copied.ring copied.writer l.first c.from.result start end body from place s known.value is known.same known.writable reaches done.leaves.writes done.further done.spans done.words))
+          inserts_at log.size log.capacity faults_at_open s pass known.value c.match-copy.result _ _ w.result-is
+          (appended_ok D tape moment faults tape_at_open faults_at_open log up copied.ring copied.writer l.first c.from.result start end body from place s pass known.value is known.same known.writable (GoesOn-writes D tape moment log.writer copied.writer done.leaves.calls) reaches done.leaves.writes done.further done.spans done.words))
       | in-Err w ↦
-          inserts_at log.size log.capacity faults_at_open s known.value c.match-copy.result _ _ w.result-is
-          (appended_err D tape moment faults tape_at_open faults_at_open log up copied.ring copied.writer l.first c.from.result start end body from place s known.value is known.same known.writable w.in-Err.field-0.faults w.in-Err.ensures.leaves.fails)
+          inserts_at log.size log.capacity faults_at_open s pass known.value c.match-copy.result _ _ w.result-is
+          (appended_err D tape moment faults tape_at_open faults_at_open log up copied.ring copied.writer l.first c.from.result start end body from place s pass known.value is known.same known.writable (GoesOn-broken_writes D tape moment log.writer copied.writer w.in-Err.ensures.leaves.calls) w.in-Err.field-0.faults w.in-Err.ensures.leaves.fails)
     ])
 
 pub returns-clause-leaves : goal.returns-clause-leaves
@@ -77,7 +78,7 @@ returns-clause-leaves g c =
           let at = unwritten D l.geometry l.first l.bytes c.from.result l.flushed.0 l.buffers.ring l.buffers.writer copied.writer c.self.invariant.0 some (c.self.invariant.1.reaches up) from.next end.0 (placed_next from c.new-placed.ensures) c.to_end_lsn-end.ensures done.unfinished in
           rw w.result-is (record {
             keeps = λ tape_at_open faults_at_open s at position is within kept.
-                keeps_appended D tape moment faults tape_at_open faults_at_open log up copied.ring copied.writer l.first c.from.result start end body from (place tape_at_open faults_at_open) s known.value is known.same known.writable done.leaves.writes.preserves at position within kept;
+                keeps_appended D tape moment faults tape_at_open faults_at_open log up copied.ring copied.writer l.first c.from.result start end body from (place tape_at_open faults_at_open) s 0 known.value is known.same known.writable done.leaves.writes.preserves at position within kept;
             calls = done.leaves.calls;
             same_log = record { size = refl; capacity = refl; sysid = refl };
             left_by_refusal = tt;
@@ -90,7 +91,7 @@ returns-clause-leaves g c =
           (let failed = w.in-Err.ensures in
           rw w.result-is (record {
             keeps = λ tape_at_open faults_at_open s at position is within kept.
-                keeps_appended D tape moment faults tape_at_open faults_at_open log up copied.ring copied.writer l.first c.from.result start end body from (place tape_at_open faults_at_open) s known.value is known.same known.writable failed.leaves.fails.preserves at position within kept;
+                keeps_appended D tape moment faults tape_at_open faults_at_open log up copied.ring copied.writer l.first c.from.result start end body from (place tape_at_open faults_at_open) s 0 known.value is known.same known.writable failed.leaves.fails.preserves at position within kept;
             calls = inr failed.leaves.calls;
             same_log = record { size = refl; capacity = refl; sysid = refl };
             left_by_refusal = failed.leaves.fails.down;

@@ -21,6 +21,6 @@ returns-clause-opened g c =
     let made = c.new.ensures in
     let given = subst (IsFirstRing shape.geometry shape.ring_pages) (sym made.ring) c.memory.invariant in
     IsLog-opened g.row.D.Denot shape.geometry shape.ring_pages c.new.result.ring c.new.result.writer c.first_position.ensures.valid given.pages_are given.mapped made.written made.synced g.D.Disk.tape g.D.Disk.faults c.args.disk
-    c.capacity.result c.args.sysid c.segment_size.result c.moment-moment.result made.size made.disk made.up c.segment_size.ensures.value given.zeros made.pages
+    c.capacity.result c.args.sysid c.segment_size.result c.moment-moment.result made.size made.disk made.up c.segment_size.ensures.value given.zeros made.as_written made.pages
     (λ empty. subst (λ (m : ℕ). HoldsOnly g.D.Disk.tape c.new.result.writer m no_puts) (sym c.moment-moment.ensures) (made.only empty))
     (subst (λ (m : ℕ). IfSome (g.D.Disk.tape c.args.disk) (λ t. m ≡ length t.calls)) (sym c.moment-moment.ensures) (g.met.D.Disk.counts c.args.disk))
