@@ -4,7 +4,6 @@ pub mod LogHeader
 pub mod LogPages
 pub mod LogPositions
 pub mod LogReads
-pub mod LogSegmentLaws
 pub mod RecordBytes
 pub mod RecordRows
 pub mod Tables

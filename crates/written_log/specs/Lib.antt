@@ -1,6 +1,5 @@
 pub mod Written
 pub mod WrittenLog
-pub mod LogSegments
 pub mod Torn
 pub mod Agreeing
 pub mod LawfulLog

@@ -1,16 +1,13 @@
 ghost use Rattle.written_log.specs.Agreeing.{AgreeingLogsDecodeAlike};
 ghost use Rattle.written_log.specs.LawfulLog.{LawfulImagesDecodeToFronts, WholeLawfulImagesDecode};
-ghost use Rattle.written_log.specs.LogSegments.{SegmentsHoldLog};
 ghost use Rattle.written_log.specs.TornLaws.{EntriesUptoAreWhole, SeenTornFailsChecks};
 ghost use Rattle.written_log.specs.WrittenLog.{OwnPagesHoldLog, WrittenLogDecodes};
 
 /// What the writer puts into the log's pages, however many they are, reads back as exactly its
-/// records, and then a clean end. Each order has such pages, and an image of its segments gives
-/// them.
+/// records, and then a clean end. Each order has such pages.
 pub fn written_log_decodes()
     ensures decodes { WrittenLogDecodes }
     ensures own_pages { OwnPagesHoldLog }
-    ensures segments { SegmentsHoldLog }
 {}
 
 /// A law: an image of a disk that is lawful for an order decodes to a front of it. The front holds

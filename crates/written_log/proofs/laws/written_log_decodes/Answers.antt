@@ -1,4 +1,3 @@
-use Rattle.written_log.proofs.LogSegmentLaws.{segments_hold_log}
 use Rattle.written_log.proofs.WrittenLogLaws.{written_log_decodes, own_pages_hold_log}
 use Rattle.written_log.proofs.laws.written_log_decodes.Goals as goal
 
@@ -7,6 +6,3 @@ returns-clause-decodes c = written_log_decodes
 
 pub returns-clause-own_pages : goal.returns-clause-own_pages
 returns-clause-own_pages c = own_pages_hold_log
-
-pub returns-clause-segments : goal.returns-clause-segments
-returns-clause-segments c = segments_hold_log
