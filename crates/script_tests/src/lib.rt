@@ -2,6 +2,8 @@
 #![tactic(auto)]
 
 #[cfg(test)]
+mod meanings;
+#[cfg(test)]
 mod numbers;
 #[cfg(test)]
 mod scripts;

@@ -1,45 +1,61 @@
 //! What command lines ask for.
-use command_words::{Command, asked};
+use command_line::{Request, asked};
+use command_words::Command;
+use listing_filter::Filter;
 use std::alloc::{AllocError, Global};
 use std::test::Fail;
+use wal_types::Lsn;
 
 const MEBIBYTE: u64 = 1_048_576;
 
-fn owned(alloc: Global, words: &[&str]) -> Result<Vec<String>, AllocError> {
+fn request(alloc: Global, words: &[&str]) -> Result<Request, AllocError> {
     let mut all = Vec::new(alloc);
     for word in words {
         all.push(String::from_str(alloc, word)?)?;
     }
-    Ok(all)
+    asked(alloc, &all)
 }
 
 // The segment size, and whether lines are listed, where a run is asked for.
 fn run(alloc: Global, words: &[&str]) -> Result<Option<(u64, bool)>, AllocError> {
-    Ok(match asked(&owned(alloc, words)?) {
-        Some(Command::Run(options)) => Some((options.geometry.segment_size(), options.list)),
-        _ => None,
-    })
-}
-
-// The segment size where a listing is asked for.
-fn dump(alloc: Global, words: &[&str]) -> Result<Option<u64>, AllocError> {
-    let command = asked(&owned(alloc, words)?);
-    Ok(match &command {
-        Some(Command::Dump(options)) => Some(options.geometry.segment_size()),
+    Ok(match request(alloc, words)? {
+        Request::Command(Command::Run(options)) => {
+            Some((options.geometry.segment_size(), options.list))
+        }
         _ => None,
     })
 }
 
 // The ring's pages and the log's segments, where a run is asked for.
 fn shape(alloc: Global, words: &[&str]) -> Result<Option<(u32, u32)>, AllocError> {
-    Ok(match asked(&owned(alloc, words)?) {
-        Some(Command::Run(options)) => Some((options.ring_pages, options.cap_segments)),
+    Ok(match request(alloc, words)? {
+        Request::Command(Command::Run(options)) => {
+            Some((options.ring_pages, options.cap_segments))
+        }
         _ => None,
     })
 }
 
+// What is listed, where a listing is asked for.
+fn filter(alloc: Global, words: &[&str]) -> Result<Option<Filter>, AllocError> {
+    Ok(match request(alloc, words)? {
+        Request::Command(Command::Dump(options)) => Some(options.filter),
+        _ => None,
+    })
+}
+
+// A listing's limit, and whether it is quiet.
+fn extent(alloc: Global, words: &[&str]) -> Result<Option<(Option<u64>, bool)>, AllocError> {
+    let filter = filter(alloc, words)?;
+    Ok(filter.map(|filter| (filter.limit, filter.quiet)))
+}
+
 fn is_refused(alloc: Global, words: &[&str]) -> Result<bool, AllocError> {
-    Ok(asked(&owned(alloc, words)?).is_none())
+    Ok(matches!(request(alloc, words)?, Request::Nothing))
+}
+
+fn is_help(alloc: Global, words: &[&str]) -> Result<bool, AllocError> {
+    Ok(matches!(request(alloc, words)?, Request::Help))
 }
 
 #[test]
@@ -47,41 +63,10 @@ fn runs_take_options_in_any_order(rt: HostRuntime) -> Result<(), Fail> {
     let alloc = rt.alloc();
     let plain = ["pgwal", "run"];
     let listed_last = ["pgwal", "run", "--seg", "1048576", "--list"];
-    let listed_first = ["pgwal", "run", "--list", "--seg", "1048576"];
+    let before = ["pgwal", "--list", "--seg=1048576", "run", "--"];
     assert_eq!(rt; run(alloc, &plain)?, Some((16 * MEBIBYTE, false)));
     assert_eq!(rt; run(alloc, &listed_last)?, Some((MEBIBYTE, true)));
-    assert_eq!(rt; run(alloc, &listed_first)?, Some((MEBIBYTE, true)));
-    Ok(())
-}
-
-#[test]
-fn listings_take_a_segment_size(rt: HostRuntime) -> Result<(), Fail> {
-    let alloc = rt.alloc();
-    let sized = ["pgwal", "dump", "--seg", "1048576"];
-    assert_eq!(rt; dump(alloc, &["pgwal", "dump"])?, Some(16 * MEBIBYTE));
-    assert_eq!(rt; dump(alloc, &sized)?, Some(MEBIBYTE));
-    Ok(())
-}
-
-#[test]
-fn too_few_or_unknown_words_ask_for_nothing(rt: HostRuntime) -> Result<(), Fail> {
-    let alloc = rt.alloc();
-    assert!(rt; is_refused(alloc, &[])?);
-    assert!(rt; is_refused(alloc, &["pgwal"])?);
-    assert!(rt; is_refused(alloc, &["pgwal", "list"])?);
-    assert!(rt; is_refused(alloc, &["pgwal", "run", "fast"])?);
-    assert!(rt; is_refused(alloc, &["pgwal", "dump", "--list"])?);
-    Ok(())
-}
-
-#[test]
-fn options_stand_once_and_whole(rt: HostRuntime) -> Result<(), Fail> {
-    let alloc = rt.alloc();
-    let twice_sized = ["pgwal", "run", "--seg", "1048576", "--seg", "1048576"];
-    assert!(rt; is_refused(alloc, &["pgwal", "run", "--seg"])?);
-    assert!(rt; is_refused(alloc, &["pgwal", "run", "--seg", "1048577"])?);
-    assert!(rt; is_refused(alloc, &twice_sized)?);
-    assert!(rt; is_refused(alloc, &["pgwal", "run", "--list", "--list"])?);
+    assert_eq!(rt; run(alloc, &before)?, Some((MEBIBYTE, true)));
     Ok(())
 }
 
@@ -89,22 +74,100 @@ fn options_stand_once_and_whole(rt: HostRuntime) -> Result<(), Fail> {
 fn runs_take_a_ring_and_a_cap(rt: HostRuntime) -> Result<(), Fail> {
     let alloc = rt.alloc();
     let least = ["pgwal", "run", "--cap", "1", "--ring", "4"];
-    let most = ["pgwal", "run", "--ring", "64", "--list", "--cap", "4096"];
     assert_eq!(rt; shape(alloc, &["pgwal", "run"])?, Some((64, 64)));
     assert_eq!(rt; shape(alloc, &least)?, Some((4, 1)));
-    assert_eq!(rt; shape(alloc, &most)?, Some((64, 4096)));
+    assert!(rt; is_refused(alloc, &["pgwal", "run", "--ring", "3"])?);
+    assert!(rt; is_refused(alloc, &["pgwal", "run", "--cap", "0"])?);
+    assert!(rt; is_refused(alloc, &["pgwal", "dump", "--ring", "4"])?);
     Ok(())
 }
 
 #[test]
-fn rings_and_caps_have_their_ranges(rt: HostRuntime) -> Result<(), Fail> {
+fn listings_begin_with_segment_one(rt: HostRuntime) -> Result<(), Fail> {
     let alloc = rt.alloc();
-    assert!(rt; is_refused(alloc, &["pgwal", "run", "--ring", "3"])?);
-    assert!(rt; is_refused(alloc, &["pgwal", "run", "--ring", "65"])?);
-    assert!(rt; is_refused(alloc, &["pgwal", "run", "--cap", "0"])?);
-    assert!(rt; is_refused(alloc, &["pgwal", "run", "--cap", "4097"])?);
-    assert!(rt; is_refused(alloc, &["pgwal", "run", "--cap", "1", "--cap", "1"])?);
-    assert!(rt; is_refused(alloc, &["pgwal", "run", "--ring"])?);
-    assert!(rt; is_refused(alloc, &["pgwal", "dump", "--ring", "4"])?);
+    let whole = filter(alloc, &["pgwal", "dump"])?.ok_or("a listing")?;
+    let sized = filter(alloc, &["pgwal", "dump", "--seg", "1048576"])?.ok_or("a listing")?;
+    assert_eq!(rt; whole.start, Lsn(16 * MEBIBYTE));
+    assert_eq!(rt; sized.start, Lsn(MEBIBYTE));
+    assert_eq!(rt; whole.end, None);
+    assert_eq!(rt; whole.limit, None);
+    assert!(rt; !whole.quiet && !whole.fullpage);
+    Ok(())
+}
+
+#[test]
+fn letters_stand_for_filters(rt: HostRuntime) -> Result<(), Fail> {
+    let alloc = rt.alloc();
+    let words = [
+        "pgwal",
+        "dump",
+        "-r",
+        "heap",
+        "-x",
+        "5",
+        "-R",
+        "1663/5/16384",
+        "-B",
+        "8",
+        "-F",
+        "fsm",
+        "-s",
+        "0/00100028",
+        "-e",
+        "0/00200000",
+    ];
+    let filter = filter(alloc, &words)?.ok_or("a listing")?;
+    assert_eq!(rt; filter.rmid, Some(10));
+    assert_eq!(rt; filter.blk, Some(8));
+    assert_eq!(rt; filter.fork, Some(1));
+    assert_eq!(rt; filter.start, Lsn(1_048_616));
+    assert_eq!(rt; filter.end, Some(Lsn(2_097_152)));
+    assert!(rt; filter.xid.is_some() && filter.rel.is_some());
+    Ok(())
+}
+
+#[test]
+fn values_are_attached_and_switches_grouped(rt: HostRuntime) -> Result<(), Fail> {
+    let alloc = rt.alloc();
+    let quiet = Some((Some(7), true));
+    assert_eq!(rt; extent(alloc, &["pgwal", "dump", "-qn7"])?, quiet);
+    assert_eq!(rt; extent(alloc, &["pgwal", "dump", "-wqn=7"])?, quiet);
+    assert_eq!(rt;
+        extent(alloc, &["pgwal", "-q", "dump", "--limit=7"])?,
+        quiet
+    );
+    assert_eq!(rt; extent(alloc, &["pgwal", "-qn", "7", "--", "dump"])?, quiet);
+    assert!(rt; is_refused(alloc, &["pgwal", "dump", "--lim", "7"])?);
+    assert!(rt; is_refused(alloc, &["pgwal", "dump", "--quiet=true"])?);
+    Ok(())
+}
+
+#[test]
+fn faulty_words_ask_for_nothing(rt: HostRuntime) -> Result<(), Fail> {
+    let alloc = rt.alloc();
+    assert!(rt; is_refused(alloc, &[])?);
+    assert!(rt; is_refused(alloc, &["pgwal"])?);
+    assert!(rt; is_refused(alloc, &["pgwal", "list"])?);
+    assert!(rt; is_refused(alloc, &["pgwal", "run", "fast"])?);
+    assert!(rt; is_refused(alloc, &["pgwal", "dump", "--list"])?);
+    assert!(rt; is_refused(alloc, &["pgwal", "run", "--seg"])?);
+    assert!(rt; is_refused(alloc, &["pgwal", "dump", "-q", "--quiet"])?);
+    assert!(rt; is_refused(alloc, &["pgwal", "dump", "-n", "1", "--limit", "1"])?);
+    assert!(rt; is_refused(alloc, &["pgwal", "dump", "--limit", "0"])?);
+    assert!(rt; is_refused(alloc, &["pgwal", "dump", "--start", "100028"])?);
+    assert!(rt; is_refused(alloc, &["pgwal", "dump", "--block", "7"])?);
+    Ok(())
+}
+
+#[test]
+fn help_is_asked_for_in_many_ways(rt: HostRuntime) -> Result<(), Fail> {
+    let alloc = rt.alloc();
+    assert!(rt; is_help(alloc, &["pgwal", "--help"])?);
+    assert!(rt; is_help(alloc, &["pgwal", "help"])?);
+    assert!(rt; is_help(alloc, &["pgwal", "help", "dump"])?);
+    assert!(rt; is_help(alloc, &["pgwal", "run", "-h"])?);
+    assert!(rt; is_help(alloc, &["pgwal", "dump", "-q", "--help"])?);
+    let version = request(alloc, &["pgwal", "-V"])?;
+    assert!(rt; matches!(version, Request::Version));
     Ok(())
 }
