@@ -1,1 +1,2 @@
 pub mod Adapter
+pub mod Pages

@@ -1,4 +1,4 @@
-ghost use Rattle.std.specs.Prelude.{◌<◌, ◌/◌, ◌^◌};
+ghost use Rattle.std.specs.Prelude.{◌≡◌, ◌<◌, ◌/◌, ◌^◌, IsFalse, IsTrue, OnErr, OnOk};
 
 use byte_position::Geometry;
 use std::alloc::{AllocError, Global};
@@ -73,7 +73,9 @@ impl<R: Files> Folder<R> {
     /// An error for good once a sync has failed, or a write of pages that were answered Ok: the
     /// system may have dropped what it could not write, and would answer Ok to the next sync
     /// (PostgreSQL stops for this, by its `data_sync_elevel`).
-    pub fn check(&self) -> io::Result<()> {
+    pub fn check(&self) -> io::Result<()>
+        ensures { OnOk result (IsFalse self.now.has_failed) }
+    {
         if self.has_failed {
             Err(ErrorKind::Other.into())
         } else {
@@ -82,7 +84,11 @@ impl<R: Files> Folder<R> {
     }
 
     /// Hands on the answer of a call after whose failure nothing may answer Ok.
-    pub fn noted(&mut self, answer: io::Result<()>) -> io::Result<()> {
+    pub fn noted(&mut self, answer: io::Result<()>) -> io::Result<()>
+        ensures same { result ≡ answer }
+        ensures notes { OnErr answer (IsTrue self.new.has_failed) }
+        ensures stays { IsTrue self.old.has_failed → IsTrue self.new.has_failed }
+    {
         if answer.is_err() {
             self.has_failed = true;
         }
@@ -97,6 +103,7 @@ impl<R: Files> Folder<R> {
         is_written: bool,
     ) -> io::Result<R::File>
         requires { segment < 2 ^ 64 / geometry }
+        ensures stays { IsTrue self.old.has_failed → IsTrue self.new.has_failed }
     {
         self.set_path(geometry, segment)?;
         OpenOptions::new()
@@ -109,6 +116,7 @@ impl<R: Files> Folder<R> {
     /// left as it is, and the call fails.
     pub fn make_segment(&mut self, geometry: Geometry, segment: u64) -> io::Result<R::File>
         requires { segment < 2 ^ 64 / geometry }
+        ensures stays { IsTrue self.old.has_failed → IsTrue self.new.has_failed }
     {
         self.settle()?;
         let mut file = self.open_temporary()?;
@@ -126,7 +134,9 @@ impl<R: Files> Folder<R> {
 
     /// Puts the folder's name and the names in it on the disk, where that was not done yet, and
     /// makes the folder where it is missing.
-    pub fn settle(&mut self) -> io::Result<()> {
+    pub fn settle(&mut self) -> io::Result<()>
+        ensures stays { IsTrue self.old.has_failed → IsTrue self.new.has_failed }
+    {
         if self.is_settled {
             return Ok(());
         }
@@ -145,6 +155,7 @@ impl<R: Files> Folder<R> {
         segment: u64,
     ) -> io::Result<()>
         requires { segment < 2 ^ 64 / geometry }
+        ensures stays { IsTrue self.old.has_failed → IsTrue self.new.has_failed }
     {
         for _ in 0..geometry.segment_size() / PIECE as u64 {
             file.write_all(&self.zeros)?;
@@ -156,7 +167,9 @@ impl<R: Files> Folder<R> {
     }
 
     // A new file under a name that nothing had: what a process of this number left behind stays.
-    fn open_temporary(&mut self) -> io::Result<R::File> {
+    fn open_temporary(&mut self) -> io::Result<R::File>
+        ensures stays { IsTrue self.old.has_failed → IsTrue self.new.has_failed }
+    {
         for number in 0..MOST_NAMES {
             self.set_temporary(number)?;
             let opened = OpenOptions::new()
@@ -173,7 +186,9 @@ impl<R: Files> Folder<R> {
         Err(ErrorKind::AlreadyExists.into())
     }
 
-    fn set_temporary(&mut self, number: u32) -> io::Result<()> {
+    fn set_temporary(&mut self, number: u32) -> io::Result<()>
+        ensures stays { IsTrue self.old.has_failed → IsTrue self.new.has_failed }
+    {
         self.temporary.clear();
         let (name, process) = (self.name.as_str(), self.process);
         if write!(self.temporary, "{name}/xlogtemp.{process}.{number}").is_err() {
@@ -184,6 +199,7 @@ impl<R: Files> Folder<R> {
 
     fn set_path(&mut self, geometry: Geometry, segment: u64) -> io::Result<()>
         requires { segment < 2 ^ 64 / geometry }
+        ensures stays { IsTrue self.old.has_failed → IsTrue self.new.has_failed }
     {
         let name = geometry.file_name(segment);
         match str::from_utf8(&name) {
@@ -192,7 +208,9 @@ impl<R: Files> Folder<R> {
         }
     }
 
-    fn make_folders(&mut self) -> io::Result<()> {
+    fn make_folders(&mut self) -> io::Result<()>
+        ensures stays { IsTrue self.old.has_failed → IsTrue self.new.has_failed }
+    {
         if fs::exists(&self.rt, self.name.as_str())? {
             return Ok(());
         }
@@ -204,7 +222,9 @@ impl<R: Files> Folder<R> {
 
     // Makes the folder whose name ends there, if one does. The name of one on the way is put on the
     // disk here, the last one's by `settle`.
-    fn make_folder(&mut self, end: usize) -> io::Result<()> {
+    fn make_folder(&mut self, end: usize) -> io::Result<()>
+        ensures stays { IsTrue self.old.has_failed → IsTrue self.new.has_failed }
+    {
         match self.name.as_str().split_at_checked(end) {
             Some((folder, rest)) if rest.is_empty() || rest.starts_with('/') => {
                 match DirBuilder::new().mode(FOLDER_MODE).create(&self.rt, folder) {
@@ -219,13 +239,17 @@ impl<R: Files> Folder<R> {
         self.sync_path()
     }
 
-    fn sync_folder(&mut self, name: &str) -> io::Result<()> {
+    fn sync_folder(&mut self, name: &str) -> io::Result<()>
+        ensures stays { IsTrue self.old.has_failed → IsTrue self.new.has_failed }
+    {
         join(&mut self.path, self.name.as_str(), name)?;
         self.sync_path()
     }
 
     // Puts the names of the folder at the path on the disk.
-    fn sync_path(&mut self) -> io::Result<()> {
+    fn sync_path(&mut self) -> io::Result<()>
+        ensures stays { IsTrue self.old.has_failed → IsTrue self.new.has_failed }
+    {
         let synced = fs::open(&self.rt, self.path.as_str())?.sync_all();
         self.noted(synced)
     }

@@ -1,5 +1,6 @@
 //! Neighbouring pages of a segment, which go to its file and come from it in one call.
-ghost use Rattle.std.specs.Prelude.{◌≡◌, ◌*◌};
+ghost use Rattle.std.specs.Prelude.{◌≡◌, ◌≢◌, ◌+◌, ◌*◌, ◌<◌, ◌++◌, ◌↔◌, [], length, IfOk, IsFalse, IsTrue, OnErr, OnOk};
+ghost use Rattle.segment_files.specs.Pages.{GivesPage, HoldsFrom};
 
 use std::alloc::{AllocError, Global};
 use std::io;
@@ -31,25 +32,37 @@ pub struct PagesHeld {
 
 impl PagesHeld {
     /// Takes its room.
-    pub fn new(alloc: Global) -> Result<PagesHeld, AllocError> {
+    pub fn new(alloc: Global) -> Result<PagesHeld, AllocError>
+        ensures { IfOk result (λ held. held.bytes.items ≡ []) }
+    {
         Ok(PagesHeld {
             first: 0,
             bytes: Vec::with_capacity(alloc, MOST_PAGES * PAGE_SIZE)?,
         })
     }
 
-    pub fn is_empty(&self) -> bool {
+    pub fn is_empty(&self) -> bool
+        ensures { IsTrue result ↔ (self.now.bytes.items ≡ []) }
+    {
         self.bytes.is_empty()
     }
 
     /// Whether the page stands right behind those that are held, and has room there.
-    pub fn is_followed_by(&self, page: u32) -> bool {
+    pub fn is_followed_by(&self, page: u32) -> bool
+        ensures { IsTrue result
+            ↔ ((length self.now.bytes.items < 262144)
+            × (self.now.first * 8192 + length self.now.bytes.items ≡ page * 8192)) }
+    {
         let len = self.bytes.len();
         len < MOST_PAGES * PAGE_SIZE && offset_of(self.first) + len as u64 == offset_of(page)
     }
 
     /// Holds a page behind the others, or the first one.
-    pub fn push(&mut self, page: u32, bytes: &[u8; 8192]) -> Result<(), AllocError> {
+    pub fn push(&mut self, page: u32, bytes: &[u8; 8192]) -> Result<(), AllocError>
+        ensures bytes { OnOk result (self.new.bytes.items ≡ self.old.bytes.items ++ bytes.now) }
+        ensures first { OnOk result
+            (HoldsFrom self.old.first self.old.bytes.items page self.new.first) }
+    {
         if self.bytes.is_empty() {
             self.first = page;
         }
@@ -60,7 +73,9 @@ impl PagesHeld {
         file.write_all_at(&self.bytes, offset_of(self.first))
     }
 
-    pub fn clear(&mut self) {
+    pub fn clear(&mut self)
+        ensures { self.new.bytes.items ≡ [] }
+    {
         self.bytes.clear();
     }
 }
@@ -78,7 +93,9 @@ pub struct PagesAhead {
 
 impl PagesAhead {
     /// Takes its room.
-    pub fn new(alloc: Global) -> Result<PagesAhead, AllocError> {
+    pub fn new(alloc: Global) -> Result<PagesAhead, AllocError>
+        ensures { IfOk result (λ ahead. ahead.count ≡ 0) }
+    {
         Ok(PagesAhead {
             first: 0,
             count: 0,
@@ -87,12 +104,17 @@ impl PagesAhead {
         })
     }
 
-    pub fn clear(&mut self) {
+    pub fn clear(&mut self)
+        ensures { self.new.count ≡ 0 }
+    {
         self.count = 0;
     }
 
     /// Gives a page that is here, and answers whether it is.
-    pub fn give(&mut self, page: u32, bytes: &mut [u8; 8192]) -> bool {
+    pub fn give(&mut self, page: u32, bytes: &mut [u8; 8192]) -> bool
+        ensures given { IsTrue result → GivesPage self.old self.new page bytes.new }
+        ensures kept { IsFalse result → bytes.new ≡ bytes.old }
+    {
         if page < self.next || page < self.first || (page - self.first) as usize >= self.count {
             return false;
         }
@@ -107,7 +129,10 @@ impl PagesAhead {
     }
 
     /// Reads pages in one call, from this one on, up to so many.
-    pub fn fill(&mut self, file: &impl FileExt, page: u32, most: u32) -> io::Result<()> {
+    pub fn fill(&mut self, file: &impl FileExt, page: u32, most: u32) -> io::Result<()>
+        ensures first { OnOk result ((self.new.first ≡ page) × (self.new.next ≡ page)) }
+        ensures none { OnErr result (self.new.count ≡ 0) }
+    {
         self.count = 0;
         let count = (most as usize).min(MOST_PAGES);
         let len = (count * PAGE_SIZE).min(self.bytes.len());

@@ -1,4 +1,4 @@
-ghost use Rattle.std.specs.Prelude.{◌<◌, ◌/◌, ◌^◌};
+ghost use Rattle.std.specs.Prelude.{◌<◌, ◌/◌, ◌^◌, IsTrue, OnErr, OnOk};
 
 use crate::folder::Folder;
 use crate::pages;
@@ -71,6 +71,8 @@ where
     /// Makes a file of zeros, which is on the disk under its name at Ok. Fails where it is there.
     pub fn create(&mut self, geometry: Geometry, segment: u64) -> io::Result<()>
         requires { segment < 2 ^ 64 / geometry }
+        ensures down { IsTrue self.old.folder.has_failed → OnOk result ⊥ }
+        ensures stays { IsTrue self.old.folder.has_failed → IsTrue self.new.folder.has_failed }
     {
         self.folder.check()?;
         self.leave_written()?;
@@ -92,6 +94,8 @@ where
         bytes: &[u8; 8192],
     ) -> io::Result<()>
         requires { segment < 2 ^ 64 / geometry }
+        ensures down { IsTrue self.old.folder.has_failed → OnOk result ⊥ }
+        ensures stays { IsTrue self.old.folder.has_failed → IsTrue self.new.folder.has_failed }
     {
         self.folder.check()?;
         self.turn_to(geometry, segment)?;
@@ -107,6 +111,8 @@ where
     /// Puts a segment's data on the disk, and the folder's name where that was not done yet.
     pub fn sync(&mut self, geometry: Geometry, segment: u64) -> io::Result<()>
         requires { segment < 2 ^ 64 / geometry }
+        ensures down { IsTrue self.old.folder.has_failed → OnOk result ⊥ }
+        ensures stays { IsTrue self.old.folder.has_failed → IsTrue self.new.folder.has_failed }
     {
         self.folder.check()?;
         self.turn_to(geometry, segment)?;
@@ -123,6 +129,8 @@ where
         bytes: &mut [u8; 8192],
     ) -> io::Result<bool>
         requires { segment < 2 ^ 64 / geometry }
+        ensures down { IsTrue self.old.folder.has_failed → OnOk result ⊥ }
+        ensures stays { IsTrue self.old.folder.has_failed → IsTrue self.new.folder.has_failed }
     {
         self.folder.check()?;
         self.write_held()?;
@@ -144,7 +152,9 @@ where
         geometry: Geometry,
         page: u32,
         bytes: &mut [u8; 8192],
-    ) -> io::Result<bool> {
+    ) -> io::Result<bool>
+        ensures stays { IsTrue self.old.folder.has_failed → IsTrue self.new.folder.has_failed }
+    {
         let Some(open) = &self.reading else {
             return Ok(false);
         };
@@ -162,6 +172,7 @@ where
     // Makes this segment the one that is read.
     fn open_read(&mut self, geometry: Geometry, segment: u64) -> io::Result<()>
         requires { segment < 2 ^ 64 / geometry }
+        ensures stays { IsTrue self.old.folder.has_failed → IsTrue self.new.folder.has_failed }
     {
         if let Some(open) = &self.reading {
             if open.is_of(geometry, segment) {
@@ -181,6 +192,7 @@ where
     // Makes this segment the one that is written.
     fn turn_to(&mut self, geometry: Geometry, segment: u64) -> io::Result<()>
         requires { segment < 2 ^ 64 / geometry }
+        ensures stays { IsTrue self.old.folder.has_failed → IsTrue self.new.folder.has_failed }
     {
         if let Some(open) = &self.writing {
             if open.is_of(geometry, segment) {
@@ -199,14 +211,20 @@ where
 
     // Syncs the segment that is written before its file is closed, where it has pages that were
     // not synced.
-    fn leave_written(&mut self) -> io::Result<()> {
+    fn leave_written(&mut self) -> io::Result<()>
+        ensures failed { OnErr result (IsTrue self.new.folder.has_failed) }
+        ensures stays { IsTrue self.old.folder.has_failed → IsTrue self.new.folder.has_failed }
+    {
         if self.is_synced {
             return Ok(());
         }
         self.sync_written()
     }
 
-    fn sync_written(&mut self) -> io::Result<()> {
+    fn sync_written(&mut self) -> io::Result<()>
+        ensures failed { OnErr result (IsTrue self.new.folder.has_failed) }
+        ensures stays { IsTrue self.old.folder.has_failed → IsTrue self.new.folder.has_failed }
+    {
         self.write_held()?;
         if let Some(open) = &self.writing {
             let synced = open.file.sync_data();
@@ -217,7 +235,10 @@ where
     }
 
     // Writes the pages that are held, in one call.
-    fn write_held(&mut self) -> io::Result<()> {
+    fn write_held(&mut self) -> io::Result<()>
+        ensures failed { OnErr result (IsTrue self.new.folder.has_failed) }
+        ensures stays { IsTrue self.old.folder.has_failed → IsTrue self.new.folder.has_failed }
+    {
         if self.held.is_empty() {
             return Ok(());
         }
