@@ -5,8 +5,8 @@ use backend_cli::Gate;
 use std::sync::atomic::{AtomicU64, Ordering};
 use std::test::Fail;
 
-/// A gate that notes who passes it: a byte for each passing, sixteen times the backend and the line, the
-/// last one lowest.
+/// A gate that notes who passes it: a byte for each passing, sixteen times the backend and the
+/// line, the last one lowest.
 #[derive(Drop)]
 struct NotingGate {
     passed: AtomicU64,
