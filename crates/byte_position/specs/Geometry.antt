@@ -1,7 +1,8 @@
--- The sizes of segments and pages, and the names of segment files (PostgreSQL's xlog_internal.h).
+-- The sizes of segments, and the names of segment files (PostgreSQL's xlog_internal.h).
 use Rattle.std.specs.Prelude.{ℕ, ◌/◌, ◌%◌, ◌^◌, Bool, IsTrue, List, [], ◌∷◌, ◌++◌, ◌==◌}
 use Rattle.std.specs.List.{list_any}
 use Rattle.wal_types.specs.Hexadecimal.{eight_digits}
+use Rattle.byte_position.specs.Layout.{page_size}
 
 -- whether this is a size of segments: a power of two from 1 MiB to 1 GiB
 abbrev pub is_segment_size : ℕ → Bool
@@ -13,7 +14,7 @@ IsSegmentSize size = IsTrue (is_segment_size size)
 
 -- how many pages a segment has
 abbrev pub pages_of : ℕ → ℕ
-pages_of size = size / 8192
+pages_of size = size / page_size
 
 -- a segment's file name: timeline 1, then the segment's number in two parts, eight digits each
 abbrev pub file_name : ℕ → ℕ → List ℕ

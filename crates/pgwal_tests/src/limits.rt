@@ -36,7 +36,8 @@ impl Source for LineFeeds {
     }
 }
 
-// Reading stops one byte beyond the limit of 67,108,864: that byte stands behind as many line feeds.
+// Reading stops one byte beyond the limit of 67,108,864: that byte stands behind as many line
+// feeds.
 #[test]
 fn a_script_beyond_its_limit_is_refused_at_its_first_byte_too_many(
     rt: HostRuntime,

@@ -34,7 +34,8 @@ fn run<R: Threads + Wait + Sync>(
     play(rt, alloc, &words, setting_of(alloc, script, disk)?)
 }
 
-// What a listing of a disk prints, and its status: a record of a segment has two megabytes of digits.
+// What a listing of a disk prints, and its status: a record of a segment has two megabytes of
+// digits.
 fn dump<R: Threads + Wait + Sync>(rt: &R, alloc: Global, disk: MemDisk) -> Result<Played, Fail> {
     let mut setting = setting_of(alloc, b"", disk)?;
     setting.out = MemSink::new(alloc, 2_200_000, Vec::new(alloc))?;
@@ -161,7 +162,8 @@ fn a_commit_on_a_full_page_crosses(rt: HostRuntime) -> Result<(), Fail> {
 #[test]
 fn a_full_segment_is_followed_by_another(rt: HostRuntime) -> Result<(), Fail> {
     let alloc = rt.alloc();
-    // The 128 pages of segment 1 and its sync, then the page of segment 2 and its sync; both segments are made first.
+    // The 128 pages of segment 1 and its sync, then the page of segment 2 and its sync; both
+    // segments are made first.
     let disk = runs(
         &rt,
         alloc,

@@ -21,8 +21,8 @@ fn hard(start: u64, end: u64, moment: u64) -> Told {
     }
 }
 
-// Checks the bytes of the page of one commit: its header, the record's header with its CRC, its data, and
-// zeros behind.
+// Checks the bytes of the page of one commit: its header, the record's header with its CRC, its
+// data, and zeros behind.
 fn check_page_of_one_commit<R: Abort>(rt: &R, page: &[u8; 8192]) -> Result<(), Fail> {
     assert_eq!(rt;
         &page[..40],

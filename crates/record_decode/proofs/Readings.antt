@@ -55,12 +55,7 @@ image_fits (Some i) bytes right fits = record { hole_offset = offset_below i rig
 
 block_fits : (before : Option BlockHead) (same : Bool) (h : BlockHead) (bytes : List ℕ) → StandsBehind before same h → IsBytes bytes → BlockFits (block_of h bytes)
 block_fits before same h bytes s fits = record {
-  id = omega (arith, s.id);
-  tablespace = s.tablespace;
-  database = s.database;
-  relation = s.relation;
-  fork = omega (arith, s.fork);
-  number = s.number;
+  numbers = record { id = omega (arith, s.id); tablespace = s.tablespace; database = s.database; relation = s.relation; fork = omega (arith, s.fork); number = s.number };
   content = All-from_IsBytes _ (IsBytes-drop (image_len h.image) bytes fits);
   image = image_fits h.image (take (image_len h.image) bytes) s.image (IsBytes-take (image_len h.image) bytes fits);
 }

@@ -54,7 +54,7 @@ block_header_bytes before b fork fits =
     let same = is_same_relation before b.rel in
     let flags = b.fork + flag (has_image b.image) 16 + flag (ltb 0 (length b.content)) 32 + flag b.will_init 64 + flag same 128 in
     let flags_fit : flags < 256 = omega (arith, flag_le (has_image b.image) 16, flag_le (ltb 0 (length b.content)) 32, flag_le b.will_init 64, flag_le same 128) in
-    let front = byte_and b.id (flags ∷ to_le_bytes w16 (length b.content)) fits.id (byte_and flags (to_le_bytes w16 (length b.content)) flags_fit (bytes16 (length b.content))) in
+    let front = byte_and b.id (flags ∷ to_le_bytes w16 (length b.content)) fits.numbers.id (byte_and flags (to_le_bytes w16 (length b.content)) flags_fit (bytes16 (length b.content))) in
     let relation : AreBytes (cond same [] (relation_bytes b.rel)) = cond_both same [] (relation_bytes b.rel) AreBytes (λ _. no_bytes) (λ _. relation_is_bytes b.rel) in
     bytes_and (bytes_and (bytes_and front (image_header_bytes b.image)) relation) (bytes32 b.blk)
 

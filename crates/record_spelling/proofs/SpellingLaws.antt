@@ -4,7 +4,7 @@ use Rattle.std.specs.Int.{w64, to_le_bytes}
 use Rattle.std.proofs.lemmas.List.{length-append, length-take, length-drop, length-replicate}
 use Rattle.std.proofs.lemmas.List.Elements.{All-append, All-from_recursion, All-replicate}
 use Rattle.wal_types.specs.declared.record.Record.{Record}
-use Rattle.record_spelling.specs.Spelling.{Assembled, AssembledFits, IsWritable, assembled, assembled_size, assembled_room, header_front, crc_of, size_of, spelled, filled, spelling, word_at}
+use Rattle.record_spelling.specs.Spelling.{Assembled, AssembledFits, IsWritable, assembled, assembled_size, assembled_room, header_front, crc_of, spelled, filled, spelling, word_at}
 use Rattle.record_spelling.specs.Header.{HasHeader}
 use Rattle.record_spelling.proofs.Bytes.{wide32, wide64, IsBytes-drop, IsBytes-from_All, IsBytes-take}
 use Rattle.record_spelling.proofs.AfterHeader.{AreBytes, bytes_and, bytes32, bytes64, after_header_bytes}

@@ -2,19 +2,14 @@
 use Rattle.std.specs.Prelude.{◌^◌, ◌<◌, All, IfSome}
 use Rattle.wal_types.specs.declared.record.Block.{Block}
 use Rattle.wal_types.specs.declared.record.Record.{Record}
-use Rattle.record_spelling.specs.Record.{BlockFits}
+use Rattle.record_spelling.specs.Record.{BlockFits, NumbersFit}
 
--- the numbers that its header spells
+-- the numbers that a block's header spells
 pub record HeaderFits (b : Block) : Type 0 where
-  pub id : b.id < 256
-  pub tablespace : b.rel.spc < 2 ^ 32
-  pub database : b.rel.db < 2 ^ 32
-  pub relation : b.rel.rel < 2 ^ 32
-  pub fork : b.fork < 256
-  pub number : b.blk < 2 ^ 32
+  pub numbers : NumbersFit b
   pub hole : IfSome b.image (λ i. (i.hole_offset < 2 ^ 16) × (i.hole_len < 2 ^ 16))
 
--- the bytes of its image and of its data
+-- the bytes of a block's image and of its data
 pub record PayloadFits (b : Block) : Type 0 where
   pub image : IfSome b.image (λ i. All (λ n. n < 256) i.bytes)
   pub content : All (λ n. n < 256) b.content

@@ -50,14 +50,18 @@ pub record ImageFits (i : Image) : Type 0 where
   pub hole_len : i.hole_len < 2 ^ 16
   pub bytes : All (λ b. b < 256) i.bytes
 
--- a block's numbers fit their fields
-pub record BlockFits (b : Block) : Type 0 where
+-- the numbers that a block has beside its image fit their fields
+pub record NumbersFit (b : Block) : Type 0 where
   pub id : b.id < 256
   pub tablespace : b.rel.spc < 2 ^ 32
   pub database : b.rel.db < 2 ^ 32
   pub relation : b.rel.rel < 2 ^ 32
   pub fork : b.fork < 256
   pub number : b.blk < 2 ^ 32
+
+-- all that a block has fits its fields
+pub record BlockFits (b : Block) : Type 0 where
+  pub numbers : NumbersFit b
   pub content : All (λ b. b < 256) b.content
   pub image : IfSome b.image ImageFits
 

@@ -85,10 +85,10 @@ stands before b right fits =
       fork = leb-true _ _ fork.1;
       content = omega (arith, leb-true _ _ content.1);
       image = right_option b.image image.1;
-      tablespace = fits.tablespace;
-      database = fits.database;
-      relation = fits.relation;
-      number = fits.number;
+      tablespace = fits.numbers.tablespace;
+      database = fits.numbers.database;
+      relation = fits.numbers.relation;
+      number = fits.numbers.number;
       relation_before = same_relation before b.rel;
     }
 

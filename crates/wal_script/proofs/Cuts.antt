@@ -1,10 +1,9 @@
 -- A text's pieces from its first separator on.
-use Rattle.std.proofs.Common.{◌≡◌, ℕ, zero, suc, ◌+◌, ◌<◌, ◌≤◌, Bool, true, false, cond, ◌==◌, List, [], ◌∷◌, length, get_or, take, drop, refl, arith}
-use Rattle.memchr.specs.Find.{NoneBefore, Nowhere, Passes, is_byte}
+use Rattle.std.proofs.Common.{◌≡◌, ℕ, zero, suc, ◌+◌, ◌<◌, ◌≤◌, true, false, cond, ◌==◌, List, [], ◌∷◌, length, get_or, take, drop, refl, arith}
 use Rattle.wal_script.specs.Text.{onto_first, pieces_of}
 
 -- the first piece ends before the first separator
-pieces_of_at_first : (separator : ℕ) (text : List ℕ) (i : ℕ) → i < length text → ((k : ℕ) → k < i → (get_or text k 0 == separator) ≡ false) → (get_or text i 0 == separator) ≡ true → pieces_of separator text ≡ take i text ∷ pieces_of separator (drop (suc i) text)
+pub pieces_of_at_first : (separator : ℕ) (text : List ℕ) (i : ℕ) → i < length text → ((k : ℕ) → k < i → (get_or text k 0 == separator) ≡ false) → (get_or text i 0 == separator) ≡ true → pieces_of separator text ≡ take i text ∷ pieces_of separator (drop (suc i) text)
 pieces_of_at_first separator [] i lt before at = absurd (omega arith)
 pieces_of_at_first separator (c ∷ cs) zero lt before at = rw at refl
 pieces_of_at_first separator (c ∷ cs) (suc i) lt before at =
@@ -13,23 +12,12 @@ pieces_of_at_first separator (c ∷ cs) (suc i) lt before at =
     rw (first, others) refl
 
 -- a text with no separator is its only piece
-pieces_of_none : (separator : ℕ) (text : List ℕ) → ((k : ℕ) → k < length text → (get_or text k 0 == separator) ≡ false) → pieces_of separator text ≡ text ∷ []
+pub pieces_of_none : (separator : ℕ) (text : List ℕ) → ((k : ℕ) → k < length text → (get_or text k 0 == separator) ≡ false) → pieces_of separator text ≡ text ∷ []
 pieces_of_none separator [] before = refl
 pieces_of_none separator (c ∷ cs) before =
     let first : (c == separator) ≡ false = before 0 (omega arith) in
     let others = pieces_of_none separator cs (λ k h. before (suc k) (omega arith)) in
     rw (first, others) refl
-
-false_where_not : (b : Bool) → (b ≡ true → ⊥) → b ≡ false
-false_where_not true h = absurd (h refl)
-false_where_not false h = refl
-
--- both, as a search tells them
-pub pieces_of_found : (separator : ℕ) (text : List ℕ) (i : ℕ) → NoneBefore (Passes (is_byte separator) text) 0 (length text) i → Passes (is_byte separator) text i → pieces_of separator text ≡ take i text ∷ pieces_of separator (drop (suc i) text)
-pieces_of_found separator text i first at = pieces_of_at_first separator text i first.high (λ k lt. false_where_not _ (first.before k (omega arith) lt)) at
-
-pub pieces_of_not_found : (separator : ℕ) (text : List ℕ) → Nowhere (Passes (is_byte separator) text) 0 (length text) → pieces_of separator text ≡ text ∷ []
-pieces_of_not_found separator text none = pieces_of_none separator text (λ k lt. false_where_not _ (none k (omega arith) lt))
 
 length-onto_first : (c : ℕ) (pieces : List (List ℕ)) → length (onto_first c pieces) ≤ length pieces + 1
 length-onto_first c [] = omega arith

@@ -94,12 +94,14 @@ block_fits id id_fits (relation ∷ fork ∷ number ∷ bytes ∷ page ∷ []) =
     part_then (number_of (2 ^ 32 - 2) number) faults.Number _ BlockFits (λ blk blk_is.
     part_then (data_of bytes) faults.Hex _ BlockFits (λ content content_is.
     bind_then (image_spelled page) _ (λ image. IfSome image ImageFits) BlockFits (image_fits page) (λ image fits. record {
-      id = id_fits;
-      tablespace = rel_fits.tablespace;
-      database = rel_fits.database;
-      relation = rel_fits.relation;
-      fork = fork_of-lt fork kind kind_is;
-      number = omega (arith, number_of-le (2 ^ 32 - 2) number blk blk_is);
+      numbers = record {
+        id = id_fits;
+        tablespace = rel_fits.tablespace;
+        database = rel_fits.database;
+        relation = rel_fits.relation;
+        fork = fork_of-lt fork kind kind_is;
+        number = omega (arith, number_of-le (2 ^ 32 - 2) number blk blk_is);
+      };
       content = data_of_fits bytes content content_is;
       image = fits;
     })))))

@@ -1,7 +1,6 @@
 ghost use Rattle.std.specs.Prelude.{◌≡◌, ◌∷◌, codes};
 ghost use Rattle.wal_script.specs.Text.{is_text, pieces_of, pieces_left};
 
-use memchr::memchr;
 use std::marker::Model;
 
 /// The pieces of a text between its separators, from the left; contracts see those that are left.
@@ -52,7 +51,7 @@ impl<'a> Iterator for Pieces<'a> {
 fn cut(text: &[u8], separator: u8) -> (&[u8], Option<&[u8]>)
     ensures { pieces_of separator text.now ≡ result.0.now ∷ pieces_left separator result.1 }
 {
-    match memchr(separator, text) {
+    match text.iter().position(|&byte| byte == separator) {
         Some(end) => (&text[..end], Some(&text[end + 1..])),
         None => (text, None),
     }

@@ -1,5 +1,5 @@
 -- The words of whole chunks, and one of the bytes that are left.
-use Rattle.std.proofs.Common.{◌≡◌, ℕ, ◌<◌, ◌≤◌, ◌/◌, ◌*◌, [], List, length, get_or, take, drop, ap, ◌∙◌, arith}
+use Rattle.std.proofs.Common.{◌≡◌, ℕ, ◌<◌, ◌≤◌, ◌/◌, [], List, length, get_or, take, drop, ap, ◌∙◌, arith}
 use Rattle.std.specs.Int.{w64, from_le_bytes}
 use Rattle.std.proofs.lemmas.List.{length-append, length-drop, length-take}
 use Rattle.record_spelling.proofs.WordRuns.{whole_words, last_word}

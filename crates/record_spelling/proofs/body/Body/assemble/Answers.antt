@@ -1,4 +1,4 @@
-use Rattle.std.proofs.Common.{◌≡◌, ◌∙◌, sym, arith, refl}
+use Rattle.std.proofs.Common.{◌≡◌, ◌∙◌, sym, refl}
 use Rattle.record_spelling.specs.Spelling.{IsWritable, assembled}
 use Rattle.record_spelling.proofs.Acceptance.{accepted_record, writable}
 use Rattle.record_spelling.proofs.body.Body.assemble.Goals as goal
