@@ -28,8 +28,8 @@ abbrev pub asks_for_block : Filter → Bool
 asks_for_block filter = is_some filter.rel || is_some filter.blk || is_some filter.fork
 
 -- whether one of a record's blocks has an image
-abbrev pub has_image : List Block → Bool
-has_image blocks = list_any (λ b. is_some b.image) blocks
+abbrev pub has_page_image : List Block → Bool
+has_page_image blocks = list_any (λ b. is_some b.image) blocks
 
 -- whether a filter keeps a record: it starts at the filter's start or behind it, its manager and
 -- transaction are those that are asked for, one block of it meets the rules on blocks where one is
@@ -40,7 +40,7 @@ keeps filter r =
     && is_none_or filter.rmid (λ rmid. r.value.rmid == rmid)
     && is_none_or filter.xid (λ xid. r.value.xid.0 == xid.0)
     && (not (asks_for_block filter) || list_any (meets_block filter) r.value.blocks)
-    && (not filter.fullpage || has_image r.value.blocks)
+    && (not filter.fullpage || has_page_image r.value.blocks)
 
 -- whether so many listed records are as many as a limit allows
 abbrev pub is_reached : Option ℕ → ℕ → Bool

@@ -3,7 +3,7 @@
 
 ghost use Rattle.std.specs.Prelude.{◌≡◌, nat_le};
 ghost use Rattle.std.specs.List.{list_any};
-ghost use Rattle.listing_filter.specs.Keeping.{asks_for_block, everything_from, has_image, is_reached, is_relation, keeps, meets_block};
+ghost use Rattle.listing_filter.specs.Keeping.{asks_for_block, everything_from, has_page_image, is_reached, is_relation, keeps, meets_block};
 
 mod listed;
 mod names;
@@ -69,7 +69,7 @@ impl Filter {
             && self.rmid.is_none_or(|rmid| r.value.rmid == rmid)
             && self.xid.is_none_or(|xid| r.value.xid.0 == xid.0)
             && (!self.asks_for_block() || self.is_met_by_one(blocks))
-            && (!self.fullpage || has_image(blocks))
+            && (!self.fullpage || has_page_image(blocks))
     }
 
     /// Whether so many listed records are as many as are to be listed.
@@ -106,8 +106,8 @@ fn is_relation(rel: Rel, wanted: Rel) -> bool
     rel.spc == wanted.spc && rel.db == wanted.db && rel.rel == wanted.rel
 }
 
-fn has_image(blocks: &[Block]) -> bool
-    ensures { result ≡ has_image blocks.now }
+fn has_page_image(blocks: &[Block]) -> bool
+    ensures { result ≡ has_page_image blocks.now }
 {
     blocks.iter().any(|block| block.image.is_some())
 }

@@ -197,7 +197,7 @@ fn of_transaction(mut r: Record, xid: u32) -> Record {
     r
 }
 
-// Two transactions: each an insert of the heap and a commit, and a record of an index of the second.
+// Two transactions, each an insert of the heap and a commit, and an index record of the second.
 fn five_records(alloc: Global) -> Result<TwoPages, Fail> {
     let mut pages = TwoPages::zeros();
     let heap = record(alloc, 10, 0, Vec::from_slice(alloc, &[0xaa])?);

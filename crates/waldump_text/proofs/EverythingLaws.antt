@@ -5,7 +5,7 @@ use Rattle.wal_reader.specs.declared.found.FoundRecord.{FoundRecord}
 use Rattle.listing_filter.specs.Keeping.{everything_from, keeps}
 use Rattle.listing_filter.proofs.KeepingLaws.{everything_from-keeps}
 use Rattle.waldump_text.specs.Everything.{EverythingIsListed}
-use Rattle.waldump_text.specs.Listing.{kept_by, lines_of, listed_of}
+use Rattle.waldump_text.specs.Listing.{kept_by, line_texts, listed_of}
 
 filter_first : (p : FoundRecord → Bool) (f : FoundRecord) (fs : List FoundRecord) (passes : Bool) → p f ≡ passes → filter p fs ≡ fs → filter p (cond passes (f ∷ fs) fs) ≡ cond passes (f ∷ fs) fs
 filter_first p f fs true is same = rw is (ap (λ (gs : List FoundRecord). f ∷ gs) same)
@@ -22,4 +22,4 @@ kept_of_given start read = filter_again (λ f. keeps (everything_from start) (li
 pub everything_is_listed : EverythingIsListed
 everything_is_listed size pages start end found answer decodes =
     let kept : kept_by (everything_from start) found ≡ found = ap (kept_by (everything_from start)) decodes.given ∙ kept_of_given start decodes.read ∙ sym decodes.given in
-    record { listed = kept; printed = ap lines_of kept; unlimited = λ none. none }
+    record { listed = kept; printed = ap line_texts kept; unlimited = λ none. none }

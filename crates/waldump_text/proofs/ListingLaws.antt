@@ -14,7 +14,7 @@ use Rattle.wal_reader.specs.declared.found.FoundRecord.{FoundRecord}
 use Rattle.wal_reader.specs.declared.found.Answer.{Answer}
 use Rattle.listing_filter.specs.declared.Filter.{Filter}
 use Rattle.listing_filter.specs.Keeping.{is_reached, keeps}
-use Rattle.waldump_text.specs.Listing.{IsLimitListed, kept_by, line_text, lines_of, listed_by, listed_of, listing, up_to}
+use Rattle.waldump_text.specs.Listing.{IsLimitListed, kept_by, line_text, line_texts, listed_by, listed_of, listing, up_to}
 use Rattle.waldump_text.specs.Put.{HasPut}
 use Rattle.waldump_text.proofs.SinkLaws.{HasPut-front, HasPut-front_of_next, with_behind-append, with_behind-nil}
 
@@ -22,7 +22,7 @@ use Rattle.waldump_text.proofs.SinkLaws.{HasPut-front, HasPut-front_of_next, wit
 
 -- the lines of records, unless nothing is printed
 abbrev pub printed : Bool → List FoundRecord → List ℕ
-printed quiet found = if quiet then [] else lines_of found
+printed quiet found = if quiet then [] else line_texts found
 
 printed-append : (quiet : Bool) (found others : List FoundRecord) → printed quiet (found ++ others) ≡ printed quiet found ++ printed quiet others
 printed-append true found others = refl

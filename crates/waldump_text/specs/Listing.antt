@@ -95,10 +95,10 @@ abbrev pub IsLimitListed : Filter → List FoundRecord → Type 0
 IsLimitListed by found = IsSomeAnd by.limit (λ limit. limit ≤ length (kept_by by found))
 
 -- the lines of records, one behind another
-abbrev pub lines_of : List FoundRecord → List ℕ
-lines_of found = flat_map (λ f. line_text (listed_of f)) found
+abbrev pub line_texts : List FoundRecord → List ℕ
+line_texts found = flat_map (λ f. line_text (listed_of f)) found
 
 -- the listing of a log's records by a filter: the lines of those that it lists, or nothing where it
 -- is quiet
 abbrev pub listing : Filter → List FoundRecord → List ℕ
-listing by found = if by.quiet then [] else lines_of (listed_by by found)
+listing by found = if by.quiet then [] else line_texts (listed_by by found)
