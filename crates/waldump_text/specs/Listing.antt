@@ -13,7 +13,8 @@ use Rattle.listing_filter.specs.declared.Filter.{Filter}
 use Rattle.listing_filter.specs.declared.listed.Listed.{Listed}
 use Rattle.listing_filter.specs.Keeping.{keeps}
 use Rattle.waldump_text.specs.Put.{joined, padded_left}
-use Rattle.waldump_text.specs.Names.{manager_name, record_word, fork_names, hexadecimal}
+use Rattle.listing_filter.specs.Names.{fork_names}
+use Rattle.waldump_text.specs.Names.{manager_name, record_word, hexadecimal}
 
 -- a text and blanks behind it up to n bytes
 abbrev pub padded_right : ℕ → List ℕ → List ℕ

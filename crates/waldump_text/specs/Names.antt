@@ -1,19 +1,10 @@
 -- The names that the listing has for managers and records (PostgreSQL's rmgrlist.h and xactdesc.c).
 use Rattle.std.specs.Prelude.{ℕ, ◌+◌, ◌/◌, ◌%◌, List, [], ◌∷◌, ◌++◌, codes, length, slice_index_or, ◌==◌, nat_lt, if◌then◌else◌}
+use Rattle.listing_filter.specs.Names.{manager_names}
 use Rattle.waldump_text.specs.declared.names.ManagerName.{ManagerName}
 use Rattle.waldump_text.specs.declared.names.ManagerName.TheVariants.{Own, Custom}
 use Rattle.waldump_text.specs.declared.names.RecordWord.{RecordWord}
 use Rattle.waldump_text.specs.declared.names.RecordWord.TheVariants.{Known, Unknown}
-
--- PostgreSQL's own managers, by their numbers from 0
-abbrev pub manager_names : List (List ℕ)
-manager_names =
-    codes "XLOG" ∷ codes "Transaction" ∷ codes "Storage" ∷ codes "CLOG" ∷ codes "Database"
-    ∷ codes "Tablespace" ∷ codes "MultiXact" ∷ codes "RelMap" ∷ codes "Standby" ∷ codes "Heap2"
-    ∷ codes "Heap"
-    ∷ codes "Btree" ∷ codes "Hash" ∷ codes "Gin" ∷ codes "Gist" ∷ codes "Sequence" ∷ codes "SPGist"
-    ∷ codes "BRIN" ∷ codes "CommitTs" ∷ codes "ReplicationOrigin" ∷ codes "Generic"
-    ∷ codes "LogicalMessage" ∷ []
 
 -- a number below 1000 in three digits
 abbrev pub three_digits : ℕ → List ℕ
@@ -78,10 +69,6 @@ own_word rmid info =
 abbrev pub record_word : ℕ → ℕ → List ℕ
 record_word rmid info =
     let word = own_word rmid info in if length word == 0 then unknown_word info else word
-
--- the forks of a relation
-abbrev pub fork_names : List (List ℕ)
-fork_names = codes "main" ∷ codes "fsm" ∷ codes "vm" ∷ codes "init" ∷ []
 
 -- the text of a manager's name
 abbrev pub name_text : ManagerName → List ℕ

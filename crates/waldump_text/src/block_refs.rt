@@ -7,8 +7,8 @@ ghost use Rattle.waldump_text.specs.Listing.{block_pieces, blocks_text, fork_tex
 ghost use Rattle.waldump_text.specs.declared.line_buffer.TheConstants.{ROOM};
 
 use crate::line_buffer::LineBuffer;
-use crate::names::fork_name;
 use crate::putting::SinkFault;
+use listing_filter::fork_name;
 use segment_disk::Sink;
 use wal_types::{Block, Image, Rel};
 

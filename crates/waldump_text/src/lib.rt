@@ -12,6 +12,6 @@ mod putting;
 pub use dumping::{DumpErr, dump};
 pub use laws::{decoding_is_settled, everything_is_listed};
 pub use lines::line;
-pub use listing_filter::{Filter, Listed};
-pub use names::{ManagerName, RecordWord, fork_name, manager_name, record_word};
+pub use listing_filter::{Filter, Listed, fork_name};
+pub use names::{ManagerName, RecordWord, manager_name, record_word};
 pub use putting::{SinkFault, padding, put, put_all};

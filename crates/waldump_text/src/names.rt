@@ -1,6 +1,8 @@
-ghost use Rattle.std.specs.Prelude.{◌≡◌, ◌<◌, ◌≤◌, IsTrue, [], length, not, slice_index_or};
+ghost use Rattle.std.specs.Prelude.{◌≡◌, ◌<◌, ◌≤◌, IsTrue, length, not};
 ghost use Rattle.record_spelling.specs.Record.{is_free_manager};
-ghost use Rattle.waldump_text.specs.Names.{manager_name, own_word, record_word, unknown_word, lower_digit, fork_names, name_text, word_text};
+ghost use Rattle.waldump_text.specs.Names.{manager_name, own_word, record_word, unknown_word, lower_digit, name_text, word_text};
+
+use listing_filter::own_manager_name;
 
 /// The name of a resource manager.
 #[derive(Clone, Copy, Debug)]
@@ -22,32 +24,6 @@ impl ManagerName {
     }
 }
 
-// PostgreSQL's own managers, by their numbers.
-static OWN_MANAGERS: [&str; 22] = [
-    "XLOG",
-    "Transaction",
-    "Storage",
-    "CLOG",
-    "Database",
-    "Tablespace",
-    "MultiXact",
-    "RelMap",
-    "Standby",
-    "Heap2",
-    "Heap",
-    "Btree",
-    "Hash",
-    "Gin",
-    "Gist",
-    "Sequence",
-    "SPGist",
-    "BRIN",
-    "CommitTs",
-    "ReplicationOrigin",
-    "Generic",
-    "LogicalMessage",
-];
-
 /// The name of the manager with a number that managers have: to 21, or from 128 on.
 pub fn manager_name(rmid: u8) -> ManagerName
     requires { IsTrue (not (is_free_manager rmid)) }
@@ -55,7 +31,7 @@ pub fn manager_name(rmid: u8) -> ManagerName
     ensures short { length (name_text result) ≤ 17 }
 {
     if rmid < 128 {
-        return ManagerName::Own(OWN_MANAGERS[rmid as usize]);
+        return ManagerName::Own(own_manager_name(rmid));
     }
     let mut name = *b"custom000";
     name[6] += rmid / 100;
@@ -179,15 +155,4 @@ fn lower_digit(n: u8) -> u8
     ensures { result ≡ lower_digit n }
 {
     if n < 10 { b'0' + n } else { b'a' - 10 + n }
-}
-
-static FORK_NAMES: [&str; 4] = ["main", "fsm", "vm", "init"];
-
-/// The name of a relation's fork, by a number that forks have.
-pub fn fork_name(fork: u8) -> &'static str
-    requires { fork ≤ 3 }
-    ensures text { result.now ≡ slice_index_or fork_names fork [] }
-    ensures short { length result.now ≤ 4 }
-{
-    FORK_NAMES[fork as usize]
 }
