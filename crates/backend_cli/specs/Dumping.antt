@@ -13,8 +13,8 @@ use Rattle.backend_cli.specs.declared.told.Told.{Told}
 use Rattle.segment_disk.specs.Cause.{Rose, RoseByOne}
 use Rattle.backend_cli.specs.Outside.{Outside}
 
--- what a listing printed, by how it may end: the lines of the records that the filter lists of those
--- that the disk's log decodes to, or a front of them
+-- what a listing printed, by how it may end: the lines of the records that the filter lists of
+-- those that the disk's log decodes to, or a front of them
 pub data Listed (asked : DumpOptions) (outside : Outside) : Outcome → Tape → Type 0 where
   all : {t : Tape} (count : ℕ)
       → ListsAll asked.geometry asked.filter t outside.taken_before outside.taken_after count

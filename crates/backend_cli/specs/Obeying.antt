@@ -12,15 +12,18 @@ use Rattle.backend_cli.specs.Outside.{Outside, IsUntouched, Took}
 use Rattle.backend_cli.specs.Run.{RunHolds}
 use Rattle.backend_cli.specs.Dumping.{DumpHolds}
 
--- want of memory before the command is known: nothing is called, read or printed, and nothing told
-pub record IsCutShort (outside : Outside) (outcome : Outcome) (lists : List (List Told)) : Type 0 where
+-- want of memory before the command is known: no counted call of the disk is made, nothing is read or
+-- printed, and nothing told
+pub record IsCutShort (outside : Outside) (outcome : Outcome) (lists : List (List Told))
+    : Type 0 where
   pub memory : outcome ≡ OutOfMemory
   pub untouched : IsUntouched outside
   pub disk : outside.disk_after ≡ outside.disk_before
   pub unread : outside.source_after ≡ outside.source_before
   pub nothing_told : lists ≡ []
 
--- words that ask for nothing: the disk is as it was, nothing is read or printed, and nothing told
+-- words that ask for nothing: no counted call of the disk is made, nothing is read or printed, and
+-- nothing told
 pub record IsUsage (outside : Outside) (outcome : Outcome) (lists : List (List Told)) : Type 0 where
   pub usage : outcome ≡ Usage
   pub untouched : IsUntouched outside
@@ -28,7 +31,8 @@ pub record IsUsage (outside : Outside) (outcome : Outcome) (lists : List (List T
   pub unread : outside.source_after ≡ outside.source_before
   pub nothing_told : lists ≡ []
 
--- words that ask for a text: it is printed, the disk is as it was, nothing is read, and nothing told
+-- words that ask for a text: it is printed, no counted call of the disk is made, nothing is read,
+-- and nothing told
 pub record IsExplained (text : List ℕ) (outside : Outside) (outcome : Outcome)
     (lists : List (List Told)) : Type 0 where
   pub usage : outcome ≡ Usage

@@ -32,7 +32,8 @@ told_of_flush (Ok done) = Flushed done.upto done.moment
 told_of_flush (Err refusal) = Refused refusal.cause refusal.reserved
 
 -- one line: the history before it, the backend whose line it is, what it asks for, what it is told,
--- and the history after it. The backend is the pass of an entry that it makes
+-- and the history after it. The backend is the pass of an entry that it makes. A flush asks for the
+-- log's end, which is that of the backend's own last record as long as one backend writes
 abbrev pub Steps : ℕ → ℕ → ℕ → LogHistory → ℕ → Asked → Told → LogHistory → Type 0
 Steps size capacity faults_at_open before backend (Insert value) told after =
     (answer : Result Receipt refused.Refused) × (told ≡ told_of_insert answer) × IsWritable value

@@ -131,7 +131,8 @@ pub fn pgwal<R: Threads + Wait + Sync, S: Source, O: Sink, E: Sink, D: Disk + Se
     // The status and its line on `err` are those of one outcome; for it the command's promises
     // hold: of `run` told, gapless, crash, no late receipt, whole, printed, and how it ends; of
     // `dump` listed; of words that ask for help its text, and of others that are no command
-    // nothing. Or memory ran out before the command was known, with nothing called, read or printed.
+    // nothing. Or memory ran out before the command was known, with no counted call made, and
+    // nothing read or printed.
     ensures obeys { (outcome : Outcome) × (result.status ≡ status_of outcome)
         × Took (E.taken err.old) (E.taken err.new) (E.faults err.old) (E.faults err.new)
         (joined (outcome_text outcome))
