@@ -12,8 +12,6 @@ mod damage;
 #[cfg(test)]
 mod gates;
 #[cfg(test)]
-mod hostile;
-#[cfg(test)]
 mod limits;
 #[cfg(test)]
 mod listing;
