@@ -6,6 +6,8 @@ mod causes;
 #[cfg(test)]
 mod damage;
 #[cfg(test)]
+mod filters;
+#[cfg(test)]
 mod gates;
 #[cfg(test)]
 mod hostile;
