@@ -10,6 +10,8 @@ mod crashes;
 #[cfg(test)]
 mod damage;
 #[cfg(test)]
+mod filters;
+#[cfg(test)]
 mod gates;
 #[cfg(test)]
 mod hostile;
