@@ -98,7 +98,10 @@ fn a_torn_commit_is_not_read(rt: HostRuntime) -> Result<(), Fail> {
     let torn = listed_after(&rt, alloc, &ended.disk, 6, Pick::Odd)?;
     assert_eq!(rt; lines_in(torn.out.taken()), 2);
     assert_eq!(rt; torn.ended.status, 6);
-    assert_eq!(rt; torn.err.taken(), b"pgwal: damaged at 0/00100078: prev\n".as_slice());
+    assert_eq!(rt;
+        torn.err.taken(),
+        b"pgwal: damaged at 0/00100078: prev\n".as_slice()
+    );
     Ok(())
 }
 

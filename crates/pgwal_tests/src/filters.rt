@@ -11,7 +11,8 @@ use std::thread::Threads;
 // Two transactions: each an insert of the heap and a commit, and a record of an index of the second.
 const FIVE_RECORDS: &[u8] = b"I 1 10 00 aa\nC 1 0\nI 2 10 00 bb\nC 2 0\nI 2 11 00 cc\n";
 
-const FIRST_INSERT: &[u8; 119] = b"rmgr: Heap        len (rec/tot):     27/    27, tx:          1, lsn: 0/00100028, prev 0/00000000, desc: INSERT data aa\n";
+const FIRST_INSERT: &[u8; 119] =
+    b"rmgr: Heap        len (rec/tot):     27/    27, tx:          1, lsn: 0/00100028, prev 0/00000000, desc: INSERT data aa\n";
 
 const VERIFIED: &[u8] = b"I 2 10 00 - 1663/5/16384:1i:3:-:0+0+00v\n";
 
@@ -23,7 +24,12 @@ fn dump<R: Threads + Wait + Sync>(
     options: &[&str],
 ) -> Result<Played, Fail> {
     let setting = setting_of(alloc, script, empty_disk(alloc, &[])?)?;
-    let run = play(rt, alloc, &["run", "--seg", "1048576", "--cap", "2"], setting)?;
+    let run = play(
+        rt,
+        alloc,
+        &["run", "--seg", "1048576", "--cap", "2"],
+        setting,
+    )?;
     let ended = run.ended;
     let mut setting = setting_of(alloc, b"", ended.disk)?;
     setting.out = MemSink::new(alloc, 2_200_000, Vec::new(alloc))?;
@@ -85,7 +91,13 @@ fn a_limit_counts_what_is_listed(rt: HostRuntime) -> Result<(), Fail> {
         &["--rmgr", "TRANSACTION", "--limit", "1"],
         b"rmgr: Transaction len (rec/tot):     34/    34, tx:          1, lsn: 0/00100048, prev 0/00100028, desc: COMMIT data 0000000000000000\n",
     )?;
-    lists(&rt, alloc, FIVE_RECORDS, &["--rmgr=heap", "-n1"], FIRST_INSERT)
+    lists(
+        &rt,
+        alloc,
+        FIVE_RECORDS,
+        &["--rmgr=heap", "-n1"],
+        FIRST_INSERT,
+    )
 }
 
 #[test]
@@ -103,10 +115,23 @@ fn records_of_a_manager_are_listed(rt: HostRuntime) -> Result<(), Fail> {
 #[test]
 fn a_listing_goes_from_its_start_up_to_its_end(rt: HostRuntime) -> Result<(), Fail> {
     let alloc = rt.alloc();
-    lists(&rt, alloc, FIVE_RECORDS, &["--end", "0/00100048"], FIRST_INSERT)?;
+    lists(
+        &rt,
+        alloc,
+        FIVE_RECORDS,
+        &["--end", "0/00100048"],
+        FIRST_INSERT,
+    )?;
     let late = dump(&rt, alloc, FIVE_RECORDS, &["--start", "0/00100029"])?;
     assert_eq!(rt; late.ended.status, 0);
-    assert_eq!(rt; late.out.taken().iter().filter(|byte| **byte == b'\n').count(), 4);
+    assert_eq!(rt;
+        late.out
+            .taken()
+            .iter()
+            .filter(|byte| **byte == b'\n')
+            .count(),
+        4
+    );
     Ok(())
 }
 

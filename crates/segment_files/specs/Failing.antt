@@ -2,5 +2,5 @@
 use Rattle.std.specs.Prelude.{Bool, IsTrue, OnOk, Result}
 
 -- where it had failed before a call it has failed behind it, and the call does not answer Ok
-abbrev pub StaysDown : {T E : Type 0} → Bool → Bool → Result T E → Type 0
-StaysDown before after result = IsTrue before → IsTrue after × OnOk result ⊥
+abbrev pub FailsForGood : {T E : Type 0} → Bool → Bool → Result T E → Type 0
+FailsForGood before after result = IsTrue before → IsTrue after × OnOk result ⊥

@@ -1,5 +1,5 @@
 ghost use Rattle.std.specs.Prelude.{◌<◌, ◌/◌, ◌^◌, IsTrue, OnErr};
-ghost use Rattle.segment_files.specs.Failing.{StaysDown};
+ghost use Rattle.segment_files.specs.Failing.{FailsForGood};
 
 use crate::folder::Folder;
 use crate::pages;
@@ -72,7 +72,7 @@ where
     /// Makes a file of zeros, which is on the disk under its name at Ok. Fails where it is there.
     pub fn create(&mut self, geometry: Geometry, segment: u64) -> io::Result<()>
         requires { segment < 2 ^ 64 / geometry }
-        ensures { StaysDown self.old.folder.has_failed self.new.folder.has_failed result }
+        ensures { FailsForGood self.old.folder.has_failed self.new.folder.has_failed result }
     {
         self.folder.check()?;
         self.leave_written()?;
@@ -94,7 +94,7 @@ where
         bytes: &[u8; 8192],
     ) -> io::Result<()>
         requires { segment < 2 ^ 64 / geometry }
-        ensures { StaysDown self.old.folder.has_failed self.new.folder.has_failed result }
+        ensures { FailsForGood self.old.folder.has_failed self.new.folder.has_failed result }
     {
         self.folder.check()?;
         self.turn_to(geometry, segment)?;
@@ -110,7 +110,7 @@ where
     /// Puts a segment's data on the disk, and the folder's name where that was not done yet.
     pub fn sync(&mut self, geometry: Geometry, segment: u64) -> io::Result<()>
         requires { segment < 2 ^ 64 / geometry }
-        ensures { StaysDown self.old.folder.has_failed self.new.folder.has_failed result }
+        ensures { FailsForGood self.old.folder.has_failed self.new.folder.has_failed result }
     {
         self.folder.check()?;
         self.turn_to(geometry, segment)?;
@@ -127,7 +127,7 @@ where
         bytes: &mut [u8; 8192],
     ) -> io::Result<bool>
         requires { segment < 2 ^ 64 / geometry }
-        ensures { StaysDown self.old.folder.has_failed self.new.folder.has_failed result }
+        ensures { FailsForGood self.old.folder.has_failed self.new.folder.has_failed result }
     {
         self.folder.check()?;
         self.write_held()?;
