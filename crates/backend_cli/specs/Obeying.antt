@@ -12,8 +12,8 @@ use Rattle.backend_cli.specs.Outside.{Outside, IsUntouched, Took}
 use Rattle.backend_cli.specs.Run.{RunHolds}
 use Rattle.backend_cli.specs.Dumping.{DumpHolds}
 
--- want of memory before the command is known: no counted call of the disk is made, nothing is read or
--- printed, and nothing told
+-- want of memory before the command is known: no counted call of the disk is made, nothing is read
+-- or printed, and nothing told
 pub record IsCutShort (outside : Outside) (outcome : Outcome) (lists : List (List Told))
     : Type 0 where
   pub memory : outcome ≡ OutOfMemory
