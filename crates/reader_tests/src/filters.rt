@@ -313,6 +313,25 @@ fn heap_and_commit(alloc: Global, count: usize, room: u32) -> Result<TwoPages, F
     Ok(pages)
 }
 
+// The second record stands on the second page, whose read fails.
+#[test]
+fn no_page_is_read_behind_the_limit(rt: HostRuntime) -> Result<(), Fail> {
+    let alloc = rt.alloc();
+    let pages = heap_and_commit(alloc, 8123, 8152)?;
+    let mut out = MemSink::new(alloc, 400, Vec::new(alloc))?;
+    let mut filter = everything();
+    filter.quiet = true;
+    filter.limit = Some(1);
+    let mut disk = disk_of(alloc, &pages, vec![in alloc; 2]?)?;
+    let counted = dump(alloc, &mut disk, smallest(), &filter, &mut out);
+    assert_eq!(rt; counted, Ok(1));
+    filter.limit = Some(2);
+    let mut other = disk_of(alloc, &pages, vec![in alloc; 2]?)?;
+    let counted = dump(alloc, &mut other, smallest(), &filter, &mut out);
+    assert_eq!(rt; counted, Err(DumpErr::Read(ReadErr::Disk { faults: 1 })));
+    Ok(())
+}
+
 #[test]
 fn a_listing_begins_behind_what_its_page_continues(rt: HostRuntime) -> Result<(), Fail> {
     let alloc = rt.alloc();
