@@ -2,7 +2,7 @@
 
 use crate::played::{Played, disk_of_one_commit, empty_disk, play, setting_of};
 use byte_position::Geometry;
-use segment_disk::{Disk, MemDisk, Pick};
+use segment_disk::{Disk, MemDisk, MemSink, Pick};
 use std::alloc::Global;
 use std::process::Abort;
 use std::sync::Wait;
@@ -164,5 +164,11 @@ fn a_lost_segment_ends_the_log(rt: HostRuntime) -> Result<(), Fail> {
     assert_eq!(rt; run.ended.status, 0);
     let ended = run.ended;
     // The 130th call is the first segment's sync, the next makes the second one.
-    leaves(&rt, alloc, &ended.disk, 130, Pick::Old, 1)
+    let left = ended.disk.crash(alloc, 130, Pick::Old)?;
+    let mut setting = setting_of(alloc, b"", left)?;
+    setting.out = MemSink::new(alloc, 2_200_000, Vec::new(alloc))?;
+    let listed = play(&rt, alloc, &["dump", "--seg", "1048576"], setting)?;
+    assert_eq!(rt; lines_in(listed.out.taken()), 1);
+    assert_eq!(rt; listed.ended.status, 0);
+    Ok(())
 }
