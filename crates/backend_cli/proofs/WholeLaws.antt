@@ -9,22 +9,20 @@ use Rattle.byte_position.proofs.SegmentSizes.{segment_size_tests}
 use Rattle.segment_disk.specs.Tape.{Tape}
 use Rattle.segment_disk.specs.DiskImage.{DiskImage}
 use Rattle.wal_page.specs.Order.{Entry, IsChained, rooms_of, end_position}
-use Rattle.serial_log.specs.History.{end_of}
 use Rattle.serial_log.specs.LogImage.{IsLogImage, HoldsLog}
 use Rattle.written_log.proofs.LawfulLaws.{whole_lawful_images_decode}
 use Rattle.backend_cli.specs.Run.{DecodesTo, IsWhole}
 use Rattle.backend_cli.specs.Whole.{HeldLogIsWhole}
 
-module _ (size sysid : ℕ) (es : List Entry) (valid : IsSegmentSize size) (known : 0 < sysid) (narrow : sysid < 2 ^ 64) (chained : IsChained size es) (within : rooms_of size es ≤ 2 ^ 42) where
-  -- the log ends far below the last address that is read
-  bounded : end_address_of size (end_position size es) ≤ 2 ^ 60
-  bounded =
-      let p = first_position size + rooms_of size es in
-      omega (arith, end_address_of-le_address_of size valid p, address_of-bound size valid p, position_of-le_self size size, (segment_size_tests size valid).2)
+-- a log of at most 2 ^ 42 bytes ends far below the last address that is read
+pub ends_low : (size : ℕ) → IsSegmentSize size → (es : List Entry) → rooms_of size es ≤ 2 ^ 42 → end_address_of size (end_position size es) ≤ 2 ^ 60
+ends_low size valid es within =
+    let p = first_position size + rooms_of size es in
+    omega (arith, end_address_of-le_address_of size valid p, address_of-bound size valid p, position_of-le_self size size, (segment_size_tests size valid).2)
 
-  -- an image that is lawful up to the log's end decodes to all of it
+module _ (size sysid : ℕ) (es : List Entry) (valid : IsSegmentSize size) (known : 0 < sysid) (narrow : sysid < 2 ^ 64) (chained : IsChained size es) (within : rooms_of size es ≤ 2 ^ 42) where
   image_decodes : (image : DiskImage) → IsLogImage size sysid es image → DecodesTo size image es
-  image_decodes image is = whole_lawful_images_decode size sysid (end_of size es) image es valid known narrow chained bounded (omega arith) is.lawful
+  image_decodes image is = whole_lawful_images_decode size sysid (end_address_of size (end_position size es)) image es valid known narrow chained (ends_low size valid es within) (omega arith) is.lawful
 
   whole_where : (tape : Option Tape) → IfSome tape (HoldsLog size sysid es) → IsWhole size tape es
   whole_where None holds = tt
