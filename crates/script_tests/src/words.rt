@@ -51,11 +51,13 @@ fn extent(alloc: Global, words: &[&str]) -> Result<Option<(Option<u64>, bool)>, 
 }
 
 fn is_refused(alloc: Global, words: &[&str]) -> Result<bool, AllocError> {
-    Ok(matches!(request(alloc, words)?, Request::Nothing))
+    let request = request(alloc, words)?;
+    Ok(matches!(request, Request::Nothing))
 }
 
 fn is_help(alloc: Global, words: &[&str]) -> Result<bool, AllocError> {
-    Ok(matches!(request(alloc, words)?, Request::Help))
+    let request = request(alloc, words)?;
+    Ok(matches!(request, Request::Help))
 }
 
 #[test]
