@@ -15,7 +15,7 @@ use Rattle.command_words.specs.declared.commands.Command.{Command as Task}
 use Rattle.command_line.specs.declared.asking.Request.TheVariants.{Command}
 use Rattle.command_line.specs.Asking.{asks, given_in, is_set, request_of}
 use Rattle.command_line.specs.Syntax.{declared_command}
-use Rattle.command_line.specs.Plain.{Switch, Use, Valued, are_plain, are_plain_behind, begins_with_hyphen, block_letter, block_option, cap_option, end_letter, end_option, fork_letter, fork_option, fullpage_letter_alone, fullpage_switch, given_by, is_switched, letter_of, lettered, lettered_option, lettered_switch, limit_letter, limit_option, list_switch, option_name, pair_of, quiet_letter_alone, quiet_switch, relation_letter, relation_option, ring_option, rmgr_letter, rmgr_option, seg_option, start_letter, start_option, switch_letter_of, switch_name, switched, switched_by_letter, value_for, valued, words_of_uses, xid_letter, xid_option}
+use Rattle.command_line.specs.Plain.{Switch, Use, Valued, are_plain, are_plain_behind, begins_with_hyphen, block_letter, block_option, cap_option, end_letter, end_option, fork_letter, fork_option, fullpage_letter_alone, fullpage_switch, given_by, is_switched, letter_of, lettered, lettered_option, lettered_switch, limit_letter, limit_option, list_switch, option_name, pair_given, quiet_letter_alone, quiet_switch, relation_letter, relation_option, ring_option, rmgr_letter, rmgr_option, seg_option, start_letter, start_option, switch_letter_of, switch_name, switched, switched_by_letter, value_for, valued, words_of_uses, xid_letter, xid_option}
 use Rattle.command_line.proofs.PlainWalk.{IsPlainWord, Settles, absent_row, between, is_plain_word, letter_opened, letter_opens, level, opened, opens, row_with, rules, switch_letter_passes, switch_letter_taken, switch_passes, switch_taken, value_passes, value_settles, value_taken}
 use Rattle.command_line.proofs.Requests.{asks-taken, none_entered}
 use Rattle.clap.specs.declared.parser.matches.ValueSource.TheVariants.{DefaultValue}
@@ -89,7 +89,7 @@ walk_one start now word words into passes goes w = record {
 }
 
 walks_uses : (uses : List Use) (command : Text) (pairs : List (Text × Text)) (rows : List Row) (pending : Option (Text × List Text)) → are_plain_behind pairs uses ≡ true → Settles rows pending (rows_behind command pairs)
-    → Walks (between rows pending) (words_of_uses uses) (rows_behind command (pairs ++ map pair_of uses))
+    → Walks (between rows pending) (words_of_uses uses) (rows_behind command (pairs ++ map pair_given uses))
 unfolding walk_fault
 walks_uses [] command pairs rows pending plain settles = record {
   rows = rows;
@@ -106,8 +106,8 @@ walks_uses (valued o value ∷ uses) command pairs rows pending plain settles =
     let into = rows_behind command pairs in
     let now : Settles into (Some (option_name o, value ∷ [])) (rows_behind command (pairs ++ (option_name o, value) ∷ [])) =
     subst (λ (l : List Row). Settles into (Some (option_name o, value ∷ [])) l) (rows_more command pairs (option_name o, value)) (value_settles o value into fresh) in
-    let rest : Walks (between into (Some (option_name o, value ∷ []))) (words_of_uses uses) (rows_behind command (pairs ++ (option_name o, value) ∷ map pair_of uses)) =
-    subst (λ (l : List (Text × Text)). Walks (between into (Some (option_name o, value ∷ []))) (words_of_uses uses) (rows_behind command l)) (append_assoc pairs ((option_name o, value) ∷ []) (map pair_of uses))
+    let rest : Walks (between into (Some (option_name o, value ∷ []))) (words_of_uses uses) (rows_behind command (pairs ++ (option_name o, value) ∷ map pair_given uses)) =
+    subst (λ (l : List (Text × Text)). Walks (between into (Some (option_name o, value ∷ []))) (words_of_uses uses) (rows_behind command l)) (append_assoc pairs ((option_name o, value) ∷ []) (map pair_given uses))
     (walks_uses uses command (pairs ++ (option_name o, value) ∷ []) into (Some (option_name o, value ∷ [])) first.1 now) in
     walk_one _ _ (45 ∷ 45 ∷ option_name o) _ _ (opens o rows pending into settles) (opened o rows pending into settles)
     (walk_one _ _ value _ _ (value_passes o value into starts) (value_taken o value into starts) rest)
@@ -120,8 +120,8 @@ walks_uses (lettered letter value ∷ uses) command pairs rows pending plain set
     let into = rows_behind command pairs in
     let now : Settles into (Some (option_name o, value ∷ [])) (rows_behind command (pairs ++ (option_name o, value) ∷ [])) =
     subst (λ (l : List Row). Settles into (Some (option_name o, value ∷ [])) l) (rows_more command pairs (option_name o, value)) (value_settles o value into fresh) in
-    let rest : Walks (between into (Some (option_name o, value ∷ []))) (words_of_uses uses) (rows_behind command (pairs ++ (option_name o, value) ∷ map pair_of uses)) =
-    subst (λ (l : List (Text × Text)). Walks (between into (Some (option_name o, value ∷ []))) (words_of_uses uses) (rows_behind command l)) (append_assoc pairs ((option_name o, value) ∷ []) (map pair_of uses))
+    let rest : Walks (between into (Some (option_name o, value ∷ []))) (words_of_uses uses) (rows_behind command (pairs ++ (option_name o, value) ∷ map pair_given uses)) =
+    subst (λ (l : List (Text × Text)). Walks (between into (Some (option_name o, value ∷ []))) (words_of_uses uses) (rows_behind command l)) (append_assoc pairs ((option_name o, value) ∷ []) (map pair_given uses))
     (walks_uses uses command (pairs ++ (option_name o, value) ∷ []) into (Some (option_name o, value ∷ [])) first.1 now) in
     walk_one _ _ (45 ∷ letter_of letter ∷ []) _ _ (letter_opens letter rows pending into settles) (letter_opened letter rows pending into settles)
     (walk_one _ _ value _ _ (value_passes o value into starts) (value_taken o value into starts) rest)
@@ -132,8 +132,8 @@ walks_uses (switched o ∷ uses) command pairs rows pending plain settles =
     let more = rows_behind command (pairs ++ (switch_name o, codes "true") ∷ []) in
     let are : into ++ row_with (switch_name o) (codes "true") ∷ [] ≡ more = rows_more command pairs (switch_name o, codes "true") in
     let now : Settles more None more = record { rows_are = refl; sound = refl } in
-    let rest : Walks (between more None) (words_of_uses uses) (rows_behind command (pairs ++ (switch_name o, codes "true") ∷ map pair_of uses)) =
-    subst (λ (l : List (Text × Text)). Walks (between more None) (words_of_uses uses) (rows_behind command l)) (append_assoc pairs ((switch_name o, codes "true") ∷ []) (map pair_of uses))
+    let rest : Walks (between more None) (words_of_uses uses) (rows_behind command (pairs ++ (switch_name o, codes "true") ∷ map pair_given uses)) =
+    subst (λ (l : List (Text × Text)). Walks (between more None) (words_of_uses uses) (rows_behind command l)) (append_assoc pairs ((switch_name o, codes "true") ∷ []) (map pair_given uses))
     (walks_uses uses command (pairs ++ (switch_name o, codes "true") ∷ []) more None first.1 now) in
     walk_one _ _ (45 ∷ 45 ∷ switch_name o) _ _ (switch_passes o rows pending into settles fresh)
     (switch_taken o rows pending into settles fresh ∙ ap (λ (l : List Row). between l None) are) rest
@@ -145,8 +145,8 @@ walks_uses (switched_by_letter letter ∷ uses) command pairs rows pending plain
     let more = rows_behind command (pairs ++ (switch_name o, codes "true") ∷ []) in
     let are : into ++ row_with (switch_name o) (codes "true") ∷ [] ≡ more = rows_more command pairs (switch_name o, codes "true") in
     let now : Settles more None more = record { rows_are = refl; sound = refl } in
-    let rest : Walks (between more None) (words_of_uses uses) (rows_behind command (pairs ++ (switch_name o, codes "true") ∷ map pair_of uses)) =
-    subst (λ (l : List (Text × Text)). Walks (between more None) (words_of_uses uses) (rows_behind command l)) (append_assoc pairs ((switch_name o, codes "true") ∷ []) (map pair_of uses))
+    let rest : Walks (between more None) (words_of_uses uses) (rows_behind command (pairs ++ (switch_name o, codes "true") ∷ map pair_given uses)) =
+    subst (λ (l : List (Text × Text)). Walks (between more None) (words_of_uses uses) (rows_behind command l)) (append_assoc pairs ((switch_name o, codes "true") ∷ []) (map pair_given uses))
     (walks_uses uses command (pairs ++ (switch_name o, codes "true") ∷ []) more None first.1 now) in
     walk_one _ _ (45 ∷ switch_letter_of letter ∷ []) _ _ (switch_letter_passes letter rows pending into settles fresh)
     (switch_letter_taken letter rows pending into settles fresh ∙ ap (λ (l : List Row). between l None) are) rest
@@ -156,7 +156,7 @@ named : (command : Text) → IsPlainWord command → (turn_fault level [] (walk_
 unfolding walked
 named command plain = (rw (plain.dashes, plain.long, plain.short) refl, rw (plain.dashes, plain.long, plain.short) refl)
 
-walks : (command : Text) (uses : List Use) → begins_with_hyphen command ≡ false → are_plain uses ≡ true → Walks (walk_from nothing_held) (command ∷ words_of_uses uses) (rows_behind command (map pair_of uses))
+walks : (command : Text) (uses : List Use) → begins_with_hyphen command ≡ false → are_plain uses ≡ true → Walks (walk_from nothing_held) (command ∷ words_of_uses uses) (rows_behind command (map pair_given uses))
 walks command uses plain_name plain =
     let begun = named command (is_plain_word command plain_name) in
     walk_one _ _ command _ _ begun.0 begun.1
@@ -291,7 +291,7 @@ first_of-pairs id (p ∷ pairs) = go (bytes_eq p.0 id) refl (first_of-pairs id p
     go true e rest = rw e refl
     go false e rest = rw e rest
 
-no_topic : (uses : List Use) → value_for (codes "topic") (map pair_of uses) ≡ None
+no_topic : (uses : List Use) → value_for (codes "topic") (map pair_given uses) ≡ None
 no_topic [] = refl
 no_topic (valued seg_option value ∷ uses) = no_topic uses
 no_topic (valued ring_option value ∷ uses) = no_topic uses
@@ -319,9 +319,9 @@ no_topic (switched_by_letter fullpage_letter_alone ∷ uses) = no_topic uses
 no_topic (switched_by_letter quiet_letter_alone ∷ uses) = no_topic uses
 
 -- the words given, where the defaults stand behind those of the words
-all_given : (command : Text) (uses : List Use) → given_in (fold with_default (rows_behind command (map pair_of uses)) rules) ≡ given_by command uses
+all_given : (command : Text) (uses : List Use) → given_in (fold with_default (rows_behind command (map pair_given uses)) rules) ≡ given_by command uses
 all_given command uses =
-    let pairs = map pair_of uses in
+    let pairs = map pair_given uses in
     let rows = rows_behind command pairs in
     let command_is : first_of (codes "command") (fold with_default rows rules) ≡ Some command = first_kept_by_all (codes "command") rules rows refl in
     let topic_is : first_of (codes "topic") (fold with_default rows rules) ≡ None = first_kept_by_all (codes "topic") rules rows refl ∙ (first_of-pairs (codes "topic") pairs ∙ no_topic uses) in
@@ -362,7 +362,7 @@ plain_words_ask program command uses plain_name plain =
     let words : List Text = program ∷ command ∷ words_of_uses uses in
     let given : List Text = command ∷ words_of_uses uses in
     let w = walks command uses plain_name plain in
-    let into = rows_behind command (map pair_of uses) in
+    let into = rows_behind command (map pair_given uses) in
     let stop = (walk rules [] nothing_held given).stopped in
     let none : fault_of declared_command words ≡ [] = passes_level given _ (entered_fault (built declared_command) stop) into w (none_entered (built declared_command) stop refl) in
     let rows : matches_of declared_command words ≡ fold with_default into rules =

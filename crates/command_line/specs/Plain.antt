@@ -114,13 +114,13 @@ words_of_uses [] = []
 words_of_uses (first ∷ uses) = words_of_use first ++ words_of_uses uses
 
 -- what it gives: its name with its value, or with `true`
-abbrev pub pair_of : Use → Text × Text
-pair_of (valued option value) = (option_name option, value)
-pair_of (lettered letter value) = (option_name (lettered_option letter), value)
-pair_of (switched_by_letter letter) = (switch_name (lettered_switch letter), codes "true")
-pair_of (switched switch) = (switch_name switch, codes "true")
+abbrev pub pair_given : Use → Text × Text
+pair_given (valued option value) = (option_name option, value)
+pair_given (lettered letter value) = (option_name (lettered_option letter), value)
+pair_given (switched_by_letter letter) = (switch_name (lettered_switch letter), codes "true")
+pair_given (switched switch) = (switch_name switch, codes "true")
 
--- 45 is the hyphen
+-- whether a word begins with the hyphen (45)
 abbrev pub begins_with_hyphen : Text → Bool
 begins_with_hyphen [] = false
 begins_with_hyphen (c ∷ cs) = c == 45
@@ -138,8 +138,8 @@ is_switched name pairs =
 abbrev pub are_plain_behind : List (Text × Text) → List Use → Bool
 are_plain_behind pairs [] = true
 are_plain_behind pairs (first ∷ uses) =
-    not (begins_with_hyphen (pair_of first).1) && not (is_some (value_for (pair_of first).0 pairs))
-    && are_plain_behind (pairs ++ pair_of first ∷ []) uses
+    not (begins_with_hyphen (pair_given first).1) && not (is_some (value_for (pair_given first).0 pairs))
+    && are_plain_behind (pairs ++ pair_given first ∷ []) uses
 
 -- no option is given twice, and no value begins with a hyphen
 abbrev pub are_plain : List Use → Bool
@@ -148,7 +148,7 @@ are_plain uses = are_plain_behind [] uses
 -- the words given, option by option
 abbrev pub given_by : Text → List Use → Given
 given_by command uses =
-    let pairs = map pair_of uses in
+    let pairs = map pair_given uses in
     record {
       command = Some command;
       topic = None;
