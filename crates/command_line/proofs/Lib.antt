@@ -1,3 +1,5 @@
 pub mod Declaring
 pub mod OneFault
+pub mod PlainWalk
+pub mod PlainWords
 pub mod Requests

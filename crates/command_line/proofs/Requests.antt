@@ -23,7 +23,7 @@ unfolding clap_on_literals
 is_free = refl
 
 -- no subcommand is entered where there is none
-none_entered : (a : App) (stop : Option (Text × List Text)) → a.subs ≡ [] → entered_fault a stop ≡ []
+pub none_entered : (a : App) (stop : Option (Text × List Text)) → a.subs ≡ [] → entered_fault a stop ≡ []
 none_entered a None none = refl
 none_entered a (Some p) none = rw none refl
 

@@ -1,3 +1,4 @@
 pub mod Asking
+pub mod Plain
 pub mod Syntax
 pub mod Texts

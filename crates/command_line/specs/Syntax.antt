@@ -17,6 +17,7 @@ option_rule name letter = record (new_rule name) { long = Some name; short = Som
 abbrev pub switch_rule : Text → ℕ → Rule
 switch_rule name letter = record (option_rule name letter) { action = Some SetTrue }
 
+-- `--list`
 abbrev pub list_rule : Rule
 list_rule = record (long_rule (codes "list")) { action = Some SetTrue }
 
@@ -48,11 +49,14 @@ extent_rules =
     option_rule (codes "start") 115 ∷ option_rule (codes "end") 101
     ∷ option_rule (codes "limit") 110 ∷ switch_rule (codes "quiet") 113 ∷ []
 
+-- all of them
 abbrev pub declared_rules : List Rule
 declared_rules = word_rules ++ run_rules ++ record_rules ++ block_rules ++ extent_rules
 
+-- the command before it has any: `--help` and `--version` come with it
 abbrev pub start_command : App
 start_command = on_top (λ s. record s { has_version = true }) (new_app (codes "pgwal"))
 
+-- the command that is declared
 abbrev pub declared_command : App
 declared_command = fold with_rule start_command declared_rules

@@ -28,9 +28,11 @@ pub record Given : Type 0 where
   pub limit : Option (List ℕ)
   pub quiet : Bool
 
+-- the text behind a reference
 abbrev pub text_of : Option (Bor (List ℕ)) → Option (List ℕ)
 text_of = option_map (λ text. text.now)
 
+-- the same of the program's own value
 abbrev pub given_of : GivenWords → Given
 given_of words = record {
   command = text_of words.command;
@@ -84,11 +86,13 @@ default_cap_segments = 64
 abbrev pub gives_run : Given → Bool
 gives_run g = is_some g.ring || is_some g.cap || g.list
 
+-- one that says which records are listed
 abbrev pub gives_selection : Given → Bool
 gives_selection g =
     is_some g.rmgr || is_some g.xid || is_some g.relation || is_some g.block || is_some g.fork
     || g.fullpage
 
+-- one that says where a listing begins and ends
 abbrev pub gives_extent : Given → Bool
 gives_extent g = is_some g.start || is_some g.end || is_some g.limit || g.quiet
 
@@ -96,6 +100,7 @@ gives_extent g = is_some g.start || is_some g.end || is_some g.limit || g.quiet
 abbrev pub gives_dump : Given → Bool
 gives_dump g = gives_selection g || gives_extent g
 
+-- what `run` is asked to do, with its own options alone
 abbrev pub run_of : Given → Option Command
 run_of g = if is_some g.topic || gives_dump g then None else do
   size ← or_default default_segment_size segment_size_of g.seg
@@ -150,18 +155,21 @@ with_extent g filter = do
   limit ← read limit_of g.limit
   Some (record filter { start = first; end = last; limit = limit; quiet = g.quiet })
 
+-- what is listed
 abbrev pub filter_of : ℕ → Given → Option Filter
 filter_of size g = do
   by_record ← with_record_rules g (whole_log size)
   by_block ← with_block_rules g by_record
   with_extent g by_block
 
+-- what `dump` is asked to do, with its own options alone
 abbrev pub dump_of : Given → Option Command
 dump_of g = if is_some g.topic || gives_run g then None else do
   size ← or_default default_segment_size segment_size_of g.seg
   filter ← filter_of size g
   Some (Dump (record { geometry = size; filter = filter }))
 
+-- by the command's name
 abbrev pub named : Option (List ℕ) → Given → Option Command
 named None g = None
 named (Some name) g =

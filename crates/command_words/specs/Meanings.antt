@@ -39,6 +39,7 @@ xid_of word = option_map (λ n. record { 0 = n }) (number_of (2 ^ 32 - 1) word)
 abbrev pub block_number_of : List ℕ → Option ℕ
 block_number_of word = number_of (2 ^ 32 - 2) word
 
+-- the parts of a text with one more byte in front
 abbrev pub behind_byte : ℕ → Option (List ℕ × List ℕ) → Option (List ℕ × List ℕ)
 behind_byte c None = None
 behind_byte c (Some parts) = Some (c ∷ parts.0, parts.1)
@@ -48,11 +49,13 @@ abbrev pub cut_at_slash : List ℕ → Option (List ℕ × List ℕ)
 cut_at_slash [] = None
 cut_at_slash (c ∷ cs) = if c == 47 then Some ([], cs) else behind_byte c (cut_at_slash cs)
 
+-- a relation by its three numbers
 abbrev pub relation_by : Option ℕ → Option ℕ → Option ℕ → Option Rel
 relation_by (Some tablespace) (Some database) (Some relation) =
     Some (record { spc = tablespace; db = database; rel = relation })
 relation_by spc db rel = None
 
+-- the number of a tablespace, a database or a relation
 abbrev pub object_of : List ℕ → Option ℕ
 object_of word = number_of (2 ^ 32 - 1) word
 
@@ -81,6 +84,7 @@ hexadecimal_of word =
     if nat_le 1 (length word) && nat_le (length word) 8 && list_all is_hexadecimal_digit word
     then Some (number_from_digits 16 (map hexadecimal_digit word)) else None
 
+-- an address by its upper and its lower four bytes
 abbrev pub lsn_with : Option ℕ → Option ℕ → Option Lsn
 lsn_with (Some high) (Some low) = Some (record { 0 = high * 2 ^ 32 + low })
 lsn_with high low = None
@@ -91,6 +95,7 @@ lsn_of word =
     option_and_then (λ parts. lsn_with (hexadecimal_of parts.0) (hexadecimal_of parts.1))
     (cut_at_slash word)
 
+-- the manager of `custom` and three digits, from 128 on
 abbrev pub number_behind_custom : List ℕ → Option ℕ
 number_behind_custom word =
     if length word == 9 && is_same_name (take 6 word) (codes "custom")

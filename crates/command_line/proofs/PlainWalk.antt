@@ -1,0 +1,215 @@
+-- `clap`'s walk over words of the plain form.
+use Rattle.std.proofs.Common.{◌≡◌, ◌∙◌, Bool, true, false, List, [], ◌∷◌, ◌++◌, Option, Some, None, refl, ap, sym, subst, codes}
+use Rattle.std.specs.Str.{bytes_eq, chars}
+use Rattle.std.specs.Char.{encode_utf8}
+use Rattle.std.proofs.lemmas.List.{append-nil}
+use Rattle.clap.specs.Words.{Row, Rule, Shape, Text}
+use Rattle.clap.specs.Kinds.{or_else}
+use Rattle.clap.specs.Lexer.{long_of, short_of}
+use Rattle.clap.specs.Simple.{built}
+use Rattle.clap.specs.Faults.{settle_fault, turn_fault, flags_fault}
+use Rattle.clap.specs.Walk.{Walk, at_row, bundle_met, has_row, idle, more_values, option, settled_rows, walked, with_values, without}
+use Rattle.clap.specs.declared.builder.value_parser.Reading.TheVariants as reading
+use Rattle.clap.specs.declared.parser.matches.ValueSource.TheVariants.{CommandLine}
+use Rattle.command_line.specs.Syntax.{declared_command}
+use Rattle.command_line.specs.Plain.{Letter, Switch, SwitchLetter, Valued, begins_with_hyphen, block_letter, block_option, cap_option, end_letter, end_option, fork_letter, fork_option, fullpage_letter_alone, fullpage_switch, letter_of, lettered_option, lettered_switch, limit_letter, limit_option, list_switch, option_name, quiet_letter_alone, quiet_switch, relation_letter, relation_option, ring_option, rmgr_letter, rmgr_option, seg_option, start_letter, start_option, switch_letter_of, switch_name, xid_letter, xid_option}
+
+abbrev pub level : Shape
+level = (built declared_command).top
+
+abbrev pub rules : List Rule
+rules = level.rules
+
+-- the row of a value that the words give
+abbrev pub row_with : Text → Text → Row
+row_with name value = record {
+  id = name;
+  values = value ∷ [];
+  count = None;
+  source = Some CommandLine;
+  reading = reading.AsWritten;
+}
+
+-- where the walk stands between two options, behind the command's name
+abbrev pub between : List Row → Option (Text × List Text) → Walk
+between rows pending = record {
+  held = record { rows = rows; pending = pending; skip = 0 };
+  waiting = idle;
+  position = 2;
+  is_trailing = false;
+  stopped = None;
+}
+
+-- and where it waits for a value
+abbrev pub awaiting : Text → List Row → Walk
+awaiting name rows = record {
+  held = record { rows = rows; pending = Some (name, []); skip = 0 };
+  waiting = option name;
+  position = 2;
+  is_trailing = false;
+  stopped = None;
+}
+
+-- what is pending passes, and leaves these rows
+pub record Settles (rows : List Row) (pending : Option (Text × List Text)) (into : List Row) : Type 0 where
+  pub rows_are : settled_rows rules pending rows ≡ into
+  pub sound : settle_fault rules false (record { rows = rows; pending = pending; skip = 0 }) ≡ []
+
+pub absent_row : (id : Text) (change : Row → List Row) (missing : List Row) (rows : List Row) → has_row id rows ≡ false → at_row id change missing rows ≡ rows ++ missing
+absent_row id change missing [] absent = refl
+absent_row id change missing (r ∷ rs) absent = go (bytes_eq r.id id) refl (absent_row id change missing rs)
+  where
+    go : (t : Bool) → bytes_eq r.id id ≡ t → (has_row id rs ≡ false → at_row id change missing rs ≡ rs ++ missing) → at_row id change missing (r ∷ rs) ≡ (r ∷ rs) ++ missing
+    go true e rest = let bad : true ≡ false = rw e at absent in cc
+    go false e rest = rw e (ap (λ l. r ∷ l) (rest (rw e at absent)))
+
+-- a first value makes a row behind the others
+new_row : (id value : Text) (rows : List Row) → has_row id rows ≡ false → with_values id reading.AsWritten CommandLine (value ∷ []) (without id rows) ≡ rows ++ row_with id value ∷ []
+new_row id value rows absent =
+    let kept : without id rows ≡ rows = absent_row id (λ (r : Row). []) [] rows absent ∙ append-nil rows in
+    rw kept (absent_row id (more_values CommandLine (value ∷ [])) (row_with id value ∷ []) rows absent)
+
+-- the word of an option with a value
+pub opens : (o : Valued) (rows : List Row) (pending : Option (Text × List Text)) (into : List Row) → Settles rows pending into → turn_fault level [] (between rows pending) (45 ∷ 45 ∷ option_name o) ≡ []
+opens seg_option rows pending into h = ap (λ kinds. or_else kinds []) h.sound
+opens ring_option rows pending into h = ap (λ kinds. or_else kinds []) h.sound
+opens cap_option rows pending into h = ap (λ kinds. or_else kinds []) h.sound
+opens rmgr_option rows pending into h = ap (λ kinds. or_else kinds []) h.sound
+opens xid_option rows pending into h = ap (λ kinds. or_else kinds []) h.sound
+opens relation_option rows pending into h = ap (λ kinds. or_else kinds []) h.sound
+opens block_option rows pending into h = ap (λ kinds. or_else kinds []) h.sound
+opens fork_option rows pending into h = ap (λ kinds. or_else kinds []) h.sound
+opens start_option rows pending into h = ap (λ kinds. or_else kinds []) h.sound
+opens end_option rows pending into h = ap (λ kinds. or_else kinds []) h.sound
+opens limit_option rows pending into h = ap (λ kinds. or_else kinds []) h.sound
+
+pub opened : (o : Valued) (rows : List Row) (pending : Option (Text × List Text)) (into : List Row) → Settles rows pending into → walked rules [] (between rows pending) (45 ∷ 45 ∷ option_name o) ≡ awaiting (option_name o) into
+unfolding walked
+opened seg_option rows pending into h = ap (awaiting (codes "seg")) h.rows_are
+opened ring_option rows pending into h = ap (awaiting (codes "ring")) h.rows_are
+opened cap_option rows pending into h = ap (awaiting (codes "cap")) h.rows_are
+opened rmgr_option rows pending into h = ap (awaiting (codes "rmgr")) h.rows_are
+opened xid_option rows pending into h = ap (awaiting (codes "xid")) h.rows_are
+opened relation_option rows pending into h = ap (awaiting (codes "relation")) h.rows_are
+opened block_option rows pending into h = ap (awaiting (codes "block")) h.rows_are
+opened fork_option rows pending into h = ap (awaiting (codes "fork")) h.rows_are
+opened start_option rows pending into h = ap (awaiting (codes "start")) h.rows_are
+opened end_option rows pending into h = ap (awaiting (codes "end")) h.rows_are
+opened limit_option rows pending into h = ap (awaiting (codes "limit")) h.rows_are
+
+-- the letter of an option with a value
+pub letter_opens : (o : Letter) (rows : List Row) (pending : Option (Text × List Text)) (into : List Row) → Settles rows pending into → turn_fault level [] (between rows pending) (45 ∷ letter_of o ∷ []) ≡ []
+unfolding flags_fault chars encode_utf8 bundle_met
+letter_opens rmgr_letter rows pending into h = ap (λ kinds. or_else kinds []) h.sound
+letter_opens xid_letter rows pending into h = ap (λ kinds. or_else kinds []) h.sound
+letter_opens relation_letter rows pending into h = ap (λ kinds. or_else kinds []) h.sound
+letter_opens block_letter rows pending into h = ap (λ kinds. or_else kinds []) h.sound
+letter_opens fork_letter rows pending into h = ap (λ kinds. or_else kinds []) h.sound
+letter_opens start_letter rows pending into h = ap (λ kinds. or_else kinds []) h.sound
+letter_opens end_letter rows pending into h = ap (λ kinds. or_else kinds []) h.sound
+letter_opens limit_letter rows pending into h = ap (λ kinds. or_else kinds []) h.sound
+
+pub letter_opened : (o : Letter) (rows : List Row) (pending : Option (Text × List Text)) (into : List Row) → Settles rows pending into → walked rules [] (between rows pending) (45 ∷ letter_of o ∷ []) ≡ awaiting (option_name (lettered_option o)) into
+unfolding walked bundle_met chars encode_utf8
+letter_opened rmgr_letter rows pending into h = ap (awaiting (codes "rmgr")) h.rows_are
+letter_opened xid_letter rows pending into h = ap (awaiting (codes "xid")) h.rows_are
+letter_opened relation_letter rows pending into h = ap (awaiting (codes "relation")) h.rows_are
+letter_opened block_letter rows pending into h = ap (awaiting (codes "block")) h.rows_are
+letter_opened fork_letter rows pending into h = ap (awaiting (codes "fork")) h.rows_are
+letter_opened start_letter rows pending into h = ap (awaiting (codes "start")) h.rows_are
+letter_opened end_letter rows pending into h = ap (awaiting (codes "end")) h.rows_are
+letter_opened limit_letter rows pending into h = ap (awaiting (codes "limit")) h.rows_are
+
+-- a word that is no option
+pub record IsPlainWord (word : Text) : Type 0 where
+  pub dashes : bytes_eq word (45 ∷ 45 ∷ []) ≡ false
+  pub long : long_of word ≡ None
+  pub short : short_of word ≡ None
+
+pub is_plain_word : (word : Text) → begins_with_hyphen word ≡ false → IsPlainWord word
+is_plain_word [] plain = record { dashes = refl; long = refl; short = refl }
+is_plain_word (c ∷ cs) plain = record { dashes = rw plain refl; long = rw plain refl; short = rw plain refl }
+
+-- its value
+pub value_passes : (o : Valued) (value : Text) (rows : List Row) → IsPlainWord value → turn_fault level [] (awaiting (option_name o) rows) value ≡ []
+value_passes seg_option value rows plain = rw (plain.dashes, plain.long, plain.short) refl
+value_passes ring_option value rows plain = rw (plain.dashes, plain.long, plain.short) refl
+value_passes cap_option value rows plain = rw (plain.dashes, plain.long, plain.short) refl
+value_passes rmgr_option value rows plain = rw (plain.dashes, plain.long, plain.short) refl
+value_passes xid_option value rows plain = rw (plain.dashes, plain.long, plain.short) refl
+value_passes relation_option value rows plain = rw (plain.dashes, plain.long, plain.short) refl
+value_passes block_option value rows plain = rw (plain.dashes, plain.long, plain.short) refl
+value_passes fork_option value rows plain = rw (plain.dashes, plain.long, plain.short) refl
+value_passes start_option value rows plain = rw (plain.dashes, plain.long, plain.short) refl
+value_passes end_option value rows plain = rw (plain.dashes, plain.long, plain.short) refl
+value_passes limit_option value rows plain = rw (plain.dashes, plain.long, plain.short) refl
+
+pub value_taken : (o : Valued) (value : Text) (rows : List Row) → IsPlainWord value → walked rules [] (awaiting (option_name o) rows) value ≡ between rows (Some (option_name o, value ∷ []))
+unfolding walked
+value_taken seg_option value rows plain = rw (plain.dashes, plain.long, plain.short) refl
+value_taken ring_option value rows plain = rw (plain.dashes, plain.long, plain.short) refl
+value_taken cap_option value rows plain = rw (plain.dashes, plain.long, plain.short) refl
+value_taken rmgr_option value rows plain = rw (plain.dashes, plain.long, plain.short) refl
+value_taken xid_option value rows plain = rw (plain.dashes, plain.long, plain.short) refl
+value_taken relation_option value rows plain = rw (plain.dashes, plain.long, plain.short) refl
+value_taken block_option value rows plain = rw (plain.dashes, plain.long, plain.short) refl
+value_taken fork_option value rows plain = rw (plain.dashes, plain.long, plain.short) refl
+value_taken start_option value rows plain = rw (plain.dashes, plain.long, plain.short) refl
+value_taken end_option value rows plain = rw (plain.dashes, plain.long, plain.short) refl
+value_taken limit_option value rows plain = rw (plain.dashes, plain.long, plain.short) refl
+
+pub value_settles : (o : Valued) (value : Text) (rows : List Row) → has_row (option_name o) rows ≡ false → Settles rows (Some (option_name o, value ∷ [])) (rows ++ row_with (option_name o) value ∷ [])
+value_settles seg_option value rows absent = record { rows_are = new_row (codes "seg") value rows absent; sound = rw absent refl }
+value_settles ring_option value rows absent = record { rows_are = new_row (codes "ring") value rows absent; sound = rw absent refl }
+value_settles cap_option value rows absent = record { rows_are = new_row (codes "cap") value rows absent; sound = rw absent refl }
+value_settles rmgr_option value rows absent = record { rows_are = new_row (codes "rmgr") value rows absent; sound = rw absent refl }
+value_settles xid_option value rows absent = record { rows_are = new_row (codes "xid") value rows absent; sound = rw absent refl }
+value_settles relation_option value rows absent = record { rows_are = new_row (codes "relation") value rows absent; sound = rw absent refl }
+value_settles block_option value rows absent = record { rows_are = new_row (codes "block") value rows absent; sound = rw absent refl }
+value_settles fork_option value rows absent = record { rows_are = new_row (codes "fork") value rows absent; sound = rw absent refl }
+value_settles start_option value rows absent = record { rows_are = new_row (codes "start") value rows absent; sound = rw absent refl }
+value_settles end_option value rows absent = record { rows_are = new_row (codes "end") value rows absent; sound = rw absent refl }
+value_settles limit_option value rows absent = record { rows_are = new_row (codes "limit") value rows absent; sound = rw absent refl }
+
+-- the word of an option without a value
+pub switch_passes : (o : Switch) (rows : List Row) (pending : Option (Text × List Text)) (into : List Row) → Settles rows pending into → has_row (switch_name o) into ≡ false → turn_fault level [] (between rows pending) (45 ∷ 45 ∷ switch_name o) ≡ []
+switch_passes list_switch rows pending into h absent =
+    let fresh : has_row (codes "list") (settled_rows rules pending rows) ≡ false = subst (λ (l : List Row). has_row (codes "list") l ≡ false) (sym h.rows_are) absent in
+    rw (h.sound, fresh) refl
+switch_passes fullpage_switch rows pending into h absent =
+    let fresh : has_row (codes "fullpage") (settled_rows rules pending rows) ≡ false = subst (λ (l : List Row). has_row (codes "fullpage") l ≡ false) (sym h.rows_are) absent in
+    rw (h.sound, fresh) refl
+switch_passes quiet_switch rows pending into h absent =
+    let fresh : has_row (codes "quiet") (settled_rows rules pending rows) ≡ false = subst (λ (l : List Row). has_row (codes "quiet") l ≡ false) (sym h.rows_are) absent in
+    rw (h.sound, fresh) refl
+
+pub switch_taken : (o : Switch) (rows : List Row) (pending : Option (Text × List Text)) (into : List Row) → Settles rows pending into → has_row (switch_name o) into ≡ false → walked rules [] (between rows pending) (45 ∷ 45 ∷ switch_name o) ≡ between (into ++ row_with (switch_name o) (codes "true") ∷ []) None
+unfolding walked
+switch_taken list_switch rows pending into h absent =
+    ap (λ (l : List Row). between (with_values (codes "list") reading.AsWritten CommandLine (codes "true" ∷ []) (without (codes "list") l)) None) h.rows_are
+    ∙ ap (λ (l : List Row). between l None) (new_row (codes "list") (codes "true") into absent)
+switch_taken fullpage_switch rows pending into h absent =
+    ap (λ (l : List Row). between (with_values (codes "fullpage") reading.AsWritten CommandLine (codes "true" ∷ []) (without (codes "fullpage") l)) None) h.rows_are
+    ∙ ap (λ (l : List Row). between l None) (new_row (codes "fullpage") (codes "true") into absent)
+switch_taken quiet_switch rows pending into h absent =
+    ap (λ (l : List Row). between (with_values (codes "quiet") reading.AsWritten CommandLine (codes "true" ∷ []) (without (codes "quiet") l)) None) h.rows_are
+    ∙ ap (λ (l : List Row). between l None) (new_row (codes "quiet") (codes "true") into absent)
+
+-- and the letter of one
+pub switch_letter_passes : (o : SwitchLetter) (rows : List Row) (pending : Option (Text × List Text)) (into : List Row) → Settles rows pending into → has_row (switch_name (lettered_switch o)) into ≡ false → turn_fault level [] (between rows pending) (45 ∷ switch_letter_of o ∷ []) ≡ []
+unfolding flags_fault chars encode_utf8 bundle_met
+switch_letter_passes fullpage_letter_alone rows pending into h absent =
+    let fresh : has_row (codes "fullpage") (settled_rows rules pending rows) ≡ false = subst (λ (l : List Row). has_row (codes "fullpage") l ≡ false) (sym h.rows_are) absent in
+    rw (h.sound, fresh) refl
+switch_letter_passes quiet_letter_alone rows pending into h absent =
+    let fresh : has_row (codes "quiet") (settled_rows rules pending rows) ≡ false = subst (λ (l : List Row). has_row (codes "quiet") l ≡ false) (sym h.rows_are) absent in
+    rw (h.sound, fresh) refl
+
+pub switch_letter_taken : (o : SwitchLetter) (rows : List Row) (pending : Option (Text × List Text)) (into : List Row) → Settles rows pending into → has_row (switch_name (lettered_switch o)) into ≡ false → walked rules [] (between rows pending) (45 ∷ switch_letter_of o ∷ []) ≡ between (into ++ row_with (switch_name (lettered_switch o)) (codes "true") ∷ []) None
+unfolding walked bundle_met chars encode_utf8
+switch_letter_taken fullpage_letter_alone rows pending into h absent =
+    ap (λ (l : List Row). between (with_values (codes "fullpage") reading.AsWritten CommandLine (codes "true" ∷ []) (without (codes "fullpage") l)) None) h.rows_are
+    ∙ ap (λ (l : List Row). between l None) (new_row (codes "fullpage") (codes "true") into absent)
+switch_letter_taken quiet_letter_alone rows pending into h absent =
+    ap (λ (l : List Row). between (with_values (codes "quiet") reading.AsWritten CommandLine (codes "true" ∷ []) (without (codes "quiet") l)) None) h.rows_are
+    ∙ ap (λ (l : List Row). between l None) (new_row (codes "quiet") (codes "true") into absent)
