@@ -62,8 +62,9 @@ impl<'a> NotingDisk<'a> {
         self.lines
     }
 
-    fn note(&mut self) {
-        self.lines = with_behind(self.lines, self.gate.passed() % 256);
+    // The notes with one more.
+    fn noted(&self) -> u64 {
+        with_behind(self.lines, self.gate.passed() % 256)
     }
 }
 
@@ -80,7 +81,7 @@ impl<'a> Disk for NotingDisk<'a> {
     ghost counts = { λ s. refl };
 
     fn create(&mut self, geometry: Geometry, segment: u64) -> Result<(), Failed> {
-        self.note();
+        self.lines = self.noted();
         self.disk.create(geometry, segment)
     }
 
@@ -91,12 +92,12 @@ impl<'a> Disk for NotingDisk<'a> {
         page: u32,
         bytes: &[u8; 8192],
     ) -> Result<(), Failed> {
-        self.note();
+        self.lines = self.noted();
         self.disk.write_page(geometry, segment, page, bytes)
     }
 
     fn sync(&mut self, geometry: Geometry, segment: u64) -> Result<(), Failed> {
-        self.note();
+        self.lines = self.noted();
         self.disk.sync(geometry, segment)
     }
 
