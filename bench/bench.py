@@ -40,6 +40,14 @@ SHAPES = {
 }
 
 
+# How a log is listed: the options, and whether a line comes for each record (a filter that keeps nothing reads all).
+LISTINGS = {
+    "dump": ([], True),
+    "dump --quiet": (["--quiet"], False),
+    "dump --rmgr Storage": (["--rmgr", "Storage"], False),
+}
+
+
 def room(total):
     """The bytes that a record of this size takes up."""
     return (total + 7) // 8 * 8
@@ -90,16 +98,17 @@ def instructions(words, folder, stdin=None):
 
 
 def instructions_per_record(fields):
-    """Those that `run` takes for one record more, its insert alone, and `dump`; each log lies in segments of 16 MiB."""
+    """Those that `run` takes for one record more, its insert alone, and each listing; each log lies in segments of 16 MiB."""
     counts = []
     for records in (1000, 2000):
         with tempfile.TemporaryDirectory() as folder:
             path = os.path.join(folder, "script")
             write_script(path, fields, records)
             run, insert = instructions([PROGRAM, "run"], folder, path)
-            dump, _ = instructions([PROGRAM, "dump"], folder)
-            counts.append((run, insert, dump))
-    return [(more - less) / 1000 for less, more in zip(*counts)]
+            listings = [instructions([PROGRAM, "dump", *options], folder)[0] for options, _ in LISTINGS.values()]
+            counts.append((run, insert, *listings))
+    run, insert, *listings = [(more - less) / 1000 for less, more in zip(*counts)]
+    return run, insert, listings
 
 
 def row(name, counted, records, size, seconds, memory):
@@ -109,7 +118,7 @@ def row(name, counted, records, size, seconds, memory):
     )
 
 
-def measure(name, case, records, of_run, of_dump):
+def measure(name, case, records, of_run, of_listings):
     fields, total = CASES[case]
     with tempfile.TemporaryDirectory() as folder:
         path = os.path.join(folder, "script")
@@ -120,16 +129,18 @@ def measure(name, case, records, of_run, of_dump):
         if not tail.startswith(want):
             sys.exit(f"run printed {tail!r}, not {want!r}")
         row(f"run, {name}", of_run, records, size, seconds, memory)
-        tail, lines, seconds, memory = timed([PROGRAM, "dump"], folder)
-        if lines != records:
-            sys.exit(f"dump listed {lines} records of {records}")
-        row(f"dump, {name}", of_dump, records, size, seconds, memory)
         peer = shutil.which("pg_waldump")
-        if peer:
-            first = os.path.join(folder, "pg_wal", "000000010000000000000001")
-            begin = time.monotonic()
-            done = subprocess.run([peer, first], stdout=subprocess.DEVNULL, stderr=subprocess.PIPE)
-            print(f"| pg_waldump of segment 1, {name} | | | | | {time.monotonic() - begin:.2f} | {done.stderr.decode()[-80:].strip()} |")
+        for (kind, (options, prints)), of_listing in zip(LISTINGS.items(), of_listings):
+            tail, lines, seconds, memory = timed([PROGRAM, "dump", *options], folder)
+            if lines != (records if prints else 0):
+                sys.exit(f"{kind} listed {lines} records of {records}")
+            row(f"{kind}, {name}", of_listing, records, size, seconds, memory)
+            if peer:
+                first = os.path.join(folder, "pg_wal", "000000010000000000000001")
+                begin = time.monotonic()
+                done = subprocess.run([peer, *options, first], stdout=subprocess.DEVNULL, stderr=subprocess.PIPE)
+                told = done.stderr.decode()[-80:].strip()
+                print(f"| pg_waldump for {kind}, segment 1, {name} | | | | | {time.monotonic() - begin:.2f} | {told} |")
 
 
 def measure_memory(name):
@@ -158,17 +169,19 @@ def main():
         print("| what | instructions a record |")
         print("|---|---|")
     for case, (fields, total) in CASES.items():
-        of_run = of_dump = ""
+        of_run, of_listings = "", [""] * len(LISTINGS)
         if shutil.which("valgrind"):
-            run, insert, dump = instructions_per_record(fields)
-            of_run, of_dump = f"{run:,.0f}, of them the insert {insert:,.0f}", f"{dump:,.0f}"
+            run, insert, listings = instructions_per_record(fields)
+            of_run, of_listings = f"{run:,.0f}, of them the insert {insert:,.0f}", [f"{each:,.0f}" for each in listings]
         if not megabytes:
-            print(f"| run, {case} | {of_run} |\n| dump, {case} | {of_dump} |", flush=True)
+            print(f"| run, {case} | {of_run} |")
+            for kind, of_listing in zip(LISTINGS, of_listings):
+                print(f"| {kind}, {case} | {of_listing} |", flush=True)
             continue
         records = megabytes * 1_000_000 // room(total)
         if case == "100 bytes":
-            measure("100 bytes, half", case, records // 2, "", "")
-        measure(case, case, records, of_run, of_dump)
+            measure("100 bytes, half", case, records // 2, "", [""] * len(LISTINGS))
+        measure(case, case, records, of_run, of_listings)
     if megabytes:
         print("\n| run | script MB | records MB | lines | s | peak MB |\n|---|---|---|---|---|---|")
         for name in SHAPES:
