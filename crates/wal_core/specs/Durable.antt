@@ -1,0 +1,121 @@
+-- What a crash leaves at any moment since the opening, and what it leaves from a moment on that a
+-- pass was told (PostgreSQL's xlog.c, XLogFlush).
+use Rattle.std.specs.Prelude.{◌≡◌, ◌≢◌, ◌⊎◌, ℕ, ◌+◌, ◌*◌, ◌<◌, ◌≤◌, All, List, drop, length, slice_get, take, IfSome, IsSomeAnd, Some}
+use mathlib.Core.Option.{Option, none, some}
+use Rattle.segment_disk.specs.declared.disk.Call.{Call}
+use Rattle.segment_disk.specs.declared.disk.CallKind.{CallKind}
+use Rattle.segment_disk.specs.declared.disk.CallKind.TheVariants.{Create, Write, Sync}
+use Rattle.segment_disk.specs.Cause.{Rose}
+use Rattle.segment_disk.specs.DiskImage.{word_of}
+use Rattle.segment_disk.specs.Tape.{Tape, state_now}
+use Rattle.flush_core.specs.Left.{IsMadeUpto, IsNowhere, SegmentAssures, TapeAssures}
+use Rattle.byte_position.specs.Geometry.{pages_of}
+use Rattle.wal_page.specs.Order.{Entry, finish_of}
+use Rattle.wal_page.specs.EntryWords.{address_of_word}
+use Rattle.lawful_image.specs.ImageWords.{zero_word}
+use Rattle.lawful_image.specs.Lawful.{IsLawfulWord, log_word_bytes}
+use Rattle.wal_core.specs.declared.setup.Setup.{Setup}
+use Rattle.wal_core.specs.Words.{Opening}
+use Rattle.wal_core.specs.Ringed.{log_word_of}
+use Rattle.wal_core.specs.Views.{HasAt, Joined, Promise, Plain, Lent, Out, Told}
+
+-- ---- words of the disk, by page and number
+
+module _ (setup : Setup) (order : List Entry) where
+  -- each is 0 or the log's
+  abbrev pub IsLawfulAt : ℕ → ℕ → List ℕ → Type 0
+  IsLawfulAt page word bytes =
+      IsLawfulWord setup.segment_size setup.sysid order (page * 8192 + 8 * word) bytes
+
+  -- each below an address is the log's
+  abbrev pub IsLogBelow : ℕ → ℕ → ℕ → List ℕ → Type 0
+  IsLogBelow address page word bytes = page * 8192 + 8 * word < address
+      → bytes ≡ log_word_bytes setup.segment_size setup.sysid order (page * 8192 + 8 * word)
+
+  -- whatever a crash leaves from a moment on is the log below an address, in segments that are
+  -- there
+  abbrev pub IsFirm : ℕ → ℕ → Tape → Type 0
+  IsFirm address moment tape = TapeAssures setup.segment_size
+      (IsMadeUpto setup.segment_size address) (IsLogBelow address) moment tape
+
+  -- a word of the ring that was loaded: 0 or the log's, and the log's below an address
+  pub record IsStaged (known : ℕ) (staged : ℕ × ℕ) : Type 0 where
+    pub lawful : (staged.1 ≡ 0) ⊎ (staged.1 ≡ log_word_of setup order (8 * staged.0))
+    pub below : 8 * staged.0 < known → staged.1 ≡ log_word_of setup order (8 * staged.0)
+
+-- a call to a segment puts zeros where it writes a word of an entry
+abbrev pub PutsNone : ℕ → Entry → ℕ → CallKind → Type 0
+PutsNone size e segment (Create made) = Unit {0}
+PutsNone size e segment (Write page bytes) = (n : ℕ) → n < 1024
+    → address_of_word size e 0 ≤ segment * size + page * 8192 + 8 * n
+    → segment * size + page * 8192 + 8 * n < finish_of size e → word_of bytes.bytes n ≡ zero_word
+PutsNone size e segment Sync = Unit {0}
+
+-- the calls between the opening and a moment write no word of an entry
+abbrev pub IsUnwritten : ℕ → ℕ → Tape → ℕ → Entry → Type 0
+IsUnwritten size opened tape moment e =
+    All (λ (c : Call). PutsNone size e c.segment c.kind) (drop opened (take moment tape.calls))
+
+-- a promise made to a log: what it names is firm, and no entry that came later was written before
+pub record IsKept (opening : Opening) (order : List Entry) (tape : Tape) (entries : List Entry)
+    (p : Promise) : Type 0 where
+  pub firm : IsFirm opening.setup order p.upto p.moment tape
+  pub later : (k : ℕ) (e : Entry) → p.entries ≤ k → slice_get entries k ≡ Some e
+      → IsUnwritten opening.setup.segment_size opening.moment tape p.moment e
+
+abbrev pub AreKept : Opening → List Entry → Tape → List Entry → List Promise → Type 0
+AreKept opening order tape entries promises =
+    All (IsKept opening order tape entries) promises
+
+-- with the writer in hand: what was loaded is lawful, and for which address the moment word is good
+pub record IsInHand (setup : Setup) (order : List Entry) (moment : ℕ) (writer : Plain) (l : Lent)
+    : Type 0 where
+  pub staged : All (IsStaged setup order l.known) l.staged
+  pub hard_low : l.hard ≤ writer.written
+  pub hard_moment : IfSome writer.tape (IsFirm setup order l.hard moment)
+
+-- what a promise names is not above what the words say now
+pub record IsPromised (flushed moment : ℕ) (p : Promise) : Type 0 where
+  pub upto_low : p.upto ≤ flushed
+  pub moment_low : p.moment ≤ moment
+
+-- what is said of one view
+pub record IsAssured (opening : Opening) (order : List Entry) (flushed moment down : ℕ)
+    (writer : Plain) (x : Told) : Type 0 where
+  pub own_promised : All (IsPromised flushed moment) (x.writing).promises
+  pub joined_promised : All (λ (j : Joined). All (IsPromised flushed moment) j.promises) x.joined
+  pub own : IfSome writer.tape (λ t. AreKept opening order t x.entries (x.writing).promises)
+  pub joined : IfSome writer.tape (λ t.
+      All (λ (j : Joined). AreKept opening order t j.entries j.promises) x.joined)
+  pub in_hand : (l : Lent) → (x.writing).hold ≡ Out l
+      → IsInHand opening.setup order moment writer l
+  pub down_met : (x.writing).down_met ≢ 0 → (x.writing).down_met ≡ down
+  pub down_set : (x.writing).down_set ≢ 0 → (x.writing).down_set ≡ down
+
+-- the segments up to the last one made are there, and in each but the one that waits for a sync the
+-- log is durable below what is written
+pub record IsOnDisk (setup : Setup) (order : List Entry) (writer : Plain) (tape : Tape) : Type 0
+  where
+    pub firm : (segment : ℕ) → writer.waiting ≢ some segment
+        → SegmentAssures setup.segment_size (IsMadeUpto setup.segment_size writer.written)
+        (IsLogBelow setup order writer.written) segment (state_now tape segment)
+    pub there : (segment : ℕ) → 1 ≤ segment → segment ≤ writer.made
+        → IsSomeAnd (state_now tape segment) (λ s. s.pages ≡ pages_of setup.segment_size)
+
+pub record DurabilityHolds (opening : Opening) (order : List Entry)
+    (flushed moment down : ℕ) (home : Option Plain) (writer : Plain) (parts : List Told) : Type 0
+  where
+    pub counted : IfSome writer.tape (λ t. writer.moment ≡ length t.calls)
+    pub moment_low : moment ≤ writer.moment
+    pub begun : opening.moment ≤ moment
+    pub reached : writer.written ≤ writer.made * opening.setup.segment_size
+        + opening.setup.segment_size
+    pub lawful : IfSome writer.tape (TapeAssures opening.setup.segment_size IsNowhere
+        (IsLawfulAt opening.setup order) opening.moment)
+    pub firm : IfSome writer.tape (IsFirm opening.setup order flushed moment)
+    pub on_disk : IfSome writer.tape (IsOnDisk opening.setup order writer)
+    pub down_is : down ≢ 0 → writer.fault ≡ some down
+    pub down_at_home : home ≡ some writer → down ≡ 0 → writer.fault ≡ none
+    pub fault_rose : (f : ℕ) → writer.fault ≡ some f → Rose opening.faults f
+    pub views : (id : ℕ) (x : Told) → HasAt parts id x
+        → IsAssured opening order flushed moment down writer x

@@ -1,0 +1,12 @@
+pub mod Words
+pub mod Views
+pub mod Ordered
+pub mod Locked
+pub mod Ringed
+pub mod Paged
+pub mod Watched
+pub mod Positioned
+pub mod Durable
+pub mod Sound
+pub mod Moves
+pub mod Steps

@@ -1,0 +1,374 @@
+-- What a pass knows behind each kind of step: a function of what it knew before, of the step's
+-- operands, and of the number that it met.
+use Rattle.std.specs.Prelude.{ℕ, ◌+◌, ◌-◌, ◌%◌, Bool, true, false, ◌&&◌, not, List, [], ◌∷◌, ◌++◌, length, max, min, ◌==◌, nat_lt, if◌then◌else◌, Some}
+use Rattle.std.specs.List.{filter}
+use Rattle.byte_position.specs.Position.{position_of}
+use Rattle.segment_disk.specs.declared.disk.Call.{Call}
+use Rattle.segment_disk.specs.Tape.{with_call, failed_call}
+use mathlib.Core.Option.{Option, none, some}
+use Rattle.wal_types.specs.declared.record.Record.{Record}
+use Rattle.wal_page.specs.Order.{Entry, position_behind}
+use Rattle.wal_core.specs.Words.{end_form}
+use Rattle.wal_core.specs.Views.{Place, Free, Locked, Loaded, Stored, Joined, Reserving, Flight, Landed, Copying, Watching, Stage, Away, Taken, Looked, Ready, Zeroing, Published, Plain, Lent, Hold, Idle, Turned, Out, Writing, View}
+
+-- ---- a view with one part changed
+
+abbrev pub with_reserving : Reserving → View → View
+with_reserving r v = record v { reserving = r }
+
+abbrev pub with_place : Place → View → View
+with_place p v = with_reserving (record v.reserving { place = p }) v
+
+abbrev pub with_seen : ℕ → View → View
+with_seen position v =
+    with_reserving (record v.reserving { seen = max (v.reserving).seen position }) v
+
+abbrev pub with_working : List ℕ → Flight → View → View
+with_working locks flight v = record v { working = record { locks = locks; flight = flight } }
+
+abbrev pub with_watching : ℕ → ℕ → ℕ → View → View
+with_watching end visited bound v =
+    record v { watching = record { end = end; visited = visited; bound = bound } }
+
+abbrev pub with_confirmed : ℕ → View → View
+with_confirmed end v =
+    record v { mapping = record v.mapping { confirmed = max (v.mapping).confirmed end } }
+
+abbrev pub with_stage : Stage → View → View
+with_stage stage v = record v { mapping = record v.mapping { stage = stage } }
+
+abbrev pub with_writing : Writing → View → View
+with_writing x v = record v { writing = x }
+
+abbrev pub with_hold : Hold → View → View
+with_hold hold v = with_writing (record v.writing { hold = hold }) v
+
+-- ---- seats and turns
+
+-- the position without its lock bit
+abbrev pub unlocked : ℕ → ℕ
+unlocked met = met - met % 2
+
+-- a watch begins: for the address asked for, at most the reserved end; no lock is visited yet
+abbrev pub after_load_position : ℕ → ℕ → View → View
+after_load_position asked met v =
+    let end = min asked (end_form (v.opening).setup (unlocked met)) in
+    with_watching end 0 end (with_seen (unlocked met) v)
+
+abbrev pub after_take_write_turn : ℕ → View → View
+after_take_write_turn met v = if met == 0 then with_hold Turned v else v
+
+-- below this address all is copied, as a watcher knows that has visited all locks
+abbrev pub copied_below : Watching → ℕ
+copied_below x = if x.visited == 8 then x.bound else 0
+
+abbrev pub lent : Plain → View → Lent
+lent writer v = record {
+  writer = writer;
+  known = copied_below v.watching;
+  staged = [];
+  hard = 0;
+  stored = 0;
+}
+
+abbrev pub after_slot_out : Plain → View → View
+after_slot_out writer v = with_hold (Out (lent writer v)) v
+
+-- the pass keeps its number, and gives the least of its spare ones away
+abbrev pub left_of : View → View
+left_of v = with_reserving (record v.reserving { spare = (v.reserving).spare + 1 }) v
+
+abbrev pub no_writing : Writing
+no_writing = record {
+  written = 0;
+  flushed = 0;
+  down_met = 0;
+  down_set = 0;
+  promises = [];
+  hold = Idle;
+}
+
+abbrev pub right_of : View → View
+right_of v = record {
+  opening = v.opening;
+  reserving = record {
+    live = true;
+    number = (v.reserving).spare;
+    spare = 0;
+    spare_end = 0;
+    entries = [];
+    filled = [];
+    seen = (v.reserving).seen;
+    joined = [];
+    place = Free;
+  };
+  working = record { locks = []; flight = Landed };
+  watching = record { end = 0; visited = 0; bound = 0 };
+  mapping = record { confirmed = 0; stage = Away };
+  writing = no_writing;
+}
+
+-- a pass's log, for the one that takes it in
+abbrev pub joined_of : View → Joined
+joined_of v = record {
+  number = (v.reserving).number;
+  entries = (v.reserving).entries;
+  filled = (v.reserving).filled;
+  promises = (v.writing).promises;
+}
+
+abbrev pub has_spares : Reserving → Bool
+has_spares r = nat_lt r.spare r.spare_end
+
+-- one pass takes another in: its log, what it took in, what it has seen, its spare numbers, and the
+-- down values that it knows
+abbrev pub both_of : View → View → View
+both_of v w =
+    let r = v.reserving in
+    let s = w.reserving in
+    record v {
+      reserving = record r {
+        spare = (if has_spares r then r.spare else s.spare);
+        spare_end = (if has_spares r then r.spare_end else s.spare_end);
+        seen = max r.seen s.seen;
+        joined = r.joined ++ joined_of w ∷ s.joined;
+      };
+      writing = record v.writing {
+        down_met = max (v.writing).down_met (w.writing).down_met;
+        down_set = max (v.writing).down_set (w.writing).down_set;
+      };
+    }
+
+-- what is left of a pass that was taken in
+abbrev pub spent : View → View
+spent v = record (right_of v) {
+  reserving = record (right_of v).reserving {
+    live = false;
+    number = (v.reserving).number;
+  };
+}
+
+-- a pass that gives up its copy, and the view with which the copy and its locks stay
+abbrev pub without_work : View → View
+without_work v = with_working [] Landed v
+
+abbrev pub orphan_of : View → View
+orphan_of v = record (spent v) { working = v.working }
+
+-- ---- reserving
+
+abbrev pub after_lock_position : ℕ → ℕ → View → View
+after_lock_position expected met v =
+    if met == expected then with_place (Locked expected) v else v
+
+abbrev pub after_load_prev : ℕ → View → View
+after_load_prev met v = loaded (v.reserving).place
+  where
+    loaded : Place → View
+    loaded (Locked at) = with_place (Loaded at met) v
+    loaded Free = v
+    loaded (Loaded at prev) = v
+    loaded (Stored at prev) = v
+
+abbrev pub after_store_prev : View → View
+after_store_prev v = stored (v.reserving).place
+  where
+    stored : Place → View
+    stored (Loaded at prev) = with_place (Stored at prev) v
+    stored Free = v
+    stored (Locked at) = v
+    stored (Stored at prev) = v
+
+abbrev pub entry_at : ℕ → ℕ → Record → Entry
+entry_at number at value = record { pass = Some number; value = value; start = at }
+
+-- the entry joins the log, and is in flight under this lock
+abbrev pub with_entry : ℕ → Entry → ℕ → ℕ → View → View
+with_entry size e prev lock v = record v {
+  reserving = record v.reserving {
+    entries = (v.reserving).entries ++ e ∷ [];
+    seen = position_behind size e;
+    place = Free;
+  };
+  working = record v.working {
+    flight = Copying (record { entry = e; prev = prev; lock = lock; copied = 0 });
+  };
+}
+
+abbrev pub after_store_position : ℕ → Record → View → View
+after_store_position lock value v = reserved (v.reserving).place
+  where
+    reserved : Place → View
+    reserved (Stored at prev) = with_entry ((v.opening).setup).segment_size
+        (entry_at (v.reserving).number at value) prev lock v
+    reserved Free = v
+    reserved (Locked at) = v
+    reserved (Loaded at prev) = v
+
+-- too few bytes are left: nothing was reserved
+abbrev pub after_give_back : View → View
+after_give_back v = given (v.reserving).place
+  where
+    given : Place → View
+    given (Locked at) = with_reserving (record v.reserving {
+      filled = (v.reserving).filled
+          ++ (record { position = at; entries = length (v.reserving).entries }) ∷ [];
+      place = Free;
+    }) v
+    given Free = v
+    given (Loaded at prev) = v
+    given (Stored at prev) = v
+
+-- ---- insertion locks
+
+-- a lock that is visited next: free, it holds nothing back; held, it tells how far its copy is, or
+-- nothing, and then the watcher stays
+abbrev pub after_load_lock : ℕ → ℕ → View → View
+after_load_lock lock met v =
+    let x = v.watching in
+    if (lock == x.visited) && not (met == 1)
+    then with_watching x.end (x.visited + 1)
+    (if met == 0 then x.bound else min x.bound (met - 1)) v
+    else v
+
+abbrev pub after_take_lock : ℕ → ℕ → View → View
+after_take_lock lock met v =
+    if met == 0 then with_working ((v.working).locks ++ lock ∷ []) (v.working).flight v else v
+
+abbrev pub landed : ℕ → Flight → Flight
+landed lock Landed = Landed
+landed lock (Copying c) = if c.lock == lock then Landed else Copying c
+
+abbrev pub after_release : ℕ → View → View
+after_release lock v =
+    with_working (filter (λ held. not (held == lock)) (v.working).locks)
+    (landed lock (v.working).flight) v
+
+-- ---- words of the ring
+
+abbrev pub one_more : Flight → Flight
+one_more Landed = Landed
+one_more (Copying c) = Copying (record c { copied = c.copied + 1 })
+
+abbrev pub after_store_word : View → View
+after_store_word v = with_working (v.working).locks (one_more (v.working).flight) v
+
+abbrev pub with_lent : (Lent → Lent) → Hold → Hold
+with_lent f Idle = Idle
+with_lent f Turned = Turned
+with_lent f (Out l) = Out (f l)
+
+abbrev pub after_load_word : ℕ → ℕ → View → View
+after_load_word k met v =
+    with_hold (with_lent (λ l. record l { staged = (k, met) ∷ l.staged }) (v.writing).hold) v
+
+-- ---- positions and down
+
+-- the mapper that has loaded the initialised end learns what may be given up
+abbrev pub ready : ℕ → Stage → Stage
+ready met Away = Away
+ready met Taken = Taken
+ready met (Looked at) = Ready at met
+ready met (Ready at written) = Ready at written
+ready met (Zeroing at zeroed) = Zeroing at zeroed
+ready met (Published at) = Published at
+
+abbrev pub after_load_written : ℕ → View → View
+after_load_written met v =
+    with_stage (ready met (v.mapping).stage) (with_writing (record v.writing { written = met }) v)
+
+abbrev pub after_load_flushed : ℕ → View → View
+after_load_flushed met v =
+    with_seen (position_of ((v.opening).setup).segment_size met)
+    (with_writing (record v.writing { flushed = met }) v)
+
+-- what was loaded as flushed is durable from the moment met on: it is told so
+abbrev pub after_load_moment : ℕ → View → View
+after_load_moment met v = with_writing (record v.writing {
+  promises = (v.writing).promises ++ (record {
+    upto = (v.writing).flushed;
+    moment = met;
+    entries = length (v.reserving).entries;
+  }) ∷ [];
+}) v
+
+abbrev pub after_load_down : ℕ → View → View
+after_load_down met v = with_writing (record v.writing { down_met = met }) v
+
+abbrev pub after_store_written : View → View
+after_store_written v = with_hold
+    (with_lent (λ l. record l { stored = (l.writer).written }) (v.writing).hold) v
+
+abbrev pub after_store_moment : View → View
+after_store_moment v = with_hold
+    (with_lent (λ l. record l { hard = (l.writer).written }) (v.writing).hold) v
+
+abbrev pub after_set_down : ℕ → View → View
+after_set_down faults v = with_writing (record v.writing { down_set = faults }) v
+
+-- ---- mapping
+
+abbrev pub after_take_mapping_turn : ℕ → View → View
+after_take_mapping_turn met v = if met == 0 then with_stage Taken v else v
+
+abbrev pub looked : ℕ → Stage → Stage
+looked met Away = Away
+looked met Taken = Looked met
+looked met (Looked at) = Looked at
+looked met (Ready at written) = Ready at written
+looked met (Zeroing at zeroed) = Zeroing at zeroed
+looked met (Published at) = Published at
+
+abbrev pub after_load_initialised : ℕ → View → View
+after_load_initialised met v =
+    with_stage (looked met (v.mapping).stage) (with_confirmed met v)
+
+-- ---- calls of the device
+
+-- how a call ended: done, or with this count of faults; a failed one may be counted, and a failed
+-- create may have made its segment
+pub data Outcome : Type 0 where
+  Done : Outcome
+  Failed : ℕ → Option Bool → Outcome
+
+abbrev pub counted : Call → Plain → Plain
+counted call writer = record writer {
+  tape = with_call writer.tape call;
+  moment = writer.moment + 1;
+}
+
+abbrev pub with_outcome : Call → Outcome → Plain → Plain
+with_outcome call Done writer = counted call writer
+with_outcome call (Failed faults none) writer = record writer { fault = some faults }
+with_outcome call (Failed faults (some made)) writer =
+    record (counted (failed_call made call) writer) { fault = some faults }
+
+abbrev pub is_done : Outcome → Bool
+is_done Done = true
+is_done (Failed faults counted) = false
+
+abbrev pub is_counted : Outcome → Bool
+is_counted Done = true
+is_counted (Failed faults none) = false
+is_counted (Failed faults (some made)) = true
+
+abbrev pub with_writer : Plain → View → View
+with_writer writer v =
+    with_hold (with_lent (λ l. record l { writer = writer }) (v.writing).hold) v
+
+-- the writer behind a create of a segment, a write of a page up to an address, a sync of a segment
+abbrev pub after_create : ℕ → Call → Outcome → Plain → Plain
+after_create segment call outcome writer = record (with_outcome call outcome writer) {
+  made = (if is_done outcome then segment else writer.made);
+}
+
+abbrev pub after_write : ℕ → ℕ → Call → Outcome → Plain → Plain
+after_write segment upto call outcome writer = record (with_outcome call outcome writer) {
+  written = (if is_done outcome then upto else writer.written);
+  waiting = (if is_counted outcome then some segment else writer.waiting);
+}
+
+abbrev pub after_sync : Call → Outcome → Plain → Plain
+after_sync call outcome writer = record (with_outcome call outcome writer) {
+  waiting = (if is_done outcome then none else writer.waiting);
+}

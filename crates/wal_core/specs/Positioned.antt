@@ -1,0 +1,48 @@
+-- Up to where the log is reserved, copied, written and durable (PostgreSQL's xlog.c, LogwrtResult).
+use Rattle.std.specs.Prelude.{◌≡◌, ℕ, ◌*◌, ◌<◌, ◌≤◌, List, IfSome}
+use Rattle.segment_disk.specs.DiskImage.{image_as_read}
+use Rattle.segment_disk.specs.Tape.{DiskState, state_now}
+use mathlib.Core.Option.{Option, some}
+use Rattle.wal_page.specs.Order.{Entry, end_position}
+use Rattle.wal_page.specs.EntryWords.{address_of_word, words_owned}
+use Rattle.lawful_image.specs.ImageWords.{image_word}
+use Rattle.lawful_image.specs.Lawful.{log_word_bytes}
+use Rattle.wal_core.specs.declared.setup.Setup.{Setup}
+use Rattle.wal_core.specs.Words.{end_form}
+use Rattle.wal_core.specs.Views.{HasAt, Copy, Flight, Copying, Plain, Lent, Out, Writing}
+
+-- no entry in flight has a word below this address that is still to copy
+abbrev pub IsCopiedBelow : ℕ → List Flight → ℕ → Type 0
+IsCopiedBelow size flights address =
+    (id : ℕ) (c : Copy) → HasAt flights id (Copying c) → c.copied < words_owned size c.entry
+    → address ≤ address_of_word size c.entry c.copied
+
+-- as it is read, a disk holds the log below an address
+abbrev pub ReadsBelow : Setup → List Entry → ℕ → DiskState → Type 0
+ReadsBelow setup order address state = (k : ℕ) → 8 * k < address
+    → image_word setup.segment_size (image_as_read state) (8 * k)
+    ≡ log_word_bytes setup.segment_size setup.sysid order (8 * k)
+
+-- what a view loaded and stored is not above what the words say now
+pub record IsWithin (size end written flushed : ℕ) (flights : List Flight) (x : Writing)
+    : Type 0 where
+  pub written_met : x.written ≤ written
+  pub flushed_met : x.flushed ≤ flushed
+  pub known : (l : Lent) → x.hold ≡ Out l → (l.known ≤ end) × IsCopiedBelow size flights l.known
+  pub stored : (l : Lent) → x.hold ≡ Out l → l.stored ≤ written
+
+-- `written`, `flushed` and `down` are the words, `writer` the writer wherever it is, which
+-- is `home` where it is at home
+pub record PositionsHold (setup : Setup) (order : List Entry) (written flushed down : ℕ)
+    (home : Option Plain) (writer : Plain) (flights : List Flight) (parts : List Writing) : Type 0
+  where
+    pub begun : setup.segment_size ≤ flushed
+    pub flushed_low : flushed ≤ written
+    pub written_low : written ≤ writer.written
+    pub at_home : home ≡ some writer → down ≡ 0 → written ≡ writer.written
+    pub reserved : writer.written ≤ end_form setup (end_position setup.segment_size order)
+    pub copied : IsCopiedBelow setup.segment_size flights writer.written
+    pub reads : IfSome writer.tape (λ t. ReadsBelow setup order writer.written (state_now t))
+    pub views : (id : ℕ) (x : Writing) → HasAt parts id x
+        → IsWithin setup.segment_size (end_form setup (end_position setup.segment_size order))
+        written flushed flights x

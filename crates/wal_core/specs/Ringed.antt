@@ -1,0 +1,42 @@
+-- The words of the log in memory, whether a buffer holds them yet, still, or no more: each is its
+-- entry's, or is 0 and some view is still to copy it. Which page lies in which buffer is no matter
+-- here (PostgreSQL's xlog.c, CopyXLogRecordToWAL).
+use Rattle.std.specs.Prelude.{◌≡◌, ◌⊎◌, ℕ, ◌*◌, ◌<◌, ◌≤◌, List, ◌∷◌, ◌++◌}
+use Rattle.wal_page.specs.Order.{Entry, end_position, finish_of, prev_of}
+use Rattle.wal_page.specs.EntryWords.{address_of_word, words_owned}
+use Rattle.wal_page.specs.Log.{log_word}
+use Rattle.wal_core.specs.declared.setup.Setup.{Setup}
+use Rattle.wal_core.specs.Words.{end_form}
+use Rattle.wal_core.specs.Views.{HasAt, Copy, Flight, Copying}
+
+-- the word of the log at an address, as this order gives it
+abbrev pub log_word_of : Setup → List Entry → ℕ → ℕ
+log_word_of setup order address = log_word setup.segment_size setup.sysid order address
+
+-- an entry in flight is one of the order, behind the one that it names
+pub record StandsIn (size : ℕ) (order : List Entry) (c : Copy) : Type 0 where
+  pub front : List Entry
+  pub back : List Entry
+  pub are : order ≡ front ++ c.entry ∷ back
+  pub prev_is : c.prev ≡ prev_of size 0 front
+  pub copied_within : c.copied ≤ words_owned size c.entry
+
+-- some view is still to copy the word at this address
+pub record IsAwaited (size : ℕ) (flights : List Flight) (address : ℕ) : Type 0 where
+  pub id : ℕ
+  pub copy : Copy
+  pub in_flight : HasAt flights id (Copying copy)
+  pub from : address_of_word size copy.entry copy.copied ≤ address
+  pub to : address < finish_of size copy.entry
+
+-- `memory` is the word of each address, by its number, for ever; `reach` is how many pages, from
+-- address 0 on, have been mapped
+pub record RingHolds (setup : Setup) (order : List Entry) (reach : ℕ) (memory : ℕ → ℕ)
+    (flights : List Flight) : Type 0 where
+  pub in_flight : (id : ℕ) (c : Copy) → HasAt flights id (Copying c)
+      → StandsIn setup.segment_size order c
+  pub words : (k : ℕ) → (memory k ≡ log_word_of setup order (8 * k))
+      ⊎ ((memory k ≡ 0) × IsAwaited setup.segment_size flights (8 * k))
+  pub ahead : (k : ℕ) → reach * 1024 ≤ k → setup.segment_size ≤ 8 * k
+      → 8 * k < end_form setup (end_position setup.segment_size order)
+      → IsAwaited setup.segment_size flights (8 * k)

@@ -1,0 +1,62 @@
+-- The invariant of the words that all backends share, the writer, and what every pass knows.
+use Rattle.std.specs.Prelude.{◌≡◌, ◌≢◌, ◌≤◌, ℕ, true, false, List, length, map}
+use mathlib.Core.Option.{Option}
+use Rattle.byte_position.specs.Geometry.{IsSegmentSize}
+use Rattle.wal_page.specs.Order.{Entry, end_position}
+use Rattle.wal_core.specs.declared.setup.Setup.{Setup}
+use Rattle.wal_core.specs.Words.{Opening, position_word, prev_word, lock_word, mapping_turn, write_turn, initialised_word, written_word, flushed_word, moment_word, down_word, end_word, ring_word, word_count, end_form}
+use Rattle.wal_core.specs.Views.{HasAt, Away, Idle, Plain, View, Stage, reserving_of, working_of, flight_of, watching_of, mapper_of, confirmed_of, writer_of, writing_of, told_of}
+use Rattle.wal_core.specs.Ordered.{OrderHolds}
+use Rattle.wal_core.specs.Locked.{LocksHold, ProgressHolds}
+use Rattle.wal_core.specs.Ringed.{RingHolds}
+use Rattle.wal_core.specs.Paged.{PagesHold}
+use Rattle.wal_core.specs.Watched.{WatchHolds}
+use Rattle.wal_core.specs.Positioned.{PositionsHold}
+use Rattle.wal_core.specs.Durable.{DurabilityHolds}
+
+-- the setup is one that a log can have: 4 to 64 pages of ring, 1 to 4,096 segments, 1 to 65,536
+-- passes
+pub record IsSetup (setup : Setup) : Type 0 where
+  pub size : IsSegmentSize setup.segment_size
+  pub ring_low : 4 ≤ setup.ring_pages
+  pub ring_high : setup.ring_pages ≤ 64
+  pub cap_low : 1 ≤ setup.cap_segments
+  pub cap_high : setup.cap_segments ≤ 4096
+  pub named : setup.sysid ≢ 0
+  pub passes_low : 1 ≤ setup.passes
+  pub passes_high : setup.passes ≤ 65536
+
+-- a view that is live knows what is fixed; one that is not has no turn
+pub record IsGrounded (opening : Opening) (v : View) : Type 0 where
+  pub opening_is : (v.reserving).live ≡ true → v.opening ≡ opening
+  pub at_rest : (v.reserving).live ≡ false
+      → ((v.mapping).stage ≡ Away) × ((v.writing).hold ≡ Idle)
+
+-- the parts, all over one reserved order, one memory of the log's words and one writer, wherever it is
+pub record IsSound (opening : Opening) (words : List ℕ) (home : Option Plain) (views : List View)
+    : Type 0 where
+  pub order : List Entry
+  pub memory : ℕ → ℕ
+  pub reach : ℕ
+  pub stage : Stage
+  pub writer : Plain
+  pub setup_is : IsSetup opening.setup
+  pub wide : length words ≡ word_count opening.setup
+  pub grounded : (id : ℕ) (v : View) → HasAt views id v → IsGrounded opening v
+  pub reserved : OrderHolds opening.setup order (position_word words) (prev_word words)
+      (map reserving_of views)
+  pub locks : LocksHold (lock_word words) (map working_of views)
+      (mapping_turn words) stage (map mapper_of views)
+      (write_turn words) home writer (map writer_of views)
+  pub progress : ProgressHolds opening.setup.segment_size (lock_word words) (map working_of views)
+  pub ring : RingHolds opening.setup order reach memory (map flight_of views)
+  pub pages : PagesHold opening.setup.ring_pages reach stage (initialised_word words)
+      (written_word words) (end_word words) (ring_word opening.setup words) memory
+      (map confirmed_of views)
+  pub positions : PositionsHold opening.setup order (written_word words) (flushed_word words)
+      (down_word words) home writer (map flight_of views) (map writing_of views)
+  pub durable : DurabilityHolds opening order (flushed_word words) (moment_word words)
+      (down_word words) home writer (map told_of views)
+  pub watching : WatchHolds opening.setup.segment_size
+      (end_form opening.setup (end_position opening.setup.segment_size order))
+      (map working_of views) (map watching_of views)

@@ -1,0 +1,460 @@
+-- The atomic steps: each is one load, store or exchange of one shared word by one pass, or one call
+-- of the device by the pass that has the writer in hand. What a step may do rests on what its pass
+-- knows, and on nothing else.
+use Rattle.std.specs.Prelude.{◌≡◌, ◌≢◌, ◌⊎◌, ℕ, ◌+◌, ◌*◌, ◌/◌, ◌%◌, ◌<◌, ◌≤◌, true, Contains, List, [], ◌∷◌, ◌++◌, length, set, slice_index, ◌==◌, if◌then◌else◌}
+use Rattle.std.specs.Int.{w64, to_le_bytes}
+use Rattle.byte_position.specs.Position.{address_of}
+use Rattle.byte_position.specs.Geometry.{pages_of}
+use Rattle.segment_disk.specs.DiskImage.{word_of}
+use Rattle.segment_disk.specs.Tape.{create_call, sync_call, write_call}
+use Rattle.segment_disk.specs.Cause.{Rose}
+use mathlib.Core.Option.{Option, none, some}
+use Rattle.wal_types.specs.declared.record.Record.{Record}
+use Rattle.record_spelling.specs.Spelling.{IsWritable, assembled}
+use Rattle.wal_page.specs.EntryWords.{address_of_word, words_owned}
+use Rattle.wal_page.specs.Order.{room_at}
+use Rattle.wal_page.specs.Placed.{entry_word}
+use Rattle.wal_core.specs.declared.setup.Setup.{Setup}
+use Rattle.wal_core.specs.Words.{log_limit}
+use Rattle.wal_core.specs.Views.{HasAt, Place, Free, Locked, Loaded, Stored, Copy, Flight, Landed, Copying, Stage, Taken, Looked, Ready, Zeroing, Published, Plain, Lent, Hold, Idle, Turned, Out, Away, View}
+use Rattle.wal_core.specs.Paged.{IsOpen}
+use Rattle.wal_core.specs.Moves.{Outcome, Done, Failed, left_of, right_of, both_of, spent, without_work, orphan_of, with_stage, with_hold, with_confirmed, with_writer, after_load_position, after_take_write_turn, after_slot_out, after_lock_position, after_load_prev, after_store_prev, after_store_position, after_give_back, after_load_lock, after_take_lock, after_release, after_store_word, after_load_word, after_load_written, after_load_flushed, after_load_moment, after_load_down, after_store_written, after_store_moment, after_set_down, after_take_mapping_turn, after_load_initialised, after_create, after_write, after_sync}
+
+-- ---- what a step may rest on
+
+-- a word of the ring by the number of the log's word that it holds
+abbrev pub ring_place : Setup → ℕ → ℕ
+ring_place setup k = k / 1024 % setup.ring_pages * 1024 + k % 1024
+
+-- a copy is not at its end, and its next word lies on a page that the pass has met
+pub record CopiesOn (setup : Setup) (confirmed : ℕ) (c : Copy) : Type 0 where
+  pub left : c.copied < words_owned setup.segment_size c.entry
+  pub met : address_of_word setup.segment_size c.entry c.copied < confirmed
+
+-- an entry's next word
+abbrev pub next_word : Setup → Copy → ℕ
+next_word setup c = entry_word setup.segment_size setup.sysid (assembled (c.entry).value)
+    (c.entry).start c.prev (address_of_word setup.segment_size c.entry c.copied)
+
+-- a word of the log is loaded for a write: its page is not written whole, and begins where all is
+-- copied
+pub record IsToBeWritten (k : ℕ) (l : Lent) : Type 0 where
+  pub unwritten : (l.writer).written < (k / 1024 + 1) * 8192
+  pub copied : k / 1024 * 8192 < l.known
+
+-- the words of a page were loaded
+abbrev pub IsLoaded : ℕ → List ℕ → List (ℕ × ℕ) → Type 0
+IsLoaded page bytes staged = (n : ℕ) → n < 1024
+    → (value : ℕ) × Contains staged (page * 1024 + n, value)
+    × (word_of bytes n ≡ to_le_bytes w64 value)
+
+-- the page under way is written up to an address, into a segment that is made
+pub record IsNextWrite (setup : Setup) (segment page upto : ℕ) (bytes : List ℕ) (l : Lent) : Type 0
+  where
+    pub up : (l.writer).fault ≡ none
+    pub page_is : segment * pages_of setup.segment_size + page ≡ (l.writer).written / 8192
+    pub on_segment : page < pages_of setup.segment_size
+    pub is_made : segment ≤ (l.writer).made
+    pub alone : ((l.writer).waiting ≡ none) ⊎ ((l.writer).waiting ≡ some segment)
+    pub rises : (l.writer).written ≤ upto
+    pub behind_start : (l.writer).written / 8192 * 8192 < upto
+    pub within : upto ≤ ((l.writer).written / 8192 + 1) * 8192
+    pub copied : upto ≤ l.known
+    pub whole : length bytes ≡ 8192
+    pub loaded : IsLoaded ((l.writer).written / 8192) bytes l.staged
+
+-- the segment under way, which is the one behind the last that is made, is made
+pub record IsNextCreate (segment : ℕ) (l : Lent) : Type 0 where
+  pub up : (l.writer).fault ≡ none
+  pub next : segment ≡ (l.writer).made + 1
+
+pub record IsNextSync (segment : ℕ) (l : Lent) : Type 0 where
+  pub up : (l.writer).fault ≡ none
+  pub waits : (l.writer).waiting ≡ some segment
+
+-- ---- the kinds
+
+pub data Event : Type 0 where
+  -- seats and turns
+  load_position : ℕ → Event
+  take_write_turn : Event
+  slot_out : Event
+  slot_in : Event
+  release_write_turn : Event
+  -- reservation
+  lock_position : ℕ → Event
+  load_prev : Event
+  store_prev : Event
+  store_position : ℕ → Record → Event
+  give_position_back : Event
+  -- insertion locks
+  load_lock : ℕ → Event
+  take_lock : ℕ → Event
+  advance : ℕ → ℕ → Event
+  release : ℕ → Event
+  -- words of the ring
+  load_end : ℕ → Event
+  store_word : Event
+  load_word : ℕ → Event
+  -- positions and down
+  load_written : Event
+  load_flushed : Event
+  load_moment : Event
+  load_down : Event
+  store_written : Event
+  store_moment : Event
+  store_flushed : Event
+  set_down : Event
+  -- mapping
+  take_mapping_turn : Event
+  load_initialised : Event
+  clear_end : Event
+  zero_word : Event
+  publish_end : Event
+  publish_initialised : Event
+  release_mapping_turn : Event
+  -- calls of the device
+  create : ℕ → Outcome → Event
+  write : ℕ → ℕ → ℕ → List ℕ → Outcome → Event
+  sync : ℕ → Outcome → Event
+
+-- ---- the word that a step loads, stores or exchanges, by its number
+
+-- the end word of the buffer of the page at an address
+abbrev pub buffer_of : Setup → ℕ → ℕ
+buffer_of setup at = at / 8192 % setup.ring_pages
+
+abbrev pub end_number : Setup → ℕ → ℕ
+end_number setup buffer = 17 + buffer
+
+abbrev pub ring_number : Setup → ℕ → ℕ
+ring_number setup place = 17 + setup.ring_pages + place
+
+-- the address of the page that a mapper is about
+abbrev pub page_mapped : Stage → ℕ
+page_mapped Away = 0
+page_mapped Taken = 0
+page_mapped (Looked at) = at
+page_mapped (Ready at written) = at
+page_mapped (Zeroing at count) = at
+page_mapped (Published at) = at
+
+-- how many words of it are count
+abbrev pub words_zeroed : Stage → ℕ
+words_zeroed Away = 0
+words_zeroed Taken = 0
+words_zeroed (Looked at) = 0
+words_zeroed (Ready at written) = 0
+words_zeroed (Zeroing at count) = count
+words_zeroed (Published at) = 0
+
+-- the number of the log's word that a copy stores next
+abbrev pub next_number : Setup → Flight → ℕ
+next_number setup Landed = 0
+next_number setup (Copying c) = address_of_word setup.segment_size c.entry c.copied / 8
+
+module _ (v : View) where
+  abbrev setup_of : Setup
+  setup_of = (v.opening).setup
+
+  abbrev stage_of : Stage
+  stage_of = (v.mapping).stage
+
+  abbrev pub word_of_step : Event → ℕ
+  word_of_step (load_position asked) = 0
+  word_of_step take_write_turn = 11
+  word_of_step slot_out = 11
+  word_of_step slot_in = 11
+  word_of_step release_write_turn = 11
+  word_of_step (lock_position expected) = 0
+  word_of_step load_prev = 1
+  word_of_step store_prev = 1
+  word_of_step (store_position lock value) = 0
+  word_of_step give_position_back = 0
+  word_of_step (load_lock lock) = 2 + lock
+  word_of_step (take_lock lock) = 2 + lock
+  word_of_step (advance lock upto) = 2 + lock
+  word_of_step (release lock) = 2 + lock
+  word_of_step (load_end buffer) = end_number setup_of buffer
+  word_of_step store_word =
+      ring_number setup_of (ring_place setup_of (next_number setup_of (v.working).flight))
+  word_of_step (load_word k) = ring_number setup_of (ring_place setup_of k)
+  word_of_step load_written = 13
+  word_of_step load_flushed = 14
+  word_of_step load_moment = 15
+  word_of_step load_down = 16
+  word_of_step store_written = 13
+  word_of_step store_moment = 15
+  word_of_step store_flushed = 14
+  word_of_step set_down = 16
+  word_of_step take_mapping_turn = 10
+  word_of_step load_initialised = 12
+  word_of_step clear_end = end_number setup_of (buffer_of setup_of (page_mapped stage_of))
+  word_of_step zero_word = ring_number setup_of
+      (buffer_of setup_of (page_mapped stage_of) * 1024 + words_zeroed stage_of)
+  word_of_step publish_end = end_number setup_of (buffer_of setup_of (page_mapped stage_of))
+  word_of_step publish_initialised = 12
+  word_of_step release_mapping_turn = 10
+  word_of_step (create segment outcome) = 11
+  word_of_step (write segment page upto bytes outcome) = 11
+  word_of_step (sync segment outcome) = 11
+
+  -- ---- the value of that word behind the step, where the number met is `met`: an exchange stores
+  -- only where it meets what it expects
+
+  abbrev pub exchanged : ℕ → ℕ → ℕ → ℕ
+  exchanged expected stored met = if met == expected then stored else met
+
+  abbrev pub place_at : Place → ℕ
+  place_at Free = 0
+  place_at (Locked at) = at
+  place_at (Loaded at prev) = at
+  place_at (Stored at prev) = at
+
+  abbrev pub next_value : Flight → ℕ
+  next_value Landed = 0
+  next_value (Copying c) = next_word setup_of c
+
+  abbrev pub number_lent : (Lent → ℕ) → Hold → ℕ
+  number_lent f Idle = 0
+  number_lent f Turned = 0
+  number_lent f (Out l) = f l
+
+  abbrev pub fault_number : Option ℕ → ℕ
+  fault_number none = 0
+  fault_number (some faults) = faults
+
+  abbrev pub value_behind : Event → ℕ → ℕ
+  value_behind (load_position asked) met = met
+  value_behind take_write_turn met = exchanged 0 ((v.reserving).number + 1) met
+  value_behind slot_out met = met
+  value_behind slot_in met = met
+  value_behind release_write_turn met = 0
+  value_behind (lock_position expected) met = exchanged expected (expected + 1) met
+  value_behind load_prev met = met
+  value_behind store_prev met = address_of (setup_of).segment_size (place_at (v.reserving).place)
+  value_behind (store_position lock value) met =
+      place_at (v.reserving).place
+      + room_at (setup_of).segment_size (place_at (v.reserving).place) value
+  value_behind give_position_back met = place_at (v.reserving).place
+  value_behind (load_lock lock) met = met
+  value_behind (take_lock lock) met = exchanged 0 1 met
+  value_behind (advance lock upto) met = upto + 1
+  value_behind (release lock) met = 0
+  value_behind (load_end buffer) met = met
+  value_behind store_word met = next_value (v.working).flight
+  value_behind (load_word k) met = met
+  value_behind load_written met = met
+  value_behind load_flushed met = met
+  value_behind load_moment met = met
+  value_behind load_down met = met
+  value_behind store_written met = number_lent (λ l. (l.writer).written) (v.writing).hold
+  value_behind store_moment met = number_lent (λ l. (l.writer).moment) (v.writing).hold
+  value_behind store_flushed met = number_lent (λ l. l.hard) (v.writing).hold
+  value_behind set_down met = number_lent (λ l. fault_number (l.writer).fault) (v.writing).hold
+  value_behind take_mapping_turn met = exchanged 0 ((v.reserving).number + 1) met
+  value_behind load_initialised met = met
+  value_behind clear_end met = 0
+  value_behind zero_word met = 0
+  value_behind publish_end met = page_mapped stage_of + 8192
+  value_behind publish_initialised met = page_mapped stage_of + 8192
+  value_behind release_mapping_turn met = 0
+  value_behind (create segment outcome) met = met
+  value_behind (write segment page upto bytes outcome) met = met
+  value_behind (sync segment outcome) met = met
+
+  -- ---- what the pass must know for the step
+
+  abbrev pub HasOut : (Lent → Type 0) → Type 0
+  HasOut P = (l : Lent) × ((v.writing).hold ≡ Out l) × P l
+
+  abbrev pub IsCopying : (Copy → Type 0) → Type 0
+  IsCopying P = (c : Copy) × ((v.working).flight ≡ Copying c) × P c
+
+  -- a fault that a call tells is above the count at the opening
+  abbrev pub IsFault : Outcome → Type 0
+  IsFault Done = Unit {0}
+  IsFault (Failed faults counted) = Rose (v.opening).faults faults
+
+  abbrev pub MayStep : Event → Type 0
+  MayStep (load_position asked) = Unit {0}
+  MayStep take_write_turn = (v.writing).hold ≡ Idle
+  MayStep slot_out = (v.writing).hold ≡ Turned
+  MayStep slot_in = HasOut (λ l.
+      (((l.writer).fault ≡ none) × (l.stored ≡ (l.writer).written))
+      ⊎ ((v.writing).down_set ≢ 0))
+  MayStep release_write_turn = (v.writing).hold ≡ Turned
+  MayStep (lock_position expected) = ((v.reserving).place ≡ Free) × (expected % 2 ≡ 0)
+  MayStep load_prev = (at : ℕ) × ((v.reserving).place ≡ Locked at)
+  MayStep store_prev = (at prev : ℕ) × ((v.reserving).place ≡ Loaded at prev)
+  MayStep (store_position lock value) = (at prev : ℕ) × ((v.reserving).place ≡ Stored at prev)
+      × IsWritable value × (at + room_at (setup_of).segment_size at value ≤ log_limit setup_of)
+      × Contains (v.working).locks lock × ((v.working).flight ≡ Landed)
+  MayStep give_position_back = (at : ℕ) × ((v.reserving).place ≡ Locked at)
+  MayStep (load_lock lock) = lock < 8
+  MayStep (take_lock lock) = lock < 8
+  MayStep (advance lock upto) = Contains (v.working).locks lock
+      × IsCopying (λ c. (c.lock ≡ lock)
+      × (upto ≤ address_of_word (setup_of).segment_size c.entry c.copied))
+  MayStep (release lock) = Contains (v.working).locks lock
+      × ((c : Copy) → (v.working).flight ≡ Copying c → c.lock ≡ lock
+      → c.copied ≡ words_owned (setup_of).segment_size c.entry)
+  MayStep (load_end buffer) = buffer < (setup_of).ring_pages
+  MayStep store_word = IsCopying (CopiesOn setup_of (v.mapping).confirmed)
+  MayStep (load_word k) = HasOut (IsToBeWritten k)
+  MayStep load_written = Unit {0}
+  MayStep load_flushed = Unit {0}
+  MayStep load_moment = Unit {0}
+  MayStep load_down = Unit {0}
+  MayStep store_written = HasOut (λ l. Unit {0})
+  MayStep store_moment = HasOut (λ l. ((l.writer).fault ≡ none) × ((l.writer).waiting ≡ none))
+  MayStep store_flushed =
+      HasOut (λ l. (l.hard ≡ (l.writer).written) × (l.stored ≡ (l.writer).written))
+  MayStep set_down = HasOut (λ l. (faults : ℕ) × ((l.writer).fault ≡ some faults))
+  MayStep take_mapping_turn = (v.mapping).stage ≡ Away
+  MayStep load_initialised = Unit {0}
+  MayStep clear_end = (at written : ℕ) × ((v.mapping).stage ≡ Ready at written)
+      × (at + 8192 ≤ written + (setup_of).ring_pages * 8192)
+  MayStep zero_word = (at count : ℕ) × ((v.mapping).stage ≡ Zeroing at count) × (count < 1024)
+  MayStep publish_end = (at : ℕ) × ((v.mapping).stage ≡ Zeroing at 1024)
+  MayStep publish_initialised = (at : ℕ) × ((v.mapping).stage ≡ Published at)
+  MayStep release_mapping_turn = IsOpen (v.mapping).stage
+  MayStep (create segment outcome) = HasOut (IsNextCreate segment) × IsFault outcome
+  MayStep (write segment page upto bytes outcome) =
+      HasOut (IsNextWrite setup_of segment page upto bytes) × IsFault outcome
+  MayStep (sync segment outcome) = HasOut (IsNextSync segment) × IsFault outcome
+
+  -- ---- what it knows behind the step, and where the writer is
+
+  abbrev pub with_slot : Option Plain → View
+  with_slot none = v
+  with_slot (some writer) = after_slot_out writer v
+
+  -- a call of the device changes the writer in hand
+  abbrev pub with_call_on : (Plain → Plain) → Hold → View
+  with_call_on f Idle = v
+  with_call_on f Turned = v
+  with_call_on f (Out l) = with_writer (f l.writer) v
+
+  abbrev pub view_behind : Event → ℕ → Option Plain → View
+  view_behind (load_position asked) met home = after_load_position asked met v
+  view_behind take_write_turn met home = after_take_write_turn met v
+  view_behind slot_out met home = with_slot home
+  view_behind slot_in met home = with_hold Turned v
+  view_behind release_write_turn met home = with_hold Idle v
+  view_behind (lock_position expected) met home = after_lock_position expected met v
+  view_behind load_prev met home = after_load_prev met v
+  view_behind store_prev met home = after_store_prev v
+  view_behind (store_position lock value) met home = after_store_position lock value v
+  view_behind give_position_back met home = after_give_back v
+  view_behind (load_lock lock) met home = after_load_lock lock met v
+  view_behind (take_lock lock) met home = after_take_lock lock met v
+  view_behind (advance lock upto) met home = v
+  view_behind (release lock) met home = after_release lock v
+  view_behind (load_end buffer) met home = with_confirmed met v
+  view_behind store_word met home = after_store_word v
+  view_behind (load_word k) met home = after_load_word k met v
+  view_behind load_written met home = after_load_written met v
+  view_behind load_flushed met home = after_load_flushed met v
+  view_behind load_moment met home = after_load_moment met v
+  view_behind load_down met home = after_load_down met v
+  view_behind store_written met home = after_store_written v
+  view_behind store_moment met home = after_store_moment v
+  view_behind store_flushed met home = v
+  view_behind set_down met home =
+      after_set_down (number_lent (λ l. fault_number (l.writer).fault) (v.writing).hold) v
+  view_behind take_mapping_turn met home = after_take_mapping_turn met v
+  view_behind load_initialised met home = after_load_initialised met v
+  view_behind clear_end met home = with_stage (Zeroing (page_mapped stage_of) 0) v
+  view_behind zero_word met home =
+      with_stage (Zeroing (page_mapped stage_of) (words_zeroed stage_of + 1)) v
+  view_behind publish_end met home = with_stage (Published (page_mapped stage_of)) v
+  view_behind publish_initialised met home =
+      with_stage Taken (with_confirmed (page_mapped stage_of + 8192) v)
+  view_behind release_mapping_turn met home = with_stage Away v
+  view_behind (create segment outcome) met home = with_call_on
+      (after_create segment (create_call (setup_of).segment_size segment) outcome)
+      (v.writing).hold
+  view_behind (write segment page upto bytes outcome) met home = with_call_on
+      (after_write segment upto (write_call (setup_of).segment_size segment page bytes) outcome)
+      (v.writing).hold
+  view_behind (sync segment outcome) met home = with_call_on
+      (after_sync (sync_call (setup_of).segment_size segment) outcome) (v.writing).hold
+
+  abbrev pub returned : Hold → Option Plain → Option Plain
+  returned Idle home = home
+  returned Turned home = home
+  returned (Out l) home = some l.writer
+
+  abbrev pub home_behind : Event → Option Plain → Option Plain
+  home_behind slot_out home = none
+  home_behind slot_in home = returned (v.writing).hold home
+  home_behind other home = home
+
+-- ---- steps
+
+-- the words that all share, the writer where it is at home, and the views of all passes
+pub record State : Type 0 where
+  pub words : List ℕ
+  pub home : Option Plain
+  pub views : List View
+
+-- the view of a pass that may still step
+abbrev pub IsLive : State → ℕ → View → Type 0
+IsLive s id v = HasAt s.views id v × ((v.reserving).live ≡ true)
+
+-- the pass with this view makes one step of this kind, and meets this number
+pub record Makes (id : ℕ) (e : Event) (met : ℕ) (s t : State) : Type 0 where
+  pub view : View
+  pub live : IsLive s id view
+  pub may : MayStep view e
+  pub met_is : met ≡ slice_index s.words (word_of_step view e)
+  pub words : t.words ≡ set s.words (word_of_step view e) (value_behind view e met)
+  pub home : t.home ≡ home_behind view e s.home
+  pub views : t.views ≡ set s.views id (view_behind view e met s.home)
+
+-- a pass is split off another one, under the least of its spare numbers
+pub record Splits (id : ℕ) (s t : State) : Type 0 where
+  pub view : View
+  pub live : IsLive s id view
+  pub may : (view.reserving).spare < (view.reserving).spare_end
+  pub words : t.words ≡ s.words
+  pub home : t.home ≡ s.home
+  pub views : t.views ≡ set s.views id (left_of view) ++ right_of view ∷ []
+
+-- a pass that is about nothing
+pub record IsResting (v : View) : Type 0 where
+  pub place : (v.reserving).place ≡ Free
+  pub locks : (v.working).locks ≡ []
+  pub flight : (v.working).flight ≡ Landed
+  pub stage : (v.mapping).stage ≡ Away
+  pub hold : (v.writing).hold ≡ Idle
+
+-- a pass takes another one in, which is about nothing
+pub record Joins (id other : ℕ) (s t : State) : Type 0 where
+  pub view : View
+  pub other_view : View
+  pub live : IsLive s id view
+  pub other_live : IsLive s other other_view
+  pub apart : id ≢ other
+  pub may : IsResting other_view
+  pub words : t.words ≡ s.words
+  pub home : t.home ≡ s.home
+  pub views : t.views
+      ≡ set (set s.views other (spent other_view)) id (both_of view other_view)
+
+-- behind a fault that it met, a pass gives up a copy that it does not end, with its locks: they stay
+-- with a view of their own, with which nobody steps any more
+pub record GivesUp (id : ℕ) (s t : State) : Type 0 where
+  pub view : View
+  pub live : IsLive s id view
+  pub may : (view.writing).down_met ≢ 0
+  pub words : t.words ≡ s.words
+  pub home : t.home ≡ s.home
+  pub views : t.views ≡ set s.views id (without_work view) ++ orphan_of view ∷ []
+
+pub data Step (s t : State) : Type 0 where
+  Moves : (id : ℕ) (e : Event) (met : ℕ) → Makes id e met s t → Step s t
+  SplitsOff : (id : ℕ) → Splits id s t → Step s t
+  TakesIn : (id other : ℕ) → Joins id other s t → Step s t
+  Abandons : (id : ℕ) → GivesUp id s t → Step s t

@@ -1,0 +1,187 @@
+-- What a pass knows and is about, in parts, one for each concern.
+use Rattle.std.specs.Prelude.{◌≡◌, ℕ, ◌+◌, Bool, List, []}
+use mathlib.Core.Option.{Option, some}
+use lib.ListN.{get_elem?}
+use Rattle.segment_disk.specs.Tape.{Tape}
+use Rattle.wal_page.specs.Order.{Entry}
+use Rattle.wal_core.specs.Words.{Opening}
+
+-- a list has this at that index
+abbrev pub HasAt : {A : Type 0} → List A → ℕ → A → Type 0
+HasAt xs index x = get_elem? xs index ≡ some x
+
+-- ---- reserving
+
+-- how far a pass is with a reservation: the position that it locked, the start of the record before
+-- that it loaded, its own start that it stored for the next one
+pub data Place : Type 0 where
+  Free : Place
+  Locked : ℕ → Place
+  Loaded : ℕ → ℕ → Place
+  Stored : ℕ → ℕ → Place
+
+-- where a pass found the log full: the byte position, and how many entries it had then
+pub record Filled : Type 0 where
+  pub position : ℕ
+  pub entries : ℕ
+
+-- what a pass was told of a flush: all below the address `upto` is durable from the moment on; and
+-- how many entries it had then
+pub record Promise : Type 0 where
+  pub upto : ℕ
+  pub moment : ℕ
+  pub entries : ℕ
+
+-- a pass that was taken in: its number, its spare numbers, and its log
+pub record Joined : Type 0 where
+  pub number : ℕ
+  pub entries : List Entry
+  pub filled : List Filled
+  pub promises : List Promise
+
+-- the pass's number, the numbers from `spare` up to `spare_end` that it may give to others, the
+-- entries that it reserved in order, where it found the log full, a reserved end that it has seen,
+-- and the passes that it took in. A pass that was taken in is not live
+pub record Reserving : Type 0 where
+  pub live : Bool
+  pub number : ℕ
+  pub spare : ℕ
+  pub spare_end : ℕ
+  pub entries : List Entry
+  pub filled : List Filled
+  pub seen : ℕ
+  pub joined : List Joined
+  pub place : Place
+
+-- ---- copying
+
+-- a reserved entry that is being copied: the start of the one before, the insertion lock under
+-- which it stands, and how many of its words are copied
+pub record Copy : Type 0 where
+  pub entry : Entry
+  pub prev : ℕ
+  pub lock : ℕ
+  pub copied : ℕ
+
+pub data Flight : Type 0 where
+  Landed : Flight
+  Copying : Copy → Flight
+
+-- the insertion locks held, and the entry in flight
+pub record Working : Type 0 where
+  pub locks : List ℕ
+  pub flight : Flight
+
+-- ---- watching
+
+-- the address watched for, how many locks were visited, and the address below which all is copied
+-- of what these guard
+pub record Watching : Type 0 where
+  pub end : ℕ
+  pub visited : ℕ
+  pub bound : ℕ
+
+-- ---- mapping
+
+-- how far a pass is with mapping a page: the initialised end that it loaded, which is where the page
+-- begins; the written position that it loaded; how many words it zeroed
+pub data Stage : Type 0 where
+  Away : Stage
+  Taken : Stage
+  Looked : ℕ → Stage
+  Ready : ℕ → ℕ → Stage
+  Zeroing : ℕ → ℕ → Stage
+  Published : ℕ → Stage
+
+-- the highest end of a page that a pass met, and how far it is with mapping
+pub record Mapping : Type 0 where
+  pub confirmed : ℕ
+  pub stage : Stage
+
+-- ---- writing
+
+-- the writer as plain data: its disk's tape and moment, up to where the log is written, the last
+-- segment made, the segment of which writes wait for a sync, and the disk's count of faults when it
+-- failed
+pub record Plain : Type 0 where
+  pub tape : Rattle.std.specs.Prelude.Option Tape
+  pub moment : ℕ
+  pub written : ℕ
+  pub made : ℕ
+  pub waiting : Option ℕ
+  pub fault : Option ℕ
+
+-- with the writer in hand: it, as last kept; the address below which all is copied; the words that
+-- were loaded from the ring, by their numbers in the log; the address for which the moment word is
+-- good already; and the address that was stored as written
+pub record Lent : Type 0 where
+  pub writer : Plain
+  pub known : ℕ
+  pub staged : List (ℕ × ℕ)
+  pub hard : ℕ
+  pub stored : ℕ
+
+-- what a pass has of the write turn
+pub data Hold : Type 0 where
+  Idle : Hold
+  Turned : Hold
+  Out : Lent → Hold
+
+-- the written and flushed addresses that a pass loaded, the down values that it met and set (0 for
+-- none), what it was told of flushes, and what it has of the write turn
+pub record Writing : Type 0 where
+  pub written : ℕ
+  pub flushed : ℕ
+  pub down_met : ℕ
+  pub down_set : ℕ
+  pub promises : List Promise
+  pub hold : Hold
+
+-- ---- the whole
+
+pub record View : Type 0 where
+  pub opening : Opening
+  pub reserving : Reserving
+  pub working : Working
+  pub watching : Watching
+  pub mapping : Mapping
+  pub writing : Writing
+
+abbrev pub reserving_of : View → Reserving
+reserving_of v = v.reserving
+
+abbrev pub working_of : View → Working
+working_of v = v.working
+
+abbrev pub flight_of : View → Flight
+flight_of v = v.working.flight
+
+abbrev pub watching_of : View → Watching
+watching_of v = v.watching
+
+-- a pass's number and how far it is with mapping
+abbrev pub mapper_of : View → ℕ × Stage
+mapper_of v = (v.reserving.number, v.mapping.stage)
+
+abbrev pub confirmed_of : View → ℕ
+confirmed_of v = v.mapping.confirmed
+
+-- a pass's number and what it has of the write turn
+abbrev pub writer_of : View → ℕ × Hold
+writer_of v = (v.reserving.number, v.writing.hold)
+
+abbrev pub writing_of : View → Writing
+writing_of v = v.writing
+
+-- a pass's entries and those that it took in, with what was promised to it and to them
+pub record Told : Type 0 where
+  pub entries : List Entry
+  pub joined : List Joined
+  pub writing : Writing
+
+abbrev pub told_of : View → Told
+told_of v = record {
+  entries = v.reserving.entries;
+  joined = v.reserving.joined;
+  writing = v.writing;
+}

@@ -1,0 +1,75 @@
+-- The words that all backends share, by their numbers, and what is fixed when they are made.
+use Rattle.std.specs.Prelude.{ℕ, ◌+◌, ◌*◌, List, slice_index}
+use Rattle.byte_position.specs.Position.{end_address_of, first_position, usable_bytes_in_segment}
+use Rattle.wal_core.specs.declared.setup.Setup.{Setup}
+
+-- the byte position up to which records are reserved; it is even, and one more while it is locked
+abbrev pub position_word : List ℕ → ℕ
+position_word words = slice_index words 0
+
+-- the address at which the last reserved record starts, 0 where there is none
+abbrev pub prev_word : List ℕ → ℕ
+prev_word words = slice_index words 1
+
+-- an insertion lock: 0 where it is free, 1 where it is held and nothing is told, else one more than
+-- an address below which all words of the holder's record are copied
+abbrev pub lock_word : List ℕ → ℕ → ℕ
+lock_word words lock = slice_index words (2 + lock)
+
+-- who has the turn to map a page, and who has the turn to write: 0 where nobody has it, else one
+-- more than the number of the pass
+abbrev pub mapping_turn : List ℕ → ℕ
+mapping_turn words = slice_index words 10
+
+abbrev pub write_turn : List ℕ → ℕ
+write_turn words = slice_index words 11
+
+-- the address below which each page has been mapped
+abbrev pub initialised_word : List ℕ → ℕ
+initialised_word words = slice_index words 12
+
+-- the addresses below which the log is written, and below which it is durable
+abbrev pub written_word : List ℕ → ℕ
+written_word words = slice_index words 13
+
+abbrev pub flushed_word : List ℕ → ℕ
+flushed_word words = slice_index words 14
+
+-- the disk's moment when the last flush had ended
+abbrev pub moment_word : List ℕ → ℕ
+moment_word words = slice_index words 15
+
+-- the disk's count of faults where it has failed, else 0
+abbrev pub down_word : List ℕ → ℕ
+down_word words = slice_index words 16
+
+-- of a buffer: the address behind the page that it holds, 0 where it holds none
+abbrev pub end_word : List ℕ → ℕ → ℕ
+end_word words buffer = slice_index words (17 + buffer)
+
+-- the words of the ring, 1024 for each buffer
+abbrev pub ring_word : Setup → List ℕ → ℕ → ℕ
+ring_word setup words k = slice_index words (17 + setup.ring_pages + k)
+
+-- how many words there are
+abbrev pub word_count : Setup → ℕ
+word_count setup = 17 + setup.ring_pages + setup.ring_pages * 1024
+
+-- the byte position at which the log begins, and the one at which it is full
+abbrev pub log_start : Setup → ℕ
+log_start setup = first_position setup.segment_size
+
+abbrev pub log_limit : Setup → ℕ
+log_limit setup =
+    log_start setup + setup.cap_segments * usable_bytes_in_segment setup.segment_size
+
+-- what is fixed of a run: how its log was set up, and the disk's moment and count of faults when it
+-- was opened
+pub record Opening : Type 0 where
+  pub setup : Setup
+  pub moment : ℕ
+  pub faults : ℕ
+
+-- the end form of a byte position: the address behind the last byte before it
+abbrev pub end_form : Setup → ℕ → ℕ
+end_form setup position = end_address_of setup.segment_size position
