@@ -3,4 +3,7 @@
 //! GetXLogBuffer, AdvanceXLInsertBuffer, XLogWrite, as plain data).
 #![tactic(auto)]
 
+pub mod laws;
 pub mod setup;
+
+pub use setup::Setup;

@@ -1,0 +1,2 @@
+//! Laws of the machine: each kind of step keeps what is said of what a crash leaves.
+#![tactic(auto)]

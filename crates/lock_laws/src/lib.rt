@@ -1,0 +1,3 @@
+//! Laws of the machine: each kind of step keeps what is said of insertion locks, of what they tell, of
+//! the two turns, and of watchers.
+#![tactic(auto)]

@@ -1,0 +1,2 @@
+//! Laws of the machine: each kind of step keeps the reserved order.
+#![tactic(auto)]

@@ -1,0 +1,2 @@
+//! The law of the machine: every step keeps its invariant.
+#![tactic(auto)]
