@@ -1,0 +1,3 @@
+pub mod Orders
+pub mod OrderSteps
+pub mod OrderKept
