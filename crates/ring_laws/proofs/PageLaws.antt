@@ -1,5 +1,5 @@
 -- The pages in the ring's buffers, through each kind of step that changes what is said of them.
-use Rattle.std.proofs.Common.{◌≡◌, ◌≢◌, ◌⊎◌, inl, inr, ℕ, ◌+◌, ◌*◌, ◌/◌, ◌%◌, ◌<◌, ◌≤◌, max, cond, Bool, eq-eqb, ne_eqb, List, [], ◌∷◌, ◌++◌, set, sym, refl, ap, ◌∙◌, subst, ⊎_elim, arith}
+use Rattle.std.proofs.Common.{◌≡◌, ◌≢◌, ◌⊎◌, inl, inr, ℕ, ◌+◌, ◌*◌, ◌/◌, ◌%◌, ◌<◌, ◌≤◌, max, List, [], ◌∷◌, ◌++◌, set, sym, refl, ap, ◌∙◌, subst, ⊎_elim, arith}
 use Rattle.std.proofs.Math.Nat.{mod-lt, add-mod_right}
 use mathlib.Core.Logic.{dite}
 use native.Mathlib.Decide.{ℕ_discrete, dec_le}
@@ -9,12 +9,6 @@ use Rattle.wal_core.specs.Paged.{IsOpen, AllPresent, AtStage, HoldsPage, PagesHo
 use Rattle.wal_core.specs.Moves.{looked, ready}
 use Rattle.wal_core.proofs.Lists.{one_set, one_added}
 use Rattle.ring_laws.specs.Put.{IsPut, put}
-
-pub put_is : (before : ℕ → ℕ) (index value : ℕ) → IsPut before index value (put before index value)
-put_is before index value = record {
-  here = ap (λ (b : Bool). cond b value (before index)) (eq-eqb index index refl);
-  elsewhere = λ k ne. ap (λ (b : Bool). cond b value (before k)) (ne_eqb k index ne);
-}
 
 -- ---- buffers
 
@@ -403,7 +397,8 @@ module _ (pages reach : ℕ) (stage : Stage) (initialised written : ℕ) (ends r
                 (λ h. ne (same_page q m p j below small h))));
             held = same_held;
             blank = λ i far. put_memory.elsewhere i (λ e. omega arith) ∙ k.blank i far;
-            mapping = at_later pages k.low reach initialised written ring written ring2 (omega arith)
+            mapping = at_later pages k.low reach initialised written ring written ring2
+                (omega arith)
                 (λ gap m low. put.elsewhere (reach % pages * 1024 + m)
                 (apart_from reach m low
                 (λ e. apart pages p reach high (omega arith) (sym e)))) stage k.mapping;

@@ -28,7 +28,7 @@ module _ (setup : Setup) (reach : ℕ) (stage : Stage) (initialised written : �
       → IsPut ring (ring_place setup (next_number setup (Copying c))) value ring2
       → IsPut memory (next_number setup (Copying c)) value memory2
       → PagesHold setup.ring_pages reach stage initialised written ends2 ring2 memory2 confirmed
-  stores_word flights id met below value ends2 ring2 memory2 here flies on copied low same put put_memory =
+  stores_word flights id met below value ends2 ring2 memory2 here flies on copied low same put new =
       let a : ℕ = address in
       let mapped : a < reach * 8192 = is_mapped id met here on in
       let uncopied : below ≤ a = copied id c flies on.left in
@@ -36,4 +36,4 @@ module _ (setup : Setup) (reach : ℕ) (stage : Stage) (initialised written : �
       stores setup.ring_pages reach stage initialised written ends ring memory confirmed k
       ends2 ring2 same memory2 (a / 8 / 1024) (a / 8 % 1024) value (omega arith) (omega arith)
       (omega arith) put
-      (subst (λ (n : ℕ). IsPut memory n value memory2) number put_memory)
+      (subst (λ (n : ℕ). IsPut memory n value memory2) number new)

@@ -3,3 +3,5 @@
 #![tactic(auto)]
 
 pub mod pages;
+pub mod ring;
+pub mod words;

@@ -80,7 +80,7 @@ pub fn mapping_keeps_pages()
         (set confirmed id (max met (at + 8192))) }
 {}
 
-/// A copy stores its next word, in the ring and in the log's memory; and the log is written further.
+/// A copy stores its next word, in the ring and in the log's memory; the log is written further.
 pub fn stores_keep_pages()
     ensures word { (setup : Setup) (reach : ℕ) (stage : Stage) (initialised written : ℕ)
         (ends ends_behind ring ring_behind memory memory_behind : ℕ → ℕ) (confirmed : List ℕ)

@@ -4,7 +4,8 @@ use Rattle.ring_laws.proofs.pages.stores_keep_pages.Goals as goal
 
 pub returns-clause-word : goal.returns-clause-word
 returns-clause-word c =
-    λ setup r s i w ends ends2 ring ring2 memory memory2 confirmed flights id met below value copy k.
+    λ setup r s i w ends ends2 ring ring2 memory memory2 confirmed flights id met below value copy
+    k.
     stores_word setup r s i w ends ring memory confirmed k copy flights id met below value
     ends2 ring2 memory2
 
