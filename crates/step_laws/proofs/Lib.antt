@@ -1,3 +1,4 @@
 mod Rings
 pub mod OpeningLaws
 pub mod Frames
+pub mod LockSteps
