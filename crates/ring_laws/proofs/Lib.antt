@@ -1,0 +1,5 @@
+pub mod LoadedWords
+pub mod PageLaws
+pub mod PutWords
+pub mod RingLaws
+pub mod StoredWords

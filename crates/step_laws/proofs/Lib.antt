@@ -1,0 +1,3 @@
+mod Rings
+pub mod OpeningLaws
+pub mod Frames
