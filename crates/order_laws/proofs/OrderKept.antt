@@ -75,11 +75,11 @@ module _ (order : List Entry) (position prev : ℕ) (parts : List Reserving) (id
 
   -- ---- what is seen
 
-  pub load_position_keeps : (home : Option Plain) (asked : ℕ)
+  pub load_position_keeps : (home : Option Plain)
       → TakesPart order position prev parts id v
       → HoldsWith order position prev parts id v
-      (view_behind v (load_position asked) position home)
-  load_position_keeps home asked t = sees (v.opening).setup (v.opening).found order position prev parts t.holds id
+      (view_behind v load_position position home)
+  load_position_keeps home t = sees (v.opening).setup (v.opening).found order position prev parts t.holds id
       v.reserving t.here t.live _
       (omega (arith, unlocked-is (v.opening).setup (v.opening).found order position prev parts t.holds t.size))
 

@@ -55,10 +55,10 @@ pub fn orders_grow_by_one_entry()
 /// address up to which the log is durable, where that is not above the reserved end.
 pub fn seen_positions_are_reserved()
     ensures load_position { (order : List Entry) (position prev : ℕ) (parts : List Reserving)
-        (id : ℕ) (v : View) (home : Option Plain) (asked : ℕ)
+        (id : ℕ) (v : View) (home : Option Plain)
         → TakesPart order position prev parts id v
         → HoldsWith order position prev parts id v
-        (view_behind v (load_position asked) position home) }
+        (view_behind v load_position position home) }
     ensures load_flushed { (order : List Entry) (position prev : ℕ) (parts : List Reserving)
         (id : ℕ) (v : View) (home : Option Plain) (met : ℕ)
         → TakesPart order position prev parts id v

@@ -1,2 +1,3 @@
 mod Rings
 pub mod OpeningLaws
+pub mod Frames

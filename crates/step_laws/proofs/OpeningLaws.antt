@@ -1,5 +1,5 @@
 -- A log that holds nothing begins in a state that keeps the invariant: each part by itself.
-use Rattle.std.proofs.Common.{◌≡◌, ◌≢◌, ℕ, zero, suc, ◌+◌, ◌-◌, ◌*◌, ◌/◌, ◌%◌, ◌<◌, ◌≤◌, List, [], ◌∷◌, length, Option, Some, None, IfSome, nat_lt, if◌then◌else◌, refl, sym, ap, ◌∙◌, subst, inl, inr, arith}
+use Rattle.std.proofs.Common.{◌≡◌, ◌≢◌, ℕ, zero, suc, ◌+◌, ◌-◌, ◌*◌, ◌/◌, ◌%◌, ◌<◌, ◌≤◌, List, [], ◌∷◌, ◌++◌, length, Option, Some, None, IfSome, nat_lt, if◌then◌else◌, refl, sym, ap, ◌∙◌, subst, inl, inr, arith}
 use Rattle.std.specs.Int.{w64, to_le_bytes}
 use Rattle.std.proofs.lemmas.Bool.{cases_eq, le-ltb, lt-ltb}
 use Rattle.std.specs.List.{Contains}
@@ -11,13 +11,13 @@ use Rattle.byte_position.specs.Geometry.{IsSegmentSize}
 use Rattle.byte_position.proofs.SegmentSizes.{segment_size_in_pages}
 use Rattle.wal_page.specs.Log.{log_word}
 use Rattle.wal_page.specs.EntryWords.{address_of_word}
-use Rattle.wal_page.specs.Order.{end_position}
+use Rattle.wal_page.specs.Order.{Entry, end_position}
 use Rattle.wal_page.proofs.WordPositions.{end_address_of-first_position}
 use Rattle.wal_page.proofs.LogWordLaws.{log_word-unowned}
 use Rattle.wal_core.specs.declared.setup.Setup.{Setup}
 use Rattle.wal_core.specs.Words.{Opening, position_word, prev_word, lock_word, mapping_turn, write_turn, initialised_word, written_word, flushed_word, moment_word, down_word, end_word, end_form, ring_word}
 use Rattle.wal_core.specs.Views.{HasAt, Plain, Away, Landed, Copying, View, mapper_of, told_of, writer_of}
-use Rattle.wal_core.specs.Opened.{AreFirstWords, IsFirstWriter, first_view}
+use Rattle.wal_core.specs.Opened.{AreFirstWords, IsFirstWriter, IsNew, first_view}
 use Rattle.wal_core.specs.Ordered.{OrderHolds, Role, active, spare, unborn}
 use Rattle.wal_core.specs.Locked.{LocksHold, ProgressHolds, most_told}
 use Rattle.wal_core.specs.Ringed.{RingHolds, StandsIn}
@@ -45,10 +45,13 @@ only_one x P here (suc id) y e = absurd (some-ne-none y (sym e))
 no_words : (size sysid : ℕ) → IsSegmentSize size → (k : ℕ) → log_word size sysid [] (8 * k) ≡ 0
 no_words size sysid valid k = log_word-unowned size sysid valid [] tt (8 * k) (omega arith) refl
 
-module _ (opening : Opening) (words : List ℕ) (writer : Plain) (valid : IsSetup opening.setup)
+module _ (opening : Opening) (words : List ℕ) (writer : Plain) (new : IsNew opening)
     (first : AreFirstWords opening words) (begins : IsFirstWriter opening writer) where
   abbrev setup : Setup
   setup = opening.setup
+
+  abbrev valid : IsSetup setup
+  valid = new.setup_is
 
   abbrev view : View
   view = first_view opening
@@ -68,13 +71,14 @@ module _ (opening : Opening) (words : List ℕ) (writer : Plain) (valid : IsSetu
   role_beyond zero high = let low = valid.passes_low in absurd (omega arith)
   role_beyond (suc n) high = rw (le-ltb (suc n) setup.passes high) refl
 
-  pub order_begins : OrderHolds setup [] (position_word words) (prev_word words) (view.reserving ∷ [])
+  pub order_begins : OrderHolds setup opening.found [] (position_word words) (prev_word words) (view.reserving ∷ [])
   unfolding role
   order_begins = record {
     role = role;
     locked = 0;
     holder = 0;
     keeper = 0;
+    found_first = ([], sym (ap (λ (f : List Entry). f ++ []) new.none_found), All-nil _);
     chained = tt;
     within = omega arith;
     position_is = first.position ∙ omega arith;
@@ -279,27 +283,27 @@ module _ (opening : Opening) (words : List ℕ) (writer : Plain) (valid : IsSetu
     views = only_one (told_of view) _ told_begins;
   }
 
-pub logs_begin : (opening : Opening) (words : List ℕ) (writer : Plain) → IsSetup opening.setup
+pub logs_begin : (opening : Opening) (words : List ℕ) (writer : Plain) → IsNew opening
     → AreFirstWords opening words → IsFirstWriter opening writer
     → IsSound opening words (some writer) (first_view opening ∷ [])
-logs_begin opening words writer valid first begins = record {
+logs_begin opening words writer new first begins = record {
   order = [];
   memory = λ k. 0;
-  reach = reach opening words writer valid first begins;
+  reach = reach opening words writer new first begins;
   stage = Away;
   writer = writer;
-  setup_is = valid;
+  setup_is = new.setup_is;
   wide = first.wide;
   grounded = only_one (first_view opening) _ (record {
     opening_is = λ live. refl;
     at_rest = λ dead. absurd (cc);
   });
-  reserved = order_begins opening words writer valid first begins;
-  locks = locks_begin opening words writer valid first begins;
-  progress = progress_begins opening words writer valid first begins;
-  ring = ring_begins opening words writer valid first begins;
-  pages = pages_begin opening words writer valid first begins;
-  positions = positions_begin opening words writer valid first begins;
-  durable = durable_begins opening words writer valid first begins;
-  watching = watching_begins opening words writer valid first begins;
+  reserved = order_begins opening words writer new first begins;
+  locks = locks_begin opening words writer new first begins;
+  progress = progress_begins opening words writer new first begins;
+  ring = ring_begins opening words writer new first begins;
+  pages = pages_begin opening words writer new first begins;
+  positions = positions_begin opening words writer new first begins;
+  durable = durable_begins opening words writer new first begins;
+  watching = watching_begins opening words writer new first begins;
 }

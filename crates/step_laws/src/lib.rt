@@ -2,3 +2,4 @@
 #![tactic(auto)]
 
 pub mod opening;
+pub mod stays;

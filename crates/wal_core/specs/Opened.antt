@@ -7,6 +7,12 @@ use Rattle.wal_core.specs.Words.{Opening, position_word, initialised_word, writt
 use Rattle.wal_core.specs.Views.{Away, Free, Landed, Plain, View}
 use Rattle.wal_core.specs.Moves.{no_writing}
 use Rattle.wal_core.specs.Paged.{HoldsPage}
+use Rattle.wal_core.specs.Sound.{IsSetup}
+
+-- a log that holds nothing yet, of a setup that a log can have
+pub record IsNew (opening : Opening) : Type 0 where
+  pub setup_is : IsSetup opening.setup
+  pub none_found : opening.found ≡ []
 
 -- The words: records begin with segment 1, and nothing is reserved, held or told; the ring holds the
 -- log's first pages, in whichever buffers they lie, all zeros

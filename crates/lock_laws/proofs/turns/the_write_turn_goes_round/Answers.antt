@@ -1,0 +1,9 @@
+use Rattle.lock_laws.proofs.WritingLaws.{writing_asked, writing_released}
+use Rattle.lock_laws.proofs.turns.the_write_turn_goes_round.Goals as goal
+
+pub returns-clause-taken : goal.returns-clause-taken
+returns-clause-taken c = writing_asked
+
+pub returns-clause-released : goal.returns-clause-released
+returns-clause-released c = λ turn home writer writers id number k here.
+    writing_released turn home writer writers k id number here
