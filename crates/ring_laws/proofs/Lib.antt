@@ -2,4 +2,5 @@ pub mod LoadedWords
 pub mod PageLaws
 pub mod PutWords
 pub mod RingLaws
+pub mod ShownLaws
 pub mod StoredWords

@@ -4,4 +4,5 @@
 
 pub mod pages;
 pub mod ring;
+pub mod shown;
 pub mod words;

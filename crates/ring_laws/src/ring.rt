@@ -53,8 +53,13 @@ pub fn mapping_keeps_the_ring()
         → RingHolds setup order further memory flights }
 {}
 
-/// A pass comes to be, as one is split off or gives up its copy, and one goes, as it is taken in.
+/// A pass comes to be, as one is split off or gives up its copy, and one goes, as it is taken in;
+/// and a pass may change in all but its copy.
 pub fn passes_keep_the_ring()
+    ensures stays { (setup : Setup) (order : List Entry) (reach : ℕ) (memory : ℕ → ℕ)
+        (flights : List Flight) (id : ℕ) (flight : Flight)
+        → RingHolds setup order reach memory flights → HasAt flights id flight
+        → RingHolds setup order reach memory (set flights id flight) }
     ensures split_off { (setup : Setup) (order : List Entry) (reach : ℕ) (memory : ℕ → ℕ)
         (flights : List Flight) (id : ℕ) (flight : Flight)
         → RingHolds setup order reach memory flights → HasAt flights id flight

@@ -11,3 +11,4 @@ pub mod Sound
 pub mod Moves
 pub mod Steps
 pub mod Opened
+pub mod Shown

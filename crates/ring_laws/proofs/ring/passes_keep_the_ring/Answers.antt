@@ -1,6 +1,10 @@
 use Rattle.ring_laws.proofs.RingLaws as law
 use Rattle.ring_laws.proofs.ring.passes_keep_the_ring.Goals as goal
 
+pub returns-clause-stays : goal.returns-clause-stays
+returns-clause-stays c = λ setup order reach memory flights id flight k.
+    law.stays setup order reach memory flights k id flight
+
 pub returns-clause-split_off : goal.returns-clause-split_off
 returns-clause-split_off c = λ setup order reach memory flights id flight k.
     law.splits setup order reach memory flights k id flight
