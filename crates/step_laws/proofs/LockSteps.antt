@@ -10,10 +10,10 @@ use Rattle.wal_core.specs.Moves.{with_working}
 use Rattle.wal_core.specs.Steps.{MayStep, load_lock, take_lock, advance, release}
 use Rattle.wal_core.specs.Sound.{IsSound}
 use Rattle.wal_core.proofs.Lists.{part_at, part_same, part_set}
-use Rattle.wal_core.proofs.WordLists.{lock_set, lock_else}
+use Rattle.wal_core.proofs.WordLists.{lock_set, lock_else, word_again}
 use Rattle.lock_laws.proofs.HeldLaws.{held_asked}
 use Rattle.lock_laws.proofs.ToldLaws.{told_asked}
-use Rattle.lock_laws.proofs.WatchLaws.{watched_asked}
+use Rattle.lock_laws.proofs.WatchLaws.{watch_visits, watched_asked}
 use Rattle.step_laws.proofs.Frames.{Moved, met, moved, KeepsBehind, same_either, grounded_live, later, views_later, wide_stays, grounded_stays, order_stays, mapping_stays, writing_stays, ring_stays, pages_stay, positions_stay, durable_stays}
 
 module _ (words : List ℕ) (home : Option Plain) (views : List View) (id : ℕ) (v : View)
@@ -68,4 +68,40 @@ module _ (words : List ℕ) (home : Option Plain) (views : List View) (id : ℕ)
             (λ j. (parts j, watches j))
             (watched_asked size end (map working_of views) (map watching_of views) id lock v
             k.watching work (lock_word words lock));
+      }
+
+  pub load_lock_keeps : (lock asked : ℕ) → MayStep v (load_lock lock asked)
+      → KeepsBehind words home views id v k here (load_lock lock asked)
+  load_lock_keeps lock asked low =
+      let s = moved words home views id v k here (load_lock lock asked) in
+      let size = ((v.opening).setup).segment_size in
+      let end = end_form (v.opening).setup (end_position size k.order) in
+      let seen = ((k.reserved).views id v.reserving (part_at reserving_of views id v here) live).seen in
+      let same = word_again words (2 + lock) in
+      record {
+        order = k.order;
+        memory = k.memory;
+        reach = k.reach;
+        stage = k.stage;
+        writer = k.writer;
+        setup_is = k.setup_is;
+        wide = wide_stays s;
+        grounded = grounded_stays s (grounded_live v.opening s.w refl live);
+        reserved = order_stays s refl (omega arith);
+        locks = record {
+          locks = subst (λ (x : List ℕ × List Working). AreHeld (lock_word x.0) x.1) (λ j. (sym same j, sym (part_same working_of views id v s.w here refl) j)) (k.locks).locks;
+          mapping = mapping_stays s refl (λ e. omega arith);
+          writing = writing_stays s refl (λ e. omega arith);
+        };
+        progress = subst (λ (x : List ℕ × List Working). ProgressHolds size (lock_word x.0) x.1) (λ j. (sym same j, sym (part_same working_of views id v s.w here refl) j)) k.progress;
+        ring = ring_stays s refl;
+        pages = pages_stay s refl (omega arith) (λ e. omega arith) (λ e. omega arith);
+        positions = positions_stay s refl refl (λ e. omega arith) (λ e. omega arith)
+            (λ e. omega arith);
+        durable = durable_stays s refl (λ e. omega arith) (λ e. omega arith) (λ e. omega arith);
+        watching = subst (λ (x : List Working × List Watching). WatchHolds size end x.0 x.1)
+            (λ j. (sym (part_same working_of views id v s.w here refl) j, sym (part_set watching_of views id s.w) j))
+            (watch_visits size (lock_word words) (map working_of views) (k.locks).locks k.progress
+            (v.opening).setup (k.setup_is).size k.order (map watching_of views) id lock asked v refl seen
+            k.watching (part_at watching_of views id v here));
       }
