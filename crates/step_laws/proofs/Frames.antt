@@ -13,7 +13,8 @@ use Rattle.wal_core.specs.Paged.{PagesHold}
 use Rattle.wal_core.specs.Watched.{WatchHolds}
 use Rattle.wal_core.specs.Positioned.{PositionsHold}
 use Rattle.wal_core.specs.Durable.{DurabilityHolds}
-use Rattle.wal_core.specs.Steps.{Event, word_of_step, value_behind, home_behind, view_behind}
+use Rattle.wal_core.specs.Steps.{Event, word_of_step, value_behind, view_behind}
+use Rattle.step_laws.specs.Kept.{number_met}
 use Rattle.wal_core.specs.Sound.{IsGrounded, IsSound}
 use Rattle.wal_core.proofs.Lists.{one_set, part_same}
 use Rattle.wal_core.proofs.WordLists.{word_else, locks_else, ends_before, ring_before, wide_still}
@@ -36,9 +37,6 @@ pub record Moved : Type 0 where
 
 module _ (words : List ℕ) (home : Option Plain) (views : List View) (id : ℕ) (v : View)
     (k : IsSound v.opening words home views) (here : HasAt views id v) (e : Event) where
-  abbrev pub met : ℕ
-  met = slice_index words (word_of_step v e)
-
   -- the step of this kind
   abbrev pub moved : Moved
   moved = record {
@@ -50,14 +48,9 @@ module _ (words : List ℕ) (home : Option Plain) (views : List View) (id : ℕ)
     k = k;
     here = here;
     i = word_of_step v e;
-    n = value_behind v e met;
-    w = view_behind v e met home;
+    n = value_behind v e (number_met words v e);
+    w = view_behind v e (number_met words v e) home;
   }
-
-  -- the invariant behind it
-  abbrev pub KeepsBehind : Type 0
-  KeepsBehind = IsSound v.opening (set words (word_of_step v e) (value_behind v e met))
-      (home_behind v e home) (set views id (view_behind v e met home))
 
 -- one of two views, of which some part is the same
 pub same_either : {A : Type 0} (part : View → A) (b : Bool) (x y : View) → part x ≡ part y

@@ -14,13 +14,14 @@ use Rattle.wal_core.proofs.WordLists.{lock_set, lock_else, word_again}
 use Rattle.lock_laws.proofs.HeldLaws.{held_asked}
 use Rattle.lock_laws.proofs.ToldLaws.{told_asked}
 use Rattle.lock_laws.proofs.WatchLaws.{watch_visits, watched_asked}
-use Rattle.step_laws.proofs.Frames.{Moved, met, moved, KeepsBehind, same_either, grounded_live, later, views_later, wide_stays, grounded_stays, order_stays, mapping_stays, writing_stays, ring_stays, pages_stay, positions_stay, durable_stays}
+use Rattle.step_laws.specs.Kept.{KeepsSound}
+use Rattle.step_laws.proofs.Frames.{moved, same_either, grounded_live, later, views_later, wide_stays, grounded_stays, order_stays, mapping_stays, writing_stays, ring_stays, pages_stay, positions_stay, durable_stays}
 
 module _ (words : List ℕ) (home : Option Plain) (views : List View) (id : ℕ) (v : View)
     (k : IsSound v.opening words home views) (here : HasAt views id v)
     (live : (v.reserving).live ≡ true) where
   pub take_lock_keeps : (lock : ℕ) → MayStep v (take_lock lock)
-      → KeepsBehind words home views id v k here (take_lock lock)
+      → KeepsSound words home views id v (take_lock lock)
   take_lock_keeps lock low =
       let s = moved words home views id v k here (take_lock lock) in
       let free = eqb (slice_index words (2 + lock)) 0 in
@@ -29,10 +30,10 @@ module _ (words : List ℕ) (home : Option Plain) (views : List View) (id : ℕ)
       let end = end_form (v.opening).setup (end_position size k.order) in
       let parts = sym (part_set working_of views id s.w) in
       let watches = sym (part_same watching_of views id v s.w here
-          (same_either watching_of free taken v refl)) in
+      (same_either watching_of free taken v refl)) in
       let work = part_at working_of views id v here in
       let others = λ (j : ℕ) (below : j < 8) (apart : j ≢ lock).
-          lock_else words lock s.n j apart in
+      lock_else words lock s.n j apart in
       let stored = lock_set words (v.opening).setup k.wide lock s.n low in
       record {
         order = k.order;
@@ -71,7 +72,7 @@ module _ (words : List ℕ) (home : Option Plain) (views : List View) (id : ℕ)
       }
 
   pub load_lock_keeps : (lock asked : ℕ) → MayStep v (load_lock lock asked)
-      → KeepsBehind words home views id v k here (load_lock lock asked)
+      → KeepsSound words home views id v (load_lock lock asked)
   load_lock_keeps lock asked low =
       let s = moved words home views id v k here (load_lock lock asked) in
       let size = ((v.opening).setup).segment_size in
