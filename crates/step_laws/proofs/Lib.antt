@@ -2,3 +2,4 @@ mod Rings
 pub mod OpeningLaws
 pub mod Frames
 pub mod LockSteps
+pub mod ReserveSteps

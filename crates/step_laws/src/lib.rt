@@ -3,3 +3,4 @@
 
 pub mod locks;
 pub mod opening;
+pub mod reserving;
