@@ -1,0 +1,4 @@
+pub mod Tapes
+pub mod Growth
+pub mod Assured
+pub mod ViewSteps

@@ -1,2 +1,4 @@
 //! Laws of the machine: each kind of step keeps what is said of what a crash leaves.
 #![tactic(auto)]
+
+pub mod stepping;
