@@ -2,3 +2,5 @@ pub mod Tapes
 pub mod Growth
 pub mod Assured
 pub mod ViewSteps
+pub mod Segments
+pub mod Reserving

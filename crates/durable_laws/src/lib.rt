@@ -1,4 +1,5 @@
 //! Laws of the machine: each kind of step keeps what is said of what a crash leaves.
 #![tactic(auto)]
 
+pub mod new_entries;
 pub mod stepping;
