@@ -4,3 +4,6 @@ pub mod Assured
 pub mod ViewSteps
 pub mod Segments
 pub mod Reserving
+pub mod Behind
+pub mod Calls
+pub mod CallSteps
