@@ -2,5 +2,6 @@
 #![tactic(auto)]
 
 pub mod locks;
+pub mod mapping;
 pub mod opening;
 pub mod reserving;
