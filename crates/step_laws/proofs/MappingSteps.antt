@@ -13,11 +13,13 @@ use Rattle.wal_core.specs.Moves.{with_stage, with_confirmed, looked}
 use Rattle.wal_core.specs.Steps.{Event, MayStep, take_mapping_turn, load_initialised, clear_end, zero_word, publish_end, publish_initialised, release_mapping_turn}
 use Rattle.wal_core.specs.Sound.{IsSound}
 use Rattle.wal_core.proofs.Lists.{part_at, part_same, part_set}
-use Rattle.wal_core.proofs.WordLists.{single_set, word_else, word_again, ends_before, ring_before}
+use Rattle.wal_core.proofs.WordLists.{single_set, word_else, word_again, ends_before, ends_behind, ring_before}
 use Rattle.lock_laws.proofs.MappingLaws.{open_has, mapping_asked, mapping_goes_on, mapping_released, mapping_moved, looked_keeps}
 use Rattle.ring_laws.proofs.PageLaws.{takes_turn, gives_back, looks, meets_initialised, clears, zeroes, publishes, advances}
 use Rattle.ring_laws.proofs.RingLaws.{reaches}
 use Rattle.lock_laws.proofs.Kept.{met_cases}
+use Rattle.ring_laws.proofs.PutWords.{end_put, ring_put}
+use Rattle.std.proofs.Math.Nat.{mod-lt}
 use Rattle.step_laws.specs.Kept.{KeepsSound, number_met}
 use Rattle.step_laws.proofs.Frames.{Moved, moved, later, views_later, same_either, grounded_live, wide_stays, pages_over, grounded_stays, order_stays, held_stays, progress_stays, writing_stays, ring_stays, positions_stay, durable_stays, watching_stays}
 
@@ -194,3 +196,186 @@ module _ (words : List ℕ) (home : Option Plain) (views : List View) (id : ℕ)
       (gives_back pages k.reach k.stage (initialised_word words) (written_word words)
       (end_word words) (ring_word setup words) k.memory (map confirmed_of views) k.pages
       (subst (λ (st : Stage). IsOpen st) (sym (its_stage has)) may)))
+
+-- the steps at a stage that is known
+module _ (words : List ℕ) (home : Option Plain) (views : List View) (id : ℕ) (v : View)
+    (k : IsSound v.opening words home views) (at : ℕ) where
+  abbrev setup_of : Setup
+  setup_of = (v.opening).setup
+
+  abbrev count_of : ℕ
+  count_of = setup_of.ring_pages
+
+  abbrev buffer : ℕ
+  buffer = at / 8192 % count_of
+
+  buffer_below : buffer < count_of
+  buffer_below = mod-lt (at / 8192) (k.pages).some_page
+
+  abbrev At : Stage → View
+  At stage = with_stage stage v
+
+  module _ (stage : Stage) (here : HasAt views id (At stage)) (has : HasTurn stage) where
+    stage_is : k.stage ≡ stage
+    stage_is = (((k.locks).mapping).each id (mapper_of (At stage))
+        (part_at mapper_of views id (At stage) here) has).1
+
+    -- the holder goes on to another stage, by a store into a word behind those of the turns
+    module _ (e : Event) (next : Stage) (turned : HasTurn next) where
+      abbrev step : Moved
+      step = moved words home views id (At stage) k here e
+
+      turn_goes_on : 11 ≤ step.i → mapper_of step.w ≡ ((v.reserving).number, next)
+          → IsMappingTurn (mapping_turn (later step)) next (map mapper_of (views_later step))
+      turn_goes_on past is =
+          let turn : mapping_turn (later step) ≡ mapping_turn words =
+          word_else words step.i step.n 10 (λ e. omega arith) in
+          let mappers : map mapper_of (views_later step)
+          ≡ set (map mapper_of views) id ((v.reserving).number, next) =
+          part_set mapper_of views id step.w ∙ ap (λ m. set (map mapper_of views) id m) is in
+          subst (λ (x : ℕ × List (ℕ × Stage)). IsMappingTurn x.0 next x.1)
+          (λ j. (sym turn j, sym mappers j))
+          (mapping_goes_on (mapping_turn words) k.stage (map mapper_of views) (k.locks).mapping id
+          (mapper_of (At stage)) (part_at mapper_of views id (At stage) here) has next turned)
+
+      -- the pages behind a store into an end word, or into a word of the ring
+      end_stored : (reach : ℕ) → 17 ≤ step.i → step.i < 17 + count_of
+          → map confirmed_of (views_later step) ≡ map confirmed_of views
+          → PagesHold count_of reach next (initialised_word words) (written_word words)
+          (end_word (later step)) (ring_word setup_of words) k.memory (map confirmed_of views)
+          → PagesHold count_of reach next (initialised_word (later step))
+          (written_word (later step)) (end_word (later step)) (ring_word setup_of (later step))
+          k.memory (map confirmed_of (views_later step))
+      end_stored reach past before parts held =
+          let initialised : initialised_word (later step) ≡ initialised_word words =
+          word_else words step.i step.n 12 (λ e. omega arith) in
+          let written : written_word (later step) ≡ written_word words =
+          word_else words step.i step.n 13 (λ e. omega arith) in
+          let ring = ring_before words setup_of step.i step.n before in
+          subst (λ (x : ℕ × ℕ × (ℕ → ℕ) × List ℕ). PagesHold count_of reach next x.0 x.1
+          (end_word (later step)) x.2 k.memory x.3)
+          (λ j. (sym initialised j, sym written j, sym ring j, sym parts j)) held
+
+      word_stored : 17 ≤ step.i
+          → map confirmed_of (views_later step) ≡ map confirmed_of views
+          → PagesHold count_of k.reach next (initialised_word words) (written_word words)
+          (end_word (later step)) (ring_word setup_of (later step)) k.memory
+          (map confirmed_of views)
+          → PagesHold count_of k.reach next (initialised_word (later step))
+          (written_word (later step)) (end_word (later step)) (ring_word setup_of (later step))
+          k.memory (map confirmed_of (views_later step))
+      word_stored past parts held =
+          let initialised : initialised_word (later step) ≡ initialised_word words =
+          word_else words step.i step.n 12 (λ e. omega arith) in
+          let written : written_word (later step) ≡ written_word words =
+          word_else words step.i step.n 13 (λ e. omega arith) in
+          subst (λ (x : ℕ × ℕ × List ℕ). PagesHold count_of k.reach next x.0 x.1
+          (end_word (later step)) (ring_word setup_of (later step)) k.memory x.2)
+          (λ j. (sym initialised j, sym written j, sym parts j)) held
+
+  clear_end_at : (written : ℕ) (here : HasAt views id (At (Ready at written)))
+      → (v.reserving).live ≡ true → at + 8192 ≤ written + count_of * 8192
+      → KeepsSound words home views id (At (Ready at written)) clear_end
+  clear_end_at written here live bound =
+      let st = Ready at written in
+      let s = moved words home views id (At st) k here clear_end in
+      let next = Zeroing at 0 in
+      let below = buffer_below in
+      mapping_sound s live (maps_on (At st) (s.w).mapping) (omega arith) (omega arith)
+      (λ e. omega arith) (λ e. omega arith) (λ e. omega arith) (λ e. omega arith)
+      (λ e. omega arith) k.reach (omega arith) next
+      (turn_goes_on st here tt clear_end next tt (omega arith) refl)
+      (end_stored st here tt clear_end next tt k.reach (omega arith) (omega arith)
+      (part_same confirmed_of views id (At st) s.w here refl)
+      (clears count_of k.reach k.stage (initialised_word words) (written_word words)
+      (end_word words) (ring_word setup_of words) k.memory (map confirmed_of views) k.pages
+      (end_word (later s)) at written (stage_is st here tt) bound
+      (end_put setup_of words k.wide buffer 0 buffer_below)))
+
+  publish_end_at : (here : HasAt views id (At (Zeroing at 1024)))
+      → (v.reserving).live ≡ true
+      → KeepsSound words home views id (At (Zeroing at 1024)) publish_end
+  publish_end_at here live =
+      let st = Zeroing at 1024 in
+      let s = moved words home views id (At st) k here publish_end in
+      let next = Published at in
+      let below = buffer_below in
+      mapping_sound s live (maps_on (At st) (s.w).mapping) (omega arith) (omega arith)
+      (λ e. omega arith) (λ e. omega arith) (λ e. omega arith) (λ e. omega arith)
+      (λ e. omega arith) (k.reach + 1) (omega arith) next
+      (turn_goes_on st here tt publish_end next tt (omega arith) refl)
+      (end_stored st here tt publish_end next tt (k.reach + 1) (omega arith) (omega arith)
+      (part_same confirmed_of views id (At st) s.w here refl)
+      (publishes count_of k.reach k.stage (initialised_word words) (written_word words)
+      (end_word words) (ring_word setup_of words) k.memory (map confirmed_of views) k.pages
+      (end_word (later s)) at (stage_is st here tt)
+      (end_put setup_of words k.wide buffer (at + 8192) buffer_below)))
+
+  zero_word_at : (count : ℕ) (here : HasAt views id (At (Zeroing at count)))
+      → (v.reserving).live ≡ true → count < 1024
+      → KeepsSound words home views id (At (Zeroing at count)) zero_word
+  zero_word_at count here live more =
+      let st = Zeroing at count in
+      let s = moved words home views id (At st) k here zero_word in
+      let next = Zeroing at (count + 1) in
+      let below = buffer_below in
+      let place = buffer * 1024 + count in
+      mapping_sound s live (maps_on (At st) (s.w).mapping) (omega arith) (omega arith)
+      (λ e. omega arith) (λ e. omega arith) (λ e. omega arith) (λ e. omega arith)
+      (λ e. omega arith) k.reach (omega arith) next
+      (turn_goes_on st here tt zero_word next tt (omega arith) refl)
+      (word_stored st here tt zero_word next tt (omega arith)
+      (part_same confirmed_of views id (At st) s.w here refl)
+      (zeroes count_of k.reach k.stage (initialised_word words) (written_word words)
+      (end_word words) (ring_word setup_of words) k.memory (map confirmed_of views) k.pages
+      (end_word (later s)) (ring_word setup_of (later s)) (λ b low. ends_behind words setup_of place 0 b low)
+      at count (stage_is st here tt) more
+      (ring_put setup_of words k.wide place 0 (omega arith))))
+
+  publish_initialised_at : (here : HasAt views id (At (Published at)))
+      → (v.reserving).live ≡ true
+      → KeepsSound words home views id (At (Published at)) publish_initialised
+  publish_initialised_at here live =
+      let st = Published at in
+      let s = moved words home views id (At st) k here publish_initialised in
+      let c = (v.mapping).confirmed in
+      let stored : initialised_word (later s) ≡ at + 8192 = single_set words setup_of k.wide 12 (at + 8192) (omega arith) in
+      let written : written_word (later s) ≡ written_word words =
+      word_else words 12 (at + 8192) 13 (λ e. omega arith) in
+      let ends = ends_before words 12 (at + 8192) (omega arith) in
+      let ring = ring_before words setup_of 12 (at + 8192) (omega arith) in
+      mapping_sound s live (maps_on (At st) (s.w).mapping) (omega arith) (omega arith)
+      (λ e. omega arith) (λ e. omega arith) (λ e. omega arith) (λ e. omega arith)
+      (λ e. omega arith) k.reach (omega arith) Taken
+      (turn_goes_on st here tt publish_initialised Taken tt (omega arith) refl)
+      (subst (λ (x : ℕ × ℕ × (ℕ → ℕ) × (ℕ → ℕ) × List ℕ).
+      PagesHold count_of k.reach Taken x.0 x.1 x.2 x.3 k.memory x.4)
+      (λ j. (sym stored j, sym written j, sym ends j, sym ring j, sym (part_set confirmed_of views id s.w) j))
+      (advances count_of k.reach k.stage (initialised_word words) (written_word words)
+      (end_word words) (ring_word setup_of words) k.memory (map confirmed_of views) k.pages
+      at id c (stage_is st here tt) (part_at confirmed_of views id (At st) here)))
+
+module _ (words : List ℕ) (home : Option Plain) (views : List View) (id : ℕ) (v : View)
+    (k : IsSound v.opening words home views) (here : HasAt views id v)
+    (live : (v.reserving).live ≡ true) where
+  -- where the stage of a view is known, it is the view at that stage
+  abbrev KeepsAt : Event → Stage → Type 0
+  KeepsAt e stage = HasAt views id (with_stage stage v)
+      → KeepsSound words home views id (with_stage stage v) e
+
+  pub clear_end_sound : MayStep v clear_end → KeepsSound words home views id v clear_end
+  clear_end_sound may = subst (KeepsAt clear_end) (sym may.2)
+      (λ at. clear_end_at words home views id v k may.0 may.1 at live may.3) here
+
+  pub zero_word_sound : MayStep v zero_word → KeepsSound words home views id v zero_word
+  zero_word_sound may = subst (KeepsAt zero_word) (sym may.2)
+      (λ at. zero_word_at words home views id v k may.0 may.1 at live may.3) here
+
+  pub publish_end_sound : MayStep v publish_end → KeepsSound words home views id v publish_end
+  publish_end_sound may = subst (KeepsAt publish_end) (sym may.1)
+      (λ at. publish_end_at words home views id v k may.0 at live) here
+
+  pub publish_initialised_sound : MayStep v publish_initialised
+      → KeepsSound words home views id v publish_initialised
+  publish_initialised_sound may = subst (KeepsAt publish_initialised) (sym may.1)
+      (λ at. publish_initialised_at words home views id v k may.0 at live) here

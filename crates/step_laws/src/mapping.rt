@@ -3,7 +3,7 @@
 ghost use Rattle.std.specs.Prelude.{◌≡◌, ℕ, true, List};
 ghost use mathlib.Core.Option.{Option};
 ghost use Rattle.wal_core.specs.Views.{HasAt, Plain, View};
-ghost use Rattle.wal_core.specs.Steps.{MayStep, load_initialised, release_mapping_turn, take_mapping_turn};
+ghost use Rattle.wal_core.specs.Steps.{MayStep, clear_end, load_initialised, publish_end, publish_initialised, release_mapping_turn, take_mapping_turn, zero_word};
 ghost use Rattle.wal_core.specs.Sound.{IsSound};
 ghost use Rattle.step_laws.specs.Kept.{KeepsSound};
 
@@ -22,4 +22,20 @@ pub fn steps_of_mapping_keep_it_sound()
         (id : ℕ) (v : View) → IsSound v.opening words home views → HasAt views id v
         → (v.reserving).live ≡ true → MayStep v release_mapping_turn
         → KeepsSound words home views id v release_mapping_turn }
+    ensures clear_end { (words : List ℕ) (home : Option Plain) (views : List View)
+        (id : ℕ) (v : View) → IsSound v.opening words home views → HasAt views id v
+        → (v.reserving).live ≡ true → MayStep v clear_end
+        → KeepsSound words home views id v clear_end }
+    ensures zero_word { (words : List ℕ) (home : Option Plain) (views : List View)
+        (id : ℕ) (v : View) → IsSound v.opening words home views → HasAt views id v
+        → (v.reserving).live ≡ true → MayStep v zero_word
+        → KeepsSound words home views id v zero_word }
+    ensures publish_end { (words : List ℕ) (home : Option Plain) (views : List View)
+        (id : ℕ) (v : View) → IsSound v.opening words home views → HasAt views id v
+        → (v.reserving).live ≡ true → MayStep v publish_end
+        → KeepsSound words home views id v publish_end }
+    ensures publish_initialised { (words : List ℕ) (home : Option Plain) (views : List View)
+        (id : ℕ) (v : View) → IsSound v.opening words home views → HasAt views id v
+        → (v.reserving).live ≡ true → MayStep v publish_initialised
+        → KeepsSound words home views id v publish_initialised }
 {}
