@@ -1,6 +1,5 @@
 -- How far all is copied, as flights change.
-use Rattle.std.proofs.Common.{◌≡◌, ℕ, ◌+◌, ◌<◌, ◌≤◌, Bool, true, false, cond, List, [], ◌∷◌, ◌++◌, set, refl, ap, subst, arith, ◌==◌}
-use mathlib.Core.Option.{some}
+use Rattle.std.proofs.Common.{◌≡◌, ℕ, ◌+◌, ◌<◌, ◌≤◌, Bool, true, false, cond, List, [], ◌∷◌, ◌++◌, set, refl, subst, arith, ◌==◌}
 use Rattle.wal_page.specs.EntryWords.{address_of_word, words_owned}
 use Rattle.wal_core.specs.Views.{HasAt, Copy, Flight, Landed, Copying}
 use Rattle.wal_core.specs.Moves.{landed, one_more}

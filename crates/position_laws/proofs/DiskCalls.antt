@@ -1,20 +1,19 @@
 -- What is read of the writer's disk behind its next call, however the call ended.
-use Rattle.std.proofs.Common.{◌≡◌, ◌≢◌, ℕ, ◌+◌, ◌*◌, ◌/◌, ◌<◌, ◌≤◌, true, false, All, Contains, List, [], ◌∷◌, Option, Some, None, IfSome, IsSomeAnd, sym, ap, ◌∙◌, if◌then◌else◌, arith}
+use Rattle.std.proofs.Common.{◌≡◌, ℕ, ◌+◌, ◌*◌, ◌/◌, ◌<◌, ◌≤◌, true, false, All, List, [], ◌∷◌, Option, Some, None, IfSome, IsSomeAnd, ap, ◌∙◌, if◌then◌else◌, arith}
 use Rattle.std.specs.Int.{w64, to_le_bytes}
 use Rattle.std.proofs.lemmas.Option.{IfSome_then}
 use Rattle.std.proofs.lemmas.List.Elements.{All-contains}
 use mathlib.Core.Option.{none, some}
 use Rattle.byte_position.specs.Geometry.{IsSegmentSize, pages_of}
-use Rattle.byte_position.proofs.SegmentSizes.{segment_size_in_pages}
-use Rattle.segment_disk.specs.Tape.{Segment, DiskState, Tape, create_call, failed_call, state_now, sync_call, write_call}
+use Rattle.segment_disk.specs.Tape.{Segment, Tape, create_call, failed_call, state_now, sync_call, write_call}
 use Rattle.segment_disk.specs.DiskImage.{word_of}
 use Rattle.flush_core.proofs.CallLaws.{holds-with_calls}
 use Rattle.wal_page.specs.Order.{Entry}
 use Rattle.lawful_image.specs.Lawful.{log_word_bytes}
 use Rattle.wal_core.specs.declared.setup.Setup.{Setup}
-use Rattle.wal_core.specs.Views.{Plain, Lent}
+use Rattle.wal_core.specs.Views.{Plain}
 use Rattle.wal_core.specs.Moves.{Outcome, Done, Failed, is_done, with_outcome}
-use Rattle.wal_core.specs.Steps.{IsLoaded, IsNextWrite}
+use Rattle.wal_core.specs.Steps.{IsLoaded}
 use Rattle.wal_core.specs.Positioned.{ReadsBelow}
 use Rattle.wal_core.specs.Durable.{IsStaged}
 use Rattle.position_laws.proofs.Reading.{ReadsBelow-create, ReadsBelow-sync, ReadsBelow-write}

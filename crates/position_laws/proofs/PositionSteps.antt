@@ -1,8 +1,8 @@
 -- The written and flushed positions through each kind of step, split and join.
-use Rattle.std.proofs.Common.{◌≡◌, ◌≢◌, ◌⊎◌, ℕ, ◌+◌, ◌*◌, ◌%◌, ◌<◌, ◌≤◌, Bool, true, false, List, [], ◌∷◌, ◌++◌, length, set, IfSome, refl, sym, ap, ◌∙◌, subst, inl, inr, ⊎_elim, arith}
+use Rattle.std.proofs.Common.{◌≡◌, ◌≢◌, ◌⊎◌, ℕ, ◌*◌, ◌<◌, ◌≤◌, List, [], ◌∷◌, ◌++◌, set, IfSome, refl, sym, ap, ◌∙◌, subst, ⊎_elim, arith}
 use Rattle.std.specs.Int.{w64, to_le_bytes}
 use Rattle.std.proofs.lemmas.Option.{IfSome_then}
-use mathlib.Core.Option.{Option, none, some, some-injective, some-ne-none}
+use mathlib.Core.Option.{Option, none, some, some-ne-none}
 use Rattle.atomic_table.proofs.Lists.{set_again}
 use Rattle.byte_position.specs.Geometry.{IsSegmentSize}
 use Rattle.byte_position.proofs.EndAddresses.{end_address_of-mono}
@@ -16,11 +16,12 @@ use Rattle.wal_page.proofs.OwnerLaws.{Owns-between}
 use Rattle.lawful_image.specs.Lawful.{log_word_bytes}
 use Rattle.wal_core.specs.declared.setup.Setup.{Setup}
 use Rattle.wal_core.specs.Words.{end_form}
-use Rattle.wal_core.specs.Views.{HasAt, Copy, Flight, Landed, Copying, Plain, Lent, Hold, Idle, Turned, Out, Writing}
-use Rattle.wal_core.specs.Moves.{no_writing, one_more, landed, with_lent}
+use Rattle.wal_core.specs.Views.{HasAt, Copy, Flight, Copying, Plain, Lent, Hold, Idle, Turned, Out, Writing}
+use Rattle.wal_core.specs.Moves.{no_writing, with_lent}
 use Rattle.wal_core.specs.Positioned.{IsCopiedBelow, ReadsBelow, IsWithin, PositionsHold}
-use Rattle.wal_core.proofs.Lists.{one_set, one_added}
-use Rattle.position_laws.proofs.Copies.{CopiedStill, IsCopiedBelow-lower, begun_clear, same_still}
+use Rattle.wal_core.proofs.Lists.{one_set}
+use Rattle.position_laws.specs.Parts.{Positions}
+use Rattle.position_laws.proofs.Copies.{CopiedStill, begun_clear, same_still}
 
 -- what a view has in hand that is not the writer's alone stays as it is
 abbrev pub KeepsKnown : Hold → Hold → Type 0
@@ -38,17 +39,39 @@ pub KeepsKnown-lent : (f : Lent → Lent) → ((l : Lent) → (f l).known ≡ l.
 KeepsKnown-lent f known stored Idle n is = absurd (cc)
 KeepsKnown-lent f known stored Turned n is = absurd (cc)
 KeepsKnown-lent f known stored (Out l) n is =
-    let same : f l ≡ n = cc in
-    (
+    let same : f l ≡ n = cc in (
       l,
       refl,
       ap (λ (x : Lent). x.known) (sym same) ∙ known l,
       ap (λ (x : Lent). x.stored) (sym same) ∙ stored l,
     )
 
-module _ (setup : Setup) (order : List Entry) (written flushed down : ℕ) (home : Option Plain)
-    (writer : Plain) (flights : List Flight) (parts : List Writing)
-    (k : PositionsHold setup order written flushed down home writer flights parts) where
+module _ (setup : Setup) (p : Positions) (k : PositionsHold setup p.order p.written p.flushed p.down
+    p.home p.writer p.flights p.parts) where
+  abbrev order : List Entry
+  order = p.order
+
+  abbrev written : ℕ
+  written = p.written
+
+  abbrev flushed : ℕ
+  flushed = p.flushed
+
+  abbrev down : ℕ
+  down = p.down
+
+  abbrev home : Option Plain
+  home = p.home
+
+  abbrev writer : Plain
+  writer = p.writer
+
+  abbrev flights : List Flight
+  flights = p.flights
+
+  abbrev parts : List Writing
+  parts = p.parts
+
   abbrev end : ℕ
   end = end_form setup (end_position setup.segment_size order)
 
@@ -268,7 +291,7 @@ module _ (setup : Setup) (order : List Entry) (written flushed down : ℕ) (home
           let same : (l.writer).written ≡ writer.written = ap (λ (w : Plain). w.written) own in
           let low : l.hard ≤ written = omega (arith, hard, stored, mine.stored l is) in
           let up : flushed ≤ l.hard =
-              omega (arith, hard, same, k.flushed_low, k.written_low) in
+          omega (arith, hard, same, k.flushed_low, k.written_low) in
           record {
             begun = omega (arith, k.begun, up);
             flushed_low = low;
@@ -341,11 +364,11 @@ module _ (setup : Setup) (order : List Entry) (written flushed down : ℕ) (home
         (set flights id (Copying c)) (set parts id x)
     order_grows id c of_e none_yet x here =
         let begins : end ≡ end_form setup (c.entry).start =
-            ap (end_form setup) (sym start ∙ ap (λ (y : Entry). y.start) (sym of_e)) in
+        ap (end_form setup) (sym start ∙ ap (λ (y : Entry). y.start) (sym of_e)) in
         let clear = λ (address : ℕ) (low : address ≤ end)
-            (copied : IsCopiedBelow setup.segment_size flights address).
-            begun_clear setup.segment_size address id flights c
-            (omega (arith, begins, none_yet, low)) copied in
+        (copied : IsCopiedBelow setup.segment_size flights address).
+        begun_clear setup.segment_size address id flights c
+        (omega (arith, begins, none_yet, low)) copied in
         record {
           begun = k.begun;
           flushed_low = k.flushed_low;

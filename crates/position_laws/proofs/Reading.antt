@@ -85,9 +85,8 @@ module _ (size : ℕ) (valid : IsSegmentSize size) (address : ℕ) where
       let whole = segment_size_in_pages size valid in
       let parts = div-add-mod address size in
       let product : size * (address / size) ≡ 8192 * (address / size * count) =
-          ap (λ (m : ℕ). m * (address / size)) whole.0
-          ∙ omega (arith, mul_comm count (address / size)) in
-      (
+      ap (λ (m : ℕ). m * (address / size)) whole.0
+      ∙ omega (arith, mul_comm count (address / size)) in (
         omega (arith, parts, product, whole.0, whole.1),
         omega (arith, whole.0, whole.1),
         omega (arith, parts, product),
@@ -99,17 +98,17 @@ module _ (size : ℕ) (valid : IsSegmentSize size) (address : ℕ) where
   page_is segment page within at =
       let here = page_of_address in
       let same : address / size ≡ segment =
-          sym (div-mul-add (address / size) (pages_of size) in_segment here.1)
-          ∙ ap (λ (n : ℕ). n / pages_of size) (here.0 ∙ at)
-          ∙ div-mul-add segment (pages_of size) page within in
+      sym (div-mul-add (address / size) (pages_of size) in_segment here.1)
+      ∙ ap (λ (n : ℕ). n / pages_of size) (here.0 ∙ at)
+      ∙ div-mul-add segment (pages_of size) page within in
       (same, omega (arith, here.0, at, ap (λ (n : ℕ). n * pages_of size) same))
 
   below_segment : (segment : ℕ) → address < segment * size → address / size ≢ segment
   below_segment segment below same =
       let whole = segment_size_in_pages size valid in
       let lower : address / size < segment =
-          (div-lt_iff_lt-mul {k = size} {x = address} {y = segment}
-          (omega (arith, whole.0, whole.1))).1 below in
+      (div-lt_iff_lt-mul {k = size} {x = address} {y = segment}
+      (omega (arith, whole.0, whole.1))).1 below in
       omega (arith, lower, same)
 
 -- ---- the log below an address, behind a call
