@@ -95,7 +95,8 @@ module _ (setup : Setup) (valid : IsSegmentSize setup.segment_size) (order : Lis
     write_reads Done = holds-with_calls (ReadsBelow setup order upto) w.tape
         (write_call setup.segment_size segment page bytes ∷ []) (IfSome_then w.tape known
         (λ (t : Tape) h. ReadsBelow-write setup valid order (state_now t) segment page
-        (w.written / 8192) w.written upto setup.segment_size (record { bytes = bytes }) true within page_is h.1 (omega arith) ends words h.0))
+        (w.written / 8192) w.written upto setup.segment_size (record { bytes = bytes }) true
+        within page_is h.1 (omega arith) ends words h.0))
     write_reads (Failed faults none) = reads
     write_reads (Failed faults (some made)) = holds-with_calls (ReadsBelow setup order w.written)
         w.tape (failed_call made (write_call setup.segment_size segment page bytes) ∷ [])

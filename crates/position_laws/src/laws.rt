@@ -98,8 +98,8 @@ pub fn the_writer_goes_out_and_home()
         (view_behind v slot_in met p.home) }
 {}
 
-/// A call of the device, however it ends, leaves the log readable up to the writer's position, which
-/// only a write that is done raises.
+/// A call of the device, however it ends, leaves the log readable up to the writer's position,
+/// which only a write that is done raises.
 pub fn calls_leave_the_log_readable()
     ensures create { (p : Positions) (id : ℕ) (v : View) → HasPositions p id v
         → (moment : ℕ) (tolds : List Told)
