@@ -107,29 +107,29 @@ pub fn stores_leave_pages_in_order()
 /// Ring and pages, where a pass is split off, is taken in, or gives up its copy.
 pub fn passes_leave_ring_and_pages_in_order()
     ensures ring_split { (opening : Opening) (words : List ℕ) (home : Option Plain)
-        (views : List View) (s : IsSound opening words home views) (id : ℕ) (v : View) → HasAt views id v
-        → HasRingWith opening words home views s
+        (views : List View) (s : IsSound opening words home views) (id : ℕ) (v : View)
+        → HasAt views id v → HasRingWith opening words home views s
         (set views id (left_of v) ++ right_of v ∷ []) }
     ensures ring_taken_in { (opening : Opening) (words : List ℕ) (home : Option Plain)
-        (views : List View) (s : IsSound opening words home views) (id : ℕ) (v : View) → HasAt views id v
-        → (other : ℕ) (u : View) → HasAt views other u → IsResting u
+        (views : List View) (s : IsSound opening words home views) (id : ℕ) (v : View)
+        → HasAt views id v → (other : ℕ) (u : View) → HasAt views other u → IsResting u
         → HasRingWith opening words home views s
         (set (set views other (spent u)) id (both_of v u)) }
     ensures ring_given_up { (opening : Opening) (words : List ℕ) (home : Option Plain)
-        (views : List View) (s : IsSound opening words home views) (id : ℕ) (v : View) → HasAt views id v
-        → HasRingWith opening words home views s
+        (views : List View) (s : IsSound opening words home views) (id : ℕ) (v : View)
+        → HasAt views id v → HasRingWith opening words home views s
         (set views id (without_work v) ++ orphan_of v ∷ []) }
     ensures pages_split { (opening : Opening) (words : List ℕ) (home : Option Plain)
-        (views : List View) (s : IsSound opening words home views) (id : ℕ) (v : View) → HasAt views id v
-        → HasPagesWith opening words home views s
+        (views : List View) (s : IsSound opening words home views) (id : ℕ) (v : View)
+        → HasAt views id v → HasPagesWith opening words home views s
         (set views id (left_of v) ++ right_of v ∷ []) }
     ensures pages_taken_in { (opening : Opening) (words : List ℕ) (home : Option Plain)
-        (views : List View) (s : IsSound opening words home views) (id : ℕ) (v : View) → HasAt views id v
-        → (other : ℕ) (u : View) → HasAt views other u → IsResting u
+        (views : List View) (s : IsSound opening words home views) (id : ℕ) (v : View)
+        → HasAt views id v → (other : ℕ) (u : View) → HasAt views other u → IsResting u
         → HasPagesWith opening words home views s
         (set (set views other (spent u)) id (both_of v u)) }
     ensures pages_given_up { (opening : Opening) (words : List ℕ) (home : Option Plain)
-        (views : List View) (s : IsSound opening words home views) (id : ℕ) (v : View) → HasAt views id v
-        → HasPagesWith opening words home views s
+        (views : List View) (s : IsSound opening words home views) (id : ℕ) (v : View)
+        → HasAt views id v → HasPagesWith opening words home views s
         (set views id (without_work v) ++ orphan_of v ∷ []) }
 {}
