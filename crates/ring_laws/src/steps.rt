@@ -8,9 +8,10 @@ ghost use Rattle.wal_core.specs.Words.{Opening, initialised_word, written_word, 
 ghost use Rattle.wal_core.specs.Views.{HasAt, Away, Taken, Zeroing, Published, Lent, Out, Plain, View};
 ghost use Rattle.wal_core.specs.Durable.{IsStaged};
 ghost use Rattle.wal_core.specs.Moves.{both_of, entry_at, left_of, looked, orphan_of, ready, right_of, spent, without_work};
-ghost use Rattle.wal_core.specs.Steps.{IsResting, MayStep, clear_end, load_end, load_initialised, load_word, load_written, page_mapped, publish_end, publish_initialised, release, release_mapping_turn, store_position, store_word, store_written, take_mapping_turn, words_zeroed, zero_word};
+ghost use Rattle.wal_core.specs.Steps.{Event, IsResting, MayStep, clear_end, load_end, load_initialised, load_word, load_written, page_mapped, publish_end, publish_initialised, release, release_mapping_turn, store_position, store_word, store_written, take_mapping_turn, words_zeroed, zero_word};
 ghost use Rattle.wal_core.specs.Sound.{IsSound};
 ghost use Rattle.ring_laws.specs.Behind.{HasPages, HasPagesWith, HasRing, HasRingWith, memory_stored, met_by};
+ghost use Rattle.ring_laws.specs.Left.{LeavesCopies, LeavesPages};
 
 /// The log's words in memory: an entry is reserved, its next word is stored, its lock is released,
 /// a page more is there.
@@ -132,4 +133,16 @@ pub fn passes_leave_ring_and_pages_in_order()
         (views : List View) (s : IsSound opening words home views) (id : ℕ) (v : View)
         → HasAt views id v → HasPagesWith opening words home views s
         (set views id (without_work v) ++ orphan_of v ∷ []) }
+{}
+
+/// Ring and pages, where a step changes nothing that is said of them.
+pub fn other_steps_leave_ring_and_pages()
+    ensures ring { (v : View) (words : List ℕ) (home : Option Plain) (views : List View)
+        (id : ℕ) (s : IsSound v.opening words home views) → HasAt views id v
+        → (e : Event) → LeavesCopies e
+        → HasRing v words home views id e s.order s.reach s.memory }
+    ensures pages { (v : View) (words : List ℕ) (home : Option Plain) (views : List View)
+        (id : ℕ) (s : IsSound v.opening words home views) → HasAt views id v
+        → (e : Event) → MayStep v e → LeavesPages e
+        → HasPages v words home views id e s.reach s.stage s.memory }
 {}
