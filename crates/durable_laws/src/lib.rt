@@ -1,2 +1,6 @@
 //! Laws of the machine: each kind of step keeps what is said of what a crash leaves.
 #![tactic(auto)]
+
+pub mod device_calls;
+pub mod new_entries;
+pub mod stepping;

@@ -4,10 +4,19 @@ use Rattle.std.proofs.Common.{◌⊎◌, inl, inr, Bool, cond, eqb, ◌≡◌, �
 use Rattle.atomic_table.proofs.Lists.{at_longer, set_again}
 use Rattle.wal_core.specs.Views.{HasAt, Stage, Away, Taken, Looked, Ready, Zeroing, Published, View, mapper_of}
 use Rattle.wal_core.specs.Locked.{HasTurn, IsMappingTurn}
+use Rattle.wal_core.specs.Paged.{IsOpen}
 use Rattle.wal_core.specs.Moves.{looked, ready, with_stage, after_take_mapping_turn}
 use Rattle.wal_core.specs.Steps.{exchanged}
 use Rattle.wal_core.proofs.Lists.{one_set, one_added, at_place}
 use Rattle.lock_laws.proofs.Kept.{met_cases, two_set_again}
+
+pub open_has : (s : Stage) → IsOpen s → HasTurn s
+open_has Away is_open = is_open
+open_has Taken is_open = tt
+open_has (Looked at) is_open = tt
+open_has (Ready at written) is_open = tt
+open_has (Zeroing at count) is_open = tt
+open_has (Published at) is_open = tt
 
 has_or_away : (s : Stage) → HasTurn s ⊎ (s ≡ Away)
 has_or_away Away = inr refl

@@ -10,14 +10,11 @@ use Rattle.byte_position.proofs.EndAddresses.{end_address_of-mono}
 use Rattle.wal_page.specs.Order.{Entry, end_position}
 use Rattle.wal_page.specs.EntryWords.{address_of_word}
 use Rattle.wal_page.proofs.OrderLaws.{rooms_of_push}
-use Rattle.wal_page.proofs.OwnerLaws.{rooms_of-whole}
-use Rattle.wal_page.proofs.WordPositions.{first_position-whole}
 use Rattle.wal_core.specs.declared.setup.Setup.{Setup}
-use Rattle.wal_core.specs.Words.{Opening, end_form}
-use Rattle.wal_core.specs.Views.{HasAt, Copy, Flight, Landed, Copying, Reserving, Working, Watching, View, working_of, watching_of, flight_of}
-use Rattle.wal_core.specs.Ordered.{OrderHolds}
+use Rattle.wal_core.specs.Words.{end_form}
+use Rattle.wal_core.specs.Views.{HasAt, Copy, Flight, Landed, Copying, Working, Watching, View, working_of, watching_of, flight_of}
 use Rattle.wal_core.specs.Locked.{AreHeld, ProgressHolds, most_told}
-use Rattle.wal_core.specs.Moves.{landed, one_more, with_watching, unlocked, copied_below, with_working, after_load_position, after_load_lock, after_take_lock}
+use Rattle.wal_core.specs.Moves.{landed, one_more, begun, visited_on, copied_below, with_working, after_load_lock, after_take_lock}
 use Rattle.wal_core.specs.Positioned.{IsCopiedBelow}
 use Rattle.wal_core.specs.Watched.{IsBehind, WatchHolds}
 use Rattle.wal_core.proofs.Lists.{one_set, one_added, part_at, view_from}
@@ -59,13 +56,6 @@ module _ (size : ℕ) where
       behind = λ i j y u at there. one_set (λ i y. IsBehind size y u) watches id x
           (λ i y apart was. k.behind i j y u was there) (sees j u there) i y at;
     }
-
-    -- a watch begins, at most for the order's end
-    pub watch_begins : (id e : ℕ) → e ≤ end → WatchHolds size end works
-        (set watches id (record { end = e; visited = 0; bound = e }))
-    watch_begins id e low = watches_on id (record { end = e; visited = 0; bound = e }) low
-        (omega arith)
-        (λ j u there. visits_none (record { end = e; visited = 0; bound = e }) u refl)
 
     module _ (id : ℕ) (w : Working) (here : HasAt works id w) where
       -- the locks that are held do not matter to a watcher
@@ -179,41 +169,67 @@ module _ (size : ℕ) (lock : ℕ → ℕ) (works : List Working) (held : AreHel
       omega arith)
       (λ other. let old = sees j u there c is (omega arith) starts in omega arith)
 
-  module _ (end : ℕ) (watches : List Watching) (k : WatchHolds size end works watches) where
-    pub watch_visits : (id i : ℕ) (v : View) → HasAt watches id v.watching
-        → WatchHolds size end works
-        (set watches id (watching_of (after_load_lock i (lock i) v)))
-    watch_visits id i v here =
-        let x : Watching = v.watching in
-        let all : (j : ℕ) (u : Working) → HasAt works j u → IsBehind size x u
-        = λ j u there. k.behind id j x u here there in
-        let low = k.reserved id x here in
-        let stays : WatchHolds size end works (set watches id x)
-        = subst (λ (xs : List Watching). WatchHolds size end works xs)
-        (sym (set_again watches id x here)) k in
-        let goes : i ≡ x.visited → (b : ℕ) → b ≤ x.bound → (lock i ≢ 0 → b + 1 ≤ lock i)
-        → WatchHolds size end works
-        (set watches id (record { end = x.end; visited = x.visited + 1; bound = b }))
-        = λ next b less tells. watches_on size end works watches k id
-        (record { end = x.end; visited = x.visited + 1; bound = b }) low.0
-        (let least = low.1 in omega arith) (visit x i b all next less tells) in
-        let bound : Bool → ℕ = λ b. cond b x.bound (min x.bound (lock i - 1)) in
-        let next : ℕ → View = λ b. with_watching x.end (x.visited + 1) b v in
-        met_cases
-        (λ (b : Bool). WatchHolds size end works (set watches id (watching_of
-        (cond (b && not (eqb (lock i) 1)) (next (bound (eqb (lock i) 0))) v))))
-        i x.visited
-        (λ here. met_cases
-        (λ (b : Bool). WatchHolds size end works (set watches id (watching_of
-        (cond (not b) (next (bound (eqb (lock i) 0))) v))))
-        (lock i) 1
-        (λ tells_none. stays)
-        (λ not_one. met_cases
-        (λ (b : Bool). WatchHolds size end works (set watches id (watching_of (next (bound b)))))
-        (lock i) 0
-        (λ free. goes here x.bound (omega arith) (λ taken. absurd (taken free)))
-        (λ taken. goes here (min x.bound (lock i - 1)) (omega arith) (λ some. omega arith))))
-        (λ other. stays)
+  -- what is known of a watch that stands in no list yet
+  record Stands (end : ℕ) (x : Watching) : Type 0 where
+    low : x.end ≤ end
+    least : x.bound ≤ x.end
+    sees : (j : ℕ) (u : Working) → HasAt works j u → IsBehind size x u
+
+  visits_on : (end i : ℕ) (x : Watching) → Stands end x → Stands end (visited_on i (lock i) x)
+  visits_on end i x stands =
+      let goes : i ≡ x.visited → (b : ℕ) → b ≤ x.bound → (lock i ≢ 0 → b + 1 ≤ lock i)
+      → Stands end (record { end = x.end; visited = x.visited + 1; bound = b })
+      = λ next b less tells. record {
+        low = stands.low;
+        least = (let least = stands.least in omega arith);
+        sees = visit x i b stands.sees next less tells;
+      } in
+      let on : ℕ → Watching
+      = λ b. record { end = x.end; visited = x.visited + 1; bound = b } in
+      let bound : Bool → ℕ = λ b. cond b x.bound (min x.bound (lock i - 1)) in
+      met_cases
+      (λ (b : Bool). Stands end
+      (cond (b && not (eqb (lock i) 1)) (on (bound (eqb (lock i) 0))) x))
+      i x.visited
+      (λ here. met_cases
+      (λ (b : Bool). Stands end (cond (not b) (on (bound (eqb (lock i) 0))) x)) (lock i) 1
+      (λ tells_none. stands)
+      (λ not_one. met_cases (λ (b : Bool). Stands end (on (bound b))) (lock i) 0
+      (λ free. goes here x.bound (omega arith) (λ taken. absurd (taken free)))
+      (λ taken. goes here (min x.bound (lock i - 1)) (omega arith) (λ some. omega arith))))
+      (λ other. stands)
+
+  module _ (setup : Setup) (valid : IsSegmentSize setup.segment_size) (order : List Entry) where
+    pub watch_visits : (watches : List Watching) (id i asked : ℕ) (v : View)
+        → (v.opening).setup ≡ setup
+        → (v.reserving).seen ≤ end_position setup.segment_size order
+        → WatchHolds size (end_form setup (end_position setup.segment_size order)) works watches
+        → HasAt watches id v.watching
+        → WatchHolds size (end_form setup (end_position setup.segment_size order)) works
+        (set watches id (watching_of (after_load_lock i asked (lock i) v)))
+    watch_visits watches id i asked v known seen k here =
+        let end : ℕ = end_form setup (end_position setup.segment_size order) in
+        let e : ℕ = min asked (end_form (v.opening).setup (v.reserving).seen) in
+        let met : end_form (v.opening).setup (v.reserving).seen ≤ end
+        = subst (λ (s : Setup). end_form s (v.reserving).seen ≤ end) (sym known)
+        (end_address_of-mono setup.segment_size valid (v.reserving).seen
+        (end_position setup.segment_size order) seen) in
+        let first : Watching = record { end = e; visited = 0; bound = e } in
+        let before : Stands end (begun i asked v) = met_cases
+        (λ (b : Bool). Stands end (cond b first v.watching)) i 0
+        (λ begins. record {
+          low = omega arith;
+          least = omega arith;
+          sees = λ j u there. visits_none size first u refl;
+        })
+        (λ goes_on. record {
+          low = (k.reserved id v.watching here).0;
+          least = (k.reserved id v.watching here).1;
+          sees = λ j u there. k.behind id j v.watching u here there;
+        }) in
+        let behind = visits_on end i (begun i asked v) before in
+        watches_on size end works watches k id (visited_on i (lock i) (begun i asked v))
+        behind.low behind.least behind.sees
 
 -- ---- what one knows that has visited all locks
 
@@ -250,37 +266,7 @@ module _ (size end : ℕ) (lock : ℕ → ℕ) (views : List View)
         (λ all. ((let a = low.0 in let b = low.1 in omega arith), all_visited all))
         (λ some. (omega arith, λ j c flies left. omega arith))
 
--- ---- the order's end, as a watcher meets it
-
-module _ (size : ℕ) (valid : IsSegmentSize size) (order : List Entry) where
-  -- an order's end is even, so that its lock bit can be told from it
-  unlocked_end : (bit : ℕ) → bit ≤ 1
-      → unlocked (end_position size order + bit) ≡ end_position size order
-  unlocked_end bit low =
-      let first = first_position-whole size valid in
-      let rooms = rooms_of-whole size order in
-      omega arith
-
-pub watch_begun : (opening : Opening) (order : List Entry) (position prev asked : ℕ)
-    (parts : List Reserving) (works : List Working) (watches : List Watching) (id : ℕ) (v : View)
-    → IsSegmentSize opening.setup.segment_size → v.opening ≡ opening
-    → OrderHolds opening.setup order position prev parts
-    → WatchHolds opening.setup.segment_size
-    (end_form opening.setup (end_position opening.setup.segment_size order)) works watches
-    → WatchHolds opening.setup.segment_size
-    (end_form opening.setup (end_position opening.setup.segment_size order)) works
-    (set watches id (watching_of (after_load_position asked position v)))
-watch_begun opening order position prev asked parts works watches id v valid known reserved k =
-    let size : ℕ = opening.setup.segment_size in
-    let end : ℕ = end_position size order in
-    let is : unlocked position ≡ end
-    = ap unlocked reserved.position_is
-    ∙ unlocked_end size valid order reserved.locked reserved.one_bit in
-    let met : end_form (v.opening).setup (unlocked position) ≡ end_form opening.setup end
-    = ap (λ (o : Opening). end_form o.setup (unlocked position)) known
-    ∙ ap (λ (n : ℕ). end_form opening.setup n) is in
-    watch_begins size (end_form opening.setup end) works watches k id
-    (min asked (end_form (v.opening).setup (unlocked position))) (omega arith)
+-- ---- an entry more
 
 pub watched_reserved : (setup : Setup) (order : List Entry) (works : List Working)
     (watches : List Watching) (id : ℕ) (c : Copy) (locks : List ℕ)

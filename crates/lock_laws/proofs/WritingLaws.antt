@@ -19,6 +19,10 @@ turned_is turn holder home writer id number Idle stands has = absurd has
 turned_is turn holder home writer id number Turned stands has = (stands.0, stands.1)
 turned_is turn holder home writer id number (Out l) stands has = (stands.0, stands.1)
 
+pub at_hold : (writers : List (ℕ × Hold)) (id : ℕ) (m : ℕ × Hold) (h : Hold) → HasAt writers id m
+    → m.1 ≡ h → HasAt writers id (m.0, h)
+at_hold writers id m h here is = subst (λ (x : Hold). HasAt writers id (m.0, x)) is here
+
 -- where a hold is none at all, it stands well to everything
 stands_by_turn : (turn holder : ℕ) (home : Option Plain) (writer : Plain) (id number : ℕ) (h : Hold)
     → (HasWriteTurn h → ⊥) → StandsTo turn holder home writer id number h

@@ -4,7 +4,8 @@
 ghost use Rattle.std.specs.Prelude.{◌≡◌, ◌≢◌, ◌⊎◌, ℕ, ◌+◌, List, [], ◌∷◌, ◌++◌, set, ◌==◌, if◌then◌else◌};
 ghost use mathlib.Core.Option.{Option, none, some};
 ghost use Rattle.wal_core.specs.Views.{HasAt, Stage, Away, Taken, Looked, Ready, Zeroing, Published, Plain, Lent, Hold, Idle, Turned, Out, View, mapper_of, writer_of};
-ghost use Rattle.wal_core.specs.Locked.{HasTurn, HasWriteTurn, IsMappingTurn, IsWriteTurn};
+ghost use Rattle.wal_core.specs.Locked.{HasTurn, IsMappingTurn, IsWriteTurn};
+ghost use Rattle.wal_core.specs.Paged.{IsOpen};
 ghost use Rattle.wal_core.specs.Moves.{looked, ready, after_take_mapping_turn, after_take_write_turn};
 ghost use Rattle.wal_core.specs.Steps.{exchanged};
 
@@ -17,7 +18,7 @@ pub fn the_mapping_turn_goes_round()
         (if turn == 0 then Taken else stage)
         (set mappers id (mapper_of (after_take_mapping_turn turn v))) }
     ensures released { (turn : ℕ) (stage : Stage) (mappers : List (ℕ × Stage)) (id : ℕ)
-        (m : ℕ × Stage) → IsMappingTurn turn stage mappers → HasAt mappers id m → HasTurn m.1
+        (m : ℕ × Stage) → IsMappingTurn turn stage mappers → HasAt mappers id m → IsOpen m.1
         → IsMappingTurn 0 Away (set mappers id (m.0, Away)) }
 {}
 
@@ -62,32 +63,33 @@ pub fn the_write_turn_goes_round()
         → IsWriteTurn (exchanged v 0 (v.reserving.number + 1) turn) home writer
         (set writers id (writer_of (after_take_write_turn turn v))) }
     ensures released { (turn : ℕ) (home : Option Plain) (writer : Plain)
-        (writers : List (ℕ × Hold)) (id number : ℕ) → IsWriteTurn turn home writer writers
-        → HasAt writers id (number, Turned)
-        → IsWriteTurn 0 home writer (set writers id (number, Idle)) }
+        (writers : List (ℕ × Hold)) (id : ℕ) (m : ℕ × Hold)
+        → IsWriteTurn turn home writer writers → HasAt writers id m → m.1 ≡ Turned
+        → IsWriteTurn 0 home writer (set writers id (m.0, Idle)) }
 {}
 
 /// The one that has the turn to write takes the writer from home, changes it, and gives it back.
 pub fn the_writer_is_with_the_turns_holder()
     ensures at_home { (turn : ℕ) (home : Option Plain) (writer : Plain)
-        (writers : List (ℕ × Hold)) (id number : ℕ) → IsWriteTurn turn home writer writers
-        → HasAt writers id (number, Turned) → home ≡ some writer }
+        (writers : List (ℕ × Hold)) (id : ℕ) (m : ℕ × Hold)
+        → IsWriteTurn turn home writer writers → HasAt writers id m → m.1 ≡ Turned
+        → home ≡ some writer }
     ensures in_hand { (turn : ℕ) (home : Option Plain) (writer : Plain)
-        (writers : List (ℕ × Hold)) (id number : ℕ) (l : Lent)
-        → IsWriteTurn turn home writer writers → HasAt writers id (number, Out l)
+        (writers : List (ℕ × Hold)) (id : ℕ) (m : ℕ × Hold) (l : Lent)
+        → IsWriteTurn turn home writer writers → HasAt writers id m → m.1 ≡ Out l
         → (home ≡ none) × (l.writer ≡ writer) }
     ensures slot_out { (turn : ℕ) (home : Option Plain) (writer : Plain)
-        (writers : List (ℕ × Hold)) (id number : ℕ) (l : Lent)
-        → IsWriteTurn turn home writer writers → HasAt writers id (number, Turned)
-        → l.writer ≡ writer → IsWriteTurn turn none writer (set writers id (number, Out l)) }
+        (writers : List (ℕ × Hold)) (id : ℕ) (m : ℕ × Hold) (l : Lent)
+        → IsWriteTurn turn home writer writers → HasAt writers id m → m.1 ≡ Turned
+        → l.writer ≡ writer → IsWriteTurn turn none writer (set writers id (m.0, Out l)) }
     ensures slot_in { (turn : ℕ) (home : Option Plain) (writer : Plain)
-        (writers : List (ℕ × Hold)) (id number : ℕ) (l : Lent)
-        → IsWriteTurn turn home writer writers → HasAt writers id (number, Out l)
-        → IsWriteTurn turn (some l.writer) writer (set writers id (number, Turned)) }
+        (writers : List (ℕ × Hold)) (id : ℕ) (m : ℕ × Hold) (l : Lent)
+        → IsWriteTurn turn home writer writers → HasAt writers id m → m.1 ≡ Out l
+        → IsWriteTurn turn (some l.writer) writer (set writers id (m.0, Turned)) }
     ensures changed { (turn : ℕ) (home : Option Plain) (writer : Plain)
-        (writers : List (ℕ × Hold)) (id number : ℕ) (l next : Lent)
-        → IsWriteTurn turn home writer writers → HasAt writers id (number, Out l)
-        → IsWriteTurn turn home next.writer (set writers id (number, Out next)) }
+        (writers : List (ℕ × Hold)) (id : ℕ) (m : ℕ × Hold) (l next : Lent)
+        → IsWriteTurn turn home writer writers → HasAt writers id m → m.1 ≡ Out l
+        → IsWriteTurn turn home next.writer (set writers id (m.0, Out next)) }
 {}
 
 /// Views come and go, and the turn to write stays where it is: one that does not have it comes in

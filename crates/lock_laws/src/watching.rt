@@ -5,32 +5,27 @@ ghost use Rattle.std.specs.Prelude.{◌≡◌, ◌≢◌, ℕ, ◌≤◌, List, 
 ghost use Rattle.byte_position.specs.Geometry.{IsSegmentSize};
 ghost use Rattle.wal_page.specs.Order.{Entry, end_position};
 ghost use Rattle.wal_core.specs.declared.setup.Setup.{Setup};
-ghost use Rattle.wal_core.specs.Words.{Opening, end_form};
-ghost use Rattle.wal_core.specs.Views.{HasAt, Copy, Copying, Landed, Reserving, Watching, Working, View, working_of, watching_of, flight_of};
-ghost use Rattle.wal_core.specs.Ordered.{OrderHolds};
+ghost use Rattle.wal_core.specs.Words.{end_form};
+ghost use Rattle.wal_core.specs.Views.{HasAt, Copy, Copying, Landed, Watching, Working, View, working_of, watching_of, flight_of};
 ghost use Rattle.wal_core.specs.Locked.{AreHeld, ProgressHolds};
 ghost use Rattle.wal_core.specs.Watched.{WatchHolds};
 ghost use Rattle.wal_core.specs.Positioned.{IsCopiedBelow};
-ghost use Rattle.wal_core.specs.Moves.{landed, one_more, copied_below, after_load_position, after_load_lock, after_take_lock};
+ghost use Rattle.wal_core.specs.Moves.{landed, one_more, copied_below, after_load_lock, after_take_lock};
 ghost use Rattle.lock_laws.specs.Locks.{idle, unwatching};
 
-/// A watch begins at most for the end of what is reserved, and goes on lock by lock: a lock that is
-/// free guards no copy, and one that is held tells how far its copy is.
+/// A watch begins with the first lock, at most for the end of what is reserved, and goes on lock by
+/// lock: one that is free guards no copy, and one that is held tells how far its copy is.
 pub fn watches_go_from_lock_to_lock()
-    ensures begun { (opening : Opening) (order : List Entry) (position prev asked : ℕ)
-        (parts : List Reserving) (works : List Working) (watches : List Watching) (id : ℕ)
-        (v : View) → IsSegmentSize opening.setup.segment_size → v.opening ≡ opening
-        → OrderHolds opening.setup order position prev parts
-        → WatchHolds opening.setup.segment_size
-        (end_form opening.setup (end_position opening.setup.segment_size order)) works watches
-        → WatchHolds opening.setup.segment_size
-        (end_form opening.setup (end_position opening.setup.segment_size order)) works
-        (set watches id (watching_of (after_load_position asked position v))) }
-    ensures visited { (size end : ℕ) (lock : ℕ → ℕ) (works : List Working)
-        (watches : List Watching) (id i : ℕ) (v : View) → AreHeld lock works
-        → ProgressHolds size lock works → WatchHolds size end works watches
-        → HasAt watches id v.watching → WatchHolds size end works
-        (set watches id (watching_of (after_load_lock i (lock i) v))) }
+    ensures { (setup : Setup) (order : List Entry) (lock : ℕ → ℕ) (works : List Working)
+        (watches : List Watching) (id i asked : ℕ) (v : View)
+        → IsSegmentSize setup.segment_size → AreHeld lock works
+        → ProgressHolds setup.segment_size lock works → v.opening.setup ≡ setup
+        → v.reserving.seen ≤ end_position setup.segment_size order
+        → WatchHolds setup.segment_size
+        (end_form setup (end_position setup.segment_size order)) works watches
+        → HasAt watches id v.watching → WatchHolds setup.segment_size
+        (end_form setup (end_position setup.segment_size order)) works
+        (set watches id (watching_of (after_load_lock i asked (lock i) v))) }
 {}
 
 /// An entry that begins its flight lies where no watch reaches; one that is copied further or

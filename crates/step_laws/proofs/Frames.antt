@@ -1,6 +1,6 @@
 -- What a step leaves: each part of the invariant is kept where the step changes no word that the part
 -- reads, and in its pass's view nothing of which the part speaks.
-use Rattle.std.proofs.Common.{◌≡◌, ◌≢◌, ◌⊎◌, ℕ, ◌+◌, ◌<◌, ◌≤◌, true, false, List, length, map, set, refl, sym, ap, ◌∙◌, subst, inl, inr, arith}
+use Rattle.std.proofs.Common.{◌≡◌, ◌≢◌, ◌⊎◌, ℕ, ◌+◌, ◌<◌, ◌≤◌, Bool, cond, true, false, List, length, map, set, slice_index, refl, sym, ap, ◌∙◌, subst, inl, inr, arith}
 use mathlib.Core.Option.{Option}
 use Rattle.wal_page.specs.Order.{end_position}
 use Rattle.wal_core.specs.declared.setup.Setup.{Setup}
@@ -13,27 +13,104 @@ use Rattle.wal_core.specs.Paged.{PagesHold}
 use Rattle.wal_core.specs.Watched.{WatchHolds}
 use Rattle.wal_core.specs.Positioned.{PositionsHold}
 use Rattle.wal_core.specs.Durable.{DurabilityHolds}
+use Rattle.wal_core.specs.Steps.{Event, word_of_step, value_behind, view_behind}
+use Rattle.step_laws.specs.Kept.{number_met}
 use Rattle.wal_core.specs.Sound.{IsGrounded, IsSound}
 use Rattle.wal_core.proofs.Lists.{one_set, part_same}
 use Rattle.wal_core.proofs.WordLists.{word_else, locks_else, ends_before, ring_before, wide_still}
 use Rattle.lock_laws.proofs.HeldLaws.{held_same}
-use Rattle.lock_laws.proofs.ToldLaws.{progress_same}
+use Rattle.lock_laws.proofs.ToldLaws.{told_same}
 
-module _ (opening : Opening) (words : List ℕ) (home : Option Plain) (views : List View)
-    (k : IsSound opening words home views) (id : ℕ) (v : View) (here : HasAt views id v)
-    (i n : ℕ) (w : View) where
+-- a step of one pass: the state before, which keeps the invariant, and the word that it stores with
+-- its value and its pass's view behind it
+pub record Moved : Type 0 where
+  pub words : List ℕ
+  pub home : Option Plain
+  pub views : List View
+  pub id : ℕ
+  pub v : View
+  pub k : IsSound v.opening words home views
+  pub here : HasAt views id v
+  pub i : ℕ
+  pub n : ℕ
+  pub w : View
+
+module _ (words : List ℕ) (home : Option Plain) (views : List View) (id : ℕ) (v : View)
+    (k : IsSound v.opening words home views) (here : HasAt views id v) (e : Event) where
+  -- the step of this kind
+  abbrev pub moved : Moved
+  moved = record {
+    words = words;
+    home = home;
+    views = views;
+    id = id;
+    v = v;
+    k = k;
+    here = here;
+    i = word_of_step v e;
+    n = value_behind v e (number_met words v e);
+    w = view_behind v e (number_met words v e) home;
+  }
+
+-- one of two views, of which some part is the same
+pub same_either : {A : Type 0} (part : View → A) (b : Bool) (x y : View) → part x ≡ part y
+    → part (cond b x y) ≡ part y
+same_either part true x y same = same
+same_either part false x y same = refl
+
+-- a live view that knows what is fixed
+pub grounded_live : (opening : Opening) (w : View) → w.opening ≡ opening
+    → (w.reserving).live ≡ true → IsGrounded opening w
+grounded_live opening w is live = record {
+  opening_is = λ alive. is;
+  at_rest = λ dead. absurd (cc);
+}
+
+module _ (s : Moved) where
+  abbrev words : List ℕ
+  words = s.words
+
+  abbrev home : Option Plain
+  home = s.home
+
+  abbrev views : List View
+  views = s.views
+
+  abbrev id : ℕ
+  id = s.id
+
+  abbrev v : View
+  v = s.v
+
+  abbrev k : IsSound (s.v).opening s.words s.home s.views
+  k = s.k
+
+  abbrev here : HasAt s.views s.id s.v
+  here = s.here
+
+  abbrev i : ℕ
+  i = s.i
+
+  abbrev n : ℕ
+  n = s.n
+
+  abbrev w : View
+  w = s.w
+
+  abbrev opening : Opening
+  opening = v.opening
+
   abbrev setup : Setup
   setup = opening.setup
 
-  abbrev later : List ℕ
+  abbrev pub later : List ℕ
   later = set words i n
 
-  abbrev views_later : List View
+  abbrev pub views_later : List View
   views_later = set views id w
 
   -- a word that is not the one stored
-  same_word : (j : ℕ) → j ≢ i → Rattle.std.specs.Prelude.slice_index later j
-      ≡ Rattle.std.specs.Prelude.slice_index words j
+  same_word : (j : ℕ) → j ≢ i → slice_index later j ≡ slice_index words j
   same_word j apart = word_else words i n j apart
 
   pub wide_stays : length later ≡ word_count setup
@@ -59,8 +136,16 @@ module _ (opening : Opening) (words : List ℕ) (home : Option Plain) (views : L
   held_stays same away =
       let parts = part_same working_of views id v w here same in
       subst (λ ps. AreHeld (lock_word later) ps) (sym parts)
-      (held_same (lock_word words) (lock_word later) (map working_of views) (k.locks).locks
+      (held_same (lock_word words) (map working_of views) (k.locks).locks (lock_word later)
       (locks_else words i n away))
+
+  pub progress_stays : working_of w ≡ working_of v → (i < 2) ⊎ (10 ≤ i)
+      → ProgressHolds setup.segment_size (lock_word later) (map working_of views_later)
+  progress_stays same away =
+      let parts = part_same working_of views id v w here same in
+      subst (λ ps. ProgressHolds setup.segment_size (lock_word later) ps) (sym parts)
+      (told_same setup.segment_size (lock_word words) (map working_of views) k.progress
+      (k.locks).locks (lock_word later) (locks_else words i n away))
 
   pub mapping_stays : mapper_of w ≡ mapper_of v → i ≢ 10
       → IsMappingTurn (mapping_turn later) k.stage (map mapper_of views_later)
