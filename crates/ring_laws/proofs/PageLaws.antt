@@ -128,6 +128,13 @@ module _ (pages reach : ℕ) (stage : Stage) (initialised written : ℕ) (ends r
       (one_set (λ j d. d ≤ reach * 8192) confirmed id (max c met) (λ j d ne there. k.seen j d there)
       (let mine = k.seen id c here in omega arith))
 
+  -- a view stays
+  pub stays : (id c : ℕ) → HasAt confirmed id c
+      → PagesHold pages reach stage initialised written ends ring memory (set confirmed id c)
+  stays id c here = on_to stage k.mapping (set confirmed id c)
+      (one_set (λ j d. d ≤ reach * 8192) confirmed id c (λ j d ne there. k.seen j d there)
+      (k.seen id c here))
+
   pub meets_end : (id c buffer : ℕ) → HasAt confirmed id c → buffer < pages
       → PagesHold pages reach stage initialised written ends ring memory
       (set confirmed id (max c (ends buffer)))
