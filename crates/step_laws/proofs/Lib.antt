@@ -1,0 +1,5 @@
+mod Rings
+pub mod OpeningLaws
+pub mod Frames
+pub mod LockSteps
+pub mod ReserveSteps

@@ -26,10 +26,6 @@ with_seen position v =
 abbrev pub with_working : List ℕ → Flight → View → View
 with_working locks flight v = record v { working = record { locks = locks; flight = flight } }
 
-abbrev pub with_watching : ℕ → ℕ → ℕ → View → View
-with_watching end visited bound v =
-    record v { watching = record { end = end; visited = visited; bound = bound } }
-
 abbrev pub with_confirmed : ℕ → View → View
 with_confirmed end v =
     record v { mapping = record v.mapping { confirmed = max (v.mapping).confirmed end } }
@@ -49,11 +45,9 @@ with_hold hold v = with_writing (record v.writing { hold = hold }) v
 abbrev pub unlocked : ℕ → ℕ
 unlocked met = met - met % 2
 
--- a watch begins: for the address asked for, at most the reserved end; no lock is visited yet
-abbrev pub after_load_position : ℕ → ℕ → View → View
-after_load_position asked met v =
-    let end = min asked (end_form (v.opening).setup (unlocked met)) in
-    with_watching end 0 end (with_seen (unlocked met) v)
+-- so far records are reserved
+abbrev pub after_load_position : ℕ → View → View
+after_load_position met v = with_seen (unlocked met) v
 
 abbrev pub after_take_write_turn : ℕ → View → View
 after_take_write_turn met v = if met == 0 then with_hold Turned v else v
@@ -221,15 +215,27 @@ after_give_back v = given (v.reserving).place
 
 -- ---- insertion locks
 
+-- with the first lock a watch begins: for the address asked for, at most what was seen reserved
+abbrev pub begun : ℕ → ℕ → View → Watching
+begun lock asked v =
+    let end = min asked (end_form (v.opening).setup (v.reserving).seen) in
+    if lock == 0 then record { end = end; visited = 0; bound = end } else v.watching
+
 -- a lock that is visited next: free, it holds nothing back; held, it tells how far its copy is, or
 -- nothing, and then the watcher stays
-abbrev pub after_load_lock : ℕ → ℕ → View → View
-after_load_lock lock met v =
-    let x = v.watching in
+abbrev pub visited_on : ℕ → ℕ → Watching → Watching
+visited_on lock met x =
     if (lock == x.visited) && not (met == 1)
-    then with_watching x.end (x.visited + 1)
-    (if met == 0 then x.bound else min x.bound (met - 1)) v
-    else v
+    then record {
+      end = x.end;
+      visited = x.visited + 1;
+      bound = (if met == 0 then x.bound else min x.bound (met - 1));
+    }
+    else x
+
+abbrev pub after_load_lock : ℕ → ℕ → ℕ → View → View
+after_load_lock lock asked met v =
+    record v { watching = visited_on lock met (begun lock asked v) }
 
 abbrev pub after_take_lock : ℕ → ℕ → View → View
 after_take_lock lock met v =

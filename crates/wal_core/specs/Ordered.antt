@@ -1,6 +1,6 @@
 -- The reserved order: the entries of all passes without a gap, in the position word, the word of
 -- the last start, and what each pass has of it (PostgreSQL's xlog.c, ReserveXLogInsertLocation).
-use Rattle.std.specs.Prelude.{◌≡◌, ℕ, ◌+◌, ◌<◌, ◌≤◌, Bool, true, false, All, List, [], ◌∷◌, ◌++◌, take, length, Option, Some, None, ◌==◌, if◌then◌else◌}
+use Rattle.std.specs.Prelude.{◌≡◌, ℕ, ◌+◌, ◌<◌, ◌≤◌, Bool, true, false, All, List, [], ◌∷◌, ◌++◌, take, length, Option, Some, None, IsSome, ◌==◌, if◌then◌else◌}
 use Rattle.byte_position.specs.Position.{address_of}
 use Rattle.wal_page.specs.Order.{Entry, IsChained, end_position, prev_of}
 use Rattle.wal_core.specs.declared.setup.Setup.{Setup}
@@ -70,15 +70,21 @@ module _ (size end last prev locked holder id : ℕ) where
   AtPlace (Stored at met) =
       (locked ≡ 1) × (holder ≡ id) × (at ≡ end) × (prev ≡ address_of size at) × (met ≡ last)
 
+-- an order begins with entries that were found, and each behind them is some pass's
+abbrev pub BeginsWith : List Entry → List Entry → Type 0
+BeginsWith found order =
+    (back : List Entry) × (order ≡ found ++ back) × All (λ e. IsSome e.pass) back
+
 -- Every view but those that gave up is one that is live or was taken in. `locked` is the lock bit,
 -- `holder` the view that set it, `keeper` the one that has spare numbers
-pub record OrderHolds (setup : Setup) (order : List Entry) (position prev : ℕ)
+pub record OrderHolds (setup : Setup) (found order : List Entry) (position prev : ℕ)
     (parts : List Reserving) : Type 0 where
   pub role : ℕ → Role
   pub locked : ℕ
   pub holder : ℕ
   pub keeper : ℕ
   pub chained : IsChained setup.segment_size order
+  pub found_first : BeginsWith found order
   pub within : end_position setup.segment_size order ≤ log_limit setup
   pub position_is : position ≡ end_position setup.segment_size order + locked
   pub one_bit : locked ≤ 1

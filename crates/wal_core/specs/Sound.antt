@@ -43,8 +43,8 @@ pub record IsSound (opening : Opening) (words : List ℕ) (home : Option Plain) 
   pub setup_is : IsSetup opening.setup
   pub wide : length words ≡ word_count opening.setup
   pub grounded : (id : ℕ) (v : View) → HasAt views id v → IsGrounded opening v
-  pub reserved : OrderHolds opening.setup order (position_word words) (prev_word words)
-      (map reserving_of views)
+  pub reserved : OrderHolds opening.setup opening.found order (position_word words)
+      (prev_word words) (map reserving_of views)
   pub locks : LocksHold (lock_word words) (map working_of views)
       (mapping_turn words) stage (map mapper_of views)
       (write_turn words) home writer (map writer_of views)

@@ -76,7 +76,7 @@ pub record IsNextSync (segment : ℕ) (l : Lent) : Type 0 where
 
 pub data Event : Type 0 where
   -- seats and turns
-  load_position : ℕ → Event
+  load_position : Event
   take_write_turn : Event
   slot_out : Event
   slot_in : Event
@@ -88,7 +88,7 @@ pub data Event : Type 0 where
   store_position : ℕ → Record → Event
   give_position_back : Event
   -- insertion locks
-  load_lock : ℕ → Event
+  load_lock : ℕ → ℕ → Event
   take_lock : ℕ → Event
   advance : ℕ → ℕ → Event
   release : ℕ → Event
@@ -161,7 +161,7 @@ module _ (v : View) where
   stage_of = (v.mapping).stage
 
   abbrev pub word_of_step : Event → ℕ
-  word_of_step (load_position asked) = 0
+  word_of_step load_position = 0
   word_of_step take_write_turn = 11
   word_of_step slot_out = 11
   word_of_step slot_in = 11
@@ -171,7 +171,7 @@ module _ (v : View) where
   word_of_step store_prev = 1
   word_of_step (store_position lock value) = 0
   word_of_step give_position_back = 0
-  word_of_step (load_lock lock) = 2 + lock
+  word_of_step (load_lock lock asked) = 2 + lock
   word_of_step (take_lock lock) = 2 + lock
   word_of_step (advance lock upto) = 2 + lock
   word_of_step (release lock) = 2 + lock
@@ -225,7 +225,7 @@ module _ (v : View) where
   fault_number (some faults) = faults
 
   abbrev pub value_behind : Event → ℕ → ℕ
-  value_behind (load_position asked) met = met
+  value_behind load_position met = met
   value_behind take_write_turn met = exchanged 0 ((v.reserving).number + 1) met
   value_behind slot_out met = met
   value_behind slot_in met = met
@@ -237,7 +237,7 @@ module _ (v : View) where
       place_at (v.reserving).place
       + room_at (setup_of).segment_size (place_at (v.reserving).place) value
   value_behind give_position_back met = place_at (v.reserving).place
-  value_behind (load_lock lock) met = met
+  value_behind (load_lock lock asked) met = met
   value_behind (take_lock lock) met = exchanged 0 1 met
   value_behind (advance lock upto) met = upto + 1
   value_behind (release lock) met = 0
@@ -277,7 +277,7 @@ module _ (v : View) where
   IsFault (Failed faults counted) = Rose (v.opening).faults faults
 
   abbrev pub MayStep : Event → Type 0
-  MayStep (load_position asked) = Unit {0}
+  MayStep load_position = Unit {0}
   MayStep take_write_turn = (v.writing).hold ≡ Idle
   MayStep slot_out = (v.writing).hold ≡ Turned
   MayStep slot_in = HasOut (λ l.
@@ -291,7 +291,7 @@ module _ (v : View) where
       × IsWritable value × (at + room_at (setup_of).segment_size at value ≤ log_limit setup_of)
       × Contains (v.working).locks lock × ((v.working).flight ≡ Landed)
   MayStep give_position_back = (at : ℕ) × ((v.reserving).place ≡ Locked at)
-  MayStep (load_lock lock) = lock < 8
+  MayStep (load_lock lock asked) = lock < 8
   MayStep (take_lock lock) = lock < 8
   MayStep (advance lock upto) = Contains (v.working).locks lock
       × IsCopying (λ c. (c.lock ≡ lock)
@@ -337,7 +337,7 @@ module _ (v : View) where
   with_call_on f (Out l) = with_writer (f l.writer) v
 
   abbrev pub view_behind : Event → ℕ → Option Plain → View
-  view_behind (load_position asked) met home = after_load_position asked met v
+  view_behind load_position met home = after_load_position met v
   view_behind take_write_turn met home = after_take_write_turn met v
   view_behind slot_out met home = with_slot home
   view_behind slot_in met home = with_hold Turned v
@@ -347,7 +347,7 @@ module _ (v : View) where
   view_behind store_prev met home = after_store_prev v
   view_behind (store_position lock value) met home = after_store_position lock value v
   view_behind give_position_back met home = after_give_back v
-  view_behind (load_lock lock) met home = after_load_lock lock met v
+  view_behind (load_lock lock asked) met home = after_load_lock lock asked met v
   view_behind (take_lock lock) met home = after_take_lock lock met v
   view_behind (advance lock upto) met home = v
   view_behind (release lock) met home = after_release lock v

@@ -1,6 +1,7 @@
 -- The words that all backends share, by their numbers, and what is fixed when they are made.
 use Rattle.std.specs.Prelude.{ℕ, ◌+◌, ◌*◌, List, slice_index}
 use Rattle.byte_position.specs.Position.{end_address_of, first_position, usable_bytes_in_segment}
+use Rattle.wal_page.specs.Order.{Entry}
 use Rattle.wal_core.specs.declared.setup.Setup.{Setup}
 
 -- the byte position up to which records are reserved; it is even, and one more while it is locked
@@ -63,10 +64,11 @@ abbrev pub log_limit : Setup → ℕ
 log_limit setup =
     log_start setup + setup.cap_segments * usable_bytes_in_segment setup.segment_size
 
--- what is fixed of a run: how its log was set up, and the disk's moment and count of faults when it
--- was opened
+-- what is fixed of a run: how its log was set up, the entries that it held when it was opened, and
+-- the disk's moment and count of faults then
 pub record Opening : Type 0 where
   pub setup : Setup
+  pub found : List Entry
   pub moment : ℕ
   pub faults : ℕ
 

@@ -1,0 +1,60 @@
+-- One entry more at the end of an order, and what each pass has of it.
+use Rattle.std.proofs.Common.{◌≡◌, ◌≢◌, ℕ, ◌+◌, eq-eqb, ne_eqb, cond, Bool, true, false, List, [], ◌∷◌, ◌++◌, Some, append_assoc, arith, refl, sym, ap, ◌∙◌}
+use Rattle.std.proofs.lemmas.List.{take-append-le, length-append}
+use Rattle.wal_page.specs.Order.{Entry, end_position, room_at}
+use Rattle.wal_page.proofs.OrderLaws.{rooms_of_push}
+use Rattle.wal_core.specs.Views.{Filled}
+use Rattle.wal_core.specs.Ordered.{is_pass, entries_of, FrontEndsAt}
+
+pub is_pass_own : (n : ℕ) → is_pass n (Some n) ≡ true
+is_pass_own n = eq-eqb n n refl
+
+pub is_pass_other : (n m : ℕ) → m ≢ n → is_pass n (Some m) ≡ false
+is_pass_other n m apart = ne_eqb m n apart
+
+put_behind : (b : Bool) (x e : Entry) (l : List Entry)
+    → cond b (x ∷ (l ++ e ∷ [])) (l ++ e ∷ []) ≡ cond b (x ∷ l) l ++ e ∷ []
+put_behind true x e l = refl
+put_behind false x e l = refl
+
+pub entries_of-hit : (n : ℕ) (es : List Entry) (e : Entry) → is_pass n e.pass ≡ true
+    → entries_of n (es ++ e ∷ []) ≡ entries_of n es ++ e ∷ []
+entries_of-hit n [] e h = ap (λ (b : Bool). cond b (e ∷ []) []) h
+entries_of-hit n (x ∷ xs) e h =
+    ap (λ (l : List Entry). cond (is_pass n x.pass) (x ∷ l) l) (entries_of-hit n xs e h)
+    ∙ put_behind (is_pass n x.pass) x e (entries_of n xs)
+
+pub entries_of-miss : (n : ℕ) (es : List Entry) (e : Entry) → is_pass n e.pass ≡ false
+    → entries_of n (es ++ e ∷ []) ≡ entries_of n es
+entries_of-miss n [] e h = ap (λ (b : Bool). cond b (e ∷ []) []) h
+entries_of-miss n (x ∷ xs) e h =
+    ap (λ (l : List Entry). cond (is_pass n x.pass) (x ∷ l) l) (entries_of-miss n xs e h)
+
+pub end_position_push : (size : ℕ) (es : List Entry) (e : Entry)
+    → end_position size (es ++ e ∷ []) ≡ end_position size es + room_at size e.start e.value
+end_position_push size es e = omega (arith, rooms_of_push size es e)
+
+-- a front of an order is one of a longer order, for a log that grew too
+pub FrontEndsAt-longer : (size number : ℕ) (order back entries : List Entry) (full : Filled)
+    → FrontEndsAt size number order entries full
+    → FrontEndsAt size number (order ++ back) entries full
+FrontEndsAt-longer size number order back entries full h = record {
+  front = h.front;
+  back = h.back ++ back;
+  are = ap (λ (es : List Entry). es ++ back) h.are ∙ append_assoc h.front h.back back;
+  end = h.end;
+  own = h.own;
+  within = h.within;
+}
+
+pub FrontEndsAt-more : (size number : ℕ) (order entries more : List Entry) (full : Filled)
+    → FrontEndsAt size number order entries full
+    → FrontEndsAt size number order (entries ++ more) full
+FrontEndsAt-more size number order entries more full h = record {
+  front = h.front;
+  back = h.back;
+  are = h.are;
+  end = h.end;
+  own = h.own ∙ sym (take-append-le full.entries entries more h.within);
+  within = omega (arith, h.within, length-append entries more);
+}
