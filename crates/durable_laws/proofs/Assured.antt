@@ -95,25 +95,28 @@ module _ (opening : Opening) (order : List Entry) (flushed moment down : ℕ) (w
   abbrev promise : List Entry → Writing → Promise
   promise es x = record { upto = x.flushed; moment = moment; entries = length es }
 
-  is_kept : (es : List Entry) (x : Writing) (t : Tape) → x.flushed ≤ flushed
+  is_kept : (es : List Entry) (x : Writing) (t : Tape) → opening.moment ≤ moment
+      → x.flushed ≤ flushed
       → IsFirm opening.setup order flushed moment t → IsKept opening order t es (promise es x)
-  is_kept es x t low firm = record {
+  is_kept es x t begun low firm = record {
+    since = begun;
     firm = IsFirm-lower opening.setup order x.flushed flushed moment t low firm;
     later = λ k e from there.
         absurd (none-some e (sym (slice_get_past es k from) ∙ there));
   }
 
-  pub is_promised : (es : List Entry) (js : List Joined) (x : Writing) → x.flushed ≤ flushed
+  pub is_promised : (es : List Entry) (js : List Joined) (x : Writing) → opening.moment ≤ moment
+      → x.flushed ≤ flushed
       → IfSome writer.tape (IsFirm opening.setup order flushed moment) → Is (told es js x)
       → Is (told es js (record x { promises = x.promises ++ promise es x ∷ [] }))
-  is_promised es js x low firm a = record {
+  is_promised es js x begun low firm a = record {
     own_promised = All-push (IsPromised flushed moment) x.promises (promise es x) a.own_promised
         (record { upto_low = low; moment_low = omega arith });
     joined_promised = a.joined_promised;
     own = told_as writer.tape (λ t is. All-push (IsKept opening order t es) x.promises
         (promise es x)
         (at_told (λ t. AreKept opening order t es x.promises) writer.tape t is a.own)
-        (is_kept es x t low
+        (is_kept es x t begun low
         (at_told (IsFirm opening.setup order flushed moment) writer.tape t is firm)));
     joined = a.joined;
     in_hand = a.in_hand;

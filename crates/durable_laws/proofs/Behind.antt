@@ -69,6 +69,7 @@ module _ (o : Opening) (order : List Entry) (flushed moment down : ℕ) (home : 
       → IsKept o order t es p → IsPromised flushed moment p
       → IsKept o order (tape_behind outcome call t) es p
   kept_behind t there es p kept promised = record {
+    since = kept.since;
     firm = TapeAssures-behind size (IsMadeUpto size p.upto) (IsLogBelow o.setup order p.upto) call
         outcome p.moment t (fits p.upto (omega (arith, promised.upto_low))) kept.firm;
     later = λ k e from got. IsUnwritten-behind size o.moment p.moment call outcome t e

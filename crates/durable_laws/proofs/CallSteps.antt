@@ -97,7 +97,8 @@ module _ (o : Opening) (order : List Entry) (flushed moment down : ℕ) (home : 
         (λ a under. create_below o.setup setup.size order segment writer.made a next
         (omega (arith, h.reached)))
         (created_reached size segment writer outcome next h.reached)
-        (λ t _ d. on_disk_created o.setup setup.size order segment writer next h.reached outcome t d)
+        (λ t _ d.
+        on_disk_created o.setup setup.size order segment writer next h.reached outcome t d)
         up holds.0
         (λ f is. subst (λ (q : Opening). Rose q.faults f) opening
         (fault_rose v call outcome writer up may.1 f is))

@@ -7,3 +7,4 @@ pub mod Reserving
 pub mod Behind
 pub mod Calls
 pub mod CallSteps
+pub mod CrashLaws

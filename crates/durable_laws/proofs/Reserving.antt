@@ -77,6 +77,7 @@ module _ (o : Opening) (order : List Entry) (flushed moment down : ℕ) (home : 
     kept_longer : (t : Tape) (es : List Entry) (p : Promise) → IsKept o order t es p
         → IsPromised flushed moment p → IsKept o longer t es p
     kept_longer t es p kept promised = record {
+      since = kept.since;
       firm = firm_stays o.setup valid order e chained start p.upto p.moment t
           (omega (arith, promised.upto_low)) kept.firm;
       later = kept.later;
@@ -86,6 +87,7 @@ module _ (o : Opening) (order : List Entry) (flushed moment down : ℕ) (home : 
         → TapeAssures (o.setup).segment_size IsNowhere (IsLawfulAt o.setup order) opened t
         → IsKept o order t es p → IsPromised flushed moment p → IsKept o longer t (es ++ e ∷ []) p
     kept_more t es p lawful kept promised = record {
+      since = kept.since;
       firm = (kept_longer t es p kept promised).firm;
       later = λ k f from there. elim (got_cases es e f k there) [
         | inl before ↦ kept.later k f from before

@@ -69,7 +69,8 @@ module _ (o : Opening) (order : List Entry) (flushed moment down : ℕ) (home : 
     pub load_moment_keeps : v.writing.flushed ≤ flushed
         → Holds (set parts id (told_of (after_load_moment moment v)))
     load_moment_keeps low = one (told_of (after_load_moment moment v))
-        (is_promised o order flushed moment down writer es js v.writing low h.firm was)
+        (is_promised o order flushed moment down writer es js v.writing h.begun low h.firm
+        was)
 
     pub load_down_keeps : Holds (set parts id (told_of (after_load_down down v)))
     load_down_keeps = one (told_of (after_load_down down v))

@@ -29,5 +29,6 @@ pub fn reserving_keeps_durability()
         → (v.reserving).place ≡ Stored at prev
         → DurabilityHolds o (order ++ entry_at (v.reserving).number at value ∷ []) flushed moment
         down home writer
-        (set (map told_of views) id (told_of (view_behind v (store_position lock value) met home))) }
+        (set (map told_of views) id
+        (told_of (view_behind v (store_position lock value) met home))) }
 {}

@@ -4,7 +4,8 @@ use Rattle.durable_laws.proofs.device_calls.calls_keep_durability.Goals as goal
 pub returns-clause-create : goal.returns-clause-create
 returns-clause-create c = λ o order flushed moment down home writer parts id v turn writers written
     flights writings segment outcome met h here opening setup has at positions may.
-    create_keeps o order flushed moment down home writer parts h id v here opening setup turn writers
+    create_keeps o order flushed moment down home writer parts h id v here opening setup turn
+    writers
     has at written flights writings positions segment outcome met may
 
 pub returns-clause-write : goal.returns-clause-write
