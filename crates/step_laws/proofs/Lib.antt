@@ -4,3 +4,4 @@ pub mod Frames
 pub mod LockSteps
 pub mod ReserveSteps
 pub mod MappingSteps
+pub mod WritingSteps

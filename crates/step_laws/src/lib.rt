@@ -5,3 +5,4 @@ pub mod locks;
 pub mod mapping;
 pub mod opening;
 pub mod reserving;
+pub mod writing;
