@@ -1,0 +1,10 @@
+pub mod Tapes
+pub mod Growth
+pub mod Assured
+pub mod ViewSteps
+pub mod Segments
+pub mod Reserving
+pub mod Behind
+pub mod Calls
+pub mod CallSteps
+pub mod CrashLaws

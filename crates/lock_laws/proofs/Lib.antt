@@ -1,0 +1,9 @@
+pub mod Kept
+pub mod HeldLaws
+pub mod ToldLaws
+pub mod MappingLaws
+pub mod WritingLaws
+pub mod WatchLaws
+pub mod WorkSteps
+pub mod TurnSteps
+pub mod PassSteps

@@ -1,0 +1,10 @@
+pub mod LeftSteps
+pub mod LoadedWords
+pub mod PageLaws
+pub mod PageSteps
+pub mod PassSteps
+pub mod PutWords
+pub mod RingLaws
+pub mod RingSteps
+pub mod ShownLaws
+pub mod StoredWords

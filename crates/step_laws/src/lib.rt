@@ -1,2 +1,7 @@
-//! The law of the machine: every step keeps its invariant.
+//! The law of the machine: every step keeps its invariant, which holds at the opening.
 #![tactic(auto)]
+
+pub mod locks;
+pub mod mapping;
+pub mod opening;
+pub mod reserving;

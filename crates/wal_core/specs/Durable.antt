@@ -56,9 +56,11 @@ abbrev pub IsUnwritten : ℕ → ℕ → Tape → ℕ → Entry → Type 0
 IsUnwritten size opened tape moment e =
     All (λ (c : Call). PutsNone size e c.segment c.kind) (drop opened (take moment tape.calls))
 
--- a promise made to a log: what it names is firm, and no entry that came later was written before
+-- a promise made to a log since the opening: what it names is firm, and no entry that came later was
+-- written before
 pub record IsKept (opening : Opening) (order : List Entry) (tape : Tape) (entries : List Entry)
     (p : Promise) : Type 0 where
+  pub since : opening.moment ≤ p.moment
   pub firm : IsFirm opening.setup order p.upto p.moment tape
   pub later : (k : ℕ) (e : Entry) → p.entries ≤ k → slice_get entries k ≡ Some e
       → IsUnwritten opening.setup.segment_size opening.moment tape p.moment e

@@ -10,3 +10,5 @@ pub mod Durable
 pub mod Sound
 pub mod Moves
 pub mod Steps
+pub mod Opened
+pub mod Shown

@@ -1,0 +1,261 @@
+-- What is said of one view, behind a step that changes it.
+use Rattle.std.proofs.Common.{◌≡◌, ◌≢◌, ℕ, ◌≤◌, inl, inr, All, List, [], ◌∷◌, ◌++◌, length, max, set, IfSome, refl, sym, ap, subst, ◌∙◌, arith}
+use Rattle.std.proofs.lemmas.Bool.{cases_lt}
+use Rattle.std.proofs.lemmas.List.Elements.{All-append, All-cons, All-nil, All-push, All-weaker}
+use Rattle.std.proofs.lemmas.Option.{IfSome_then, none-some, slice_get_past}
+use mathlib.Core.Option.{none, some}
+use Rattle.segment_disk.specs.Tape.{Tape}
+use Rattle.flush_core.specs.Left.{IsMadeUpto}
+use Rattle.wal_page.specs.Order.{Entry}
+use Rattle.wal_core.specs.Words.{Opening}
+use Rattle.wal_core.specs.Views.{HasAt, Hold, Idle, Turned, Out, Joined, Lent, Plain, Promise, Told, Writing}
+use Rattle.wal_core.specs.Moves.{no_writing, with_lent}
+use Rattle.wal_core.specs.Locked.{StandsTo}
+use Rattle.wal_core.specs.Durable.{AreKept, DurabilityHolds, IsAssured, IsFirm, IsInHand, IsKept, IsLogBelow, IsPromised}
+use Rattle.wal_core.proofs.Lists.{one_added, one_set}
+use Rattle.durable_laws.proofs.Growth.{IsFirm-lower}
+use Rattle.durable_laws.proofs.Tapes.{TapeAssures-later, at_told, told_as}
+
+-- a pass's part, by its own parts
+abbrev pub told : List Entry → List Joined → Writing → Told
+told entries joined writing =
+    record { entries = entries; joined = joined; writing = writing }
+
+-- the writer of a view that has it in hand, and of one that has the turn alone
+module _ (turn holder : ℕ) (home : _) (writer : Plain) (id number : ℕ) where
+  pub stands_out : (hold : Hold) (l : Lent) → hold ≡ Out l
+      → StandsTo turn holder home writer id number hold → (home ≡ none) × (l.writer ≡ writer)
+  stands_out Idle l is stands = absurd (cc)
+  stands_out Turned l is stands = absurd (cc)
+  stands_out (Out m) l is stands = let same : m ≡ l = cc in
+      (stands.2, ap (λ (n : Lent). n.writer) (sym same) ∙ stands.3)
+
+  pub stands_turned : (hold : Hold) → hold ≡ Turned
+      → StandsTo turn holder home writer id number hold → home ≡ some writer
+  stands_turned Idle is stands = absurd (cc)
+  stands_turned Turned is stands = stands.2
+  stands_turned (Out m) is stands = absurd (cc)
+
+-- what holds of what a view with the writer in hand has then
+pub lent_cases : (f : Lent → Lent) (P : Lent → Type 0) (hold : Hold)
+    → ((m : Lent) → hold ≡ Out m → P (f m)) → (l : Lent) → with_lent f hold ≡ Out l → P l
+lent_cases f P Idle g l is = absurd (cc)
+lent_cases f P Turned g l is = absurd (cc)
+lent_cases f P (Out m) g l is = let same : f m ≡ l = cc in subst P same (g m refl)
+
+module _ (opening : Opening) (order : List Entry) (flushed moment down : ℕ) (writer : Plain) where
+  abbrev Is : Told → Type 0
+  Is x = IsAssured opening order flushed moment down writer x
+
+  abbrev IsHeld : Lent → Type 0
+  IsHeld l = IsInHand opening.setup order moment writer l
+
+  -- with another of what is loaded, and in hand
+  pub rebuilt : (es : List Entry) (js : List Joined) (x y : Writing) → y.promises ≡ x.promises
+      → y.down_met ≡ x.down_met → y.down_set ≡ x.down_set → Is (told es js x)
+      → ((l : Lent) → y.hold ≡ Out l → IsHeld l) → Is (told es js y)
+  rebuilt es js x y promises met set_to a held = record {
+    own_promised = subst (λ (ps : List Promise). All (IsPromised flushed moment) ps)
+        (sym promises) a.own_promised;
+    joined_promised = a.joined_promised;
+    own = subst (λ (ps : List Promise). IfSome writer.tape (λ t. AreKept opening order t es ps))
+        (sym promises) a.own;
+    joined = a.joined;
+    in_hand = held;
+    down_met = subst (λ (n : ℕ). n ≢ 0 → n ≡ down) (sym met) a.down_met;
+    down_set = subst (λ (n : ℕ). n ≢ 0 → n ≡ down) (sym set_to) a.down_set;
+  }
+
+  -- a down value that was met, or set
+  pub met_down : (es : List Entry) (js : List Joined) (x : Writing) → Is (told es js x)
+      → Is (told es js (record x { down_met = down }))
+  met_down es js x a = record {
+    own_promised = a.own_promised;
+    joined_promised = a.joined_promised;
+    own = a.own;
+    joined = a.joined;
+    in_hand = a.in_hand;
+    down_met = λ _. refl;
+    down_set = a.down_set;
+  }
+
+  pub did_set_down : (es : List Entry) (js : List Joined) (x : Writing) → Is (told es js x)
+      → Is (told es js (record x { down_set = down }))
+  did_set_down es js x a = record {
+    own_promised = a.own_promised;
+    joined_promised = a.joined_promised;
+    own = a.own;
+    joined = a.joined;
+    in_hand = a.in_hand;
+    down_met = a.down_met;
+    down_set = λ _. refl;
+  }
+
+  -- a promise more
+  abbrev promise : List Entry → Writing → Promise
+  promise es x = record { upto = x.flushed; moment = moment; entries = length es }
+
+  is_kept : (es : List Entry) (x : Writing) (t : Tape) → opening.moment ≤ moment
+      → x.flushed ≤ flushed
+      → IsFirm opening.setup order flushed moment t → IsKept opening order t es (promise es x)
+  is_kept es x t begun low firm = record {
+    since = begun;
+    firm = IsFirm-lower opening.setup order x.flushed flushed moment t low firm;
+    later = λ k e from there.
+        absurd (none-some e (sym (slice_get_past es k from) ∙ there));
+  }
+
+  pub is_promised : (es : List Entry) (js : List Joined) (x : Writing) → opening.moment ≤ moment
+      → x.flushed ≤ flushed
+      → IfSome writer.tape (IsFirm opening.setup order flushed moment) → Is (told es js x)
+      → Is (told es js (record x { promises = x.promises ++ promise es x ∷ [] }))
+  is_promised es js x begun low firm a = record {
+    own_promised = All-push (IsPromised flushed moment) x.promises (promise es x) a.own_promised
+        (record { upto_low = low; moment_low = omega arith });
+    joined_promised = a.joined_promised;
+    own = told_as writer.tape (λ t is. All-push (IsKept opening order t es) x.promises
+        (promise es x)
+        (at_told (λ t. AreKept opening order t es x.promises) writer.tape t is a.own)
+        (is_kept es x t begun low
+        (at_told (IsFirm opening.setup order flushed moment) writer.tape t is firm)));
+    joined = a.joined;
+    in_hand = a.in_hand;
+    down_met = a.down_met;
+    down_set = a.down_set;
+  }
+
+  -- a pass that begins, or was taken in
+  pub is_new : Is (told [] [] no_writing)
+  is_new = record {
+    own_promised = All-nil (IsPromised flushed moment);
+    joined_promised = All-nil (λ (j : Joined). All (IsPromised flushed moment) j.promises);
+    own = told_as writer.tape (λ t is. All-nil (IsKept opening order t []));
+    joined = told_as writer.tape (λ t is.
+        All-nil (λ (j : Joined). AreKept opening order t j.entries j.promises));
+    in_hand = λ l is. absurd (cc);
+    down_met = λ some_met. absurd (some_met refl);
+    down_set = λ some_set. absurd (some_set refl);
+  }
+
+  -- with another list of views
+  pub with_views : (home : _) (parts others : List Told)
+      → DurabilityHolds opening order flushed moment down home writer parts
+      → ((id : ℕ) (x : Told) → HasAt others id x → Is x)
+      → DurabilityHolds opening order flushed moment down home writer others
+  with_views home parts others h views = record {
+    counted = h.counted;
+    moment_low = h.moment_low;
+    begun = h.begun;
+    reached = h.reached;
+    lawful = h.lawful;
+    firm = h.firm;
+    on_disk = h.on_disk;
+    down_is = h.down_is;
+    down_at_home = h.down_at_home;
+    fault_rose = h.fault_rose;
+    views = views;
+  }
+
+  pub view_set : (home : _) (parts : List Told) (id : ℕ) (x : Told)
+      → DurabilityHolds opening order flushed moment down home writer parts → Is x
+      → DurabilityHolds opening order flushed moment down home writer (set parts id x)
+  view_set home parts id x h is = with_views home parts (set parts id x) h
+      (one_set (λ _ y. Is y) parts id x (λ j y other at. h.views j y at) is)
+
+  pub view_added : (home : _) (parts : List Told) (x : Told)
+      → DurabilityHolds opening order flushed moment down home writer parts → Is x
+      → DurabilityHolds opening order flushed moment down home writer (parts ++ x ∷ [])
+  view_added home parts x h is = with_views home parts (parts ++ x ∷ []) h
+      (one_added (λ _ y. Is y) parts x h.views is)
+
+  -- a pass takes another one in
+  max_down : (a b : ℕ) → (a ≢ 0 → a ≡ down) → (b ≢ 0 → b ≡ down) → max a b ≢ 0 → max a b ≡ down
+  max_down a b first second some_one = elim (cases_lt a b) [
+    | inl less ↦ omega (arith, second (λ none. omega arith))
+    | inr not_less ↦ omega (arith, first (λ none. some_one (omega arith)))
+  ]
+
+  pub is_joined : (es fs : List Entry) (js ks : List Joined) (x y : Writing) (number : ℕ)
+      (filled : _) → Is (told es js x) → Is (told fs ks y)
+      → (let j : Joined = record {
+        number = number;
+        entries = fs;
+        filled = filled;
+        promises = y.promises;
+      } in Is (told es (js ++ j ∷ ks) (record x {
+        down_met = max x.down_met y.down_met;
+        down_set = max x.down_set y.down_set;
+      })))
+  is_joined es fs js ks x y number filled a b =
+      let j : Joined = record {
+        number = number;
+        entries = fs;
+        filled = filled;
+        promises = y.promises;
+      } in
+      let Promised : Joined → Type 0 = λ j. All (IsPromised flushed moment) j.promises in
+      record {
+        own_promised = a.own_promised;
+        joined_promised = All-append Promised js (j ∷ ks) a.joined_promised
+            (All-cons Promised j ks b.own_promised b.joined_promised);
+        own = a.own;
+        joined = told_as writer.tape (λ t is.
+            let Kept : Joined → Type 0 = λ j. AreKept opening order t j.entries j.promises in
+            All-append Kept js (j ∷ ks) (at_told (λ t.
+            All (λ (j : Joined). AreKept opening order t j.entries j.promises) js)
+            writer.tape t is a.joined)
+            (All-cons Kept j ks
+            (at_told (λ t. AreKept opening order t fs y.promises) writer.tape t is b.own)
+            (at_told (λ t.
+            All (λ (j : Joined). AreKept opening order t j.entries j.promises) ks)
+            writer.tape t is b.joined)));
+        in_hand = a.in_hand;
+        down_met = max_down x.down_met y.down_met a.down_met b.down_met;
+        down_set = max_down x.down_set y.down_set a.down_set b.down_set;
+      }
+
+  -- ---- with other words
+
+  pub with_down : (other : ℕ) (x : Told) → (down ≢ 0 → down ≡ other) → Is x
+      → IsAssured opening order flushed moment other writer x
+  with_down other x same a = record {
+    own_promised = a.own_promised;
+    joined_promised = a.joined_promised;
+    own = a.own;
+    joined = a.joined;
+    in_hand = a.in_hand;
+    down_met = λ some_met. let is = a.down_met some_met in
+        is ∙ same (λ zero. some_met (is ∙ zero));
+    down_set = λ some_set. let is = a.down_set some_set in
+        is ∙ same (λ zero. some_set (is ∙ zero));
+  }
+
+  promised_later : (higher later : ℕ) → flushed ≤ higher → moment ≤ later → (ps : List Promise)
+      → All (IsPromised flushed moment) ps → All (IsPromised higher later) ps
+  promised_later higher later up low ps all =
+      All-weaker (IsPromised flushed moment) (IsPromised higher later)
+      (λ p is. record {
+        upto_low = omega (arith, is.upto_low);
+        moment_low = omega (arith, is.moment_low);
+      }) ps all
+
+  pub with_words : (higher later : ℕ) (x : Told) → flushed ≤ higher → moment ≤ later → Is x
+      → IsAssured opening order higher later down writer x
+  with_words higher later x up low a = record {
+    own_promised = promised_later higher later up low (x.writing).promises a.own_promised;
+    joined_promised = All-weaker (λ (j : Joined). All (IsPromised flushed moment) j.promises)
+        (λ (j : Joined). All (IsPromised higher later) j.promises)
+        (λ j all. promised_later higher later up low j.promises all) x.joined a.joined_promised;
+    own = a.own;
+    joined = a.joined;
+    in_hand = λ l is. let i = a.in_hand l is in record {
+      staged = i.staged;
+      hard_low = i.hard_low;
+      hard_moment = IfSome_then writer.tape i.hard_moment (λ t firm.
+          TapeAssures-later opening.setup.segment_size
+          (IsMadeUpto opening.setup.segment_size l.hard) (IsLogBelow opening.setup order l.hard)
+          moment later t low firm);
+    };
+    down_met = a.down_met;
+    down_set = a.down_set;
+  }

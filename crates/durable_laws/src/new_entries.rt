@@ -1,0 +1,34 @@
+//! An entry joins the order, a law proved by a function that does nothing.
+
+ghost use Rattle.std.specs.Prelude.{◌≡◌, ℕ, List, [], ◌∷◌, ◌++◌, map, set};
+ghost use mathlib.Core.Option.{Option};
+ghost use Rattle.wal_types.specs.declared.record.Record.{Record};
+ghost use Rattle.wal_page.specs.Order.{Entry, IsChained, end_position};
+ghost use Rattle.wal_core.specs.Words.{Opening};
+ghost use Rattle.wal_core.specs.Views.{HasAt, Flight, Plain, Stored, Told, View, Writing, told_of, writing_of};
+ghost use Rattle.wal_core.specs.Ordered.{AtPlace};
+ghost use Rattle.wal_core.specs.Positioned.{PositionsHold};
+ghost use Rattle.wal_core.specs.Durable.{DurabilityHolds};
+ghost use Rattle.wal_core.specs.Moves.{entry_at};
+ghost use Rattle.wal_core.specs.Sound.{IsSetup};
+ghost use Rattle.wal_core.specs.Steps.{store_position, view_behind};
+
+/// A pass that has the position locked reserves an entry: what was lawful, durable or promised
+/// stays so, and nothing that was put before has a word of the entry.
+pub fn reserving_keeps_durability()
+    ensures store_position { (o : Opening) (order : List Entry) (flushed moment down : ℕ)
+        (home : Option Plain) (writer : Plain) (views : List View)
+        (id lock met : ℕ) (value : Record) (v : View) (at prev : ℕ)
+        (last word locked holder written : ℕ) (flights : List Flight)
+        → DurabilityHolds o order flushed moment down home writer (map told_of views)
+        → HasAt views id v → IsSetup o.setup → IsChained (o.setup).segment_size order
+        → AtPlace (o.setup).segment_size (end_position (o.setup).segment_size order) last word
+        locked holder id (v.reserving).place
+        → PositionsHold o.setup order written flushed down home writer flights
+        (map writing_of views)
+        → (v.reserving).place ≡ Stored at prev
+        → DurabilityHolds o (order ++ entry_at (v.reserving).number at value ∷ []) flushed moment
+        down home writer
+        (set (map told_of views) id
+        (told_of (view_behind v (store_position lock value) met home))) }
+{}

@@ -1,0 +1,228 @@
+-- What a step leaves: each part of the invariant is kept where the step changes no word that the part
+-- reads, and in its pass's view nothing of which the part speaks.
+use Rattle.std.proofs.Common.{◌≡◌, ◌≢◌, ◌⊎◌, ℕ, ◌+◌, ◌<◌, ◌≤◌, Bool, cond, true, false, List, length, map, set, slice_index, refl, sym, ap, ◌∙◌, subst, inl, inr, arith}
+use mathlib.Core.Option.{Option}
+use Rattle.wal_page.specs.Order.{end_position}
+use Rattle.wal_core.specs.declared.setup.Setup.{Setup}
+use Rattle.wal_core.specs.Words.{Opening, position_word, prev_word, lock_word, mapping_turn, write_turn, initialised_word, written_word, flushed_word, moment_word, down_word, end_word, ring_word, word_count, end_form}
+use Rattle.wal_core.specs.Views.{HasAt, Plain, Stage, View, reserving_of, working_of, flight_of, watching_of, mapper_of, confirmed_of, writer_of, writing_of, told_of}
+use Rattle.wal_core.specs.Ordered.{OrderHolds}
+use Rattle.wal_core.specs.Locked.{AreHeld, IsMappingTurn, IsWriteTurn, ProgressHolds}
+use Rattle.wal_core.specs.Ringed.{RingHolds}
+use Rattle.wal_core.specs.Paged.{PagesHold}
+use Rattle.wal_core.specs.Watched.{WatchHolds}
+use Rattle.wal_core.specs.Positioned.{PositionsHold}
+use Rattle.wal_core.specs.Durable.{DurabilityHolds}
+use Rattle.wal_core.specs.Steps.{Event, word_of_step, value_behind, view_behind}
+use Rattle.step_laws.specs.Kept.{number_met}
+use Rattle.wal_core.specs.Sound.{IsGrounded, IsSound}
+use Rattle.wal_core.proofs.Lists.{one_set, part_same}
+use Rattle.wal_core.proofs.WordLists.{word_else, locks_else, ends_before, ring_before, wide_still}
+use Rattle.lock_laws.proofs.HeldLaws.{held_same}
+use Rattle.lock_laws.proofs.ToldLaws.{told_same}
+
+-- a step of one pass: the state before, which keeps the invariant, and the word that it stores with
+-- its value and its pass's view behind it
+pub record Moved : Type 0 where
+  pub words : List ℕ
+  pub home : Option Plain
+  pub views : List View
+  pub id : ℕ
+  pub v : View
+  pub k : IsSound v.opening words home views
+  pub here : HasAt views id v
+  pub i : ℕ
+  pub n : ℕ
+  pub w : View
+
+module _ (words : List ℕ) (home : Option Plain) (views : List View) (id : ℕ) (v : View)
+    (k : IsSound v.opening words home views) (here : HasAt views id v) (e : Event) where
+  -- the step of this kind
+  abbrev pub moved : Moved
+  moved = record {
+    words = words;
+    home = home;
+    views = views;
+    id = id;
+    v = v;
+    k = k;
+    here = here;
+    i = word_of_step v e;
+    n = value_behind v e (number_met words v e);
+    w = view_behind v e (number_met words v e) home;
+  }
+
+-- one of two views, of which some part is the same
+pub same_either : {A : Type 0} (part : View → A) (b : Bool) (x y : View) → part x ≡ part y
+    → part (cond b x y) ≡ part y
+same_either part true x y same = same
+same_either part false x y same = refl
+
+-- a live view that knows what is fixed
+pub grounded_live : (opening : Opening) (w : View) → w.opening ≡ opening
+    → (w.reserving).live ≡ true → IsGrounded opening w
+grounded_live opening w is live = record {
+  opening_is = λ alive. is;
+  at_rest = λ dead. absurd (cc);
+}
+
+module _ (s : Moved) where
+  abbrev words : List ℕ
+  words = s.words
+
+  abbrev home : Option Plain
+  home = s.home
+
+  abbrev views : List View
+  views = s.views
+
+  abbrev id : ℕ
+  id = s.id
+
+  abbrev v : View
+  v = s.v
+
+  abbrev k : IsSound (s.v).opening s.words s.home s.views
+  k = s.k
+
+  abbrev here : HasAt s.views s.id s.v
+  here = s.here
+
+  abbrev i : ℕ
+  i = s.i
+
+  abbrev n : ℕ
+  n = s.n
+
+  abbrev w : View
+  w = s.w
+
+  abbrev opening : Opening
+  opening = v.opening
+
+  abbrev setup : Setup
+  setup = opening.setup
+
+  abbrev pub later : List ℕ
+  later = set words i n
+
+  abbrev pub views_later : List View
+  views_later = set views id w
+
+  -- a word that is not the one stored
+  same_word : (j : ℕ) → j ≢ i → slice_index later j ≡ slice_index words j
+  same_word j apart = word_else words i n j apart
+
+  pub wide_stays : length later ≡ word_count setup
+  wide_stays = wide_still setup words i n k.wide
+
+  pub grounded_stays : IsGrounded opening w
+      → (j : ℕ) (u : View) → HasAt views_later j u → IsGrounded opening u
+  grounded_stays grounded =
+      one_set (λ j u. IsGrounded opening u) views id w (λ j u apart at. k.grounded j u at) grounded
+
+  pub order_stays : reserving_of w ≡ reserving_of v → 2 ≤ i
+      → OrderHolds setup opening.found k.order (position_word later) (prev_word later)
+      (map reserving_of views_later)
+  order_stays same above =
+      let position = same_word 0 (λ e. omega arith) in
+      let prev = same_word 1 (λ e. omega arith) in
+      let parts = part_same reserving_of views id v w here same in
+      subst (λ (x : ℕ × ℕ × List _). OrderHolds setup opening.found k.order x.0 x.1 x.2)
+      (λ j. (sym position j, sym prev j, sym parts j)) k.reserved
+
+  pub held_stays : working_of w ≡ working_of v → (i < 2) ⊎ (10 ≤ i)
+      → AreHeld (lock_word later) (map working_of views_later)
+  held_stays same away =
+      let parts = part_same working_of views id v w here same in
+      subst (λ ps. AreHeld (lock_word later) ps) (sym parts)
+      (held_same (lock_word words) (map working_of views) (k.locks).locks (lock_word later)
+      (locks_else words i n away))
+
+  pub progress_stays : working_of w ≡ working_of v → (i < 2) ⊎ (10 ≤ i)
+      → ProgressHolds setup.segment_size (lock_word later) (map working_of views_later)
+  progress_stays same away =
+      let parts = part_same working_of views id v w here same in
+      subst (λ ps. ProgressHolds setup.segment_size (lock_word later) ps) (sym parts)
+      (told_same setup.segment_size (lock_word words) (map working_of views) k.progress
+      (k.locks).locks (lock_word later) (locks_else words i n away))
+
+  pub mapping_stays : mapper_of w ≡ mapper_of v → i ≢ 10
+      → IsMappingTurn (mapping_turn later) k.stage (map mapper_of views_later)
+  mapping_stays same apart =
+      let turn = same_word 10 (λ e. apart (sym e)) in
+      let parts = part_same mapper_of views id v w here same in
+      subst (λ (x : ℕ × List _). IsMappingTurn x.0 k.stage x.1)
+      (λ j. (sym turn j, sym parts j)) (k.locks).mapping
+
+  pub writing_stays : writer_of w ≡ writer_of v → i ≢ 11
+      → IsWriteTurn (write_turn later) home k.writer (map writer_of views_later)
+  writing_stays same apart =
+      let turn = same_word 11 (λ e. apart (sym e)) in
+      let parts = part_same writer_of views id v w here same in
+      subst (λ (x : ℕ × List _). IsWriteTurn x.0 home k.writer x.1)
+      (λ j. (sym turn j, sym parts j)) (k.locks).writing
+
+  pub ring_stays : flight_of w ≡ flight_of v
+      → RingHolds setup k.order k.reach k.memory (map flight_of views_later)
+  ring_stays same =
+      subst (λ ps. RingHolds setup k.order k.reach k.memory ps)
+      (sym (part_same flight_of views id v w here same)) k.ring
+
+  -- of the pages, whatever else is known of stage, reach and what was met
+  pub pages_over : (reach : ℕ) (stage : Stage) (confirmed : List ℕ)
+      → map confirmed_of views_later ≡ confirmed → i < 17 → i ≢ 12 → i ≢ 13
+      → PagesHold setup.ring_pages reach stage (initialised_word words) (written_word words)
+      (end_word words) (ring_word setup words) k.memory confirmed
+      → PagesHold setup.ring_pages reach stage (initialised_word later) (written_word later)
+      (end_word later) (ring_word setup later) k.memory (map confirmed_of views_later)
+  pages_over reach stage confirmed parts before apart_12 apart_13 pages =
+      let initialised = same_word 12 (λ e. apart_12 (sym e)) in
+      let written = same_word 13 (λ e. apart_13 (sym e)) in
+      let ends = ends_before words i n before in
+      let ring = ring_before words setup i n (omega arith) in
+      subst (λ (x : ℕ × ℕ × (ℕ → ℕ) × (ℕ → ℕ) × List ℕ).
+      PagesHold setup.ring_pages reach stage x.0 x.1 x.2 x.3 k.memory x.4)
+      (λ j. (sym initialised j, sym written j, sym ends j, sym ring j, sym parts j)) pages
+
+  pub pages_stay : confirmed_of w ≡ confirmed_of v → i < 17 → i ≢ 12 → i ≢ 13
+      → PagesHold setup.ring_pages k.reach k.stage (initialised_word later) (written_word later)
+      (end_word later) (ring_word setup later) k.memory (map confirmed_of views_later)
+  pages_stay same before apart_12 apart_13 = pages_over k.reach k.stage (map confirmed_of views)
+      (part_same confirmed_of views id v w here same) before apart_12 apart_13 k.pages
+
+  pub positions_stay : flight_of w ≡ flight_of v → writing_of w ≡ writing_of v
+      → i ≢ 13 → i ≢ 14 → i ≢ 16
+      → PositionsHold setup k.order (written_word later) (flushed_word later) (down_word later)
+      home k.writer (map flight_of views_later) (map writing_of views_later)
+  positions_stay same_flight same apart_13 apart_14 apart_16 =
+      let written = same_word 13 (λ e. apart_13 (sym e)) in
+      let flushed = same_word 14 (λ e. apart_14 (sym e)) in
+      let down = same_word 16 (λ e. apart_16 (sym e)) in
+      let flights = part_same flight_of views id v w here same_flight in
+      let parts = part_same writing_of views id v w here same in
+      subst (λ (x : ℕ × ℕ × ℕ × List _ × List _).
+      PositionsHold setup k.order x.0 x.1 x.2 home k.writer x.3 x.4)
+      (λ j. (sym written j, sym flushed j, sym down j, sym flights j, sym parts j)) k.positions
+
+  pub durable_stays : told_of w ≡ told_of v → i ≢ 14 → i ≢ 15 → i ≢ 16
+      → DurabilityHolds opening k.order (flushed_word later) (moment_word later) (down_word later)
+      home k.writer (map told_of views_later)
+  durable_stays same apart_14 apart_15 apart_16 =
+      let flushed = same_word 14 (λ e. apart_14 (sym e)) in
+      let moment = same_word 15 (λ e. apart_15 (sym e)) in
+      let down = same_word 16 (λ e. apart_16 (sym e)) in
+      let parts = part_same told_of views id v w here same in
+      subst (λ (x : ℕ × ℕ × ℕ × List _).
+      DurabilityHolds opening k.order x.0 x.1 x.2 home k.writer x.3)
+      (λ j. (sym flushed j, sym moment j, sym down j, sym parts j)) k.durable
+
+  pub watching_stays : working_of w ≡ working_of v → watching_of w ≡ watching_of v
+      → WatchHolds setup.segment_size (end_form setup (end_position setup.segment_size k.order))
+      (map working_of views_later) (map watching_of views_later)
+  watching_stays same_work same =
+      let works = part_same working_of views id v w here same_work in
+      let watches = part_same watching_of views id v w here same in
+      subst (λ (x : List _ × List _). WatchHolds setup.segment_size
+      (end_form setup (end_position setup.segment_size k.order)) x.0 x.1)
+      (λ j. (sym works j, sym watches j)) k.watching
