@@ -4,3 +4,4 @@ pub mod Copies
 pub mod PositionSteps
 pub mod PositionKept
 pub mod PositionCalls
+pub mod WholeMachine

@@ -3,22 +3,24 @@
 //! the machine itself (`value_behind`, `view_behind`, `home_behind`).
 
 ghost use Rattle.std.specs.Prelude.{◌≡◌, ◌≢◌, ℕ, ◌≤◌, true, List, [], ◌∷◌, ◌++◌, map, set};
+ghost use mathlib.Core.Option.{Option};
 ghost use Rattle.segment_disk.specs.Tape.{create_call, sync_call, write_call};
 ghost use Rattle.wal_types.specs.declared.record.Record.{Record};
 ghost use Rattle.wal_page.specs.Order.{end_position};
 ghost use Rattle.wal_core.specs.Words.{end_form};
-ghost use Rattle.wal_core.specs.Views.{HasAt, Reserving, Told, View, flight_of, told_of, watching_of, working_of, writing_of};
+ghost use Rattle.wal_core.specs.Views.{HasAt, Plain, Reserving, Told, View, flight_of, told_of, watching_of, working_of, writing_of};
 ghost use Rattle.wal_core.specs.Ordered.{OrderHolds};
 ghost use Rattle.wal_core.specs.Locked.{AreHeld};
 ghost use Rattle.wal_core.specs.Watched.{WatchHolds};
 ghost use Rattle.wal_core.specs.Durable.{DurabilityHolds};
+ghost use Rattle.wal_core.specs.Sound.{IsSound};
 ghost use Rattle.wal_core.specs.Moves.{Outcome, entry_at, left_of, right_of, both_of, spent, without_work, orphan_of, after_create, after_write, after_sync};
 ghost use Rattle.wal_core.specs.Steps.{MayStep, place_at, value_behind, view_behind, home_behind};
 ghost use Rattle.wal_core.specs.Steps.{take_write_turn, release_write_turn, slot_out, slot_in};
 ghost use Rattle.wal_core.specs.Steps.{load_word, load_written, load_flushed, load_moment, load_down};
 ghost use Rattle.wal_core.specs.Steps.{store_position, store_word, release, store_written, store_moment};
 ghost use Rattle.wal_core.specs.Steps.{store_flushed, set_down, create, write, sync};
-ghost use Rattle.position_laws.specs.Parts.{Positions, HasPositions, HoldAmong, HoldBehind};
+ghost use Rattle.position_laws.specs.Parts.{Positions, positions_in, HasPositions, HoldAmong, HoldBehind};
 
 /// A view that takes or gives the turn to write, or loads a word, knows no more of positions than
 /// the words say.
@@ -139,4 +141,16 @@ pub fn passes_leave_the_positions()
     ensures give_up { (p : Positions) (id : ℕ) (v : View) → HasPositions p id v → HoldAmong p v
         (set p.flights id (flight_of (without_work v)) ++ flight_of (orphan_of v) ∷ [])
         (set p.parts id (writing_of (without_work v)) ++ writing_of (orphan_of v) ∷ []) }
+{}
+
+/// Each view of a sound machine has its part in the positions, and what holds behind a step of one
+/// view holds of the parts of all views.
+pub fn sound_machines_have_positions()
+    ensures has_positions { (words : List ℕ) (home : Option Plain) (views : List View) (id : ℕ)
+        (v : View) (s : IsSound v.opening words home views) → HasAt views id v
+        → HasPositions (positions_in v.opening words home views s) id v }
+    ensures holds_of_all { (p : Positions) (views : List View) (id : ℕ) (v w : View)
+        → p.flights ≡ map flight_of views → p.parts ≡ map writing_of views
+        → HoldBehind p id v w
+        → HoldAmong p v (map flight_of (set views id w)) (map writing_of (set views id w)) }
 {}
