@@ -8,7 +8,7 @@ use Rattle.wal_core.specs.Ordered.{AtPlace}
 use Rattle.wal_core.specs.Steps.{Event, MayStep, word_of_step, home_behind}
 use Rattle.wal_core.specs.Sound.{IsSound}
 use Rattle.wal_core.proofs.Lists.{part_at}
-use Rattle.lock_laws.specs.Behind.{words_behind, views_behind, order_behind, stage_behind, writer_behind, StandsIn, WorksHold, TurnsHold}
+use Rattle.lock_laws.specs.Behind.{words_behind, views_behind, order_behind, stage_behind, writer_behind, StepsFrom, WorksHold, TurnsHold}
 use Rattle.lock_laws.proofs.WorkSteps.{works_behind}
 use Rattle.lock_laws.proofs.TurnSteps.{turns_behind}
 
@@ -27,7 +27,7 @@ module _ (opening : Opening) (words : List ℕ) (home : Option Plain) (views : L
 
   module _ (id : ℕ) (v : View) (here : HasAt views id v) (live : (v.reserving).live ≡ true) where
     -- a live view stands well in it
-    pub stands_now : StandsIn opening.setup k.order words views id v
+    pub stands_now : StepsFrom opening.setup k.order words views id v
     stands_now =
         let size : ℕ = (opening.setup).segment_size in
         let r : Reserving = v.reserving in
@@ -39,8 +39,8 @@ module _ (opening : Opening) (words : List ℕ) (home : Option Plain) (views : L
           setup_is = ap (λ (o : Opening). o.setup) ((k.grounded id v here).opening_is live);
           seen = ((k.reserved).views id r part live).seen;
           starts = λ at prev is. (subst (λ (p : Place). AtPlace size (end_position size k.order)
-              (prev_of size 0 k.order) (prev_word words) (k.reserved).locked (k.reserved).holder id p)
-              is ((k.reserved).places id r part live)).2;
+              (prev_of size 0 k.order) (prev_word words) (k.reserved).locked
+              (k.reserved).holder id p) is ((k.reserved).places id r part live)).2;
         }
 
     pub locks_behind : (e : Event) → MayStep v e

@@ -11,14 +11,14 @@ ghost use Rattle.wal_core.specs.Locked.{AreHeld};
 ghost use Rattle.wal_core.specs.Moves.{left_of, right_of, both_of, spent, without_work, orphan_of};
 ghost use Rattle.wal_core.specs.Steps.{Event, MayStep, IsResting, word_of_step, home_behind};
 ghost use Rattle.wal_core.specs.Sound.{IsSound};
-ghost use Rattle.lock_laws.specs.Behind.{words_behind, views_behind, order_behind, stage_behind, writer_behind, StandsIn, WorksHold, TurnsHold};
+ghost use Rattle.lock_laws.specs.Behind.{words_behind, views_behind, order_behind, stage_behind, writer_behind, StepsFrom, WorksHold, TurnsHold};
 
 /// Whatever a pass does that its view lets it do: no lock has two holders, no lock tells more than
 /// is copied, and what watchers know stays true.
 pub fn every_step_keeps_locks_and_watches()
     ensures { (setup : Setup) (order : List Entry) (words : List ℕ) (home : Option Plain)
         (views : List View) (id : ℕ) (v : View) (e : Event)
-        → StandsIn setup order words views id v → MayStep v e
+        → StepsFrom setup order words views id v → MayStep v e
         → WorksHold setup order words views
         → WorksHold setup (order_behind v e order) (words_behind words v e)
         (views_behind words home views id v e) }
