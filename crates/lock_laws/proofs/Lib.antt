@@ -7,3 +7,4 @@ pub mod WatchLaws
 pub mod WorkSteps
 pub mod TurnSteps
 pub mod PassSteps
+pub mod SoundSteps

@@ -14,7 +14,7 @@ use Rattle.wal_core.specs.Moves.{with_working, with_place, with_hold, with_stage
 use Rattle.wal_core.specs.Steps.{MayStep, Event, word_of_step, value_behind, place_at, with_slot, with_call_on, load_position, take_write_turn, slot_out, slot_in, release_write_turn, lock_position, load_prev, store_prev, store_position, give_position_back, load_lock, take_lock, advance, release, load_end, store_word, load_word, load_written, load_flushed, load_moment, load_down, store_written, store_moment, store_flushed, set_down, take_mapping_turn, load_initialised, clear_end, zero_word, publish_end, publish_initialised, release_mapping_turn, create, write, sync}
 use Rattle.wal_core.proofs.Lists.{part_same, part_set, part_at}
 use Rattle.wal_core.proofs.WordLists.{lock_set, lock_else, locks_else, word_again}
-use Rattle.lock_laws.specs.Behind.{words_behind, views_behind, order_behind, WorksHold, StandsIn}
+use Rattle.lock_laws.specs.Behind.{words_behind, views_behind, order_behind, WorksHold, StepsFrom}
 use Rattle.lock_laws.proofs.Kept.{met_cases}
 use Rattle.lock_laws.proofs.HeldLaws.{held_same, held_told, held_asked, held_released, held_begun, held_copied_on}
 use Rattle.lock_laws.proofs.ToldLaws.{told_same, told_advanced, told_asked, told_released, told_begun, told_copied_on}
@@ -74,7 +74,7 @@ far : (pages place : ℕ) → 10 ≤ 17 + pages + place
 far pages place = omega arith
 
 module _ (setup : Setup) (order : List Entry) (words : List ℕ) (home : Option Plain)
-    (views : List View) (id : ℕ) (v : View) (s : StandsIn setup order words views id v)
+    (views : List View) (id : ℕ) (v : View) (s : StepsFrom setup order words views id v)
     (k : WorksHold setup order words views) where
   abbrev parts : List Working
   parts = map working_of views

@@ -43,7 +43,7 @@ pub record WorksHold (setup : Setup) (order : List Entry) (words : List ℕ) (vi
 
 -- what a step of a view rests on: the view is there, with what is fixed; it has seen no more than
 -- is reserved; and what it is about to reserve begins where the order ends
-pub record StandsIn (setup : Setup) (order : List Entry) (words : List ℕ) (views : List View)
+pub record StepsFrom (setup : Setup) (order : List Entry) (words : List ℕ) (views : List View)
     (id : ℕ) (v : View) : Type 0 where
   pub here : HasAt views id v
   pub size : IsSegmentSize setup.segment_size

@@ -1,23 +1,24 @@
 //! Every step keeps what is said of locks, of what they tell, of those who watch them, and of the
 //! two turns; each law is proved by a function that does nothing.
 
-ghost use Rattle.std.specs.Prelude.{◌≡◌, ◌≢◌, ℕ, ◌++◌, [], ◌∷◌, List, length, map, set, slice_index};
+ghost use Rattle.std.specs.Prelude.{◌≡◌, ◌≢◌, ℕ, true, ◌++◌, [], ◌∷◌, List, length, map, set, slice_index};
 ghost use mathlib.Core.Option.{Option};
 ghost use Rattle.wal_page.specs.Order.{Entry};
 ghost use Rattle.wal_core.specs.declared.setup.Setup.{Setup};
-ghost use Rattle.wal_core.specs.Words.{word_count, lock_word};
+ghost use Rattle.wal_core.specs.Words.{Opening, word_count, lock_word};
 ghost use Rattle.wal_core.specs.Views.{HasAt, Stage, Plain, View, working_of};
 ghost use Rattle.wal_core.specs.Locked.{AreHeld};
 ghost use Rattle.wal_core.specs.Moves.{left_of, right_of, both_of, spent, without_work, orphan_of};
 ghost use Rattle.wal_core.specs.Steps.{Event, MayStep, IsResting, word_of_step, home_behind};
-ghost use Rattle.lock_laws.specs.Behind.{words_behind, views_behind, order_behind, stage_behind, writer_behind, StandsIn, WorksHold, TurnsHold};
+ghost use Rattle.wal_core.specs.Sound.{IsSound};
+ghost use Rattle.lock_laws.specs.Behind.{words_behind, views_behind, order_behind, stage_behind, writer_behind, StepsFrom, WorksHold, TurnsHold};
 
 /// Whatever a pass does that its view lets it do: no lock has two holders, no lock tells more than
 /// is copied, and what watchers know stays true.
 pub fn every_step_keeps_locks_and_watches()
     ensures { (setup : Setup) (order : List Entry) (words : List ℕ) (home : Option Plain)
         (views : List View) (id : ℕ) (v : View) (e : Event)
-        → StandsIn setup order words views id v → MayStep v e
+        → StepsFrom setup order words views id v → MayStep v e
         → WorksHold setup order words views
         → WorksHold setup (order_behind v e order) (words_behind words v e)
         (views_behind words home views id v e) }
@@ -61,4 +62,17 @@ pub fn passes_come_and_go_with_what_they_hold()
         (writer : Plain) (views : List View) (id : ℕ) (v : View) → HasAt views id v
         → TurnsHold words home stage writer views
         → TurnsHold words home stage writer (set views id (without_work v) ++ orphan_of v ∷ []) }
+{}
+
+/// In a sound state, each step of a live view that its view lets it do keeps all that is said of
+/// locks, watches and turns.
+pub fn sound_states_keep_locks_and_turns()
+    ensures { (opening : Opening) (words : List ℕ) (home : Option Plain) (views : List View)
+        (id : ℕ) (v : View) (e : Event) (k : IsSound opening words home views)
+        → HasAt views id v → v.reserving.live ≡ true → MayStep v e
+        → WorksHold opening.setup (order_behind v e k.order) (words_behind words v e)
+        (views_behind words home views id v e)
+        × TurnsHold (words_behind words v e) (home_behind v e home)
+        (stage_behind v e (slice_index words (word_of_step v e)) k.stage)
+        (writer_behind v e k.writer) (views_behind words home views id v e) }
 {}
