@@ -1,3 +1,4 @@
+pub mod Buffers
 pub mod LeftSteps
 pub mod LoadedWords
 pub mod PageLaws

@@ -7,7 +7,7 @@ use mathlib.Core.Logic.{dite}
 use native.Mathlib.Decide.{ℕ_discrete}
 use Rattle.wal_core.specs.declared.setup.Setup.{Setup}
 use Rattle.wal_core.specs.Words.{initialised_word, written_word, mapping_turn, end_word, ring_word}
-use Rattle.wal_core.specs.Views.{HasAt, Flight, Copying, Stage, Away, Taken, Looked, Ready, Zeroing, Published, Plain, Lent, Out, View, flight_of, mapper_of, confirmed_of, writer_of, writing_of}
+use Rattle.wal_core.specs.Views.{HasAt, Flight, Copying, Stage, Away, Taken, Ready, Zeroing, Published, Plain, Lent, Out, View, flight_of, mapper_of, confirmed_of, writer_of, writing_of}
 use Rattle.wal_core.specs.Locked.{HasTurn, StandsTo}
 use Rattle.wal_core.specs.Paged.{IsOpen, PagesHold}
 use Rattle.wal_core.specs.Durable.{IsStaged}
@@ -15,6 +15,7 @@ use Rattle.wal_core.specs.Moves.{with_stage, looked, ready}
 use Rattle.wal_core.specs.Steps.{Event, MayStep, word_of_step, value_behind, view_behind, load_end, store_word, load_word, load_written, store_written, take_mapping_turn, load_initialised, clear_end, zero_word, publish_end, publish_initialised, release_mapping_turn, IsToBeWritten, buffer_of, number_lent, next_number, next_value, page_mapped, ring_place, words_zeroed}
 use Rattle.wal_core.specs.Sound.{IsSound}
 use Rattle.wal_core.proofs.Lists.{at_place, part_at, part_set}
+use Rattle.wal_core.proofs.Stages.{open_has}
 use Rattle.wal_core.proofs.WordLists.{word_again, word_else, single_set, ends_before, ring_before, ends_behind}
 use Rattle.ring_laws.specs.Put.{IsPut, put}
 use Rattle.ring_laws.specs.Behind.{met_by, words_behind, HasPages}
@@ -22,14 +23,6 @@ use Rattle.ring_laws.proofs.PutWords.{put_is, end_put, ring_put, buffer-below, p
 use Rattle.ring_laws.proofs.PageLaws as page
 use Rattle.ring_laws.proofs.StoredWords.{stores_word}
 use Rattle.ring_laws.proofs.LoadedWords.{loads_staged}
-
-open_has : (s : Stage) → IsOpen s → HasTurn s
-open_has Away o = absurd o
-open_has Taken o = tt
-open_has (Looked at) o = tt
-open_has (Ready at met) o = tt
-open_has (Zeroing at count) o = absurd o
-open_has (Published at) o = absurd o
 
 module _ (v : View) (words : List ℕ) (home : Option Plain) (views : List View) (id : ℕ)
     (s : IsSound v.opening words home views) (here : HasAt views id v) where
