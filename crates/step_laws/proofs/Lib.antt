@@ -1,4 +1,3 @@
-mod Rings
 pub mod OpeningLaws
 pub mod Frames
 pub mod LockSteps

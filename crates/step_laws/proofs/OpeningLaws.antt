@@ -24,7 +24,7 @@ use Rattle.wal_core.specs.Ringed.{RingHolds, StandsIn}
 use Rattle.wal_core.specs.Paged.{PagesHold}
 use Rattle.wal_core.specs.Watched.{IsBehind, WatchHolds}
 use Rattle.wal_core.specs.Positioned.{PositionsHold}
-use Rattle.step_laws.proofs.Rings.{one_page}
+use Rattle.ring_laws.proofs.Buffers.{one_page}
 use Rattle.wal_core.specs.Durable.{DurabilityHolds, IsAssured, IsLawfulAt, IsLogBelow}
 use Rattle.segment_disk.specs.DiskImage.{image_as_read}
 use Rattle.segment_disk.specs.Tape.{Segment, Tape, state_now}
