@@ -4,3 +4,5 @@ pub mod LockSteps
 pub mod ReserveSteps
 pub mod MappingSteps
 pub mod WritingSteps
+pub mod Known
+pub mod OrderBehind

@@ -166,3 +166,62 @@ module _ (words : List ℕ) (home : Option Plain) (views : List View) (id : ℕ)
       k.writer flushed moment down
       (durable.load_down_keeps v.opening k.order (flushed_word words) (moment_word words)
       (down_word words) home k.writer (map told_of views) k.durable id v told_here))
+
+  -- a load leaves all words
+  abbrev pub loads : Event → Type 0
+  loads e = later (moved words home views id v k here e) ≡ words
+
+  -- a step that changes nothing but what its pass knows of the writing
+  pub record IsNoting (w : View) : Type 0 where
+    pub is : IsWriting v w
+    pub reserving : reserving_of w ≡ reserving_of v
+    pub mapper : mapper_of w ≡ mapper_of v
+    pub confirmed : confirmed_of w ≡ confirmed_of v
+
+  -- it is a load, and turn and writer stay
+  load_notes : (e : Event) → (same : loads e)
+      → IsNoting (moved words home views id v k here e).w
+      → writer_of (moved words home views id v k here e).w ≡ writer_of v
+      → 10 ≤ (moved words home views id v k here e).i
+      → PositionsHold setup k.order (written_word words) (flushed_word words) (down_word words)
+      home k.writer (set (map flight_of views) id (flight_of (moved words home views id v k here e).w))
+      (set (map writing_of views) id (writing_of (moved words home views id v k here e).w))
+      → DurabilityHolds v.opening k.order (flushed_word words) (moment_word words)
+      (down_word words) home k.writer
+      (set (map told_of views) id (told_of (moved words home views id v k here e).w))
+      → IsSound v.opening (later (moved words home views id v k here e)) home
+      (views_later (moved words home views id v k here e))
+  load_notes e same notes writer past positions durable =
+      let s = moved words home views id v k here e in
+      let written = ap written_word same in
+      let flushed = ap flushed_word same in
+      let moment = ap moment_word same in
+      let down = ap down_word same in
+      writing_sound s live notes.is past (order_stays s notes.reserving (omega arith)) k.stage
+      (subst (λ (x : ℕ × List (ℕ × Stage)). IsMappingTurn x.0 k.stage x.1)
+      (λ j. (sym (ap mapping_turn same) j,
+      sym (part_same mapper_of views id v s.w here notes.mapper) j)) (k.locks).mapping)
+      home k.writer
+      (subst (λ (x : ℕ × List (ℕ × Hold)). IsWriteTurn x.0 home k.writer x.1)
+      (λ j. (sym (ap write_turn same) j, sym (part_same writer_of views id v s.w here writer) j))
+      (k.locks).writing)
+      (subst (λ (x : List ℕ × List ℕ). PagesHold setup.ring_pages k.reach k.stage
+      (initialised_word x.0) (written_word x.0) (end_word x.0) (ring_word setup x.0) k.memory x.1)
+      (λ j. (sym same j, sym (part_same confirmed_of views id v s.w here notes.confirmed) j))
+      k.pages)
+      (positions_at s k.order (written_word words) (flushed_word words) (down_word words) home
+      k.writer written flushed down positions)
+      (durable_at s k.order (flushed_word words) (moment_word words) (down_word words) home
+      k.writer flushed moment down durable)
+
+  pub load_moment_sound : KeepsSound words home views id v load_moment
+  load_moment_sound = load_notes load_moment (word_again words 15) (record {
+    is = record { opening = refl; live = refl; working = refl; watching = refl };
+    reserving = refl;
+    mapper = refl;
+    confirmed = refl;
+  }) refl (omega arith)
+  (positions.load_moment_keeps now id v has_now (moment_word words))
+  (durable.load_moment_keeps v.opening k.order (flushed_word words) (moment_word words)
+  (down_word words) home k.writer (map told_of views) k.durable id v told_here
+  ((k.positions).views id v.writing (part_at writing_of views id v here)).flushed_met)

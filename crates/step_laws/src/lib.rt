@@ -6,3 +6,4 @@ pub mod mapping;
 pub mod opening;
 pub mod reserving;
 pub mod writing;
+pub mod parts;
