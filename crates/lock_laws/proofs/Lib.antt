@@ -4,3 +4,7 @@ pub mod ToldLaws
 pub mod MappingLaws
 pub mod WritingLaws
 pub mod WatchLaws
+pub mod WorkSteps
+pub mod TurnSteps
+pub mod PassSteps
+pub mod SoundSteps

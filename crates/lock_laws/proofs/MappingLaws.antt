@@ -18,7 +18,7 @@ open_has (Ready at written) is_open = tt
 open_has (Zeroing at count) is_open = tt
 open_has (Published at) is_open = tt
 
-has_or_away : (s : Stage) → HasTurn s ⊎ (s ≡ Away)
+pub has_or_away : (s : Stage) → HasTurn s ⊎ (s ≡ Away)
 has_or_away Away = inr refl
 has_or_away Taken = inl tt
 has_or_away (Looked at) = inl tt

@@ -10,6 +10,7 @@ idle = record { locks = []; flight = Landed }
 abbrev pub unwatching : Watching
 unwatching = record { end = 0; visited = 0; bound = 0 }
 
+-- whether a lock held is another one than this
 abbrev pub other_than : ℕ → ℕ → Bool
 other_than i held = not (held == i)
 

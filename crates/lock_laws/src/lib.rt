@@ -3,6 +3,7 @@
 #![tactic(auto)]
 
 pub mod held;
+pub mod steps;
 pub mod told;
 pub mod turns;
 pub mod watching;

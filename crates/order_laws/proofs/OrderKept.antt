@@ -8,6 +8,7 @@ use Rattle.wal_types.specs.declared.record.Record.{Record}
 use Rattle.byte_position.proofs.EndAddresses.{position_of-end_address_of}
 use Rattle.byte_position.proofs.Rising.{position_of-mono}
 use Rattle.wal_page.specs.Order.{Entry, end_position}
+use Rattle.wal_core.specs.declared.setup.Setup.{Setup}
 use Rattle.wal_core.specs.Words.{end_form}
 use Rattle.wal_core.specs.Views.{HasAt, Place, Locked, Plain, Reserving, View}
 use Rattle.wal_core.specs.Ordered.{OrderHolds}
@@ -18,9 +19,15 @@ use Rattle.order_laws.proofs.OrderSteps.{unlocked-is, sees, locks, loads_prev, s
 use Rattle.order_laws.proofs.PassSteps.{splits, joins}
 
 module _ (order : List Entry) (position prev : ℕ) (parts : List Reserving) (id : ℕ) (v : View) where
+  abbrev setup : Setup
+  setup = (v.opening).setup
+
+  abbrev found : List Entry
+  found = (v.opening).found
+
   -- where the view stays as it is
   still : TakesPart order position prev parts id v → HoldsWith order position prev parts id v v
-  still t = subst (λ (rs : List Reserving). OrderHolds (v.opening).setup (v.opening).found order position prev rs)
+  still t = subst (λ (rs : List Reserving). OrderHolds setup found order position prev rs)
       (sym (set_again parts id v.reserving t.here)) t.holds
 
   -- the view, and what it does, where its place is told
@@ -34,7 +41,7 @@ module _ (order : List Entry) (position prev : ℕ) (parts : List Reserving) (id
       (view_behind v (lock_position expected) position home)
   lock_position_keeps home expected t may = dite (ℕ_discrete position expected)
       (λ hit. subst Behind (sym (eq-eqb position expected hit))
-      (locks (v.opening).setup (v.opening).found order position prev parts t.holds id v.reserving t.here t.live t.size
+      (locks setup found order position prev parts t.holds id v.reserving t.here t.live t.size
       expected hit may.1))
       (λ miss. subst Behind (sym (ne_eqb position expected miss)) (still t))
     where
@@ -48,7 +55,7 @@ module _ (order : List Entry) (position prev : ℕ) (parts : List Reserving) (id
   load_prev_keeps home t may = subst
       (AtPlaceOf (λ _. position) (λ _. prev) (λ (w : View). view_behind w load_prev prev home))
       (sym may.1)
-      (loads_prev (v.opening).setup (v.opening).found order position prev parts t.holds id v.reserving t.here t.live
+      (loads_prev setup found order position prev parts t.holds id v.reserving t.here t.live
       may.0 may.1)
 
   pub store_prev_keeps : (home : Option Plain) → TakesPart order position prev parts id v
@@ -59,7 +66,7 @@ module _ (order : List Entry) (position prev : ℕ) (parts : List Reserving) (id
       (AtPlaceOf (λ _. position) (λ (w : View). value_behind w store_prev prev)
       (λ (w : View). view_behind w store_prev prev home))
       (sym may.2)
-      (stores_prev (v.opening).setup (v.opening).found order position prev parts t.holds id v.reserving t.here t.live
+      (stores_prev setup found order position prev parts t.holds id v.reserving t.here t.live
       may.0 may.1 may.2)
 
   pub give_position_back_keeps : (home : Option Plain) → TakesPart order position prev parts id v
@@ -70,7 +77,7 @@ module _ (order : List Entry) (position prev : ℕ) (parts : List Reserving) (id
       (AtPlaceOf (λ (w : View). value_behind w give_position_back position) (λ _. prev)
       (λ (w : View). view_behind w give_position_back position home))
       (sym may.1)
-      (gives_back (v.opening).setup (v.opening).found order position prev parts t.holds id v.reserving t.here t.live
+      (gives_back setup found order position prev parts t.holds id v.reserving t.here t.live
       may.0 may.1)
 
   -- ---- what is seen
@@ -79,9 +86,9 @@ module _ (order : List Entry) (position prev : ℕ) (parts : List Reserving) (id
       → TakesPart order position prev parts id v
       → HoldsWith order position prev parts id v
       (view_behind v load_position position home)
-  load_position_keeps home t = sees (v.opening).setup (v.opening).found order position prev parts t.holds id
+  load_position_keeps home t = sees setup found order position prev parts t.holds id
       v.reserving t.here t.live _
-      (omega (arith, unlocked-is (v.opening).setup (v.opening).found order position prev parts t.holds t.size))
+      (omega (arith, unlocked-is setup found order position prev parts t.holds t.size))
 
   pub load_flushed_keeps : (home : Option Plain) (met : ℕ)
       → TakesPart order position prev parts id v
@@ -90,7 +97,7 @@ module _ (order : List Entry) (position prev : ℕ) (parts : List Reserving) (id
       → HoldsWith order position prev parts id v (view_behind v load_flushed met home)
   load_flushed_keeps home met t low =
       let size : ℕ = ((v.opening).setup).segment_size in
-      sees (v.opening).setup (v.opening).found order position prev parts t.holds id v.reserving t.here t.live _
+      sees setup found order position prev parts t.holds id v.reserving t.here t.live _
       (omega (
         arith,
         position_of-mono size met
@@ -113,28 +120,28 @@ module _ (order : List Entry) (position prev : ℕ) (parts : List Reserving) (id
       (value_behind v (store_position lock value) position) prev parts id v
       (view_behind v (store_position lock value) position home)
   store_position_keeps home lock value t may = subst (AddedAt lock value) (sym may.2)
-      (reserves (v.opening).setup (v.opening).found order position prev parts t.holds id v.reserving t.here t.live
+      (reserves setup found order position prev parts t.holds id v.reserving t.here t.live
       value may.0 may.1 may.2 may.3 may.4)
 
   -- ---- passes
 
   pub split_keeps : TakesPart order position prev parts id v
       → (v.reserving).spare < (v.reserving).spare_end
-      → OrderHolds (v.opening).setup (v.opening).found order position prev
+      → OrderHolds setup found order position prev
       (set parts id (left_of v).reserving ++ (right_of v).reserving ∷ [])
-  split_keeps t some_left = splits (v.opening).setup (v.opening).found order position prev parts t.holds id
+  split_keeps t some_left = splits setup found order position prev parts t.holds id
       v.reserving t.here t.live some_left
 
   pub join_keeps : (other : ℕ) (w : View) → TakesPart order position prev parts id v
       → HasAt parts other w.reserving → (w.reserving).live ≡ true → id ≢ other
-      → OrderHolds (v.opening).setup (v.opening).found order position prev
+      → OrderHolds setup found order position prev
       (set (set parts other (spent w).reserving) id (both_of v w).reserving)
-  join_keeps other w t there alive apart = joins (v.opening).setup (v.opening).found order position prev parts
+  join_keeps other w t there alive apart = joins setup found order position prev parts
       t.holds id v.reserving t.here t.live other w.reserving there alive apart
       (w.writing).promises (spent w).reserving refl
 
   pub give_up_keeps : TakesPart order position prev parts id v
-      → OrderHolds (v.opening).setup (v.opening).found order position prev
+      → OrderHolds setup found order position prev
       (set parts id (without_work v).reserving ++ (orphan_of v).reserving ∷ [])
-  give_up_keeps t = gives_up (v.opening).setup (v.opening).found order position prev parts t.holds id v.reserving
+  give_up_keeps t = gives_up setup found order position prev parts t.holds id v.reserving
       t.here t.live (orphan_of v).reserving refl

@@ -150,7 +150,8 @@ module _ (setup : Setup) (found order : List Entry) (position prev : ℕ) (parts
 
     -- a reserved end is seen
     pub sees : (seen : ℕ) → seen ≤ end_position setup.segment_size order
-        → OrderHolds setup found order position prev (set parts id (record r { seen = max r.seen seen }))
+        → OrderHolds setup found order position prev
+        (set parts id (record r { seen = max r.seen seen }))
     sees seen low = same_words (set parts id (record r { seen = max r.seen seen }))
         (one_set Placed parts id (record r { seen = max r.seen seen })
         (λ j u apart there. placed j u there)

@@ -14,4 +14,5 @@ module _ (order : List Entry) (position prev : ℕ) (parts : List Reserving) (id
 
   -- the order holds still where this view has become another one
   abbrev pub HoldsWith : View → Type 0
-  HoldsWith w = OrderHolds (v.opening).setup (v.opening).found order position prev (set parts id w.reserving)
+  HoldsWith w = OrderHolds (v.opening).setup (v.opening).found order position prev
+      (set parts id w.reserving)

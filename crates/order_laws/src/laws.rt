@@ -1,6 +1,6 @@
 //! Laws of the machine's steps on the reserved order, each proved by a function that does nothing.
-//! In each the view is live and has its part in the order; what the step loads and stores is told by
-//! the machine itself (`value_behind`, `view_behind`).
+//! In each the view is live and has its part in the order; what the step loads and stores is told
+//! by the machine itself (`value_behind`, `view_behind`).
 
 ghost use Rattle.std.specs.Prelude.{◌≡◌, ◌≢◌, ℕ, ◌<◌, ◌≤◌, true, List, [], ◌∷◌, ◌++◌, set};
 ghost use mathlib.Core.Option.{Option};
@@ -39,8 +39,8 @@ pub fn positions_are_locked_and_given_back()
         (view_behind v give_position_back position home) }
 {}
 
-/// An entry that is reserved is the order's last, and its pass's: other passes keep theirs, and where
-/// the log was full before, a front of the order still ends.
+/// An entry that is reserved is the order's last, and its pass's: other passes keep theirs, and
+/// where the log was full before, a front of the order still ends.
 pub fn orders_grow_by_one_entry()
     ensures store_position { (order : List Entry) (position prev : ℕ) (parts : List Reserving)
         (id : ℕ) (v : View) (home : Option Plain) (lock : ℕ) (value : Record)
@@ -86,8 +86,8 @@ pub fn passes_share_one_order()
         (set parts id (without_work v).reserving ++ (orphan_of v).reserving ∷ []) }
 {}
 
-/// What the passes reserved fixes the order: two orders without a gap that begin with the same found
-/// entries are one, where the entries of each pass agree.
+/// What the passes reserved fixes the order: two orders without a gap that begin with the same
+/// found entries are one, where the entries of each pass agree.
 pub fn passes_fix_the_order()
     ensures one_order { (size : ℕ) (found es fs : List Entry) → IsChained size es
         → IsChained size fs → BeginsWith found es → BeginsWith found fs

@@ -1,6 +1,11 @@
+pub mod Buffers
+pub mod LeftSteps
 pub mod LoadedWords
 pub mod PageLaws
+pub mod PageSteps
+pub mod PassSteps
 pub mod PutWords
 pub mod RingLaws
+pub mod RingSteps
 pub mod ShownLaws
 pub mod StoredWords

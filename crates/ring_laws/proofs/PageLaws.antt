@@ -2,31 +2,13 @@
 use Rattle.std.proofs.Common.{◌≡◌, ◌≢◌, ◌⊎◌, inl, inr, ℕ, ◌+◌, ◌*◌, ◌/◌, ◌%◌, ◌<◌, ◌≤◌, max, List, [], ◌∷◌, ◌++◌, set, sym, refl, ap, ◌∙◌, subst, ⊎_elim, arith}
 use Rattle.std.proofs.Math.Nat.{mod-lt, add-mod_right}
 use mathlib.Core.Logic.{dite}
-use native.Mathlib.Decide.{ℕ_discrete, dec_le}
-use Rattle.atomic_table.proofs.Lists.{one_turn}
+use native.Mathlib.Decide.{ℕ_discrete}
 use Rattle.wal_core.specs.Views.{HasAt, Stage, Away, Taken, Looked, Ready, Zeroing, Published}
 use Rattle.wal_core.specs.Paged.{IsOpen, AllPresent, AtStage, HoldsPage, PagesHold}
 use Rattle.wal_core.specs.Moves.{looked, ready}
 use Rattle.wal_core.proofs.Lists.{one_set, one_added}
+use Rattle.ring_laws.proofs.Buffers.{apart, one_page, same_page}
 use Rattle.ring_laws.specs.Put.{IsPut, put}
-
--- ---- buffers
-
--- pages less than a ring's length apart lie in two buffers
-apart : (pages p q : ℕ) → p < q → q < p + pages → p % pages ≢ q % pages
-apart pages p q less near same =
-    let e = one_turn p q pages (omega arith) near same in absurd (omega arith)
-
--- so do any two of a window
-one_page : (pages low reach p q : ℕ) → reach ≤ low + pages → low ≤ p → p < reach → low ≤ q
-    → q < reach → p ≢ q → p % pages ≢ q % pages
-one_page pages low reach p q narrow p_from p_to q_from q_to ne = dite (dec_le p q)
-    (λ le. apart pages p q (omega arith) (omega arith))
-    (λ not same. apart pages q p (omega arith) (omega arith) (sym same))
-
--- a word's place tells its page and its number there
-same_page : (a m b j : ℕ) → m < 1024 → j < 1024 → a * 1024 + m ≡ b * 1024 + j → a ≡ b
-same_page a m b j low small e = omega arith
 
 -- ---- stages
 
@@ -127,6 +109,13 @@ module _ (pages reach : ℕ) (stage : Stage) (initialised written : ℕ) (ends r
   meets s at id c met here low = on_to s at (set confirmed id (max c met))
       (one_set (λ j d. d ≤ reach * 8192) confirmed id (max c met) (λ j d ne there. k.seen j d there)
       (let mine = k.seen id c here in omega arith))
+
+  -- a view stays
+  pub stays : (id c : ℕ) → HasAt confirmed id c
+      → PagesHold pages reach stage initialised written ends ring memory (set confirmed id c)
+  stays id c here = on_to stage k.mapping (set confirmed id c)
+      (one_set (λ j d. d ≤ reach * 8192) confirmed id c (λ j d ne there. k.seen j d there)
+      (k.seen id c here))
 
   pub meets_end : (id c buffer : ℕ) → HasAt confirmed id c → buffer < pages
       → PagesHold pages reach stage initialised written ends ring memory

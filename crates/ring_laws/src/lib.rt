@@ -5,4 +5,5 @@
 pub mod pages;
 pub mod ring;
 pub mod shown;
+pub mod steps;
 pub mod words;

@@ -5,7 +5,7 @@ use mathlib.Core.Option.{Option}
 use Rattle.wal_page.specs.Order.{end_position}
 use Rattle.wal_core.specs.declared.setup.Setup.{Setup}
 use Rattle.wal_core.specs.Words.{Opening, position_word, prev_word, lock_word, mapping_turn, write_turn, initialised_word, written_word, flushed_word, moment_word, down_word, end_word, ring_word, word_count, end_form}
-use Rattle.wal_core.specs.Views.{HasAt, Plain, View, reserving_of, working_of, flight_of, watching_of, mapper_of, confirmed_of, writer_of, writing_of, told_of}
+use Rattle.wal_core.specs.Views.{HasAt, Plain, Stage, View, reserving_of, working_of, flight_of, watching_of, mapper_of, confirmed_of, writer_of, writing_of, told_of}
 use Rattle.wal_core.specs.Ordered.{OrderHolds}
 use Rattle.wal_core.specs.Locked.{AreHeld, IsMappingTurn, IsWriteTurn, ProgressHolds}
 use Rattle.wal_core.specs.Ringed.{RingHolds}
@@ -169,18 +169,27 @@ module _ (s : Moved) where
       subst (λ ps. RingHolds setup k.order k.reach k.memory ps)
       (sym (part_same flight_of views id v w here same)) k.ring
 
-  pub pages_stay : confirmed_of w ≡ confirmed_of v → i < 17 → i ≢ 12 → i ≢ 13
-      → PagesHold setup.ring_pages k.reach k.stage (initialised_word later) (written_word later)
+  -- of the pages, whatever else is known of stage, reach and what was met
+  pub pages_over : (reach : ℕ) (stage : Stage) (confirmed : List ℕ)
+      → map confirmed_of views_later ≡ confirmed → i < 17 → i ≢ 12 → i ≢ 13
+      → PagesHold setup.ring_pages reach stage (initialised_word words) (written_word words)
+      (end_word words) (ring_word setup words) k.memory confirmed
+      → PagesHold setup.ring_pages reach stage (initialised_word later) (written_word later)
       (end_word later) (ring_word setup later) k.memory (map confirmed_of views_later)
-  pages_stay same before apart_12 apart_13 =
+  pages_over reach stage confirmed parts before apart_12 apart_13 pages =
       let initialised = same_word 12 (λ e. apart_12 (sym e)) in
       let written = same_word 13 (λ e. apart_13 (sym e)) in
       let ends = ends_before words i n before in
       let ring = ring_before words setup i n (omega arith) in
-      let parts = part_same confirmed_of views id v w here same in
       subst (λ (x : ℕ × ℕ × (ℕ → ℕ) × (ℕ → ℕ) × List ℕ).
-      PagesHold setup.ring_pages k.reach k.stage x.0 x.1 x.2 x.3 k.memory x.4)
-      (λ j. (sym initialised j, sym written j, sym ends j, sym ring j, sym parts j)) k.pages
+      PagesHold setup.ring_pages reach stage x.0 x.1 x.2 x.3 k.memory x.4)
+      (λ j. (sym initialised j, sym written j, sym ends j, sym ring j, sym parts j)) pages
+
+  pub pages_stay : confirmed_of w ≡ confirmed_of v → i < 17 → i ≢ 12 → i ≢ 13
+      → PagesHold setup.ring_pages k.reach k.stage (initialised_word later) (written_word later)
+      (end_word later) (ring_word setup later) k.memory (map confirmed_of views_later)
+  pages_stay same before apart_12 apart_13 = pages_over k.reach k.stage (map confirmed_of views)
+      (part_same confirmed_of views id v w here same) before apart_12 apart_13 k.pages
 
   pub positions_stay : flight_of w ≡ flight_of v → writing_of w ≡ writing_of v
       → i ≢ 13 → i ≢ 14 → i ≢ 16

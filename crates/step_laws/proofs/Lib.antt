@@ -3,3 +3,5 @@ pub mod OpeningLaws
 pub mod Frames
 pub mod LockSteps
 pub mod ReserveSteps
+pub mod MappingSteps
+pub mod WritingSteps

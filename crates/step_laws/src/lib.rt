@@ -2,5 +2,7 @@
 #![tactic(auto)]
 
 pub mod locks;
+pub mod mapping;
 pub mod opening;
 pub mod reserving;
+pub mod writing;

@@ -3,5 +3,5 @@ use Rattle.lock_laws.proofs.watching.watches_go_from_lock_to_lock.Goals as goal
 
 pub returns : goal.returns
 returns c = λ setup order lock works watches id i asked v valid held told known seen k here.
-    watch_visits setup.segment_size lock works held told setup valid order watches id i asked v known
-    seen k here
+    watch_visits setup.segment_size lock works held told setup valid order watches id i asked v
+    known seen k here
