@@ -31,11 +31,6 @@ use Rattle.durable_laws.proofs.Tapes.{state_behind, tape_behind}
 
 -- ---- where a word stands
 
--- pages of two places are one only where their segments are
-same_segment : (count a b j k : ℕ) → j < count → k < count → a * count + j ≡ b * count + k → a ≡ b
-same_segment count a b j k low high same =
-    sym (div-mul-add a count j low) ∙ ap (λ (n : ℕ). n / count) same ∙ div-mul-add b count k high
-
 module _ (size : ℕ) (valid : IsSegmentSize size) (segment page word : ℕ)
     (within : page < pages_of size) (small : word < 1024) where
   abbrev address : ℕ
@@ -264,8 +259,10 @@ module _ (setup : Setup) (valid : IsSegmentSize setup.segment_size) (order : Lis
           | inr behind ↦
               (let number : s * pages_of size + k ≡ segment * pages_of size + page =
               omega (arith, page_is) in
-              absurd (other (same_segment (pages_of size) s segment k page within on_segment
-              number)))
+              let count = pages_of size in
+              absurd (other (sym (div-mul-add s count k within)
+              ∙ ap (λ (m : ℕ). m / count) number
+              ∙ div-mul-add segment count page on_segment)))
         ]) st assures
 
     writing : Bool → Call

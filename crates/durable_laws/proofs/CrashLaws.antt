@@ -99,7 +99,8 @@ module _ (o : Opening) (order : List Entry) (flushed moment down : ℕ) (home : 
     (chained : IsChained (o.setup).segment_size order) where
   module _ (t : Tape) (is : writer.tape ≡ Some t) where
     only_log : TapeAssures (o.setup).segment_size IsNowhere (IsLawfulAt o.setup order) o.moment t
-    only_log = at_told (TapeAssures (o.setup).segment_size IsNowhere (IsLawfulAt o.setup order) o.moment)
+    only_log = at_told
+        (TapeAssures (o.setup).segment_size IsNowhere (IsLawfulAt o.setup order) o.moment)
         writer.tape t is h.lawful
 
     firm_lawful : (upto from : ℕ) → o.moment ≤ from → IsFirm o.setup order upto from t

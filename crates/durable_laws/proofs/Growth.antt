@@ -1,6 +1,6 @@
 -- An entry more at the end of the order: what is lawful, firm or staged stays so, and none of the
 -- entry's words was put before.
-use Rattle.std.proofs.Common.{◌≡◌, ℕ, zero, suc, ◌+◌, ◌-◌, ◌*◌, ◌%◌, ◌<◌, ◌≤◌, inl, inr, All, List, [], ◌∷◌, ◌++◌, take, drop, refl, sym, ap, ◌∙◌, arith}
+use Rattle.std.proofs.Common.{◌≡◌, ℕ, zero, suc, ◌+◌, ◌-◌, ◌*◌, ◌%◌, ◌<◌, ◌≤◌, inl, inr, All, List, [], ◌∷◌, ◌++◌, take, drop, sym, ap, ◌∙◌, arith}
 use Rattle.std.specs.Int.{w64, to_le_bytes}
 use Rattle.std.proofs.lemmas.Bool.{cases_lt}
 use Rattle.std.proofs.lemmas.List.Elements.{All-nil, All-weaker, All-take}
@@ -24,10 +24,6 @@ use Rattle.wal_core.specs.declared.setup.Setup.{Setup}
 use Rattle.wal_core.specs.Words.{end_form}
 use Rattle.wal_core.specs.Ringed.{log_word_of}
 use Rattle.wal_core.specs.Durable.{IsFirm, IsLawfulAt, IsLogBelow, IsStaged, IsUnwritten, PutsNone}
-
--- eight bytes of the number 0
-pub zero_bytes : to_le_bytes w64 0 ≡ zero_word
-zero_bytes = refl
 
 -- what holds behind a place holds there up to any other
 pub All-between : {A : Type 0} (P : A → Type 0) (from upto : ℕ) (xs : List A) → All P (drop from xs)
@@ -55,9 +51,6 @@ IsFirm-lower setup order low high moment t le firm =
 module _ (setup : Setup) (valid : IsSegmentSize setup.segment_size) (order : List Entry)
     (e : Entry) (chained : IsChained setup.segment_size order)
     (start : e.start ≡ end_position setup.segment_size order) where
-  size : ℕ
-  size = setup.segment_size
-
   abbrev longer : List Entry
   longer = order ++ e ∷ []
 

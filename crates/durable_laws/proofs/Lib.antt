@@ -8,3 +8,4 @@ pub mod Behind
 pub mod Calls
 pub mod CallSteps
 pub mod CrashLaws
+pub mod SoundSteps

@@ -27,11 +27,6 @@ module _ (o : Opening) (order : List Entry) (flushed moment down : ℕ) (home : 
   abbrev Is : Told → Type 0
   Is x = IsAssured o order flushed moment down writer x
 
-  -- a pass that is about nothing begins
-  pub added : Holds (parts ++ told [] [] no_writing ∷ [])
-  added = view_added o order flushed moment down writer home parts (told [] [] no_writing) h
-      (is_new o order flushed moment down writer)
-
   module _ (id : ℕ) (v : View) (here : HasAt parts id (told_of v)) where
     was : Is (told_of v)
     was = h.views id (told_of v) here

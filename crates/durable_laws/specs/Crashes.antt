@@ -31,10 +31,10 @@ PutsOwned size order segment (Write page bytes) = (n : ℕ) → n < 1024
     → word_of bytes.bytes n ≡ zero_word
 PutsOwned size order segment Sync = Unit {0}
 
--- a promise made to a log: each crash from its moment on leaves all below the address that it names,
--- and no call before that moment wrote a word of an entry that came later
-pub record HoldsPromise (opening : Opening) (order : List Entry) (tape : Tape) (entries : List Entry)
-    (p : Promise) : Type 0 where
+-- a promise made to a log: each crash from its moment on leaves all below the address that it
+-- names, and no call before that moment wrote a word of an entry that came later
+pub record HoldsPromise (opening : Opening) (order : List Entry) (tape : Tape)
+    (entries : List Entry) (p : Promise) : Type 0 where
   pub kept : LeavesLawful opening.setup order p.upto p.moment tape
   pub later : (k : ℕ) (e : Entry) → p.entries ≤ k → slice_get entries k ≡ Some e
       → IsUnwritten (opening.setup).segment_size opening.moment tape p.moment e

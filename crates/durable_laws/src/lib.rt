@@ -4,4 +4,5 @@
 pub mod crashes;
 pub mod device_calls;
 pub mod new_entries;
+pub mod sound;
 pub mod stepping;

@@ -1,0 +1,46 @@
+-- What is said of durability behind a step of one kind, made by the pass with this view.
+use Rattle.std.specs.Prelude.{◌≡◌, ℕ, List, map, set, slice_index}
+use mathlib.Core.Option.{Option}
+use Rattle.wal_page.specs.Order.{Entry}
+use Rattle.wal_core.specs.Words.{Opening, flushed_word, moment_word, down_word}
+use Rattle.wal_core.specs.Views.{Lent, Out, Plain, View, told_of}
+use Rattle.wal_core.specs.Durable.{DurabilityHolds, IsStaged}
+use Rattle.wal_core.specs.Sound.{IsSound}
+use Rattle.wal_core.specs.Steps.{Event, create, home_behind, load_word, store_position, sync, value_behind, view_behind, word_of_step, write}
+
+-- the step adds no entry and makes no call of the device
+abbrev pub IsInside : Event → Type 0
+IsInside (store_position lock value) = ⊥
+IsInside (create segment outcome) = ⊥
+IsInside (write segment page upto bytes outcome) = ⊥
+IsInside (sync segment outcome) = ⊥
+IsInside other = Unit {0}
+
+-- a word that is loaded for a write is 0 or the log's, and the log's below what is known to be
+-- copied
+abbrev pub LoadsStaged : View → List Entry → Event → ℕ → Type 0
+LoadsStaged v order (load_word k) met = (l : Lent) → (v.writing).hold ≡ Out l
+    → IsStaged (v.opening).setup order l.known (k, met)
+LoadsStaged v order other met = Unit {0}
+
+module _ (words : List ℕ) (home : Option Plain) (views : List View) (id : ℕ) (v : View) (e : Event)
+  where
+    -- the number that the step meets, and the words behind it
+    abbrev pub met_then : ℕ
+    met_then = slice_index words (word_of_step v e)
+
+    abbrev pub words_then : List ℕ
+    words_then = set words (word_of_step v e) (value_behind v e met_then)
+
+    -- for this order and this writer
+    abbrev pub HasDurable : List Entry → Plain → Type 0
+    HasDurable order writer = DurabilityHolds v.opening order (flushed_word words_then)
+        (moment_word words_then) (down_word words_then) (home_behind v e home) writer
+        (map told_of (set views id (view_behind v e met_then home)))
+
+-- the same, where of a state that keeps the invariant the views alone become others
+module _ (opening : Opening) (words : List ℕ) (home : Option Plain) (views : List View)
+    (s : IsSound opening words home views) (changed : List View) where
+  abbrev pub HasDurableWith : Type 0
+  HasDurableWith = DurabilityHolds opening s.order (flushed_word words) (moment_word words)
+      (down_word words) home s.writer (map told_of changed)
