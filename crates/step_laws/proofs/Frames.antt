@@ -131,66 +131,6 @@ module _ (s : Moved) where
       subst (λ (x : ℕ × ℕ × List _). OrderHolds setup opening.found k.order x.0 x.1 x.2)
       (λ j. (sym position j, sym prev j, sym parts j)) k.reserved
 
-  pub held_stays : working_of w ≡ working_of v → (i < 2) ⊎ (10 ≤ i)
-      → AreHeld (lock_word later) (map working_of views_later)
-  held_stays same away =
-      let parts = part_same working_of views id v w here same in
-      subst (λ ps. AreHeld (lock_word later) ps) (sym parts)
-      (held_same (lock_word words) (map working_of views) (k.locks).locks (lock_word later)
-      (locks_else words i n away))
-
-  pub progress_stays : working_of w ≡ working_of v → (i < 2) ⊎ (10 ≤ i)
-      → ProgressHolds setup.segment_size (lock_word later) (map working_of views_later)
-  progress_stays same away =
-      let parts = part_same working_of views id v w here same in
-      subst (λ ps. ProgressHolds setup.segment_size (lock_word later) ps) (sym parts)
-      (told_same setup.segment_size (lock_word words) (map working_of views) k.progress
-      (k.locks).locks (lock_word later) (locks_else words i n away))
-
-  pub mapping_stays : mapper_of w ≡ mapper_of v → i ≢ 10
-      → IsMappingTurn (mapping_turn later) k.stage (map mapper_of views_later)
-  mapping_stays same apart =
-      let turn = same_word 10 (λ e. apart (sym e)) in
-      let parts = part_same mapper_of views id v w here same in
-      subst (λ (x : ℕ × List _). IsMappingTurn x.0 k.stage x.1)
-      (λ j. (sym turn j, sym parts j)) (k.locks).mapping
-
-  pub writing_stays : writer_of w ≡ writer_of v → i ≢ 11
-      → IsWriteTurn (write_turn later) home k.writer (map writer_of views_later)
-  writing_stays same apart =
-      let turn = same_word 11 (λ e. apart (sym e)) in
-      let parts = part_same writer_of views id v w here same in
-      subst (λ (x : ℕ × List _). IsWriteTurn x.0 home k.writer x.1)
-      (λ j. (sym turn j, sym parts j)) (k.locks).writing
-
-  pub ring_stays : flight_of w ≡ flight_of v
-      → RingHolds setup k.order k.reach k.memory (map flight_of views_later)
-  ring_stays same =
-      subst (λ ps. RingHolds setup k.order k.reach k.memory ps)
-      (sym (part_same flight_of views id v w here same)) k.ring
-
-  -- of the pages, whatever else is known of stage, reach and what was met
-  pub pages_over : (reach : ℕ) (stage : Stage) (confirmed : List ℕ)
-      → map confirmed_of views_later ≡ confirmed → i < 17 → i ≢ 12 → i ≢ 13
-      → PagesHold setup.ring_pages reach stage (initialised_word words) (written_word words)
-      (end_word words) (ring_word setup words) k.memory confirmed
-      → PagesHold setup.ring_pages reach stage (initialised_word later) (written_word later)
-      (end_word later) (ring_word setup later) k.memory (map confirmed_of views_later)
-  pages_over reach stage confirmed parts before apart_12 apart_13 pages =
-      let initialised = same_word 12 (λ e. apart_12 (sym e)) in
-      let written = same_word 13 (λ e. apart_13 (sym e)) in
-      let ends = ends_before words i n before in
-      let ring = ring_before words setup i n (omega arith) in
-      subst (λ (x : ℕ × ℕ × (ℕ → ℕ) × (ℕ → ℕ) × List ℕ).
-      PagesHold setup.ring_pages reach stage x.0 x.1 x.2 x.3 k.memory x.4)
-      (λ j. (sym initialised j, sym written j, sym ends j, sym ring j, sym parts j)) pages
-
-  pub pages_stay : confirmed_of w ≡ confirmed_of v → i < 17 → i ≢ 12 → i ≢ 13
-      → PagesHold setup.ring_pages k.reach k.stage (initialised_word later) (written_word later)
-      (end_word later) (ring_word setup later) k.memory (map confirmed_of views_later)
-  pages_stay same before apart_12 apart_13 = pages_over k.reach k.stage (map confirmed_of views)
-      (part_same confirmed_of views id v w here same) before apart_12 apart_13 k.pages
-
   pub positions_stay : flight_of w ≡ flight_of v → writing_of w ≡ writing_of v
       → i ≢ 13 → i ≢ 14 → i ≢ 16
       → PositionsHold setup k.order (written_word later) (flushed_word later) (down_word later)
@@ -204,25 +144,3 @@ module _ (s : Moved) where
       subst (λ (x : ℕ × ℕ × ℕ × List _ × List _).
       PositionsHold setup k.order x.0 x.1 x.2 home k.writer x.3 x.4)
       (λ j. (sym written j, sym flushed j, sym down j, sym flights j, sym parts j)) k.positions
-
-  pub durable_stays : told_of w ≡ told_of v → i ≢ 14 → i ≢ 15 → i ≢ 16
-      → DurabilityHolds opening k.order (flushed_word later) (moment_word later) (down_word later)
-      home k.writer (map told_of views_later)
-  durable_stays same apart_14 apart_15 apart_16 =
-      let flushed = same_word 14 (λ e. apart_14 (sym e)) in
-      let moment = same_word 15 (λ e. apart_15 (sym e)) in
-      let down = same_word 16 (λ e. apart_16 (sym e)) in
-      let parts = part_same told_of views id v w here same in
-      subst (λ (x : ℕ × ℕ × ℕ × List _).
-      DurabilityHolds opening k.order x.0 x.1 x.2 home k.writer x.3)
-      (λ j. (sym flushed j, sym moment j, sym down j, sym parts j)) k.durable
-
-  pub watching_stays : working_of w ≡ working_of v → watching_of w ≡ watching_of v
-      → WatchHolds setup.segment_size (end_form setup (end_position setup.segment_size k.order))
-      (map working_of views_later) (map watching_of views_later)
-  watching_stays same_work same =
-      let works = part_same working_of views id v w here same_work in
-      let watches = part_same watching_of views id v w here same in
-      subst (λ (x : List _ × List _). WatchHolds setup.segment_size
-      (end_form setup (end_position setup.segment_size k.order)) x.0 x.1)
-      (λ j. (sym works j, sym watches j)) k.watching

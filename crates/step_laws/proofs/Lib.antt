@@ -1,8 +1,7 @@
+mod Known
+mod Frames
+mod OrderBehind
+mod PositionsBehind
+pub mod Whole
+pub mod EveryStep
 pub mod OpeningLaws
-pub mod Frames
-pub mod LockSteps
-pub mod ReserveSteps
-pub mod MappingSteps
-pub mod WritingSteps
-pub mod Known
-pub mod OrderBehind

@@ -1,0 +1,328 @@
+-- The invariant behind a step of any kind: each part by its own laws.
+use Rattle.std.proofs.Common.{◌≡◌, ◌≢◌, ℕ, ◌+◌, ◌<◌, ◌≤◌, Bool, cond, true, false, List, [], ◌∷◌, ◌++◌, map, set, slice_index, refl, sym, ap, ◌∙◌, subst, arith, eqb, ⊎_elim}
+use mathlib.Core.Option.{Option, none, some}
+use Rattle.wal_core.specs.Views.{HasAt, Plain, Hold, Idle, Turned, Out, Place, Stage, Away, Taken, Looked, Ready, Zeroing, Published, Locked, View, reserving_of, working_of, mapper_of}
+use Rattle.wal_core.specs.Locked.{HasTurn}
+use Rattle.wal_core.specs.Moves.{entry_at, with_hold, with_place, with_stage, with_working, looked, ready}
+use Rattle.wal_core.specs.Steps.{Event, MayStep, place_at, word_of_step, view_behind, load_position, take_write_turn, slot_out, slot_in, release_write_turn, lock_position, load_prev, store_prev, store_position, give_position_back, load_lock, take_lock, advance, release, load_end, store_word, load_word, load_written, load_flushed, load_moment, load_down, store_written, store_moment, store_flushed, set_down, take_mapping_turn, load_initialised, clear_end, zero_word, publish_end, publish_initialised, release_mapping_turn, create, write, sync, with_slot, with_call_on}
+use Rattle.wal_core.specs.Words.{Opening}
+use Rattle.wal_core.specs.Sound.{IsSound}
+use Rattle.wal_core.proofs.Lists.{part_at}
+use Rattle.lock_laws.specs.Behind.{order_behind, stage_behind, writer_behind, moved as stage_moved}
+use Rattle.lock_laws.proofs.SoundSteps.{locks_behind}
+use Rattle.ring_laws.specs.Behind.{HasRing, HasPages, memory_stored}
+use Rattle.ring_laws.proofs.LeftSteps as left
+use Rattle.ring_laws.proofs.PageSteps as page
+use Rattle.ring_laws.proofs.RingSteps as ring
+use Rattle.durable_laws.specs.Behind.{HasDurable, LoadsStaged}
+use Rattle.durable_laws.proofs.SoundSteps as durable
+use Rattle.step_laws.specs.Kept.{KeepsSound}
+use Rattle.step_laws.proofs.Frames.{moved, grounded_live, grounded_stays, wide_stays}
+use Rattle.step_laws.proofs.OrderBehind.{order_holds}
+use Rattle.step_laws.proofs.PositionsBehind.{positions_hold}
+
+-- how many pages are mapped behind a step, and the log's words in memory
+abbrev pub reach_behind : Event → ℕ → ℕ
+reach_behind publish_end reach = reach + 1
+reach_behind other reach = reach
+
+abbrev pub memory_behind : View → Event → (ℕ → ℕ) → ℕ → ℕ
+memory_behind v store_word memory = memory_stored v memory
+memory_behind v other memory = memory
+
+-- what is fixed of a view, and that it is live
+abbrev ground_of : View → Opening × Bool
+ground_of v = (v.opening, (v.reserving).live)
+
+-- what holds of the stage that a load leaves, where only the mapper moves it
+by_moved : (P : Stage → Type 0) (own stage : Stage) (f : Stage → Stage) → P stage
+    → (HasTurn own → P (f stage)) → P (stage_moved own stage (f stage))
+by_moved P Away stage f stays goes = stays
+by_moved P Taken stage f stays goes = goes tt
+by_moved P (Looked at) stage f stays goes = goes tt
+by_moved P (Ready at written) stage f stays goes = goes tt
+by_moved P (Zeroing at count) stage f stays goes = goes tt
+by_moved P (Published at) stage f stays goes = goes tt
+
+-- one of two views, of the same ground
+ground_either : (b : Bool) (x y : View) → ground_of x ≡ ground_of y
+    → ground_of (cond b x y) ≡ ground_of y
+ground_either true x y same = same
+ground_either false x y same = refl
+
+ground_slot : (v : View) (home : Option Plain) → ground_of (with_slot v home) ≡ ground_of v
+ground_slot v none = refl
+ground_slot v (some writer) = refl
+
+ground_call : (v : View) (f : Plain → Plain) (hold : Hold)
+    → ground_of (with_call_on v f hold) ≡ ground_of v
+ground_call v f Idle = refl
+ground_call v f Turned = refl
+ground_call v f (Out l) = refl
+
+module _ (words : List ℕ) (home : Option Plain) (views : List View) (id : ℕ) (v : View)
+    (k : IsSound v.opening words home views) (here : HasAt views id v)
+    (live : (v.reserving).live ≡ true) where
+  ring_holds : (e : Event) → MayStep v e → HasRing v words home views id e
+      (order_behind v e k.order) (reach_behind e k.reach) (memory_behind v e k.memory)
+  ring_holds load_position may =
+      left.ring_behind-left v words home views id k here load_position tt
+  ring_holds take_write_turn may =
+      left.ring_behind-left v words home views id k here take_write_turn tt
+  ring_holds slot_out may =
+      left.ring_behind-left v words home views id k here slot_out tt
+  ring_holds slot_in may =
+      left.ring_behind-left v words home views id k here slot_in tt
+  ring_holds release_write_turn may =
+      left.ring_behind-left v words home views id k here release_write_turn tt
+  ring_holds (lock_position expected) may =
+      left.ring_behind-left v words home views id k here (lock_position expected) tt
+  ring_holds load_prev may =
+      left.ring_behind-left v words home views id k here load_prev tt
+  ring_holds store_prev may =
+      left.ring_behind-left v words home views id k here store_prev tt
+  ring_holds (store_position lock value) may =
+      let number = (v.reserving).number in
+      subst (λ (at : ℕ). HasRing v words home views id (store_position lock value)
+      (k.order ++ entry_at number at value ∷ []) k.reach k.memory)
+      (sym (ap (place_at v) may.2))
+      (ring.ring_behind-reserved v words home views id k here lock value live may)
+  ring_holds give_position_back may =
+      left.ring_behind-left v words home views id k here give_position_back tt
+  ring_holds (load_lock lock asked) may =
+      left.ring_behind-left v words home views id k here (load_lock lock asked) tt
+  ring_holds (take_lock lock) may =
+      left.ring_behind-left v words home views id k here (take_lock lock) tt
+  ring_holds (advance lock upto) may =
+      left.ring_behind-left v words home views id k here (advance lock upto) tt
+  ring_holds (release lock) may = ring.ring_behind-released v words home views id k here lock may
+  ring_holds (load_end buffer) may =
+      left.ring_behind-left v words home views id k here (load_end buffer) tt
+  ring_holds store_word may = ring.ring_behind-stored v words home views id k here may
+  ring_holds (load_word number) may =
+      left.ring_behind-left v words home views id k here (load_word number) tt
+  ring_holds load_written may =
+      left.ring_behind-left v words home views id k here load_written tt
+  ring_holds load_flushed may =
+      left.ring_behind-left v words home views id k here load_flushed tt
+  ring_holds load_moment may =
+      left.ring_behind-left v words home views id k here load_moment tt
+  ring_holds load_down may =
+      left.ring_behind-left v words home views id k here load_down tt
+  ring_holds store_written may =
+      left.ring_behind-left v words home views id k here store_written tt
+  ring_holds store_moment may =
+      left.ring_behind-left v words home views id k here store_moment tt
+  ring_holds store_flushed may =
+      left.ring_behind-left v words home views id k here store_flushed tt
+  ring_holds set_down may =
+      left.ring_behind-left v words home views id k here set_down tt
+  ring_holds take_mapping_turn may =
+      left.ring_behind-left v words home views id k here take_mapping_turn tt
+  ring_holds load_initialised may =
+      left.ring_behind-left v words home views id k here load_initialised tt
+  ring_holds clear_end may =
+      left.ring_behind-left v words home views id k here clear_end tt
+  ring_holds zero_word may =
+      left.ring_behind-left v words home views id k here zero_word tt
+  ring_holds publish_end may = ring.ring_behind-published v words home views id k here
+  ring_holds publish_initialised may =
+      left.ring_behind-left v words home views id k here publish_initialised tt
+  ring_holds release_mapping_turn may =
+      left.ring_behind-left v words home views id k here release_mapping_turn tt
+  ring_holds (create segment outcome) may =
+      left.ring_behind-left v words home views id k here (create segment outcome) tt
+  ring_holds (write segment page upto bytes outcome) may =
+      left.ring_behind-left v words home views id k here (write segment page upto bytes outcome) tt
+  ring_holds (sync segment outcome) may =
+      left.ring_behind-left v words home views id k here (sync segment outcome) tt
+
+  -- the stage of the one that has the turn
+  its_stage : HasTurn (v.mapping).stage → k.stage ≡ (v.mapping).stage
+  its_stage has =
+      (((k.locks).mapping).each id (mapper_of v) (part_at mapper_of views id v here) has).1
+
+  pages_hold : (e : Event) → MayStep v e → HasPages v words home views id e
+      (reach_behind e k.reach) (stage_behind v e (slice_index words (word_of_step v e)) k.stage)
+      (memory_behind v e k.memory)
+  pages_hold load_position may =
+      left.pages_behind-left v words home views id k here load_position may tt
+  pages_hold take_write_turn may =
+      left.pages_behind-left v words home views id k here take_write_turn may tt
+  pages_hold slot_out may =
+      left.pages_behind-left v words home views id k here slot_out may tt
+  pages_hold slot_in may =
+      left.pages_behind-left v words home views id k here slot_in may tt
+  pages_hold release_write_turn may =
+      left.pages_behind-left v words home views id k here release_write_turn may tt
+  pages_hold (lock_position expected) may =
+      left.pages_behind-left v words home views id k here (lock_position expected) may tt
+  pages_hold load_prev may =
+      left.pages_behind-left v words home views id k here load_prev may tt
+  pages_hold store_prev may =
+      left.pages_behind-left v words home views id k here store_prev may tt
+  pages_hold (store_position lock value) may =
+      left.pages_behind-left v words home views id k here (store_position lock value) may tt
+  pages_hold give_position_back may =
+      left.pages_behind-left v words home views id k here give_position_back may tt
+  pages_hold (load_lock lock asked) may =
+      left.pages_behind-left v words home views id k here (load_lock lock asked) may tt
+  pages_hold (take_lock lock) may =
+      left.pages_behind-left v words home views id k here (take_lock lock) may tt
+  pages_hold (advance lock upto) may =
+      left.pages_behind-left v words home views id k here (advance lock upto) may tt
+  pages_hold (release lock) may =
+      left.pages_behind-left v words home views id k here (release lock) may tt
+  pages_hold (load_end buffer) may = page.pages_behind-end v words home views id k here buffer may
+  pages_hold store_word may = page.pages_behind-stored v words home views id k here may
+  pages_hold (load_word number) may =
+      left.pages_behind-left v words home views id k here (load_word number) may tt
+  pages_hold load_written may = by_moved
+      (λ (st : Stage). HasPages v words home views id load_written k.reach st k.memory)
+      (v.mapping).stage k.stage (ready (slice_index words 13))
+      (page.pages_behind-written_loaded v words home views id k here)
+      (λ has. subst (λ (st : Stage). HasPages v words home views id load_written k.reach
+      (ready (slice_index words 13) st) k.memory) (sym (its_stage has))
+      (page.pages_behind-ready v words home views id k here (its_stage has)))
+  pages_hold load_flushed may =
+      left.pages_behind-left v words home views id k here load_flushed may tt
+  pages_hold load_moment may =
+      left.pages_behind-left v words home views id k here load_moment may tt
+  pages_hold load_down may =
+      left.pages_behind-left v words home views id k here load_down may tt
+  pages_hold store_written may = page.pages_behind-written v words home views id k here may
+  pages_hold store_moment may =
+      left.pages_behind-left v words home views id k here store_moment may tt
+  pages_hold store_flushed may =
+      left.pages_behind-left v words home views id k here store_flushed may tt
+  pages_hold set_down may =
+      left.pages_behind-left v words home views id k here set_down may tt
+  pages_hold take_mapping_turn may = page.pages_behind-taken v words home views id k here
+  pages_hold load_initialised may = by_moved
+      (λ (st : Stage). HasPages v words home views id load_initialised k.reach st k.memory)
+      (v.mapping).stage k.stage (looked (slice_index words 12))
+      (page.pages_behind-initialised v words home views id k here)
+      (λ has. subst (λ (st : Stage). HasPages v words home views id load_initialised k.reach
+      (looked (slice_index words 12) st) k.memory) (sym (its_stage has))
+      (page.pages_behind-looked v words home views id k here (its_stage has)))
+  pages_hold clear_end may = page.pages_behind-cleared v words home views id k here may
+  pages_hold zero_word may = page.pages_behind-zeroed v words home views id k here may
+  pages_hold publish_end may = page.pages_behind-published v words home views id k here may
+  pages_hold publish_initialised may = page.pages_behind-advanced v words home views id k here may
+  pages_hold release_mapping_turn may = page.pages_behind-given_back v words home views id k here may
+  pages_hold (create segment outcome) may =
+      left.pages_behind-left v words home views id k here (create segment outcome) may tt
+  pages_hold (write segment page upto bytes outcome) may =
+      left.pages_behind-left v words home views id k here (write segment page upto bytes outcome) may tt
+  pages_hold (sync segment outcome) may =
+      left.pages_behind-left v words home views id k here (sync segment outcome) may tt
+
+  durable_holds : (e : Event) → MayStep v e → HasDurable words home views id v e
+      (order_behind v e k.order) (writer_behind v e k.writer)
+  durable_holds load_position may = durable.durable-inside words home views id v k here load_position may tt tt
+  durable_holds take_write_turn may = durable.durable-inside words home views id v k here take_write_turn may tt tt
+  durable_holds slot_out may = durable.durable-inside words home views id v k here slot_out may tt tt
+  durable_holds slot_in may = durable.durable-inside words home views id v k here slot_in may tt tt
+  durable_holds release_write_turn may = durable.durable-inside words home views id v k here release_write_turn may tt tt
+  durable_holds (lock_position expected) may = durable.durable-inside words home views id v k here (lock_position expected) may tt tt
+  durable_holds load_prev may = durable.durable-inside words home views id v k here load_prev may tt tt
+  durable_holds store_prev may = durable.durable-inside words home views id v k here store_prev may tt tt
+  durable_holds (store_position lock value) may = durable.durable-reserved words home views id v k here live lock value may
+  durable_holds give_position_back may = durable.durable-inside words home views id v k here give_position_back may tt tt
+  durable_holds (load_lock lock asked) may = durable.durable-inside words home views id v k here (load_lock lock asked) may tt tt
+  durable_holds (take_lock lock) may = durable.durable-inside words home views id v k here (take_lock lock) may tt tt
+  durable_holds (advance lock upto) may = durable.durable-inside words home views id v k here (advance lock upto) may tt tt
+  durable_holds (release lock) may = durable.durable-inside words home views id v k here (release lock) may tt tt
+  durable_holds (load_end buffer) may = durable.durable-inside words home views id v k here (load_end buffer) may tt tt
+  durable_holds store_word may = durable.durable-inside words home views id v k here store_word may tt tt
+  durable_holds (load_word number) may = durable.durable-inside words home views id v k here (load_word number) may tt
+      (λ l out. page.staged_behind v words home views id k here number l out may)
+  durable_holds load_written may = durable.durable-inside words home views id v k here load_written may tt tt
+  durable_holds load_flushed may = durable.durable-inside words home views id v k here load_flushed may tt tt
+  durable_holds load_moment may = durable.durable-inside words home views id v k here load_moment may tt tt
+  durable_holds load_down may = durable.durable-inside words home views id v k here load_down may tt tt
+  durable_holds store_written may = durable.durable-inside words home views id v k here store_written may tt tt
+  durable_holds store_moment may = durable.durable-inside words home views id v k here store_moment may tt tt
+  durable_holds store_flushed may = durable.durable-inside words home views id v k here store_flushed may tt tt
+  durable_holds set_down may = durable.durable-inside words home views id v k here set_down may tt tt
+  durable_holds take_mapping_turn may = durable.durable-inside words home views id v k here take_mapping_turn may tt tt
+  durable_holds load_initialised may = durable.durable-inside words home views id v k here load_initialised may tt tt
+  durable_holds clear_end may = durable.durable-inside words home views id v k here clear_end may tt tt
+  durable_holds zero_word may = durable.durable-inside words home views id v k here zero_word may tt tt
+  durable_holds publish_end may = durable.durable-inside words home views id v k here publish_end may tt tt
+  durable_holds publish_initialised may = durable.durable-inside words home views id v k here publish_initialised may tt tt
+  durable_holds release_mapping_turn may = durable.durable-inside words home views id v k here release_mapping_turn may tt tt
+  durable_holds (create segment outcome) may = durable.durable-create words home views id v k here segment outcome may
+  durable_holds (write segment page upto bytes outcome) may =
+      durable.durable-write words home views id v k here segment page upto bytes outcome may
+  durable_holds (sync segment outcome) may = durable.durable-sync words home views id v k here segment outcome may
+
+  -- the step leaves what is fixed of its view, and the view live
+  ground_stays : (e : Event) → MayStep v e
+      → ground_of (view_behind v e (slice_index words (word_of_step v e)) home) ≡ ground_of v
+  ground_stays load_position may = refl
+  ground_stays take_write_turn may = ground_either (eqb (slice_index words 11) 0) (with_hold Turned v) v refl
+  ground_stays slot_out may = ground_slot v home
+  ground_stays slot_in may = refl
+  ground_stays release_write_turn may = refl
+  ground_stays (lock_position expected) may = ground_either (eqb (slice_index words 0) expected)
+      (with_place (Locked expected) v) v refl
+  ground_stays load_prev may = rw may.1 refl
+  ground_stays store_prev may = rw may.2 refl
+  ground_stays (store_position lock value) may = rw may.2 refl
+  ground_stays give_position_back may = rw may.1 refl
+  ground_stays (load_lock lock asked) may = refl
+  ground_stays (take_lock lock) may = ground_either (eqb (slice_index words (2 + lock)) 0)
+      (with_working ((v.working).locks ++ lock ∷ []) (v.working).flight v) v refl
+  ground_stays (advance lock upto) may = refl
+  ground_stays (release lock) may = refl
+  ground_stays (load_end buffer) may = refl
+  ground_stays store_word may = refl
+  ground_stays (load_word number) may = refl
+  ground_stays load_written may = refl
+  ground_stays load_flushed may = refl
+  ground_stays load_moment may = refl
+  ground_stays load_down may = refl
+  ground_stays store_written may = refl
+  ground_stays store_moment may = refl
+  ground_stays store_flushed may = refl
+  ground_stays set_down may = refl
+  ground_stays take_mapping_turn may = ground_either (eqb (slice_index words 10) 0) (with_stage Taken v) v refl
+  ground_stays load_initialised may = refl
+  ground_stays clear_end may = refl
+  ground_stays zero_word may = refl
+  ground_stays publish_end may = refl
+  ground_stays publish_initialised may = refl
+  ground_stays release_mapping_turn may = refl
+  ground_stays (create segment outcome) may = ground_call v _ (v.writing).hold
+  ground_stays (write segment page upto bytes outcome) may = ground_call v _ (v.writing).hold
+  ground_stays (sync segment outcome) may = ground_call v _ (v.writing).hold
+
+  pub sound_behind : (e : Event) → MayStep v e → KeepsSound words home views id v e
+  sound_behind e may =
+      let s = moved words home views id v k here e in
+      let behind = locks_behind v.opening words home views k id v here live e may in
+      let ground = ground_stays e may in
+      record {
+        order = order_behind v e k.order;
+        memory = memory_behind v e k.memory;
+        reach = reach_behind e k.reach;
+        stage = stage_behind v e (slice_index words (word_of_step v e)) k.stage;
+        writer = writer_behind v e k.writer;
+        setup_is = k.setup_is;
+        wide = wide_stays s;
+        grounded = grounded_stays s (grounded_live v.opening s.w (ap (λ g. g.0) ground)
+            (ap (λ g. g.1) ground ∙ live));
+        reserved = order_holds words home views id v k here live e may;
+        locks = record {
+          locks = (behind.0).held;
+          mapping = (behind.1).mapping;
+          writing = (behind.1).writing;
+        };
+        progress = (behind.0).told;
+        ring = ring_holds e may;
+        pages = pages_hold e may;
+        positions = positions_hold words home views id v k here live e may;
+        durable = durable_holds e may;
+        watching = (behind.0).watched;
+      }
