@@ -6,3 +6,4 @@ pub mod MappingSteps
 pub mod WritingSteps
 pub mod Known
 pub mod OrderBehind
+pub mod PassSteps

@@ -7,3 +7,4 @@ pub mod opening;
 pub mod reserving;
 pub mod writing;
 pub mod parts;
+pub mod passes;
