@@ -29,13 +29,13 @@ module _ {W : Type 0} (f : View → W) (views : List View) (id : ℕ) (v : View)
       ∙ ap (λ (ys : List W). ys ++ f x ∷ []) (part_same f views id v w here like)
 
   -- where the view changes its part, and another view comes in
-  one_changes : (w x : View)
+  pub one_changes : (w x : View)
       → map f (set views id w ++ x ∷ []) ≡ set (map f views) id (f w) ++ f x ∷ []
   one_changes w x = part_added f (set views id w) x
       ∙ ap (λ (ys : List W). ys ++ f x ∷ []) (part_set f views id w)
 
   -- where two views change their parts
-  two_change : (other : ℕ) (w x : View)
+  pub two_change : (other : ℕ) (w x : View)
       → map f (set (set views other x) id w) ≡ set (set (map f views) other (f x)) id (f w)
   two_change other w x = part_set f (set views other x) id w
       ∙ ap (λ (ys : List W). set ys id (f w)) (part_set f views other x)

@@ -8,6 +8,7 @@ use Rattle.wal_core.specs.Sound.{IsSound}
 use Rattle.step_laws.specs.Kept.{KeepsSound, number_met}
 use Rattle.step_laws.specs.Runs.{Runs, rests, goes_on}
 use Rattle.step_laws.proofs.Whole.{sound_behind}
+use Rattle.step_laws.proofs.PassSteps.{splits_keep, joins_keep, gives_up_keeps}
 
 module _ (opening : Opening) where
   abbrev Sound : State → Type 0
@@ -27,3 +28,13 @@ module _ (opening : Opening) where
           m.views ∙ ap (λ (n : ℕ). set s.views id (view_behind v e n s.home)) m.met_is in
       subst (λ (x : Opening × List ℕ × Option Plain × List View). IsSound x.0 x.1 x.2 x.3)
       (λ j. (known j, sym words j, sym m.home j, sym views j)) behind
+
+  pub step_keeps : (s t : State) → Sound s → Step s t → Sound t
+  step_keeps s t k (Moves id e met m) = makes_keeps id e met s t k m
+  step_keeps s t k (SplitsOff id m) = splits_keep opening s t id k m
+  step_keeps s t k (TakesIn id other m) = joins_keep opening s t id k other m
+  step_keeps s t k (Abandons id m) = gives_up_keeps opening s t id k m
+
+  pub run_keeps : (s t : State) → Sound s → Runs s t → Sound t
+  run_keeps s t k (rests s) = k
+  run_keeps s u k (goes_on s t u before last) = step_keeps t u (run_keeps s t k before) last

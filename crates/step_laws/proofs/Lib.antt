@@ -3,5 +3,6 @@ mod Frames
 mod OrderBehind
 mod PositionsBehind
 pub mod Whole
+pub mod PassSteps
 pub mod EveryStep
 pub mod OpeningLaws

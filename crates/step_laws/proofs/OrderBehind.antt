@@ -21,7 +21,7 @@ use Rattle.step_laws.proofs.Known.{now, has_now}
 module _ (words : List ℕ) (home : Option Plain) (views : List View) (id : ℕ) (v : View)
     (k : IsSound v.opening words home views) (here : HasAt views id v)
     (live : (v.reserving).live ≡ true) where
-  takes_part : TakesPart k.order (position_word words) (prev_word words) (map reserving_of views)
+  pub takes_part : TakesPart k.order (position_word words) (prev_word words) (map reserving_of views)
       id v
   takes_part = record {
     size = (k.setup_is).size;

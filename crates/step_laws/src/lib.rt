@@ -2,4 +2,5 @@
 #![tactic(auto)]
 
 pub mod opening;
+pub mod passes;
 pub mod stepping;

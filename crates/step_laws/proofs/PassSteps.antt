@@ -1,0 +1,217 @@
+-- Passes: where one is split off, where one takes another in, and where one gives up its copy, the
+-- invariant is kept.
+use Rattle.std.proofs.Common.{◌≡◌, ◌≢◌, ℕ, ◌<◌, true, List, [], ◌∷◌, ◌++◌, map, set, refl, sym, subst}
+use mathlib.Core.Option.{Option}
+use Rattle.wal_core.specs.Words.{Opening, position_word, prev_word, written_word, flushed_word, down_word}
+use Rattle.wal_core.specs.Views.{HasAt, Flight, Plain, Reserving, View, Writing, reserving_of, flight_of, writing_of}
+use Rattle.wal_core.specs.Ordered.{OrderHolds}
+use Rattle.wal_core.specs.Positioned.{PositionsHold}
+use Rattle.wal_core.specs.Moves.{left_of, right_of, both_of, spent, without_work, orphan_of}
+use Rattle.wal_core.specs.Steps.{State, Splits, IsResting, Joins, GivesUp}
+use Rattle.wal_core.specs.Sound.{IsGrounded, IsSound}
+use Rattle.wal_core.proofs.Lists.{one_set, one_added, part_at}
+use Rattle.order_laws.specs.Parts.{TakesPart}
+use Rattle.order_laws.proofs.OrderKept as order
+use Rattle.lock_laws.specs.Behind.{WorksHold, TurnsHold}
+use Rattle.lock_laws.proofs.SoundSteps.{works_now, turns_now}
+use Rattle.lock_laws.proofs.PassSteps.{one_changes, two_change, works_split, works_give_up, works_join, turns_split, turns_give_up, turns_join}
+use Rattle.ring_laws.specs.Behind.{HasRingWith, HasPagesWith}
+use Rattle.ring_laws.proofs.PassSteps.{ring-split, ring-taken_in, ring-given_up, pages-split, pages-taken_in, pages-given_up}
+use Rattle.position_laws.specs.Parts.{Positions, HasPositions}
+use Rattle.position_laws.proofs.PositionKept as positions
+use Rattle.durable_laws.specs.Behind.{HasDurableWith}
+use Rattle.durable_laws.proofs.SoundSteps.{durable-split, durable-taken_in, durable-given_up}
+use Rattle.step_laws.proofs.Frames.{grounded_live}
+use Rattle.step_laws.proofs.Known.{now, has_now}
+use Rattle.step_laws.proofs.OrderBehind.{takes_part}
+
+-- a view that is not live, and has neither turn
+grounded_spent : (opening : Opening) (v : View) → IsGrounded opening (spent v)
+grounded_spent opening v = record {
+  opening_is = λ alive. absurd (cc);
+  at_rest = λ dead. (refl, refl);
+}
+
+grounded_orphan : (opening : Opening) (v : View) → IsGrounded opening (orphan_of v)
+grounded_orphan opening v = record {
+  opening_is = λ alive. absurd (cc);
+  at_rest = λ dead. (refl, refl);
+}
+
+module _ (words : List ℕ) (home : Option Plain) (views : List View) (id : ℕ) (v : View)
+    (k : IsSound v.opening words home views) (here : HasAt views id v)
+    (live : (v.reserving).live ≡ true) where
+  -- the state with other views, of which the parts hold
+  module _ (changed : List View) where
+    abbrev HasOrderWith : List Reserving → Type 0
+    HasOrderWith rs = OrderHolds (v.opening).setup (v.opening).found k.order
+        (position_word words) (prev_word words) rs
+
+    abbrev HasPositionsWith : List Flight → List Writing → Type 0
+    HasPositionsWith fs ws = PositionsHold (v.opening).setup k.order (written_word words)
+        (flushed_word words) (down_word words) home k.writer fs ws
+
+    changed_sound : ((j : ℕ) (u : View) → HasAt changed j u → IsGrounded v.opening u)
+        → (rs : List Reserving) → map reserving_of changed ≡ rs → HasOrderWith rs
+        → WorksHold (v.opening).setup k.order words changed
+        → TurnsHold words home k.stage k.writer changed
+        → HasRingWith v.opening words home views k changed
+        → HasPagesWith v.opening words home views k changed
+        → (fs : List Flight) → map flight_of changed ≡ fs
+        → (ws : List Writing) → map writing_of changed ≡ ws → HasPositionsWith fs ws
+        → HasDurableWith v.opening words home views k changed
+        → IsSound v.opening words home changed
+    changed_sound grounded rs are_reserving reserved works turns ring pages fs are_flights ws
+        are_writing positions durable = record {
+          order = k.order;
+          memory = k.memory;
+          reach = k.reach;
+          stage = k.stage;
+          writer = k.writer;
+          setup_is = k.setup_is;
+          wide = k.wide;
+          grounded = grounded;
+          reserved = subst (λ (xs : List Reserving). HasOrderWith xs) (sym are_reserving) reserved;
+          locks = record {
+            locks = works.held;
+            mapping = turns.mapping;
+            writing = turns.writing;
+          };
+          progress = works.told;
+          ring = ring;
+          pages = pages;
+          positions = subst (λ (x : List Flight × List Writing). HasPositionsWith x.0 x.1)
+              (λ j. (sym are_flights j, sym are_writing j)) positions;
+          durable = durable;
+          watching = works.watched;
+        }
+
+  abbrev all : Positions
+  all = now words home views id v k
+
+  has_all : HasPositions all id v
+  has_all = has_now words home views id v k here
+
+  part : TakesPart k.order (position_word words) (prev_word words) (map reserving_of views) id v
+  part = takes_part words home views id v k here live
+
+  -- where one view is set, and one is added
+  grounded_added : (w x : View) → IsGrounded v.opening w → IsGrounded v.opening x
+      → (j : ℕ) (u : View) → HasAt (set views id w ++ x ∷ []) j u → IsGrounded v.opening u
+  grounded_added w x changed new =
+      one_added (λ j u. IsGrounded v.opening u) (set views id w) x
+      (one_set (λ j u. IsGrounded v.opening u) views id w (λ j u apart at. k.grounded j u at)
+      changed) new
+
+  pub split_sound : (v.reserving).spare < (v.reserving).spare_end
+      → IsSound v.opening words home (set views id (left_of v) ++ right_of v ∷ [])
+  split_sound some_left = changed_sound (set views id (left_of v) ++ right_of v ∷ [])
+      (grounded_added (left_of v) (right_of v) (grounded_live v.opening (left_of v) refl live)
+      (grounded_live v.opening (right_of v) refl refl))
+      _ (one_changes reserving_of views id v here (left_of v) (right_of v))
+      (order.split_keeps k.order (position_word words) (prev_word words)
+      (map reserving_of views) id v part some_left)
+      (works_split (v.opening).setup k.order words views id v here
+      (works_now v.opening words home views k))
+      (turns_split words home k.stage k.writer views id v here
+      (turns_now v.opening words home views k))
+      (ring-split v.opening words home views k id v here)
+      (pages-split v.opening words home views k id v here)
+      _ (one_changes flight_of views id v here (left_of v) (right_of v))
+      _ (one_changes writing_of views id v here (left_of v) (right_of v))
+      (positions.split_keeps all id v has_all)
+      (durable-split words home views id v k here)
+
+  pub give_up_sound : IsSound v.opening words home
+      (set views id (without_work v) ++ orphan_of v ∷ [])
+  give_up_sound = changed_sound (set views id (without_work v) ++ orphan_of v ∷ [])
+      (grounded_added (without_work v) (orphan_of v)
+      (grounded_live v.opening (without_work v) refl live) (grounded_orphan v.opening v))
+      _ (one_changes reserving_of views id v here (without_work v) (orphan_of v))
+      (order.give_up_keeps k.order (position_word words) (prev_word words)
+      (map reserving_of views) id v part)
+      (works_give_up (v.opening).setup k.order words views id v here
+      (works_now v.opening words home views k))
+      (turns_give_up words home k.stage k.writer views id v here
+      (turns_now v.opening words home views k))
+      (ring-given_up v.opening words home views k id v here)
+      (pages-given_up v.opening words home views k id v here)
+      _ (one_changes flight_of views id v here (without_work v) (orphan_of v))
+      _ (one_changes writing_of views id v here (without_work v) (orphan_of v))
+      (positions.give_up_keeps all id v has_all)
+      (durable-given_up words home views id v k here)
+
+  pub join_sound : (other : ℕ) (w : View) → HasAt views other w → (w.reserving).live ≡ true
+      → id ≢ other → IsResting w
+      → IsSound v.opening words home (set (set views other (spent w)) id (both_of v w))
+  join_sound other w there alive apart rests =
+      changed_sound (set (set views other (spent w)) id (both_of v w))
+      (one_set (λ j u. IsGrounded v.opening u) (set views other (spent w)) id (both_of v w)
+      (λ j u not_this at. one_set (λ i x. IsGrounded v.opening x) views other (spent w)
+      (λ i x not_other found. k.grounded i x found) (grounded_spent v.opening w) j u at)
+      (grounded_live v.opening (both_of v w) refl live))
+      _ (two_change reserving_of views id v here other (both_of v w) (spent w))
+      (order.join_keeps k.order (position_word words) (prev_word words) (map reserving_of views)
+      id v other w part (part_at reserving_of views other w there) alive apart)
+      (works_join (v.opening).setup k.order words views id v here
+      (works_now v.opening words home views k) other w there apart rests)
+      (turns_join words home k.stage k.writer views id v here
+      (turns_now v.opening words home views k) other w there rests)
+      (ring-taken_in v.opening words home views k id v here other w there rests)
+      (pages-taken_in v.opening words home views k id v here other w there)
+      _ (two_change flight_of views id v here other (both_of v w) (spent w))
+      _ (two_change writing_of views id v here other (both_of v w) (spent w))
+      (positions.join_keeps all id v has_all other w)
+      (durable-taken_in words home views id v k here other w there)
+
+-- ---- of whole states
+
+-- what a live view's own opening makes sound is sound
+pub at_own_opening : (opening : Opening) (words : List ℕ) (home : Option Plain)
+    (views : List View) (id : ℕ) (v : View) → IsSound opening words home views → HasAt views id v
+    → (v.reserving).live ≡ true → (words' : List ℕ) (home' : Option Plain) (views' : List View)
+    → (IsSound v.opening words home views → IsSound v.opening words' home' views')
+    → IsSound opening words' home' views'
+at_own_opening opening words home views id v k here live words' home' views' steps =
+    let own : v.opening ≡ opening = (k.grounded id v here).opening_is live in
+    subst (λ (o : Opening). IsSound o words' home' views') own
+    (steps (subst (λ (o : Opening). IsSound o words home views) (sym own) k))
+
+module _ (opening : Opening) (s t : State) (id : ℕ) (k : IsSound opening s.words s.home s.views)
+  where
+    -- a state whose words, writer and views are these
+    sound_as : (words : List ℕ) (home : Option Plain) (views : List View) → t.words ≡ words
+        → t.home ≡ home → t.views ≡ views → IsSound opening words home views
+        → IsSound opening t.words t.home t.views
+    sound_as words home views are_words is_home are_views holds =
+        subst (λ (x : List ℕ × Option Plain × List View). IsSound opening x.0 x.1 x.2)
+        (λ j. (sym are_words j, sym is_home j, sym are_views j)) holds
+
+    pub splits_keep : Splits id s t → IsSound opening t.words t.home t.views
+    splits_keep m =
+        let v : View = m.view in
+        let views : List View = set s.views id (left_of v) ++ right_of v ∷ [] in
+        sound_as s.words s.home views m.words m.home m.views
+        (at_own_opening opening s.words s.home s.views id v k (m.live).0 (m.live).1 s.words s.home
+        views
+        (λ own. split_sound s.words s.home s.views id v own (m.live).0 (m.live).1 m.may))
+
+    pub gives_up_keeps : GivesUp id s t → IsSound opening t.words t.home t.views
+    gives_up_keeps m =
+        let v : View = m.view in
+        let views : List View = set s.views id (without_work v) ++ orphan_of v ∷ [] in
+        sound_as s.words s.home views m.words m.home m.views
+        (at_own_opening opening s.words s.home s.views id v k (m.live).0 (m.live).1 s.words s.home
+        views
+        (λ own. give_up_sound s.words s.home s.views id v own (m.live).0 (m.live).1))
+
+    pub joins_keep : (other : ℕ) → Joins id other s t → IsSound opening t.words t.home t.views
+    joins_keep other m =
+        let v : View = m.view in
+        let w : View = m.other_view in
+        let views : List View = set (set s.views other (spent w)) id (both_of v w) in
+        sound_as s.words s.home views m.words m.home m.views
+        (at_own_opening opening s.words s.home s.views id v k (m.live).0 (m.live).1 s.words s.home
+        views
+        (λ own. join_sound s.words s.home s.views id v own (m.live).0 (m.live).1 other w
+        (m.other_live).0 (m.other_live).1 m.apart m.may))
