@@ -1,12 +1,12 @@
 -- Every step keeps the invariant, and every run.
-use Rattle.std.proofs.Common.{◌≡◌, ℕ, List, set, sym, ap, ◌∙◌, subst}
+use Rattle.std.proofs.Common.{◌≡◌, ℕ, zero, suc, List, set, sym, ap, ◌∙◌, subst}
 use mathlib.Core.Option.{Option}
 use Rattle.wal_core.specs.Words.{Opening}
 use Rattle.wal_core.specs.Views.{Plain, View}
-use Rattle.wal_core.specs.Steps.{Event, State, Step, Makes, Moves, SplitsOff, TakesIn, Abandons, word_of_step, value_behind, view_behind, home_behind}
+use Rattle.wal_core.specs.Steps.{Event, State, Step, Makes, Moves, SplitsOff, TakesIn, Abandons, word_of_step, value_behind, view_behind}
 use Rattle.wal_core.specs.Sound.{IsSound}
 use Rattle.step_laws.specs.Kept.{KeepsSound, number_met}
-use Rattle.step_laws.specs.Runs.{Runs, rests, goes_on}
+use Rattle.step_laws.specs.Runs.{Runs}
 use Rattle.step_laws.proofs.Whole.{sound_behind}
 use Rattle.step_laws.proofs.PassSteps.{splits_keep, joins_keep, gives_up_keeps}
 
@@ -21,11 +21,11 @@ module _ (opening : Opening) where
       let known : v.opening ≡ opening = (k.grounded id v (m.live).0).opening_is (m.live).1 in
       let here = subst (λ (o : Opening). IsSound o s.words s.home s.views) (sym known) k in
       let behind : KeepsSound s.words s.home s.views id v e =
-          sound_behind s.words s.home s.views id v here (m.live).0 (m.live).1 e m.may in
+      sound_behind s.words s.home s.views id v here (m.live).0 (m.live).1 e m.may in
       let words : t.words ≡ set s.words (word_of_step v e) (value_behind v e (number_met s.words v e)) =
-          m.words ∙ ap (λ (n : ℕ). set s.words (word_of_step v e) (value_behind v e n)) m.met_is in
+      m.words ∙ ap (λ (n : ℕ). set s.words (word_of_step v e) (value_behind v e n)) m.met_is in
       let views : t.views ≡ set s.views id (view_behind v e (number_met s.words v e) s.home) =
-          m.views ∙ ap (λ (n : ℕ). set s.views id (view_behind v e n s.home)) m.met_is in
+      m.views ∙ ap (λ (n : ℕ). set s.views id (view_behind v e n s.home)) m.met_is in
       subst (λ (x : Opening × List ℕ × Option Plain × List View). IsSound x.0 x.1 x.2 x.3)
       (λ j. (known j, sym words j, sym m.home j, sym views j)) behind
 
@@ -35,6 +35,7 @@ module _ (opening : Opening) where
   step_keeps s t k (TakesIn id other m) = joins_keep opening s t id k other m
   step_keeps s t k (Abandons id m) = gives_up_keeps opening s t id k m
 
-  pub run_keeps : (s t : State) → Sound s → Runs s t → Sound t
-  run_keeps s t k (rests s) = k
-  run_keeps s u k (goes_on s t u before last) = step_keeps t u (run_keeps s t k before) last
+  pub run_keeps : (n : ℕ) (s t : State) → Sound s → Runs n s t → Sound t
+  run_keeps zero s t k same = subst Sound same k
+  run_keeps (suc n) s t k run =
+      step_keeps run.0 t (run_keeps n s run.0 k run.1) run.2

@@ -1,25 +1,17 @@
 -- What a step leaves: each part of the invariant is kept where the step changes no word that the part
 -- reads, and in its pass's view nothing of which the part speaks.
-use Rattle.std.proofs.Common.{◌≡◌, ◌≢◌, ◌⊎◌, ℕ, ◌+◌, ◌<◌, ◌≤◌, Bool, cond, true, false, List, length, map, set, slice_index, refl, sym, ap, ◌∙◌, subst, inl, inr, arith}
+use Rattle.std.proofs.Common.{◌≡◌, ◌≢◌, ℕ, ◌≤◌, Bool, cond, true, false, List, length, map, set, slice_index, refl, sym, subst, arith}
 use mathlib.Core.Option.{Option}
-use Rattle.wal_page.specs.Order.{end_position}
 use Rattle.wal_core.specs.declared.setup.Setup.{Setup}
-use Rattle.wal_core.specs.Words.{Opening, position_word, prev_word, lock_word, mapping_turn, write_turn, initialised_word, written_word, flushed_word, moment_word, down_word, end_word, ring_word, word_count, end_form}
-use Rattle.wal_core.specs.Views.{HasAt, Plain, Stage, View, reserving_of, working_of, flight_of, watching_of, mapper_of, confirmed_of, writer_of, writing_of, told_of}
+use Rattle.wal_core.specs.Words.{Opening, position_word, prev_word, written_word, flushed_word, down_word, word_count}
+use Rattle.wal_core.specs.Views.{HasAt, Plain, View, reserving_of, flight_of, writing_of}
 use Rattle.wal_core.specs.Ordered.{OrderHolds}
-use Rattle.wal_core.specs.Locked.{AreHeld, IsMappingTurn, IsWriteTurn, ProgressHolds}
-use Rattle.wal_core.specs.Ringed.{RingHolds}
-use Rattle.wal_core.specs.Paged.{PagesHold}
-use Rattle.wal_core.specs.Watched.{WatchHolds}
 use Rattle.wal_core.specs.Positioned.{PositionsHold}
-use Rattle.wal_core.specs.Durable.{DurabilityHolds}
 use Rattle.wal_core.specs.Steps.{Event, word_of_step, value_behind, view_behind}
 use Rattle.step_laws.specs.Kept.{number_met}
 use Rattle.wal_core.specs.Sound.{IsGrounded, IsSound}
 use Rattle.wal_core.proofs.Lists.{one_set, part_same}
-use Rattle.wal_core.proofs.WordLists.{word_else, locks_else, ends_before, ring_before, wide_still}
-use Rattle.lock_laws.proofs.HeldLaws.{held_same}
-use Rattle.lock_laws.proofs.ToldLaws.{told_same}
+use Rattle.wal_core.proofs.WordLists.{word_else, wide_still}
 
 -- a step of one pass: the state before, which keeps the invariant, and the word that it stores with
 -- its value and its pass's view behind it

@@ -1,16 +1,15 @@
 -- The reserved order behind a step of any kind.
-use Rattle.std.proofs.Common.{◌≡◌, ◌≢◌, ℕ, ◌+◌, ◌<◌, ◌≤◌, true, List, [], ◌∷◌, ◌++◌, map, set, slice_index, refl, sym, ap, ◌∙◌, subst, arith, eqb}
+use Rattle.std.proofs.Common.{◌≡◌, ℕ, ◌+◌, ◌≤◌, true, List, [], ◌∷◌, ◌++◌, map, set, slice_index, refl, sym, subst, arith, eqb}
 use mathlib.Core.Option.{Option, none, some}
 use Rattle.wal_page.specs.Order.{Entry}
-use Rattle.wal_core.specs.declared.setup.Setup.{Setup}
 use Rattle.wal_core.specs.Words.{position_word, prev_word, flushed_word}
 use Rattle.wal_core.specs.Views.{HasAt, Plain, Reserving, Hold, Idle, Turned, Out, Taken, View, reserving_of}
 use Rattle.wal_core.specs.Ordered.{OrderHolds}
-use Rattle.wal_core.specs.Moves.{Outcome, with_hold, with_stage, with_working, after_slot_out}
-use Rattle.wal_core.specs.Steps.{Event, MayStep, word_of_step, view_behind, load_position, take_write_turn, slot_out, slot_in, release_write_turn, lock_position, load_prev, store_prev, store_position, give_position_back, load_lock, take_lock, advance, release, load_end, store_word, load_word, load_written, load_flushed, load_moment, load_down, store_written, store_moment, store_flushed, set_down, take_mapping_turn, load_initialised, clear_end, zero_word, publish_end, publish_initialised, release_mapping_turn, create, write, sync, with_slot, with_call_on}
+use Rattle.wal_core.specs.Moves.{with_hold, with_stage, with_working}
+use Rattle.wal_core.specs.Steps.{Event, MayStep, word_of_step, load_position, take_write_turn, slot_out, slot_in, release_write_turn, lock_position, load_prev, store_prev, store_position, give_position_back, load_lock, take_lock, advance, release, load_end, store_word, load_word, load_written, load_flushed, load_moment, load_down, store_written, store_moment, store_flushed, set_down, take_mapping_turn, load_initialised, clear_end, zero_word, publish_end, publish_initialised, release_mapping_turn, create, write, sync, with_slot, with_call_on}
 use Rattle.wal_core.specs.Sound.{IsSound}
 use Rattle.wal_core.proofs.Lists.{part_at, part_set}
-use Rattle.wal_core.proofs.WordLists.{single_set, word_else, word_again}
+use Rattle.wal_core.proofs.WordLists.{single_set, word_else}
 use Rattle.order_laws.specs.Parts.{TakesPart, HoldsWith}
 use Rattle.order_laws.proofs.OrderKept as order
 use Rattle.position_laws.proofs.PositionKept.{flushed_is_reserved}
@@ -43,10 +42,10 @@ module _ (words : List ℕ) (home : Option Plain) (views : List View) (id : ℕ)
         → HoldsWith es s.n (prev_word words) (map reserving_of views) id v s.w → HasOrder es
     position_stored es is holds =
         let stored : position_word (later s) ≡ s.n =
-            subst (λ (i : ℕ). slice_index (set words i s.n) 0 ≡ s.n) (sym is)
-            (single_set words (v.opening).setup k.wide 0 s.n (omega arith)) in
+        subst (λ (i : ℕ). slice_index (set words i s.n) 0 ≡ s.n) (sym is)
+        (single_set words (v.opening).setup k.wide 0 s.n (omega arith)) in
         let prev : prev_word (later s) ≡ prev_word words =
-            word_else words s.i s.n 1 (λ e. omega arith) in
+        word_else words s.i s.n 1 (λ e. omega arith) in
         subst (λ (x : ℕ × ℕ × List Reserving).
         OrderHolds (v.opening).setup (v.opening).found es x.0 x.1 x.2)
         (λ j. (sym stored j, sym prev j, sym (part_set reserving_of views id s.w) j)) holds
@@ -56,10 +55,10 @@ module _ (words : List ℕ) (home : Option Plain) (views : List View) (id : ℕ)
         → HasOrder k.order
     prev_stored is holds =
         let stored : prev_word (later s) ≡ s.n =
-            subst (λ (i : ℕ). slice_index (set words i s.n) 1 ≡ s.n) (sym is)
-            (single_set words (v.opening).setup k.wide 1 s.n (omega arith)) in
+        subst (λ (i : ℕ). slice_index (set words i s.n) 1 ≡ s.n) (sym is)
+        (single_set words (v.opening).setup k.wide 1 s.n (omega arith)) in
         let position : position_word (later s) ≡ position_word words =
-            word_else words s.i s.n 0 (λ e. omega arith) in
+        word_else words s.i s.n 0 (λ e. omega arith) in
         subst (λ (x : ℕ × ℕ × List Reserving).
         OrderHolds (v.opening).setup (v.opening).found k.order x.0 x.1 x.2)
         (λ j. (sym position j, sym stored j, sym (part_set reserving_of views id s.w) j)) holds
@@ -70,9 +69,9 @@ module _ (words : List ℕ) (home : Option Plain) (views : List View) (id : ℕ)
         → HasOrder k.order
     neither_stored above holds =
         let position : position_word (later s) ≡ position_word words =
-            word_else words s.i s.n 0 (λ e. omega arith) in
+        word_else words s.i s.n 0 (λ e. omega arith) in
         let prev : prev_word (later s) ≡ prev_word words =
-            word_else words s.i s.n 1 (λ e. omega arith) in
+        word_else words s.i s.n 1 (λ e. omega arith) in
         subst (λ (x : ℕ × ℕ × List Reserving).
         OrderHolds (v.opening).setup (v.opening).found k.order x.0 x.1 x.2)
         (λ j. (sym position j, sym prev j, sym (part_set reserving_of views id s.w) j)) holds

@@ -1,13 +1,13 @@
 -- The positions behind a step of any kind.
-use Rattle.std.proofs.Common.{◌≡◌, ◌≢◌, ℕ, ◌+◌, ◌<◌, ◌≤◌, Bool, cond, true, Contains, List, [], ◌∷◌, ◌++◌, map, set, slice_index, refl, sym, ap, ◌∙◌, subst, arith, eqb}
+use Rattle.std.proofs.Common.{◌≡◌, ◌≢◌, ℕ, ◌+◌, ◌<◌, true, Contains, List, [], ◌∷◌, ◌++◌, map, set, slice_index, refl, sym, ap, subst, arith, eqb}
 use mathlib.Core.Option.{Option}
 use Rattle.wal_page.specs.Order.{Entry}
 use Rattle.wal_core.specs.declared.setup.Setup.{Setup}
 use Rattle.wal_core.specs.Words.{lock_word, position_word, prev_word, written_word, flushed_word, moment_word, down_word}
-use Rattle.wal_core.specs.Views.{HasAt, Plain, Flight, Writing, Locked, Taken, View, reserving_of, working_of, flight_of, watching_of, writing_of, told_of}
+use Rattle.wal_core.specs.Views.{HasAt, Plain, Flight, Writing, Locked, Taken, View, reserving_of, working_of, flight_of, writing_of, told_of}
 use Rattle.wal_core.specs.Positioned.{PositionsHold}
 use Rattle.wal_core.specs.Moves.{with_place, with_stage, with_working}
-use Rattle.wal_core.specs.Steps.{Event, MayStep, word_of_step, view_behind, home_behind, load_position, take_write_turn, slot_out, slot_in, release_write_turn, lock_position, load_prev, store_prev, store_position, give_position_back, load_lock, take_lock, advance, release, load_end, store_word, load_word, load_written, load_flushed, load_moment, load_down, store_written, store_moment, store_flushed, set_down, take_mapping_turn, load_initialised, clear_end, zero_word, publish_end, publish_initialised, release_mapping_turn, create, write, sync}
+use Rattle.wal_core.specs.Steps.{Event, MayStep, word_of_step, home_behind, load_position, take_write_turn, slot_out, slot_in, release_write_turn, lock_position, load_prev, store_prev, store_position, give_position_back, load_lock, take_lock, advance, release, load_end, store_word, load_word, load_written, load_flushed, load_moment, load_down, store_written, store_moment, store_flushed, set_down, take_mapping_turn, load_initialised, clear_end, zero_word, publish_end, publish_initialised, release_mapping_turn, create, write, sync}
 use Rattle.wal_core.specs.Sound.{IsSound}
 use Rattle.wal_core.proofs.Lists.{part_at, part_set}
 use Rattle.wal_core.proofs.WordLists.{single_set, word_else, word_again}
@@ -44,8 +44,13 @@ module _ (words : List ℕ) (home : Option Plain) (views : List View) (id : ℕ)
     with_words es writer written flushed down is_written is_flushed is_down holds =
         subst (λ (x : ℕ × ℕ × ℕ × List Flight × List Writing).
         PositionsHold setup es x.0 x.1 x.2 (home_behind v e home) writer x.3 x.4)
-        (λ j. (sym is_written j, sym is_flushed j, sym is_down j,
-        sym (part_set flight_of views id s.w) j, sym (part_set writing_of views id s.w) j)) holds
+        (λ j. (
+          sym is_written j,
+          sym is_flushed j,
+          sym is_down j,
+          sym (part_set flight_of views id s.w) j,
+          sym (part_set writing_of views id s.w) j,
+        )) holds
 
     same : (j : ℕ) → j ≢ s.i → slice_index (later s) j ≡ slice_index words j
     same j apart = word_else words s.i s.n j apart

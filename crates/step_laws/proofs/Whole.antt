@@ -1,7 +1,7 @@
 -- The invariant behind a step of any kind: each part by its own laws.
-use Rattle.std.proofs.Common.{◌≡◌, ◌≢◌, ℕ, ◌+◌, ◌<◌, ◌≤◌, Bool, cond, true, false, List, [], ◌∷◌, ◌++◌, map, set, slice_index, refl, sym, ap, ◌∙◌, subst, arith, eqb, ⊎_elim}
+use Rattle.std.proofs.Common.{◌≡◌, ℕ, ◌+◌, Bool, cond, true, false, List, [], ◌∷◌, ◌++◌, slice_index, refl, sym, ap, ◌∙◌, subst, eqb}
 use mathlib.Core.Option.{Option, none, some}
-use Rattle.wal_core.specs.Views.{HasAt, Plain, Hold, Idle, Turned, Out, Place, Stage, Away, Taken, Looked, Ready, Zeroing, Published, Locked, View, reserving_of, working_of, mapper_of}
+use Rattle.wal_core.specs.Views.{HasAt, Plain, Hold, Idle, Turned, Out, Stage, Away, Taken, Looked, Ready, Zeroing, Published, Locked, View, mapper_of}
 use Rattle.wal_core.specs.Locked.{HasTurn}
 use Rattle.wal_core.specs.Moves.{entry_at, with_hold, with_place, with_stage, with_working, looked, ready}
 use Rattle.wal_core.specs.Steps.{Event, MayStep, place_at, word_of_step, view_behind, load_position, take_write_turn, slot_out, slot_in, release_write_turn, lock_position, load_prev, store_prev, store_position, give_position_back, load_lock, take_lock, advance, release, load_end, store_word, load_word, load_written, load_flushed, load_moment, load_down, store_written, store_moment, store_flushed, set_down, take_mapping_turn, load_initialised, clear_end, zero_word, publish_end, publish_initialised, release_mapping_turn, create, write, sync, with_slot, with_call_on}
@@ -14,7 +14,7 @@ use Rattle.ring_laws.specs.Behind.{HasRing, HasPages, memory_stored}
 use Rattle.ring_laws.proofs.LeftSteps as left
 use Rattle.ring_laws.proofs.PageSteps as page
 use Rattle.ring_laws.proofs.RingSteps as ring
-use Rattle.durable_laws.specs.Behind.{HasDurable, LoadsStaged}
+use Rattle.durable_laws.specs.Behind.{HasDurable}
 use Rattle.durable_laws.proofs.SoundSteps as durable
 use Rattle.step_laws.specs.Kept.{KeepsSound}
 use Rattle.step_laws.proofs.Frames.{moved, grounded_live, grounded_stays, wide_stays}

@@ -1,6 +1,7 @@
--- Runs of the machine: steps of any passes, one after another.
+-- Runs of the machine: so many steps of any passes, one after another.
+use Rattle.std.specs.Prelude.{◌≡◌, ℕ, zero, suc}
 use Rattle.wal_core.specs.Steps.{State, Step}
 
-pub data Runs : State → State → Type 0 where
-  rests : (s : State) → Runs s s
-  goes_on : (s t u : State) → Runs s t → Step t u → Runs s u
+abbrev pub Runs : ℕ → State → State → Type 0
+Runs zero s t = s ≡ t
+Runs (suc n) s t = (u : State) × Runs n s u × Step u t

@@ -22,6 +22,7 @@ pub fn every_kind_keeps_the_invariant()
 pub fn every_step_keeps_the_invariant()
     ensures step { (opening : Opening) (s t : State) → IsSound opening s.words s.home s.views
         → Step s t → IsSound opening t.words t.home t.views }
-    ensures run { (opening : Opening) (s t : State) → IsSound opening s.words s.home s.views
-        → Runs s t → IsSound opening t.words t.home t.views }
+    ensures run { (opening : Opening) (n : ℕ) (s t : State)
+        → IsSound opening s.words s.home s.views → Runs n s t
+        → IsSound opening t.words t.home t.views }
 {}
