@@ -1,5 +1,5 @@
 -- A log's reader as contracts see it: where it stands, and what it gives from there on.
-use Rattle.std.specs.Prelude.{◌≡◌, ℕ, ◌<◌, List, [], ◌∷◌, Option, option_map, Result, Ok, Err}
+use Rattle.std.specs.Prelude.{◌≡◌, ℕ, ◌<◌, ◌≤◌, ◌^◌, List, [], ◌∷◌, Option, option_map, Result, Ok, Err}
 use Rattle.wal_reader.specs.declared.found.FoundRecord.{FoundRecord}
 use Rattle.wal_reader.specs.declared.found.Answer.{Answer}
 use Rattle.wal_reader.specs.declared.found.Answer.TheVariants as answers
@@ -101,8 +101,9 @@ OnEnd (Ok (steps.Record start end prev total value)) fact = Unit {0}
 OnEnd (Ok (steps.End at)) fact = fact
 OnEnd (Err error) fact = Unit {0}
 
--- a reader that needs no page to answer: it has stopped, or it is where nothing is read
+-- a reader that needs no page to answer: it has stopped, or it is where nothing is read, or before
+-- it has begun the address that it looks for lies in a page that ends above address 2 ^ 60
 abbrev pub NeedsNoPage : ReaderState → Standing → Type 0
-NeedsNoPage state NotBegun = ⊥
+NeedsNoPage state NotBegun = 2 ^ 60 ≤ state.start
 NeedsNoPage state (At at) = IsOutOfReach state.size state.end at.position
 NeedsNoPage state (Stopped stop) = Unit {0}

@@ -1,6 +1,6 @@
 //! The next record that a reader gives.
 
-ghost use Rattle.std.specs.Prelude.{◌≡◌, ◌<◌, option_map, Some, IfOk, IfSome};
+ghost use Rattle.std.specs.Prelude.{◌≡◌, ◌<◌, ◌≤◌, ◌^◌, option_map, Some, None, IfOk, IfSome};
 ghost use Rattle.segment_disk.specs.Tape.{IsUncalled};
 ghost use Rattle.wal_reader.specs.PageCursor.{Sees};
 ghost use Rattle.wal_reader.specs.Pages.{Pages};
@@ -44,6 +44,7 @@ pub(crate) fn next_given<D: Disk>(
         buffers.old.room.items buffers.new.room.items }
     ensures unread { IfSome from (λ at. IsOutOfReach buffers.old.cache.geometry
         (option_map (λ e. e.0) end) at.position → disk.new ≡ disk.old) }
+    ensures unbegun { from ≡ None → 2 ^ 60 ≤ start.0 → disk.new ≡ disk.old }
     ensures spelled_there { (pages : Pages) → Sees (D.tape disk.old) buffers.old.cache pages
         → IfOk result (λ r. IsSpelledIn buffers.old.cache.geometry pages r.0) }
 

@@ -98,7 +98,7 @@ returns-in-Err-Told-clause-leaves g c =
 left_alone : (g : Over) (c : After-next_given g) → NeedsNoPage (reader_state c.args.self.now) c.args.self.now.standing → c.next_given.new.disk ≡ c.args.disk.now
 left_alone g c needs =
     elim c.match-self.branch [
-      | in-NotBegun w ↦ absurd (rw w.in-NotBegun.is at needs)
+      | in-NotBegun w ↦ c.next_given.ensures.unbegun w.from-is (rw w.in-NotBegun.is at needs)
       | in-At w ↦
           (let out : IsOutOfReach c.args.self.now.geometry (option_map (λ (e : Lsn). e.0) c.args.self.now.end) w.in-At.at.position = rw w.in-At.is at needs in
           let unread = rw w.from-is at c.next_given.ensures.unread in
