@@ -38,8 +38,8 @@ abbrev pub behind_last : ℕ → ℕ → ℕ → List Entry → ℕ
 behind_last size backend behind [] = behind
 behind_last size backend behind (e ∷ es) =
     behind_last size backend
-    (if option_map_or (λ pass. pass == backend) e.pass false then position_behind size e else behind)
-    es
+    (if option_map_or (λ pass. pass == backend) e.pass false
+    then position_behind size e else behind) es
 
 -- the address at which the last of a backend's records ends, segment 1's start where it has none
 abbrev pub own_end : ℕ → ℕ → List Entry → ℕ

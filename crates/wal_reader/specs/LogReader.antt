@@ -108,9 +108,9 @@ abbrev pub reader_page : Reader → Option ℕ
 reader_page reader = page_in reader.buffers
 
 -- a reader that needs no page beside the one that it holds: it has stopped, or it is where nothing
--- is read, or it stands in the last page that is read and holds it, so that a record which continues
--- behind that page is not read on; or before it has begun the address that it looks for lies in a
--- page that ends above address 2 ^ 60
+-- is read, or it stands in the last page that is read and holds it, so that a record which
+-- continues behind that page is not read on; or before it has begun the address that it looks for
+-- lies in a page that ends above address 2 ^ 60
 abbrev pub NeedsNoPage : ReaderState → Option ℕ → Standing → Type 0
 NeedsNoPage state held NotBegun = 2 ^ 60 ≤ state.start
 NeedsNoPage state held (At at) =
