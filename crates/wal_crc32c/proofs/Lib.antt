@@ -1,3 +1,6 @@
+mod HalfBytes
+mod Lanes
 mod Lookups
 mod Remainders
+mod Spread
 mod Words
