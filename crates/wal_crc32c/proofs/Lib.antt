@@ -1,5 +1,4 @@
 mod HalfBytes
-mod Lanes
 mod Lookups
 mod Remainders
 mod Spread

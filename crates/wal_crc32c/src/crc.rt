@@ -59,7 +59,6 @@ fn after_bytes(remainder: u32, bytes: &[u8]) -> u32
     }
 }
 
-#[inline(never)]
 fn after_long_bytes(remainder: u32, bytes: &[u8]) -> u32
     ensures { result ≡ fold after_byte remainder bytes.now }
 {

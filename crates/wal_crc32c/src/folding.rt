@@ -1,7 +1,7 @@
 //! Long pieces by vectors: six of sixteen bytes are under way, and what the halves of each byte
 //! leave is looked up, sixteen at a time, and carried over onto the ninety-six bytes behind.
 
-ghost use Rattle.std.specs.Prelude.{◌≡◌, ℕ, ◌+◌, ◌-◌, ◌*◌, ◌/◌, ◌%◌, ◌<◌, ◌≤◌, ◌++◌, map, slice_index, fold};
+ghost use Rattle.std.specs.Prelude.{◌≡◌, ℕ, ◌+◌, ◌-◌, ◌*◌, ◌<◌, ◌≤◌, ◌++◌, map, fold};
 ghost use Rattle.std.specs.Int.Bits.{bit_xor};
 ghost use lib.Lanes.{chunk};
 ghost use Rattle.wal_crc32c.specs.Crc32c.{after_byte, times_power};
@@ -9,6 +9,7 @@ ghost use Rattle.wal_crc32c.specs.Folding.{pair_at, remainder, six_remainder};
 
 use crate::carries::CARRIES;
 use crate::crc::after_sixteen_bytes;
+use half_bytes::{high_looked_up, low_looked_up};
 use std::simd::prelude::*;
 
 // Six vectors, one behind another.
@@ -20,20 +21,6 @@ struct Six {
     v3: u8x16,
     v4: u8x16,
     v5: u8x16,
-}
-
-#[inline(always)]
-fn low_looked_up(table: u8x16, v: u8x16) -> u8x16
-    ensures { result ≡ map (λ x. slice_index table (x % 16)) v }
-{
-    table.swizzle_dyn(v & u8x16::splat(15))
-}
-
-#[inline(always)]
-fn high_looked_up(table: u8x16, v: u8x16) -> u8x16
-    ensures { result ≡ map (λ x. slice_index table (x / 16)) v }
-{
-    table.swizzle_dyn(v >> u8x16::splat(4))
 }
 
 #[inline(always)]
