@@ -1,9 +1,9 @@
 //! What the halves of bytes carry over.
 
 /// For each of six vectors the four tables of a byte's low half, and the four of its high half: the
-/// bytes which, put at the same place of vectors 0, 1, 3 and 5 of the six behind, leave at their end
-/// what the half leaves there. They are solutions of 32 equations of bits; with the four vectors at
-/// these places each half has one.
+/// bytes which, put at the same place of vectors 0, 1, 3 and 5 of the six behind, leave at their
+/// end what the half leaves there. They solve 32 equations of bits, and at these places each half
+/// has one solution.
 pub(crate) static CARRIES: [[[u8; 16]; 8]; 6] = [
     [
         [

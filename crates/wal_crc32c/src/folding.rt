@@ -90,6 +90,7 @@ fn after_block(before: Six, block: &[u8; 96]) -> Six
     carry(5, before.v5, next)
 }
 
+// A vector with a remainder before it, which its first four bytes take in.
 #[inline(always)]
 fn mixed(before: u32, v: u8x16) -> u8x16
     ensures { remainder result ≡ bit_xor (times_power 128 before) (remainder v) }
