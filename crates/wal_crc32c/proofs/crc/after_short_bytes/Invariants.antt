@@ -1,6 +1,6 @@
 use Rattle.std.proofs.Common.{◌≡◌, fold, length}
 use Rattle.wal_crc32c.specs.Crc32c.{after_byte}
-use Rattle.wal_crc32c.proofs.crc.after_bytes.Given as goal
+use Rattle.wal_crc32c.proofs.crc.after_short_bytes.Given as goal
 
 -- what is absorbed so far and the rest are the whole
 abbrev pub invariant-loop-sixteen : goal.invariant-loop-sixteen
