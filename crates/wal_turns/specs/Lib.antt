@@ -1,2 +1,3 @@
 pub mod Doing
 pub mod Turned
+pub mod Standing

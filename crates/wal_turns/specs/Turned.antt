@@ -397,14 +397,21 @@ module _ (m : Machine) (number : ℕ) (b : Backend) (v : View) (ask : Ask) where
       else (Waits (word_waited m v ask b.doing)
           (slice_index (m.state).words (word_waited m v ask b.doing)), m))
 
-abbrev pub turned : Machine → ℕ → Turn × Machine
-turned m number = of_backend (slice_get m.backends number) (get_elem? (m.state).views (number + 1))
-  where
-    of_ask : Backend → View → Option Ask → Turn × Machine
-    of_ask b v None = (AllDone, m)
-    of_ask b v (Some ask) = turned_by m number b v ask
+module _ (m : Machine) (number : ℕ) where
+  abbrev pub turned_for : Backend → View → Option Ask → Turn × Machine
+  turned_for b v None = (AllDone, m)
+  turned_for b v (Some ask) = turned_by m number b v ask
 
-    of_backend : Option Backend → mathlib.Core.Option.Option View → Turn × Machine
-    of_backend None view = (AllDone, m)
-    of_backend (Some b) none = (AllDone, m)
-    of_backend (Some b) (some v) = of_ask b v (slice_get b.asks b.answered)
+  abbrev pub turned_of : Option Backend → mathlib.Core.Option.Option View → Turn × Machine
+  turned_of None view = (AllDone, m)
+  turned_of (Some b) none = (AllDone, m)
+  turned_of (Some b) (some v) = turned_for b v (slice_get b.asks b.answered)
+
+abbrev pub turned : Machine → ℕ → Turn × Machine
+turned m number =
+    turned_of m number (slice_get m.backends number) (get_elem? (m.state).views (number + 1))
+
+-- the machine behind the turns of a schedule, one after another
+abbrev pub run_of : Machine → List ℕ → Machine
+run_of m [] = m
+run_of m (number ∷ schedule) = run_of (turned m number).1 schedule

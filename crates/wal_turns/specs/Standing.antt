@@ -1,0 +1,226 @@
+-- How a backend's view stands at its place in the order of steps, and a machine that runs.
+use Rattle.std.specs.Prelude.{◌≡◌, ◌≢◌, ◌⊎◌, ℕ, zero, suc, ◌+◌, ◌*◌, ◌/◌, ◌%◌, ◌<◌, ◌≤◌, Bool, true, false, All, List, [], ◌∷◌, slice_get, Some}
+use mathlib.Core.Option.{none, some}
+use Rattle.byte_position.specs.Geometry.{pages_of}
+use Rattle.record_spelling.specs.Spelling.{IsWritable}
+use Rattle.wal_page.specs.EntryWords.{address_of_word, words_owned}
+use Rattle.wal_core.specs.declared.setup.Setup.{Setup}
+use Rattle.wal_core.specs.Words.{down_word}
+use Rattle.wal_core.specs.Views.{Place, Free, Locked, Loaded, Stored, Copy, Flight, Landed, Copying, Stage, Away, Taken, Looked, Ready, Zeroing, Published, Plain, Lent, Hold, Idle, Turned as HasTurned, Out, View}
+use Rattle.wal_core.specs.Paged.{IsOpen}
+use Rattle.wal_core.specs.Steps.{IsLive, IsResting}
+use Rattle.wal_core.specs.Sound.{IsSound}
+use Rattle.wal_turns.specs.Doing.{Ask, Inserts, Commits, Flushes, Purpose, ForLine, ForPage, Doing, Begins, Tries, Reserves, Looks, Copies, Maps, GivesTurn, Tells, Releases, FlushBegins, LoadsPosition, LoadsFlushed, LoadsMoment, Visits, TakesTurn, LoadsDown, TakesOut, LoadsPage, Creates, Writes, SyncsFull, SyncsLast, StoresWritten, StoresMoment, StoresFlushed, SetsDown, PutsBack, GivesWriteTurn, Backend, Machine}
+use Rattle.wal_turns.specs.Turned.{fits, own_end, next_address}
+
+-- ---- what a line asks for
+
+-- the record that a line inserts can be written; a flush has none
+abbrev pub IsRecord : Ask → Type 0
+IsRecord (Inserts value) = IsWritable value
+IsRecord (Commits value) = IsWritable value
+IsRecord Flushes = ⊥
+
+abbrev pub IsLine : Ask → Type 0
+IsLine (Inserts value) = IsWritable value
+IsLine (Commits value) = IsWritable value
+IsLine Flushes = Unit {0}
+
+-- ---- the writer
+
+-- the segment that is written next
+abbrev pub segment_next : ℕ → Plain → ℕ
+segment_next size w = w.written / 8192 / pages_of size
+
+-- nothing waits for a sync but writes to that segment, which is made
+abbrev pub AwaitsOne : ℕ → Plain → Type 0
+AwaitsOne size w = (w.waiting ≡ none)
+    ⊎ ((w.waiting ≡ some (segment_next size w)) × (segment_next size w ≤ w.made))
+
+-- no call failed
+pub record IsUp (size : ℕ) (w : Plain) : Type 0 where
+  pub up : w.fault ≡ none
+  pub awaits : AwaitsOne size w
+
+-- the first words of a page were loaded, the last of them last
+abbrev pub AreLoaded : ℕ → ℕ → List (ℕ × ℕ) → Type 0
+AreLoaded page zero staged = Unit {0}
+AreLoaded page (suc k) [] = ⊥
+AreLoaded page (suc k) (s ∷ ss) = (s.0 ≡ page * 1024 + k) × AreLoaded page k ss
+
+-- a page is left to write, and so many of its words are loaded
+pub record LoadsOn (size k : ℕ) (l : Lent) : Type 0 where
+  pub writer_up : IsUp size l.writer
+  pub left : (l.writer).written < l.known
+  pub loaded : AreLoaded ((l.writer).written / 8192) k l.staged
+
+-- a call failed, by a count of faults that is not 0
+abbrev pub IsFailed : Lent → Type 0
+IsFailed l = (f : ℕ) × ((l.writer).fault ≡ some (suc f))
+
+abbrev pub IsSynced : Lent → Type 0
+IsSynced l = ((l.writer).fault ≡ none) × ((l.writer).waiting ≡ none)
+
+abbrev pub AwaitsSync : Lent → Type 0
+AwaitsSync l = ((l.writer).fault ≡ none)
+    × ((segment : ℕ) × ((l.writer).waiting ≡ some segment))
+
+abbrev pub IsStored : Lent → Type 0
+IsStored l = l.stored ≡ (l.writer).written
+
+-- ---- a view
+
+-- where a view is with a reservation, with its locks and its copy, with mapping and with the turn
+-- to write
+pub record IsPosed (place : Place) (locks : List ℕ) (flight : Flight) (stage : Stage) (hold : Hold)
+    (v : View) : Type 0 where
+  pub place_is : (v.reserving).place ≡ place
+  pub locks_are : (v.working).locks ≡ locks
+  pub flight_is : (v.working).flight ≡ flight
+  pub stage_is : (v.mapping).stage ≡ stage
+  pub hold_is : (v.writing).hold ≡ hold
+
+-- an entry is copied under this one lock
+pub record IsUnder (size lock : ℕ) (c : Copy) : Type 0 where
+  pub lock_is : c.lock ≡ lock
+  pub aligned : address_of_word size c.entry 0 % 8 ≡ 0
+
+-- one that is copied on, on a page whose end was met
+abbrev pub IsLeft : ℕ → Copy → Type 0
+IsLeft size c = c.copied < words_owned size c.entry
+
+abbrev pub IsMet : ℕ → ℕ → Copy → Type 0
+IsMet size confirmed c =
+    (address_of_word size c.entry c.copied / 8192 + 1) * 8192 ≤ confirmed
+
+abbrev pub IsWhole : ℕ → Copy → Type 0
+IsWhole size c = c.copied ≡ words_owned size c.entry
+
+module _ (v : View) where
+  abbrev setup : Setup
+  setup = (v.opening).setup
+
+  abbrev size : ℕ
+  size = setup.segment_size
+
+  -- it met the word of a failed disk, or set it
+  abbrev pub KnowsDown : Type 0
+  KnowsDown = ((v.writing).down_met ≢ 0) ⊎ ((v.writing).down_set ≢ 0)
+
+  -- at a line's begin: about nothing, or at a failed disk
+  abbrev pub MayBegin : Type 0
+  MayBegin = IsResting v ⊎ KnowsDown
+
+  -- behind a position that it locked the record fits
+  abbrev pub IsReserving : Ask → Place → Type 0
+  IsReserving ask Free = Unit {0}
+  IsReserving ask (Locked at) = Unit {0}
+  IsReserving ask (Loaded at prev) = fits v ask at ≡ true
+  IsReserving ask (Stored at prev) = fits v ask at ≡ true
+
+  -- it copies an entry under this lock
+  abbrev pub CopiesUnder : ℕ → Stage → Hold → (Copy → Type 0) → Type 0
+  CopiesUnder lock stage hold P = (c : Copy) × IsPosed Free (lock ∷ []) (Copying c) stage hold v
+      × IsUnder size lock c × P c
+
+  -- with the page that it maps: the one that the buffer held is written; not too much is zeroed
+  abbrev pub MapsOn : Stage → Type 0
+  MapsOn Away = Unit {0}
+  MapsOn Taken = Unit {0}
+  MapsOn (Looked at) = Unit {0}
+  MapsOn (Ready at written) = at + 8192 ≤ written + setup.ring_pages * 8192
+  MapsOn (Zeroing at count) = count ≤ 1024
+  MapsOn (Published at) = Unit {0}
+
+  -- it writes, for a line that flushes or for an insert
+  abbrev pub WritesFor : Purpose → Ask → Hold → Type 0
+  WritesFor ForLine ask hold = IsPosed Free [] Landed Away hold v
+  WritesFor (ForPage lock end) ask hold =
+      CopiesUnder lock Away hold (IsLeft size) × IsRecord ask
+
+  -- with the writer in hand
+  abbrev pub HasWriter : Purpose → Ask → (Lent → Type 0) → Type 0
+  HasWriter purpose ask P = (l : Lent) × WritesFor purpose ask (Out l) × P l
+
+  -- ---- at each place
+
+  abbrev pub IsSyncedFor : Purpose → Lent → Type 0
+  IsSyncedFor ForLine l = IsSynced l
+  IsSyncedFor (ForPage lock end) l = IsUp size l.writer
+
+  abbrev pub StandsToRelease : ℕ → Ask → Bool → Type 0
+  StandsToRelease lock ask true = IsPosed Free (lock ∷ []) Landed Away Idle v
+  StandsToRelease lock ask false = CopiesUnder lock Away Idle (IsWhole size) × IsRecord ask
+
+  abbrev pub StandsToPut : Purpose → Ask → Bool → Type 0
+  StandsToPut purpose ask false =
+      HasWriter purpose ask (λ l. IsUp size l.writer × IsStored l)
+  StandsToPut purpose ask true = HasWriter purpose ask IsFailed × ((v.writing).down_set ≢ 0)
+
+  abbrev pub StandsToGive : Purpose → Ask → Bool → Type 0
+  StandsToGive purpose ask false = WritesFor purpose ask HasTurned
+  StandsToGive purpose ask true =
+      WritesFor purpose ask HasTurned × ((v.writing).down_set ≢ 0)
+
+  abbrev pub StandsAt : Doing → Ask → Type 0
+  StandsAt Begins ask = MayBegin × IsRecord ask
+  StandsAt (Tries n) ask = IsPosed Free [] Landed Away Idle v × IsRecord ask
+  StandsAt (Reserves lock) ask = ((p : Place) × IsPosed p (lock ∷ []) Landed Away Idle v
+      × IsReserving ask p) × IsRecord ask
+  StandsAt (Looks lock) ask = CopiesUnder lock Away Idle (IsLeft size) × IsRecord ask
+  StandsAt (Copies lock) ask = CopiesUnder lock Away Idle (λ c.
+      IsLeft size c × IsMet size (v.mapping).confirmed c) × IsRecord ask
+  StandsAt (Maps lock) ask = ((s : Stage) × CopiesUnder lock s Idle (IsLeft size) × MapsOn s)
+      × IsRecord ask
+  StandsAt (GivesTurn lock end) ask = ((s : Stage) × CopiesUnder lock s Idle (IsLeft size)
+      × IsOpen s) × IsRecord ask
+  StandsAt (Tells lock end) ask = CopiesUnder lock Away Idle (IsLeft size) × IsRecord ask
+  StandsAt (Releases lock full) ask = StandsToRelease lock ask full
+  StandsAt FlushBegins ask = MayBegin
+  StandsAt LoadsPosition ask = IsPosed Free [] Landed Away Idle v
+  StandsAt LoadsFlushed ask = IsPosed Free [] Landed Away Idle v
+  StandsAt LoadsMoment ask = IsPosed Free [] Landed Away Idle v
+  StandsAt (Visits purpose lock) ask = WritesFor purpose ask Idle × (lock < 8)
+  StandsAt (TakesTurn purpose) ask = WritesFor purpose ask Idle
+  StandsAt (LoadsDown purpose) ask = WritesFor purpose ask HasTurned
+  StandsAt (TakesOut purpose) ask = WritesFor purpose ask HasTurned
+  StandsAt (LoadsPage purpose k) ask = HasWriter purpose ask (LoadsOn size k) × (k < 1024)
+  StandsAt (Creates purpose) ask = HasWriter purpose ask (λ l.
+      LoadsOn size 1024 l × ((l.writer).made < segment_next size l.writer))
+  StandsAt (Writes purpose) ask = HasWriter purpose ask (λ l.
+      LoadsOn size 1024 l × (segment_next size l.writer ≤ (l.writer).made))
+  StandsAt (SyncsFull purpose) ask = HasWriter purpose ask AwaitsSync
+  StandsAt SyncsLast ask = HasWriter ForLine ask AwaitsSync
+  StandsAt (StoresWritten purpose) ask = HasWriter purpose ask (IsSyncedFor purpose)
+  StandsAt StoresMoment ask = HasWriter ForLine ask (λ l. IsSynced l × IsStored l)
+  StandsAt StoresFlushed ask = HasWriter ForLine ask (λ l.
+      IsSynced l × IsStored l × (l.hard ≡ (l.writer).written))
+  StandsAt (SetsDown purpose) ask = HasWriter purpose ask IsFailed
+  StandsAt (PutsBack purpose failed) ask = StandsToPut purpose ask failed
+  StandsAt (GivesWriteTurn purpose failed) ask = StandsToGive purpose ask failed
+
+-- ---- a machine that runs
+
+-- a backend stands where it is, while a line is left
+abbrev pub StandsFor : Backend → View → Type 0
+StandsFor b v = (ask : Ask) → slice_get b.asks b.answered ≡ Some ask → StandsAt v b.doing ask
+
+-- it takes the writer out
+abbrev pub TakesWriter : Doing → Type 0
+TakesWriter doing = (purpose : Purpose) × (doing ≡ TakesOut purpose)
+
+abbrev pub HasBackend : Machine → ℕ → Backend → Type 0
+HasBackend m number b = slice_get m.backends number ≡ Some b
+
+-- Its state keeps the invariant; each backend's lines can be written, and its view, number b's at
+-- b + 1, is live and stands at its place. The writer at home, unless a call failed, awaits a sync of
+-- one segment at most, and who is to take it out has met no failed disk
+pub record IsRunning (m : Machine) : Type 0 where
+  pub sound : IsSound m.opening (m.state).words (m.state).home (m.state).views
+  pub lines : (number : ℕ) (b : Backend) → HasBackend m number b → All IsLine b.asks
+  pub views : (number : ℕ) (b : Backend) → HasBackend m number b
+      → (v : View) × IsLive m.state (number + 1) v × StandsFor b v
+  pub at_home : (w : Plain) → (m.state).home ≡ some w → w.fault ≡ none
+      → AwaitsOne ((m.opening).setup).segment_size w
+  pub taken_up : (number : ℕ) (b : Backend) → HasBackend m number b → TakesWriter b.doing
+      → down_word (m.state).words ≡ 0
