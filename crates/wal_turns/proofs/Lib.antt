@@ -1,0 +1,4 @@
+pub mod Poses
+pub mod InsertPlaces
+pub mod MapPlaces
+pub mod FlushPlaces

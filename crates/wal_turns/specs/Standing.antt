@@ -80,10 +80,10 @@ pub record IsPosed (place : Place) (locks : List ℕ) (flight : Flight) (stage :
   pub stage_is : (v.mapping).stage ≡ stage
   pub hold_is : (v.writing).hold ≡ hold
 
--- an entry is copied under this one lock
-pub record IsUnder (size lock : ℕ) (c : Copy) : Type 0 where
+-- an entry, which starts at a whole word, is copied under this one lock
+pub record IsUnder (lock : ℕ) (c : Copy) : Type 0 where
   pub lock_is : c.lock ≡ lock
-  pub aligned : address_of_word size c.entry 0 % 8 ≡ 0
+  pub whole : (c.entry).start % 8 ≡ 0
 
 -- one that is copied on, on a page whose end was met
 abbrev pub IsLeft : ℕ → Copy → Type 0
@@ -121,7 +121,7 @@ module _ (v : View) where
   -- it copies an entry under this lock
   abbrev pub CopiesUnder : ℕ → Stage → Hold → (Copy → Type 0) → Type 0
   CopiesUnder lock stage hold P = (c : Copy) × IsPosed Free (lock ∷ []) (Copying c) stage hold v
-      × IsUnder size lock c × P c
+      × IsUnder lock c × P c
 
   -- with the page that it maps: the one that the buffer held is written; not too much is zeroed
   abbrev pub MapsOn : Stage → Type 0
