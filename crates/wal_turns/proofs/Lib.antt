@@ -2,3 +2,5 @@ pub mod Poses
 pub mod InsertPlaces
 pub mod MapPlaces
 pub mod FlushPlaces
+pub mod Loads
+pub mod SegmentSteps
