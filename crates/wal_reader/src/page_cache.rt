@@ -53,6 +53,8 @@ impl PageCache {
             → Sees (D.tape disk.new) self.new pages
             × IfOk result (λ there. IsLoaded (pages page) page there self.new) }
 
+        ensures again { self.old.number ≡ Some page
+            → (disk.new ≡ disk.old) × (self.new ≡ self.old) }
         ensures uncalled { IsUncalled D.tape D.moment disk.old disk.new }
         ensures cause { HasCause (D.faults disk.old) (D.faults disk.new) result }
     {
