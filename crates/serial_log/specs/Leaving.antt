@@ -8,8 +8,9 @@ use Rattle.serial_log.specs.DeviceCalls.{BreaksFlush, BreaksWrites, MakesFlush, 
 use Rattle.serial_log.specs.LogState.{HasUnwritten, IsSameLog, KeepsFlushed, LogState, log_disk, log_end}
 use Rattle.serial_log.specs.Refusing.{IsLeftBy}
 
--- an insert leaves what was flushed as it was, writes pages where the ring needs their room and
--- nowhere else, and tells no moment; where it is done, its record is not written to the end
+-- an insert leaves what was flushed as it was, writes pages in their turn, but none where the ring
+-- has a place for all that is not written, and tells no moment; where it is done, its record is not
+-- written to the end
 pub record InsertLeaves {D : Type 0} (tape : D → Option Tape) (moment faults : D → ℕ)
     (old new : LogState D) (answer : Result Receipt Refused) : Type 0 where
   pub keeps : KeepsFlushed tape faults old new
