@@ -1,7 +1,10 @@
-//! Tests of runs that do not do all: what faults tell, and what crashes leave.
+//! Tests of what faults tell, of the moments that answers name, and of what crashes at each moment
+//! leave.
 #![tactic(auto)]
 
 #[cfg(test)]
 mod causes;
 #[cfg(test)]
 mod crashes;
+#[cfg(test)]
+mod moments;

@@ -4,10 +4,6 @@
 #[cfg(test)]
 mod gates;
 #[cfg(test)]
-mod limits;
-#[cfg(test)]
-mod moments;
-#[cfg(test)]
 mod noting;
 #[cfg(test)]
 mod pages;
