@@ -1,4 +1,5 @@
 pub mod Orders
+pub mod Going
 pub mod OrderSteps
 pub mod OrderKept
 pub mod PassSteps

@@ -6,7 +6,7 @@ ghost use Rattle.std.specs.Prelude.{◌≡◌, ◌≢◌, ℕ, ◌<◌, ◌≤�
 ghost use mathlib.Core.Option.{Option};
 ghost use Rattle.wal_types.specs.declared.record.Record.{Record};
 ghost use Rattle.wal_page.specs.Order.{Entry, IsChained, end_position};
-ghost use Rattle.wal_core.specs.Views.{HasAt, Plain, Reserving, View};
+ghost use Rattle.wal_core.specs.Views.{HasAt, Free, Plain, Reserving, View};
 ghost use Rattle.wal_core.specs.Words.{end_form};
 ghost use Rattle.wal_core.specs.Steps.{Event, MayStep, value_behind, view_behind};
 ghost use Rattle.wal_core.specs.Ordered.{BeginsWith, OrderHolds, entries_of};
@@ -78,6 +78,7 @@ pub fn passes_share_one_order()
     ensures join { (order : List Entry) (position prev : ℕ) (parts : List Reserving) (id : ℕ)
         (v : View) (other : ℕ) (w : View) → TakesPart order position prev parts id v
         → HasAt parts other w.reserving → (w.reserving).live ≡ true → id ≢ other
+        → (w.reserving).place ≡ Free
         → OrderHolds (v.opening).setup (v.opening).found order position prev
         (set (set parts other (spent w).reserving) id (both_of v w).reserving) }
     ensures give_up { (order : List Entry) (position prev : ℕ) (parts : List Reserving) (id : ℕ)
