@@ -33,10 +33,10 @@ pub fn positions_are_locked_and_given_back()
         → HoldsWith order position (value_behind v store_prev prev) parts id v
         (view_behind v store_prev prev home) }
     ensures give_position_back { (order : List Entry) (position prev : ℕ)
-        (parts : List Reserving) (id : ℕ) (v : View) (home : Option Plain)
-        → TakesPart order position prev parts id v → MayStep v give_position_back
-        → HoldsWith order (value_behind v give_position_back position) prev parts id v
-        (view_behind v give_position_back position home) }
+        (parts : List Reserving) (id : ℕ) (v : View) (home : Option Plain) (value : Record)
+        → TakesPart order position prev parts id v → MayStep v (give_position_back value)
+        → HoldsWith order (value_behind v (give_position_back value) position) prev parts id v
+        (view_behind v (give_position_back value) position home) }
 {}
 
 /// An entry that is reserved is the order's last, and its pass's: other passes keep theirs, and
