@@ -4,3 +4,4 @@ pub mod OrderSteps
 pub mod OrderKept
 pub mod PassSteps
 pub mod Unique
+pub mod Sharing

@@ -121,7 +121,7 @@ module _ (setup : Setup) (found order : List Entry) (position prev : ℕ) (parts
     held = λ is. held_still parts parts' on k.holder (k.held is);
   }
 
-  end_even : IsSegmentSize setup.segment_size → end_position setup.segment_size order % 8 ≡ 0
+  pub end_even : IsSegmentSize setup.segment_size → end_position setup.segment_size order % 8 ≡ 0
   end_even valid = omega (
     arith,
     rooms_of-whole setup.segment_size order,

@@ -7,13 +7,15 @@ ghost use mathlib.Core.Option.{Option};
 ghost use Rattle.wal_types.specs.declared.record.Record.{Record};
 ghost use Rattle.wal_page.specs.Order.{Entry, IsChained, end_position};
 ghost use Rattle.wal_core.specs.Views.{HasAt, Free, Plain, Reserving, View};
-ghost use Rattle.wal_core.specs.Words.{end_form};
+ghost use Rattle.wal_core.specs.Words.{Opening, end_form};
 ghost use Rattle.wal_core.specs.Steps.{Event, MayStep, value_behind, view_behind};
 ghost use Rattle.wal_core.specs.Ordered.{BeginsWith, OrderHolds, entries_of};
 ghost use Rattle.wal_core.specs.Moves.{entry_at, left_of, right_of, both_of, spent, without_work, orphan_of};
 ghost use Rattle.wal_core.specs.Steps.{place_at, load_position, load_flushed, store_position};
 ghost use Rattle.wal_core.specs.Steps.{lock_position, load_prev, store_prev, give_position_back};
 ghost use Rattle.order_laws.specs.Parts.{TakesPart, HoldsWith};
+ghost use Rattle.order_laws.specs.Shared.{OrderIsShared};
+ghost use Rattle.wal_core.specs.Sound.{IsSound};
 
 /// The position is locked only where nobody has it locked, and what its holder loads is the last
 /// start; so the position that it gives back is the one that was.
@@ -93,4 +95,18 @@ pub fn passes_fix_the_order()
     ensures one_order { (size : ℕ) (found es fs : List Entry) → IsChained size es
         → IsChained size fs → BeginsWith found es → BeginsWith found fs
         → ((n : ℕ) → entries_of n es ≡ entries_of n fs) → es ≡ fs }
+{}
+
+/// A sound state shows the reserved order as its users know it: the numbers of the passes (a pass's
+/// own, those that it may give away, those of passes that it took in) all differ and are below how
+/// many there may be; the order ends at the position word less its lock bit, and no pass has seen
+/// more; each position at which a log was full is where a front of the order ends that holds what
+/// that log held by then; the word of the last start is that of the order's last entry, but while
+/// the position is locked the view that locked it says whether the next start is stored; and the
+/// order holds the logs of the live passes, of the passes that they took in, what was found when
+/// the log was opened, and nothing else.
+pub fn sound_orders_are_shared()
+    ensures shared { (opening : Opening) (words : List ℕ) (home : Option Plain)
+        (views : List View) (s : IsSound opening words home views)
+        → OrderIsShared opening s.order words views }
 {}
