@@ -69,8 +69,8 @@ module _ (order : List Entry) (position prev : ℕ) (parts : List Reserving) (id
       (stores_prev setup found order position prev parts t.holds id v.reserving t.here t.live
       may.0 may.1 may.2)
 
-  pub give_position_back_keeps : (home : Option Plain) (value : Record) → TakesPart order position prev parts id v
-      → MayStep v (give_position_back value)
+  pub give_position_back_keeps : (home : Option Plain) (value : Record)
+      → TakesPart order position prev parts id v → MayStep v (give_position_back value)
       → HoldsWith order (value_behind v (give_position_back value) position) prev parts id v
       (view_behind v (give_position_back value) position home)
   give_position_back_keeps home value t may = subst

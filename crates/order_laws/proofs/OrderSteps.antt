@@ -145,7 +145,8 @@ module _ (setup : Setup) (found order : List Entry) (position prev : ℕ) (parts
         (end_position setup.segment_size order)
         (prev_of setup.segment_size 0 order) prev k.locked k.holder id q) is mine.place
 
-    moved_to : (p : Place) → IsPartOf setup.segment_size found order k.role id (record r { place = p })
+    moved_to : (p : Place)
+        → IsPartOf setup.segment_size found order k.role id (record r { place = p })
     moved_to p = let m = mine.part in record {
       own = m.own;
       entries_are = m.entries_are;
@@ -303,7 +304,8 @@ module _ (setup : Setup) (found order : List Entry) (position prev : ℕ) (parts
               (at_work (Stored expected met));
           took_in = take_in (record r { place = Stored expected met })
               (at_work (Stored expected met));
-          held = λ locked. held_still parts (set parts id (record r { place = Stored expected met }))
+          held = λ locked. held_still parts
+              (set parts id (record r { place = Stored expected met }))
               (on (record r { place = Stored expected met })
               (record { goes_on = at_work (Stored expected met); placed = λ some e. cc }))
               k.holder (k.held locked);
@@ -402,7 +404,8 @@ module _ (setup : Setup) (found order : List Entry) (position prev : ℕ) (parts
         seen = omega (arith, t.seen, end_position_push setup.segment_size order e);
         filled = All-weaker (FrontEndsAt setup.segment_size u.number found order u.entries)
             (FrontEndsAt setup.segment_size u.number found longer u.entries)
-            (λ full. FrontEndsAt-longer setup.segment_size u.number found order (e ∷ []) u.entries full)
+            (λ full. FrontEndsAt-longer setup.segment_size u.number found order (e ∷ [])
+            u.entries full)
             u.filled t.filled;
         joined = All-weaker (IsEnded setup.segment_size found order k.role j)
             (IsEnded setup.segment_size found longer k.role j)
@@ -427,7 +430,8 @@ module _ (setup : Setup) (found order : List Entry) (position prev : ℕ) (parts
         seen = omega (arith, at_end, end_position_push setup.segment_size order e);
         filled = All-weaker (FrontEndsAt setup.segment_size r.number found order r.entries)
             (FrontEndsAt setup.segment_size r.number found longer grown.entries)
-            (λ full h. FrontEndsAt-more setup.segment_size r.number found longer r.entries (e ∷ []) full
+            (λ full h. FrontEndsAt-more setup.segment_size r.number found longer r.entries
+            (e ∷ []) full
             (FrontEndsAt-longer setup.segment_size r.number found order (e ∷ []) r.entries full h))
             r.filled m.filled;
         joined = All-weaker (IsEnded setup.segment_size found order k.role id)

@@ -1,5 +1,5 @@
--- What every sound state shows of the reserved order: whose numbers there are, where the order ends,
--- which entry was the last, and whose entries it holds.
+-- What every sound state shows of the reserved order: whose numbers there are, where the order
+-- ends, which entry was the last, and whose entries it holds.
 use Rattle.std.specs.Prelude.{◌≡◌, ◌≢◌, ◌⊎◌, ℕ, ◌-◌, ◌%◌, ◌<◌, ◌≤◌, true, All, Contains, List}
 use Rattle.byte_position.specs.Position.{address_of}
 use Rattle.wal_page.specs.Order.{Entry, IsChained, end_position, prev_of}
