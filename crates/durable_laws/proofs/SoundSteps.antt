@@ -236,7 +236,7 @@ module _ (words : List ℕ) (home : Option Plain) (views : List View) (id : ℕ)
   durable-inside store_prev may inside staged =
       untouched 1 _ _ (rw may.2 refl) (λ e. omega arith) (λ e. omega arith) (λ e. omega arith)
   durable-inside (store_position lock value) may inside staged = absurd inside
-  durable-inside give_position_back may inside staged =
+  durable-inside (give_position_back value) may inside staged =
       untouched 0 _ _ (rw may.1 refl) (λ e. omega arith) (λ e. omega arith) (λ e. omega arith)
   durable-inside (load_lock lock asked) may inside staged =
       untouched (2 + lock) _ _ refl (λ e. omega arith) (λ e. omega arith) (λ e. omega arith)

@@ -193,7 +193,7 @@ module _ (setup : Setup) (words : List ℕ) (home : Option Plain) (stage : Stage
       (turns_by_place after_store_prev v (turns_on_store_prev v)).0
   mapping_behind (store_position lock value) may = mapping_stays 0 _ _ (λ e. omega arith)
       (turns_by_place (after_store_position lock value) v (turns_on_store_position lock value v)).0
-  mapping_behind give_position_back may = mapping_stays 0 _ _ (λ e. omega arith)
+  mapping_behind (give_position_back value) may = mapping_stays 0 _ _ (λ e. omega arith)
       (turns_by_place after_give_back v (turns_on_give_back v)).0
   mapping_behind (load_lock lock asked) may =
       mapping_stays (2 + lock) _ _ (λ e. let low : lock < 8 = may in omega arith) refl
@@ -349,7 +349,7 @@ module _ (setup : Setup) (words : List ℕ) (home : Option Plain) (stage : Stage
       (turns_by_place after_store_prev v (turns_on_store_prev v)).1
   writing_behind (store_position lock value) may = writing_stays 0 _ _ (λ e. omega arith)
       (turns_by_place (after_store_position lock value) v (turns_on_store_position lock value v)).1
-  writing_behind give_position_back may = writing_stays 0 _ _ (λ e. omega arith)
+  writing_behind (give_position_back value) may = writing_stays 0 _ _ (λ e. omega arith)
       (turns_by_place after_give_back v (turns_on_give_back v)).1
   writing_behind (load_lock lock asked) may =
       writing_stays (2 + lock) _ _ (λ e. let low : lock < 8 = may in omega arith) refl

@@ -1,5 +1,5 @@
 -- A log that holds nothing begins in a state that keeps the invariant: each part by itself.
-use Rattle.std.proofs.Common.{◌≡◌, ◌≢◌, ℕ, zero, suc, ◌+◌, ◌-◌, ◌*◌, ◌/◌, ◌%◌, ◌<◌, ◌≤◌, List, [], ◌∷◌, ◌++◌, length, Option, Some, None, IfSome, nat_lt, if◌then◌else◌, refl, sym, ap, ◌∙◌, subst, inl, inr, arith}
+use Rattle.std.proofs.Common.{◌≡◌, ◌≢◌, ℕ, zero, suc, ◌+◌, ◌-◌, ◌*◌, ◌/◌, ◌%◌, ◌<◌, ◌≤◌, All, Bool, true, false, List, [], ◌∷◌, ◌++◌, length, Option, Some, None, IfSome, nat_lt, if◌then◌else◌, refl, sym, ap, ◌∙◌, subst, inl, inr, arith}
 use Rattle.std.specs.Int.{w64, to_le_bytes}
 use Rattle.std.proofs.lemmas.Bool.{cases_eq, le-ltb, lt-ltb}
 use Rattle.std.specs.List.{Contains}
@@ -18,7 +18,7 @@ use Rattle.wal_core.specs.declared.setup.Setup.{Setup}
 use Rattle.wal_core.specs.Words.{Opening, position_word, prev_word, lock_word, mapping_turn, write_turn, initialised_word, written_word, flushed_word, moment_word, down_word, end_word, end_form, ring_word}
 use Rattle.wal_core.specs.Views.{HasAt, Plain, Away, Landed, Copying, View, mapper_of, told_of, writer_of}
 use Rattle.wal_core.specs.Opened.{AreFirstWords, IsFirstWriter, IsNew, first_view}
-use Rattle.wal_core.specs.Ordered.{OrderHolds, Role, active, spare, unborn}
+use Rattle.wal_core.specs.Ordered.{HasLive, IsUnused, OrderHolds, Role, active, spare, ended, unborn}
 use Rattle.wal_core.specs.Locked.{LocksHold, ProgressHolds, most_told}
 use Rattle.wal_core.specs.Ringed.{RingHolds, StandsIn}
 use Rattle.wal_core.specs.Paged.{PagesHold}
@@ -71,6 +71,32 @@ module _ (opening : Opening) (words : List ℕ) (writer : Plain) (new : IsNew op
   role_beyond zero high = let low = valid.passes_low in absurd (omega arith)
   role_beyond (suc n) high = rw (le-ltb (suc n) setup.passes high) refl
 
+  -- the others are nobody's, and not ended
+  nobody : (n : ℕ) (q : Role) → role (suc n) ≡ q → IsUnused q
+  unfolding role
+  nobody n q is = subst (λ (x : Role). IsUnused x) is (either (nat_lt (suc n) setup.passes))
+    where
+      either : (b : Bool) → IsUnused (if b then spare 0 else unborn)
+      either true = tt
+      either false = tt
+
+  role_active : (n id : ℕ) → role n ≡ active id
+      → HasLive (view.reserving ∷ []) id (λ r. r.number ≡ n)
+  unfolding role
+  role_active zero id is =
+      let same : 0 ≡ id = cc in (
+        view.reserving,
+        subst (λ (i : ℕ). HasAt (view.reserving ∷ []) i view.reserving) same refl,
+        refl,
+        refl,
+      )
+  role_active (suc n) id is = absurd (nobody n (active id) is)
+
+  none_ended : (n id : ℕ) → role n ≡ ended id → ⊥
+  unfolding role
+  none_ended zero id is = cc
+  none_ended (suc n) id is = nobody n (ended id) is
+
   pub order_begins : OrderHolds setup opening.found [] (position_word words) (prev_word words) (view.reserving ∷ [])
   unfolding role
   order_begins = record {
@@ -78,7 +104,12 @@ module _ (opening : Opening) (words : List ℕ) (writer : Plain) (new : IsNew op
     locked = 0;
     holder = 0;
     keeper = 0;
-    found_first = ([], sym (ap (λ (f : List Entry). f ++ []) new.none_found), All-nil _);
+    found_first = (
+      [],
+      sym (ap (λ (f : List Entry). f ++ []) new.none_found),
+      All-nil _,
+      subst (λ (f : List Entry). All (λ e. e.pass ≡ None) f) (sym new.none_found) (All-nil _),
+    );
     chained = tt;
     within = omega arith;
     position_is = first.position ∙ omega arith;
@@ -93,9 +124,13 @@ module _ (opening : Opening) (words : List ℕ) (writer : Plain) (new : IsNew op
       seen = omega arith;
       filled = All-nil _;
       joined = All-nil _;
+      apart = λ i j d low high. absurd (omega (arith, high));
     });
     places = only_one view.reserving _ (λ live. tt);
     spares = only_one view.reserving _ (λ live some_spare. refl);
+    goes_by = role_active;
+    took_in = λ n id is. absurd (none_ended n id is);
+    held = λ locked. absurd (omega (arith, locked));
   }
 
   lock_zero : (i : ℕ) → i < 8 → lock_word words i ≡ 0

@@ -113,9 +113,10 @@ module _ (words : List ℕ) (home : Option Plain) (views : List View) (id : ℕ)
       (order_behind v (store_position lock value) k.order) refl
       (order.store_position_keeps k.order (position_word words) (prev_word words)
       (map reserving_of views) id v home lock value takes_part may)
-  order_holds give_position_back may = position_stored give_position_back k.order refl
+  order_holds (give_position_back value) may =
+      position_stored (give_position_back value) k.order refl
       (order.give_position_back_keeps k.order (position_word words) (prev_word words)
-      (map reserving_of views) id v home takes_part may)
+      (map reserving_of views) id v home value takes_part may)
   order_holds (load_lock lock asked) may = stays (load_lock lock asked) refl (omega arith)
   order_holds (take_lock lock) may = stays (take_lock lock)
       (same_either reserving_of (eqb (slice_index words (2 + lock)) 0)

@@ -119,7 +119,7 @@ module _ (words : List ℕ) (home : Option Plain) (views : List View) (id : ℕ)
       (kept.store_position_keeps (now words home views id v k) id v (has_now words home views id v k here)
       (position_word words) (prev_word words) (map reserving_of views) lock value k.reserved
       (part_at reserving_of views id v here) live may)
-  positions_hold give_position_back may = positions_stay (step give_position_back)
+  positions_hold (give_position_back value) may = positions_stay (step (give_position_back value))
       (rw may.1 refl) (rw may.1 refl) (λ e. omega arith) (λ e. omega arith) (λ e. omega arith)
   positions_hold (load_lock lock asked) may = positions_stay (step (load_lock lock asked)) refl
       refl (λ e. omega arith) (λ e. omega arith) (λ e. omega arith)

@@ -86,7 +86,7 @@ pub data Event : Type 0 where
   load_prev : Event
   store_prev : Event
   store_position : ℕ → Record → Event
-  give_position_back : Event
+  give_position_back : Record → Event
   -- insertion locks
   load_lock : ℕ → ℕ → Event
   take_lock : ℕ → Event
@@ -170,7 +170,7 @@ module _ (v : View) where
   word_of_step load_prev = 1
   word_of_step store_prev = 1
   word_of_step (store_position lock value) = 0
-  word_of_step give_position_back = 0
+  word_of_step (give_position_back value) = 0
   word_of_step (load_lock lock asked) = 2 + lock
   word_of_step (take_lock lock) = 2 + lock
   word_of_step (advance lock upto) = 2 + lock
@@ -236,7 +236,7 @@ module _ (v : View) where
   value_behind (store_position lock value) met =
       place_at (v.reserving).place
       + room_at (setup_of).segment_size (place_at (v.reserving).place) value
-  value_behind give_position_back met = place_at (v.reserving).place
+  value_behind (give_position_back value) met = place_at (v.reserving).place
   value_behind (load_lock lock asked) met = met
   value_behind (take_lock lock) met = exchanged 0 1 met
   value_behind (advance lock upto) met = upto + 1
@@ -290,7 +290,8 @@ module _ (v : View) where
   MayStep (store_position lock value) = (at prev : ℕ) × ((v.reserving).place ≡ Stored at prev)
       × IsWritable value × (at + room_at (setup_of).segment_size at value ≤ log_limit setup_of)
       × Contains (v.working).locks lock × ((v.working).flight ≡ Landed)
-  MayStep give_position_back = (at : ℕ) × ((v.reserving).place ≡ Locked at)
+  MayStep (give_position_back value) = (at : ℕ) × ((v.reserving).place ≡ Locked at)
+      × (log_limit setup_of < at + room_at (setup_of).segment_size at value)
   MayStep (load_lock lock asked) = lock < 8
   MayStep (take_lock lock) = lock < 8
   MayStep (advance lock upto) = Contains (v.working).locks lock
@@ -346,7 +347,7 @@ module _ (v : View) where
   view_behind load_prev met home = after_load_prev met v
   view_behind store_prev met home = after_store_prev v
   view_behind (store_position lock value) met home = after_store_position lock value v
-  view_behind give_position_back met home = after_give_back v
+  view_behind (give_position_back value) met home = after_give_back v
   view_behind (load_lock lock asked) met home = after_load_lock lock asked met v
   view_behind (take_lock lock) met home = after_take_lock lock met v
   view_behind (advance lock upto) met home = v
