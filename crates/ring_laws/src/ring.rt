@@ -1,16 +1,16 @@
 //! The log's words in memory, through each kind of step that changes what is said of them; and what
 //! a load of one of the ring's words meets.
 
-ghost use Rattle.std.specs.Prelude.{◌≡◌, ℕ, ◌+◌, ◌≤◌, List, [], ◌∷◌, ◌++◌, set};
+ghost use Rattle.std.specs.Prelude.{◌≡◌, ◌≢◌, ℕ, ◌+◌, ◌/◌, ◌<◌, ◌≤◌, List, [], ◌∷◌, ◌++◌, set};
 ghost use mathlib.Core.Option.{Option};
 ghost use Rattle.byte_position.specs.Geometry.{IsSegmentSize};
 ghost use Rattle.wal_page.specs.Order.{Entry, IsChained, end_position, prev_of};
-ghost use Rattle.wal_page.specs.EntryWords.{words_owned};
+ghost use Rattle.wal_page.specs.EntryWords.{address_of_word, words_owned};
 ghost use Rattle.wal_core.specs.declared.setup.Setup.{Setup};
 ghost use Rattle.wal_core.specs.Views.{HasAt, Copy, Flight, Landed, Copying, Stage, Plain, Lent, Out, Writing};
 ghost use Rattle.wal_core.specs.Moves.{landed, one_more};
 ghost use Rattle.wal_core.specs.Steps.{CopiesOn, IsToBeWritten, next_number, next_word, ring_place};
-ghost use Rattle.wal_core.specs.Ringed.{RingHolds};
+ghost use Rattle.wal_core.specs.Ringed.{RingHolds, log_word_of};
 ghost use Rattle.wal_core.specs.Paged.{PagesHold};
 ghost use Rattle.wal_core.specs.Positioned.{PositionsHold};
 ghost use Rattle.wal_core.specs.Durable.{IsStaged};
@@ -43,6 +43,25 @@ pub fn copies_keep_the_ring()
         → ((c : Copy) → flight ≡ Copying c → c.lock ≡ lock
         → c.copied ≡ words_owned setup.segment_size c.entry)
         → RingHolds setup order reach memory (set flights id (landed lock flight)) }
+{}
+
+/// In memory each word of an entry in flight that counts as copied is the log's, and each word of an
+/// entry of the order that is in no flight.
+pub fn copied_words_are_the_logs()
+    ensures in_flight { (setup : Setup) (order : List Entry) (reach : ℕ) (memory : ℕ → ℕ)
+        (flights : List Flight) (id n : ℕ) (c : Copy)
+        → IsSegmentSize setup.segment_size → IsChained setup.segment_size order
+        → RingHolds setup order reach memory flights → HasAt flights id (Copying c)
+        → n < c.copied → memory (address_of_word setup.segment_size c.entry n / 8)
+        ≡ log_word_of setup order (address_of_word setup.segment_size c.entry n) }
+    ensures in_no_flight { (setup : Setup) (order : List Entry) (reach : ℕ) (memory : ℕ → ℕ)
+        (flights : List Flight) (front back : List Entry) (e : Entry) (n : ℕ)
+        → IsSegmentSize setup.segment_size → IsChained setup.segment_size order
+        → RingHolds setup order reach memory flights → order ≡ front ++ e ∷ back
+        → ((id : ℕ) (c : Copy) → HasAt flights id (Copying c) → (c.entry).start ≢ e.start)
+        → n < words_owned setup.segment_size e
+        → memory (address_of_word setup.segment_size e n / 8)
+        ≡ log_word_of setup order (address_of_word setup.segment_size e n) }
 {}
 
 /// Pages more are mapped.

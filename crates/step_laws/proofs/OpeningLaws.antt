@@ -188,6 +188,9 @@ module _ (opening : Opening) (words : List ℕ) (writer : Plain) (new : IsNew op
     in_flight = λ id c at. only_one Landed
         (λ j u. u ≡ Copying c → StandsIn setup.segment_size [] c) (λ is. absurd (cc)) id
         (Copying c) at refl;
+    alone = λ i j c d at. only_one Landed
+        (λ n u. u ≡ Copying c → HasAt (Landed ∷ []) j (Copying d)
+        → (c.entry).start ≡ (d.entry).start → i ≡ j) (λ is. absurd (cc)) i (Copying c) at refl;
     words = λ k. inl (sym (no_words setup.segment_size setup.sysid valid.size k));
     ahead = λ k behind from to.
         let end = start_is in absurd (omega arith);

@@ -16,7 +16,8 @@ module _ {V : Type 0} where
       (λ (x : (j ≢ id) × HasAt views j u). others j u x.0 x.1)
       (at_set views id j w u e)
 
-  at_new : (l : List V) (a b : V) (j : ℕ) → HasAt (l ++ a ∷ []) j b
+  -- what is found in a longer list was there, or is new
+  pub at_new : (l : List V) (a b : V) (j : ℕ) → HasAt (l ++ a ∷ []) j b
       → HasAt l j b ⊎ ((j ≡ length l) × (a ≡ b))
   at_new [] a b zero e = inr (refl, some-injective a b e)
   at_new [] a b (suc j) e = absurd (some-ne-none b (sym e))

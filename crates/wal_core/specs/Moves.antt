@@ -142,12 +142,16 @@ spent v = record (right_of v) {
   };
 }
 
--- a pass that gives up its copy, and the view with which the copy and its locks stay
+-- a pass that gives up its copy, and the view with which the copy and its locks stay, and the
+-- highest end of a page that the copy has met
 abbrev pub without_work : View → View
 without_work v = with_working [] Landed v
 
 abbrev pub orphan_of : View → View
-orphan_of v = record (spent v) { working = v.working }
+orphan_of v = record (spent v) {
+  working = v.working;
+  mapping = record { confirmed = (v.mapping).confirmed; stage = Away };
+}
 
 -- ---- reserving
 

@@ -2,7 +2,6 @@
 use Rattle.std.specs.Prelude.{◌≡◌, ℕ, ◌+◌, ◌*◌, ◌/◌, ◌<◌, ◌≤◌, true, List, [], length, slice_index, IfSome}
 use mathlib.Core.Option.{none}
 use Rattle.flush_core.specs.Pages.{HoldsNothing}
-use Rattle.wal_core.specs.declared.setup.Setup.{Setup}
 use Rattle.wal_core.specs.Words.{Opening, position_word, initialised_word, written_word, flushed_word, moment_word, down_word, end_word, ring_word, word_count, log_start}
 use Rattle.wal_core.specs.Views.{Away, Free, Landed, Plain, View}
 use Rattle.wal_core.specs.Moves.{no_writing}

@@ -120,10 +120,11 @@ pub data Event : Type 0 where
 
 -- ---- the word that a step loads, stores or exchanges, by its number
 
--- the end word of the buffer of the page at an address
+-- the buffer of the page at an address
 abbrev pub buffer_of : Setup → ℕ → ℕ
 buffer_of setup at = at / 8192 % setup.ring_pages
 
+-- the end word of a buffer, and the word at a place of the ring
 abbrev pub end_number : Setup → ℕ → ℕ
 end_number setup buffer = 17 + buffer
 
@@ -139,7 +140,7 @@ page_mapped (Ready at written) = at
 page_mapped (Zeroing at count) = at
 page_mapped (Published at) = at
 
--- how many words of it are count
+-- how many words of it are zeroed
 abbrev pub words_zeroed : Stage → ℕ
 words_zeroed Away = 0
 words_zeroed Taken = 0
@@ -444,12 +445,20 @@ pub record Joins (id other : ℕ) (s t : State) : Type 0 where
   pub views : t.views
       ≡ set (set s.views other (spent other_view)) id (both_of view other_view)
 
--- behind a fault that it met, a pass gives up a copy that it does not end, with its locks: they stay
--- with a view of their own, with which nobody steps any more
+-- a pass that met or set a down value, and is about nothing but a copy that it does not end
+pub record IsStranded (v : View) : Type 0 where
+  pub down : ((v.writing).down_met ≢ 0) ⊎ ((v.writing).down_set ≢ 0)
+  pub flight : (v.working).flight ≢ Landed
+  pub place : (v.reserving).place ≡ Free
+  pub stage : (v.mapping).stage ≡ Away
+  pub hold : (v.writing).hold ≡ Idle
+
+-- behind a fault, such a pass gives up its copy, with its locks: they stay with a view of their own,
+-- with which nobody steps any more
 pub record GivesUp (id : ℕ) (s t : State) : Type 0 where
   pub view : View
   pub live : IsLive s id view
-  pub may : (view.writing).down_met ≢ 0
+  pub may : IsStranded view
   pub words : t.words ≡ s.words
   pub home : t.home ≡ s.home
   pub views : t.views ≡ set s.views id (without_work view) ++ orphan_of view ∷ []

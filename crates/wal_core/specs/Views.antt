@@ -32,7 +32,7 @@ pub record Promise : Type 0 where
   pub moment : ℕ
   pub entries : ℕ
 
--- a pass that was taken in: its number, its spare numbers, and its log
+-- a pass that was taken in: its number, and its log
 pub record Joined : Type 0 where
   pub number : ℕ
   pub entries : List Entry
