@@ -48,7 +48,7 @@ module _ (opening : Opening) (order : List Entry) (flushed moment down : ℕ) (w
   Is x = IsAssured opening order flushed moment down writer x
 
   abbrev IsHeld : Lent → Type 0
-  IsHeld l = IsInHand opening.setup order moment writer l
+  IsHeld l = IsInHand opening order moment writer l
 
   -- with another of what is loaded, and in hand
   pub rebuilt : (es : List Entry) (js : List Joined) (x y : Writing) → y.promises ≡ x.promises
@@ -92,32 +92,31 @@ module _ (opening : Opening) (order : List Entry) (flushed moment down : ℕ) (w
   }
 
   -- a promise more
-  abbrev promise : List Entry → Writing → Promise
-  promise es x = record { upto = x.flushed; moment = moment; entries = length es }
+  abbrev promise : ℕ → ℕ → List Entry → Promise
+  promise upto from es = record { upto = upto; moment = from; entries = length es }
 
-  is_kept : (es : List Entry) (x : Writing) (t : Tape) → opening.moment ≤ moment
-      → x.flushed ≤ flushed
-      → IsFirm opening.setup order flushed moment t → IsKept opening order t es (promise es x)
-  is_kept es x t begun low firm = record {
+  is_kept : (upto from : ℕ) (es : List Entry) (t : Tape) → opening.moment ≤ from
+      → IsFirm opening.setup order upto from t → IsKept opening order t es (promise upto from es)
+  is_kept upto from es t begun firm = record {
     since = begun;
-    firm = IsFirm-lower opening.setup order x.flushed flushed moment t low firm;
-    later = λ k e from there.
-        absurd (none-some e (sym (slice_get_past es k from) ∙ there));
+    firm = firm;
+    later = λ k e past there.
+        absurd (none-some e (sym (slice_get_past es k past) ∙ there));
   }
 
-  pub is_promised : (es : List Entry) (js : List Joined) (x : Writing) → opening.moment ≤ moment
-      → x.flushed ≤ flushed
-      → IfSome writer.tape (IsFirm opening.setup order flushed moment) → Is (told es js x)
-      → Is (told es js (record x { promises = x.promises ++ promise es x ∷ [] }))
-  is_promised es js x begun low firm a = record {
-    own_promised = All-push (IsPromised flushed moment) x.promises (promise es x) a.own_promised
-        (record { upto_low = low; moment_low = omega arith });
+  pub is_promised : (upto from : ℕ) (es : List Entry) (js : List Joined) (x : Writing)
+      → opening.moment ≤ from → from ≤ moment → upto ≤ flushed
+      → IfSome writer.tape (IsFirm opening.setup order upto from) → Is (told es js x)
+      → Is (told es js (record x { promises = x.promises ++ promise upto from es ∷ [] }))
+  is_promised upto from es js x begun past low firm a = record {
+    own_promised = All-push (IsPromised flushed moment) x.promises (promise upto from es)
+        a.own_promised (record { upto_low = low; moment_low = past });
     joined_promised = a.joined_promised;
     own = told_as writer.tape (λ t is. All-push (IsKept opening order t es) x.promises
-        (promise es x)
+        (promise upto from es)
         (at_told (λ t. AreKept opening order t es x.promises) writer.tape t is a.own)
-        (is_kept es x t begun low
-        (at_told (IsFirm opening.setup order flushed moment) writer.tape t is firm)));
+        (is_kept upto from es t begun
+        (at_told (IsFirm opening.setup order upto from) writer.tape t is firm)));
     joined = a.joined;
     in_hand = a.in_hand;
     down_met = a.down_met;
@@ -251,10 +250,9 @@ module _ (opening : Opening) (order : List Entry) (flushed moment down : ℕ) (w
     in_hand = λ l is. let i = a.in_hand l is in record {
       staged = i.staged;
       hard_low = i.hard_low;
-      hard_moment = IfSome_then writer.tape i.hard_moment (λ t firm.
-          TapeAssures-later opening.setup.segment_size
-          (IsMadeUpto opening.setup.segment_size l.hard) (IsLogBelow opening.setup order l.hard)
-          moment later t low firm);
+      moment_low = omega (arith, i.moment_low, low);
+      since = i.since;
+      firm = i.firm;
     };
     down_met = a.down_met;
     down_set = a.down_set;

@@ -77,12 +77,13 @@ module _ (o : Opening) (order : List Entry) (flushed moment down : ℕ) (home : 
         (kept.later k e from got);
   }
 
-  in_hand_behind : (l : Lent) → IsInHand o.setup order moment w l
-      → IsInHand o.setup order moment n l
+  in_hand_behind : (l : Lent) → IsInHand o order moment w l → IsInHand o order moment n l
   in_hand_behind l i = record {
     staged = i.staged;
     hard_low = omega (arith, i.hard_low, is.rises);
-    hard_moment = firm_behind l.hard moment i.hard_low i.hard_moment;
+    moment_low = i.moment_low;
+    since = i.since;
+    firm = λ some_hard. firm_behind l.hard l.hard_moment i.hard_low (i.firm some_hard);
   }
 
   assured_behind : (x : Told) → IsAssured o order flushed moment down w x
@@ -151,9 +152,11 @@ module _ (o : Opening) (order : List Entry) (flushed moment down : ℕ) (home : 
         (told v.reserving.entries v.reserving.joined x) all_behind
         (rebuilt o order flushed moment down n v.reserving.entries v.reserving.joined v.writing x
         refl refl refl now
-        (lent_cases g (IsInHand o.setup order moment n) v.writing.hold (λ m has.
+        (lent_cases g (IsInHand o order moment n) v.writing.hold (λ m has.
         let i = now.in_hand m has in record {
           staged = i.staged;
           hard_low = i.hard_low;
-          hard_moment = i.hard_moment;
+          moment_low = i.moment_low;
+          since = i.since;
+          firm = i.firm;
         }))))

@@ -125,8 +125,10 @@ module _ (o : Opening) (order : List Entry) (flushed moment down : ℕ) (home : 
             (λ s staged. staged_stays o.setup valid order e chained start l.known s (within l is)
             staged) l.staged i.staged;
         hard_low = i.hard_low;
-        hard_moment = IfSome_then writer.tape i.hard_moment (λ t firm.
-            firm_stays o.setup valid order e chained start l.hard moment t
+        moment_low = i.moment_low;
+        since = i.since;
+        firm = λ some_hard. IfSome_then writer.tape (i.firm some_hard) (λ t firm.
+            firm_stays o.setup valid order e chained start l.hard l.hard_moment t
             (omega (arith, i.hard_low)) firm);
       };
       down_met = a.down_met;

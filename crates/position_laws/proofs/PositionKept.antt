@@ -1,5 +1,5 @@
 -- The written and flushed positions through each kind of step, as the machine tells what it does.
-use Rattle.std.proofs.Common.{◌≡◌, ◌≢◌, ℕ, ◌≤◌, Bool, true, cond, eq-eqb, ne_eqb, List, [], ◌∷◌, ◌++◌, set, map, refl, sym, ◌∙◌, subst, inl, inr, ⊎_elim, arith}
+use Rattle.std.proofs.Common.{◌≡◌, ◌≢◌, ℕ, ◌≤◌, Bool, true, cond, eq-eqb, ne_eqb, List, [], ◌∷◌, ◌++◌, set, map, refl, sym, ap, ◌∙◌, subst, inl, inr, ⊎_elim, arith}
 use Rattle.std.proofs.lemmas.Bool.{cases_lt}
 use mathlib.Core.Logic.{dite}
 use mathlib.Core.Option.{Option, none}
@@ -14,8 +14,8 @@ use Rattle.wal_core.specs.Ordered.{OrderHolds, AtPlace}
 use Rattle.wal_core.specs.Locked.{AreHeld, StandsTo}
 use Rattle.wal_core.specs.Watched.{WatchHolds}
 use Rattle.wal_core.specs.Positioned.{IsCopiedBelow}
-use Rattle.wal_core.specs.Moves.{landed, one_more, with_place, with_hold, copied_below, lent, entry_at, left_of, right_of, both_of, spent, without_work, orphan_of, no_writing}
-use Rattle.wal_core.specs.Steps.{MayStep, place_at, value_behind, view_behind, home_behind, take_write_turn, slot_out, slot_in, release_write_turn, store_position, release, store_word, load_word, load_written, load_flushed, load_moment, load_down, store_written, store_moment, store_flushed, set_down}
+use Rattle.wal_core.specs.Moves.{hardened, landed, one_more, with_place, with_hold, copied_below, lent, entry_at, left_of, right_of, both_of, spent, without_work, orphan_of, no_writing}
+use Rattle.wal_core.specs.Steps.{MayStep, number_lent, place_at, value_behind, view_behind, home_behind, take_write_turn, slot_out, slot_in, release_write_turn, store_position, release, store_word, load_word, load_written, load_flushed, load_moment, load_down, store_written, store_moment, store_flushed, set_down}
 use Rattle.wal_core.proofs.Lists.{one_set, one_added, part_at, view_from}
 use Rattle.position_laws.specs.Parts.{Positions, HasPositions, HoldAmong, HoldBehind}
 use Rattle.position_laws.proofs.Copies.{CopiedStill, one_more_still, landed_still, added_still, joined_still, given_up_still}
@@ -157,17 +157,19 @@ module _ (p : Positions) (id : ℕ) (v : View) (t : HasPositions p id v) where
 
   pub store_moment_keeps : (met : ℕ) → Still (view_behind v store_moment met p.home)
   store_moment_keeps met = rehold _ (KeepsKnown-lent
-      (λ l. record l { hard = (l.writer).written }) (λ _. refl) (λ _. refl) (v.writing).hold)
+      hardened (λ _. refl) (λ _. refl) (v.writing).hold)
 
   pub store_flushed_keeps : MayStep v store_flushed
       → HoldBehind (record p { flushed = value_behind v store_flushed p.flushed }) id v
       (view_behind v store_flushed p.flushed p.home)
   store_flushed_keeps may = subst
       (λ (h : Hold). HoldBehind
-      (record p { flushed = value_behind (with_hold h v) store_flushed p.flushed }) id v v)
+      (record p { flushed = value_behind (with_hold h v) store_flushed p.flushed }) id v
+      (view_behind v store_flushed p.flushed p.home))
       (sym may.1)
       (stores_flushed setup p t.holds id v.writing t.here (flight_of v) t.flight_here may.0 may.1
-      (stands (Out may.0) may.1).3 (may.2).0 (may.2).1)
+      (stands (Out may.0) may.1).3 (may.2).0 (may.2).1
+      (writing_of (view_behind v store_flushed p.flushed p.home)) refl refl refl)
 
   pub set_down_keeps : MayStep v set_down
       → HoldBehind (record p { down = value_behind v set_down p.down }) id v
@@ -179,6 +181,16 @@ module _ (p : Positions) (id : ℕ) (v : View) (t : HasPositions p id v) where
   pub flushed_is_reserved : p.flushed ≤ end_form setup (end_position setup.segment_size p.order)
   flushed_is_reserved =
       let k = t.holds in omega (arith, k.flushed_low, k.written_low, k.reserved)
+
+  pub hard_is_reserved : MayStep v store_flushed
+      → number_lent v (λ l. l.hard) (v.writing).hold
+      ≤ end_form setup (end_position setup.segment_size p.order)
+  hard_is_reserved may =
+      let number : number_lent v (λ l. l.hard) (v.writing).hold ≡ (may.0).hard =
+      ap (number_lent v (λ l. l.hard)) may.1 in
+      let own : ((may.0).writer).written ≡ (p.writer).written =
+      ap (λ (w : Plain). w.written) (stands (Out may.0) may.1).3 in
+      omega (arith, number, (may.2).0, own, (t.holds).reserved)
 
   -- ---- the writer goes out, and comes home
 

@@ -285,13 +285,16 @@ module _ (setup : Setup) (p : Positions) (k : PositionsHold setup p.order p.writ
       -- the flushed word, up to the written one
       pub stores_flushed : (l : Lent) → x.hold ≡ Out l → l.writer ≡ writer
           → l.hard ≡ (l.writer).written → l.stored ≡ (l.writer).written
+          → (y : Writing) → y.written ≡ x.written → y.flushed ≡ x.flushed → y.hold ≡ x.hold
           → PositionsHold setup order written l.hard down home writer (set flights id f)
-          (set parts id x)
-      stores_flushed l is own hard stored =
+          (set parts id y)
+      stores_flushed l is own hard stored y is_w is_f is_h =
           let same : (l.writer).written ≡ writer.written = ap (λ (w : Plain). w.written) own in
           let low : l.hard ≤ written = omega (arith, hard, stored, mine.stored l is) in
           let up : flushed ≤ l.hard =
           omega (arith, hard, same, k.flushed_low, k.written_low) in
+          let after = view_changes f at y (omega (arith, is_w, mine.written_met))
+          (omega (arith, is_f, mine.flushed_met)) (λ n out. (n, sym is_h ∙ out, refl, refl)) in
           record {
             begun = omega (arith, k.begun, up);
             flushed_low = low;
@@ -301,7 +304,7 @@ module _ (setup : Setup) (p : Positions) (k : PositionsHold setup p.order p.writ
             copied = still writer.written k.copied;
             reads = k.reads;
             views = λ j u there.
-                let w = (view_stays f at).views j u there in
+                let w = after.views j u there in
                 record {
                   written_met = w.written_met;
                   flushed_met = omega (arith, w.flushed_met, up);

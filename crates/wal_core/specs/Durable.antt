@@ -69,12 +69,15 @@ abbrev pub AreKept : Opening → List Entry → Tape → List Entry → List Pro
 AreKept opening order tape entries promises =
     All (IsKept opening order tape entries) promises
 
--- with the writer in hand: what was loaded is lawful, and for which address the moment word is good
-pub record IsInHand (setup : Setup) (order : List Entry) (moment : ℕ) (writer : Plain) (l : Lent)
-    : Type 0 where
-  pub staged : All (IsStaged setup order l.known) l.staged
+-- with the writer in hand: what was loaded is lawful, and below which address all is durable from
+-- the moment on that was stored, where one was
+pub record IsInHand (opening : Opening) (order : List Entry) (moment : ℕ) (writer : Plain)
+    (l : Lent) : Type 0 where
+  pub staged : All (IsStaged opening.setup order l.known) l.staged
   pub hard_low : l.hard ≤ writer.written
-  pub hard_moment : IfSome writer.tape (IsFirm setup order l.hard moment)
+  pub moment_low : l.hard_moment ≤ moment
+  pub since : l.hard ≢ 0 → opening.moment ≤ l.hard_moment
+  pub firm : l.hard ≢ 0 → IfSome writer.tape (IsFirm opening.setup order l.hard l.hard_moment)
 
 -- what a promise names is not above what the words say now
 pub record IsPromised (flushed moment : ℕ) (p : Promise) : Type 0 where
@@ -90,7 +93,7 @@ pub record IsAssured (opening : Opening) (order : List Entry) (flushed moment do
   pub joined : IfSome writer.tape (λ t.
       All (λ (j : Joined). AreKept opening order t j.entries j.promises) x.joined)
   pub in_hand : (l : Lent) → (x.writing).hold ≡ Out l
-      → IsInHand opening.setup order moment writer l
+      → IsInHand opening order moment writer l
   pub down_met : (x.writing).down_met ≢ 0 → (x.writing).down_met ≡ down
   pub down_set : (x.writing).down_set ≢ 0 → (x.writing).down_set ≡ down
 
