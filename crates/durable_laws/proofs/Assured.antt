@@ -14,7 +14,9 @@ use Rattle.wal_core.specs.Locked.{StandsTo}
 use Rattle.wal_core.specs.Durable.{AreKept, DurabilityHolds, IsAssured, IsFirm, IsInHand, IsKept, IsLogBelow, IsPromised}
 use Rattle.wal_core.proofs.Lists.{one_added, one_set}
 use Rattle.durable_laws.proofs.Growth.{IsFirm-lower}
-use Rattle.durable_laws.proofs.Tapes.{TapeAssures-later, at_told, told_as}
+use Rattle.wal_core.proofs.Tapes.{at_told, told_as, told_suited, at_suited}
+use Rattle.durable_laws.proofs.Tapes.{TapeAssures-later}
+use Rattle.wal_core.specs.Suited.{IfSuited}
 
 -- a pass's part, by its own parts
 abbrev pub told : List Entry → List Joined → Writing → Told
@@ -58,7 +60,7 @@ module _ (opening : Opening) (order : List Entry) (flushed moment down : ℕ) (w
     own_promised = subst (λ (ps : List Promise). All (IsPromised flushed moment) ps)
         (sym promises) a.own_promised;
     joined_promised = a.joined_promised;
-    own = subst (λ (ps : List Promise). IfSome writer.tape (λ t. AreKept opening order t es ps))
+    own = subst (λ (ps : List Promise). IfSuited opening writer (λ t. AreKept opening order t es ps))
         (sym promises) a.own;
     joined = a.joined;
     in_hand = held;
@@ -106,17 +108,17 @@ module _ (opening : Opening) (order : List Entry) (flushed moment down : ℕ) (w
 
   pub is_promised : (upto from : ℕ) (es : List Entry) (js : List Joined) (x : Writing)
       → opening.moment ≤ from → from ≤ moment → upto ≤ flushed
-      → IfSome writer.tape (IsFirm opening.setup order upto from) → Is (told es js x)
+      → IfSuited opening writer (IsFirm opening.setup order upto from) → Is (told es js x)
       → Is (told es js (record x { promises = x.promises ++ promise upto from es ∷ [] }))
   is_promised upto from es js x begun past low firm a = record {
     own_promised = All-push (IsPromised flushed moment) x.promises (promise upto from es)
         a.own_promised (record { upto_low = low; moment_low = past });
     joined_promised = a.joined_promised;
-    own = told_as writer.tape (λ t is. All-push (IsKept opening order t es) x.promises
+    own = told_suited opening writer (λ t is suited. All-push (IsKept opening order t es) x.promises
         (promise upto from es)
-        (at_told (λ t. AreKept opening order t es x.promises) writer.tape t is a.own)
+        (at_suited opening writer (λ t. AreKept opening order t es x.promises) t is suited a.own)
         (is_kept upto from es t begun
-        (at_told (IsFirm opening.setup order upto from) writer.tape t is firm)));
+        (at_suited opening writer (IsFirm opening.setup order upto from) t is suited firm)));
     joined = a.joined;
     in_hand = a.in_hand;
     down_met = a.down_met;
@@ -128,8 +130,8 @@ module _ (opening : Opening) (order : List Entry) (flushed moment down : ℕ) (w
   is_new = record {
     own_promised = All-nil (IsPromised flushed moment);
     joined_promised = All-nil (λ (j : Joined). All (IsPromised flushed moment) j.promises);
-    own = told_as writer.tape (λ t is. All-nil (IsKept opening order t []));
-    joined = told_as writer.tape (λ t is.
+    own = told_suited opening writer (λ t is suited. All-nil (IsKept opening order t []));
+    joined = told_suited opening writer (λ t is suited.
         All-nil (λ (j : Joined). AreKept opening order t j.entries j.promises));
     in_hand = λ l is. absurd (cc);
     down_met = λ some_met. absurd (some_met refl);
@@ -198,16 +200,16 @@ module _ (opening : Opening) (order : List Entry) (flushed moment down : ℕ) (w
         joined_promised = All-append Promised js (j ∷ ks) a.joined_promised
             (All-cons Promised j ks b.own_promised b.joined_promised);
         own = a.own;
-        joined = told_as writer.tape (λ t is.
+        joined = told_suited opening writer (λ t is suited.
             let Kept : Joined → Type 0 = λ j. AreKept opening order t j.entries j.promises in
-            All-append Kept js (j ∷ ks) (at_told (λ t.
+            All-append Kept js (j ∷ ks) (at_suited opening writer (λ t.
             All (λ (j : Joined). AreKept opening order t j.entries j.promises) js)
-            writer.tape t is a.joined)
+            t is suited a.joined)
             (All-cons Kept j ks
-            (at_told (λ t. AreKept opening order t fs y.promises) writer.tape t is b.own)
-            (at_told (λ t.
+            (at_suited opening writer (λ t. AreKept opening order t fs y.promises) t is suited b.own)
+            (at_suited opening writer (λ t.
             All (λ (j : Joined). AreKept opening order t j.entries j.promises) ks)
-            writer.tape t is b.joined)));
+            t is suited b.joined)));
         in_hand = a.in_hand;
         down_met = max_down x.down_met y.down_met a.down_met b.down_met;
         down_set = max_down x.down_set y.down_set a.down_set b.down_set;

@@ -16,7 +16,9 @@ use Rattle.wal_core.specs.Durable.{DurabilityHolds, IsAssured, IsFirm, IsInHand,
 use Rattle.wal_core.specs.Steps.{MayStep, fault_number, home_behind, number_lent, returned, value_behind, view_behind, with_slot, set_down, slot_in, slot_out, store_flushed, store_moment}
 use Rattle.durable_laws.proofs.Assured.{did_set_down, with_down, with_words, is_joined, is_new, is_promised, lent_cases, met_down, rebuilt, stands_out, stands_turned, told, view_added, view_set}
 use Rattle.durable_laws.proofs.Growth.{IsFirm-lower}
-use Rattle.durable_laws.proofs.Tapes.{TapeAssures-later, at_told, told_as}
+use Rattle.wal_core.proofs.Tapes.{at_told, told_as, told_suited, at_suited}
+use Rattle.durable_laws.proofs.Tapes.{TapeAssures-later}
+use Rattle.wal_core.specs.Suited.{IfSuited}
 
 module _ (o : Opening) (order : List Entry) (flushed moment down : ℕ) (home : Option Plain)
     (writer : Plain) (parts : List Told)
@@ -66,8 +68,8 @@ module _ (o : Opening) (order : List Entry) (flushed moment down : ℕ) (home : 
     load_moment_keeps low = one (told_of (after_load_moment moment v))
         (is_promised o order flushed moment down writer v.writing.flushed moment es js v.writing
         h.begun (omega arith) low
-        (IfSome_then writer.tape h.firm (λ t firm.
-        IsFirm-lower o.setup order v.writing.flushed flushed moment t low firm)) was)
+        (IfSome_then writer.tape h.firm (λ t firm suited.
+        IsFirm-lower o.setup order v.writing.flushed flushed moment t low (firm suited))) was)
 
     pub load_down_keeps : Holds (set parts id (told_of (after_load_down down v)))
     load_down_keeps = one (told_of (after_load_down down v))
@@ -222,14 +224,14 @@ module _ (o : Opening) (order : List Entry) (flushed moment down : ℕ) (home : 
 
       -- nothing waits: all that is written is durable
       all_firm : writer.waiting ≡ none
-          → IfSome writer.tape (IsFirm o.setup order writer.written writer.moment)
-      all_firm nothing = told_as writer.tape (λ t is.
+          → IfSuited o writer (IsFirm o.setup order writer.written writer.moment)
+      all_firm nothing = told_suited o writer (λ t is suited.
           let Counts : Tape → Type 0 = λ t. writer.moment ≡ length t.calls in
           TapeAssures-now o.setup.segment_size
           (IsMadeUpto o.setup.segment_size writer.written)
           (IsLogBelow o.setup order writer.written) writer.moment t
           (at_told Counts writer.tape t is h.counted)
-          (λ segment. (at_told (IsOnDisk o.setup order writer) writer.tape t is h.on_disk).firm
+          (λ segment. (at_suited o writer (IsOnDisk o.setup order writer) t is suited h.on_disk).firm
           segment (λ waits. absurd (some-ne-none segment (sym waits ∙ nothing)))))
 
       pub store_moment_keeps : (met : ℕ) → MayStep v store_moment
@@ -251,9 +253,10 @@ module _ (o : Opening) (order : List Entry) (flushed moment down : ℕ) (home : 
             begun = omega (arith, h.begun, h.moment_low);
             reached = h.reached;
             lawful = h.lawful;
-            firm = IfSome_then writer.tape h.firm (λ t firm.
+            firm = IfSome_then writer.tape h.firm (λ t firm suited.
                 TapeAssures-later size (IsMadeUpto size flushed)
-                (IsLogBelow o.setup order flushed) moment writer.moment t h.moment_low firm);
+                (IsLogBelow o.setup order flushed) moment writer.moment t h.moment_low
+                (firm suited));
             on_disk = h.on_disk;
             down_is = h.down_is;
             down_at_home = h.down_at_home;
@@ -278,7 +281,7 @@ module _ (o : Opening) (order : List Entry) (flushed moment down : ℕ) (home : 
             moment_low = omega (arith, from);
             since = λ _. omega (arith, from, behind.begun);
             firm = λ _. subst (λ (p : Plain).
-                IfSome writer.tape (IsFirm o.setup order p.written p.moment)) (sym own)
+                IfSuited o writer (IsFirm o.setup order p.written p.moment)) (sym own)
                 (all_firm nothing);
           }))))
 
@@ -303,9 +306,10 @@ module _ (o : Opening) (order : List Entry) (flushed moment down : ℕ) (home : 
             begun = h.begun;
             reached = h.reached;
             lawful = h.lawful;
-            firm = IfSome_then writer.tape (hand.firm some_hard) (λ t firm.
+            firm = IfSome_then writer.tape (hand.firm some_hard) (λ t firm suited.
                 TapeAssures-later o.setup.segment_size (IsMadeUpto o.setup.segment_size l.hard)
-                (IsLogBelow o.setup order l.hard) l.hard_moment moment t hand.moment_low firm);
+                (IsLogBelow o.setup order l.hard) l.hard_moment moment t hand.moment_low
+                (firm suited));
             on_disk = h.on_disk;
             down_is = h.down_is;
             down_at_home = h.down_at_home;

@@ -126,7 +126,7 @@ pub fn stores_keep_durability()
         → DurabilityHolds o order flushed moment down home writer parts
         → HasAt parts id (told_of v) → IsSetup o.setup
         → IsWriteTurn turn home writer writers → HasAt writers id (writer_of v)
-        → PositionsHold o.setup order written flushed down home writer flights writings
+        → PositionsHold o order written flushed down home writer flights writings
         → MayStep v store_flushed
         → DurabilityHolds o order (value_behind v store_flushed met) moment down home writer
         (set parts id (told_of (view_behind v store_flushed met home))) }
