@@ -48,7 +48,7 @@ module _ (words : List ℕ) (home : Option Plain) (views : List View) (id : ℕ)
         (position_word words) (prev_word words) rs
 
     abbrev HasPositionsWith : List Flight → List Writing → Type 0
-    HasPositionsWith fs ws = PositionsHold (v.opening).setup k.order (written_word words)
+    HasPositionsWith fs ws = PositionsHold v.opening k.order (written_word words)
         (flushed_word words) (down_word words) home k.writer fs ws
 
     changed_sound : ((j : ℕ) (u : View) → HasAt changed j u → IsGrounded v.opening u)

@@ -18,7 +18,7 @@ use Rattle.wal_core.specs.declared.setup.Setup.{Setup}
 use Rattle.wal_core.specs.Words.{log_limit}
 use Rattle.wal_core.specs.Views.{HasAt, Place, Free, Locked, Loaded, Stored, Copy, Flight, Landed, Copying, Stage, Taken, Looked, Ready, Zeroing, Published, Plain, Lent, Hold, Idle, Turned, Out, Away, View}
 use Rattle.wal_core.specs.Paged.{IsOpen}
-use Rattle.wal_core.specs.Moves.{Outcome, Done, Failed, left_of, right_of, both_of, spent, without_work, orphan_of, with_stage, with_hold, with_confirmed, with_writer, after_load_position, after_take_write_turn, after_slot_out, after_lock_position, after_load_prev, after_store_prev, after_store_position, after_give_back, after_load_lock, after_take_lock, after_release, after_store_word, after_load_word, after_load_written, after_load_flushed, after_load_moment, after_load_down, after_store_written, after_store_moment, after_set_down, after_take_mapping_turn, after_load_initialised, after_create, after_write, after_sync}
+use Rattle.wal_core.specs.Moves.{Outcome, Done, Failed, left_of, right_of, both_of, spent, without_work, orphan_of, with_stage, with_hold, with_confirmed, with_writer, after_load_position, after_take_write_turn, after_slot_out, after_lock_position, after_load_prev, after_store_prev, after_store_position, after_give_back, after_load_lock, after_take_lock, after_release, after_store_word, after_load_word, after_load_written, after_load_flushed, after_load_moment, after_load_down, after_store_written, after_store_moment, after_store_flushed, after_set_down, after_take_mapping_turn, after_load_initialised, after_create, after_write, after_sync}
 
 -- ---- what a step may rest on
 
@@ -362,7 +362,9 @@ module _ (v : View) where
   view_behind load_down met home = after_load_down met v
   view_behind store_written met home = after_store_written v
   view_behind store_moment met home = after_store_moment v
-  view_behind store_flushed met home = v
+  view_behind store_flushed met home = after_store_flushed
+      (number_lent (λ l. l.hard) (v.writing).hold)
+      (number_lent (λ l. l.hard_moment) (v.writing).hold) v
   view_behind set_down met home =
       after_set_down (number_lent (λ l. fault_number (l.writer).fault) (v.writing).hold) v
   view_behind take_mapping_turn met home = after_take_mapping_turn met v
