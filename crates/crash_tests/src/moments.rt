@@ -1,7 +1,7 @@
 //! The moments that answers name.
 
-use crate::played::{empty_disk, play, setting_of};
 use backend_cli::Told;
+use played_commands::{on_empty_disk, run};
 use segment_disk::Disk;
 use std::alloc::Global;
 use std::process::Abort;
@@ -18,12 +18,7 @@ fn tells<R: Abort + Threads + Wait + Sync>(
     told: &[Told],
     moment: u64,
 ) -> Result<(), Fail> {
-    let played = play(
-        rt,
-        alloc,
-        &["run", "--seg", "1048576"],
-        setting_of(alloc, script, empty_disk(alloc, &[])?)?,
-    )?;
+    let played = run(rt, alloc, &[], on_empty_disk(alloc, script)?)?;
     assert_eq!(rt; played.ended.status, 0);
     assert_eq!(rt; played.ended.told.len(), 1);
     assert_eq!(rt; played.ended.told.of(0), told);

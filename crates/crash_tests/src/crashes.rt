@@ -1,8 +1,10 @@
 //! What crashes leave of a run, at each moment of its disk, as a listing finds it.
 
-use crate::played::{Played, disk_of_one_commit, empty_disk, play, setting_of};
-use byte_position::Geometry;
-use segment_disk::{Disk, MemDisk, MemSink, Pick};
+use played_commands::{
+    Played, disk_of, disk_of_one_commit, dump, empty_disk, lines_in, page_of, put_page, run,
+    setting_of,
+};
+use segment_disk::{Disk, MemDisk, Pick};
 use std::alloc::Global;
 use std::process::Abort;
 use std::sync::Wait;
@@ -17,12 +19,8 @@ fn three_commits<R: Threads + Wait + Sync>(
     alloc: Global,
     fail: &[u64],
 ) -> Result<Played, Fail> {
-    play(
-        rt,
-        alloc,
-        &["run", "--seg", "1048576"],
-        setting_of(alloc, SCRIPT, empty_disk(alloc, fail)?)?,
-    )
+    let setting = setting_of(alloc, SCRIPT, empty_disk(alloc, fail)?)?;
+    run(rt, alloc, &[], setting)
 }
 
 // The listing of what a crash at a moment leaves.
@@ -33,18 +31,7 @@ fn listed_after<R: Threads + Wait + Sync>(
     moment: u64,
     pick: Pick,
 ) -> Result<Played, Fail> {
-    let left = disk.crash(alloc, moment, pick)?;
-    play(
-        rt,
-        alloc,
-        &["dump", "--seg", "1048576"],
-        setting_of(alloc, b"", left)?,
-    )
-}
-
-// How many lines a text has.
-fn lines_in(text: &[u8]) -> usize {
-    text.iter().filter(|byte| **byte == b'\n').count()
+    dump(rt, alloc, disk.crash(alloc, moment, pick)?, &[])
 }
 
 // The crash at a moment leaves so many records, and then the log ends.
@@ -127,23 +114,16 @@ fn a_hard_commit_outlives_a_later_fault(rt: HostRuntime) -> Result<(), Fail> {
 #[test]
 fn a_commit_that_lost_words_is_not_read(rt: HostRuntime) -> Result<(), Fail> {
     let alloc = rt.alloc();
-    let geometry = Geometry::new(1 << 20).ok_or("1 MiB is a segment's size")?;
     for lost in 1..8 {
         let mut disk = disk_of_one_commit(&rt, alloc)?;
-        let mut page = [0; 8192];
-        assert_eq!(rt; disk.read_page(geometry, 1, 0, &mut page), Ok(true));
+        let mut page = page_of(&mut disk, 0)?;
         for (choice, at) in [(1, 40), (2, 56), (4, 64)] {
             if lost & choice != 0 {
                 page[at..at + 8].fill(0);
             }
         }
-        assert_eq!(rt; disk.write_page(geometry, 1, 0, &page), Ok(()));
-        let listed = play(
-            &rt,
-            alloc,
-            &["dump", "--seg", "1048576"],
-            setting_of(alloc, b"", disk)?,
-        )?;
+        put_page(&mut disk, 0, &page)?;
+        let listed = dump(&rt, alloc, disk, &[])?;
         assert_eq!(rt; listed.out.taken(), b"".as_slice());
         assert_eq!(rt; listed.ended.status, if lost & 1 != 0 { 0 } else { 6 });
     }
@@ -154,20 +134,12 @@ fn a_commit_that_lost_words_is_not_read(rt: HostRuntime) -> Result<(), Fail> {
 #[test]
 fn a_lost_segment_ends_the_log(rt: HostRuntime) -> Result<(), Fail> {
     let alloc = rt.alloc();
-    let disk = MemDisk::new(alloc, 2, 420, Vec::new(alloc), Vec::new(alloc))?;
-    let run = play(
-        &rt,
-        alloc,
-        &["run", "--seg", "1048576", "--cap", "2"],
-        setting_of(alloc, b"I 1 10 00 1045459*5a\nC 1 0\n", disk)?,
-    )?;
-    assert_eq!(rt; run.ended.status, 0);
-    let ended = run.ended;
+    let script = b"I 1 10 00 1045459*5a\nC 1 0\n";
+    let setting = setting_of(alloc, script, disk_of(alloc, 2, &[])?)?;
+    let ended = run(&rt, alloc, &["--cap", "2"], setting)?.ended;
+    assert_eq!(rt; ended.status, 0);
     // The 130th call is the first segment's sync, the next makes the second one.
-    let left = ended.disk.crash(alloc, 130, Pick::Old)?;
-    let mut setting = setting_of(alloc, b"", left)?;
-    setting.out = MemSink::new(alloc, 2_200_000, Vec::new(alloc))?;
-    let listed = play(&rt, alloc, &["dump", "--seg", "1048576"], setting)?;
+    let listed = listed_after(&rt, alloc, &ended.disk, 130, Pick::Old)?;
     assert_eq!(rt; lines_in(listed.out.taken()), 1);
     assert_eq!(rt; listed.ended.status, 0);
     Ok(())

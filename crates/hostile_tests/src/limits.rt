@@ -1,7 +1,7 @@
 //! A script beyond its limit.
 
-use crate::played::{Open, empty_disk, words_of};
 use backend_cli::pgwal;
+use played_commands::{Open, empty_disk, words_of};
 use segment_disk::{Disk, EndsTold, Failed, HandedOut, MemSink, Source};
 use std::test::Fail;
 

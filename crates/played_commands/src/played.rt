@@ -1,5 +1,6 @@
 //! A command played over a source, sinks and a disk in memory.
 
+use crate::disks::empty_disk;
 use backend_cli::{Ended, Gate, pgwal};
 use segment_disk::{MemDisk, MemSink, MemSource};
 use std::alloc::Global;
@@ -30,24 +31,31 @@ pub struct Setting {
     pub out: MemSink,
 }
 
-/// A disk that holds nothing, and fails at these of its counted calls.
-pub fn empty_disk(alloc: Global, fail: &[u64]) -> Result<MemDisk, Fail> {
-    Ok(MemDisk::new(
-        alloc,
-        1,
-        420,
-        Vec::from_slice(alloc, fail)?,
-        Vec::new(alloc),
-    )?)
-}
-
-/// A script on an empty disk, with a sink that never fails.
+/// A script over a disk, with a source and a sink that never fail.
 pub fn setting_of(alloc: Global, script: &[u8], disk: MemDisk) -> Result<Setting, Fail> {
     Ok(Setting {
         disk,
         source: MemSource::new(Vec::from_slice(alloc, script)?, Vec::new(alloc)),
         out: MemSink::new(alloc, 65_536, Vec::new(alloc))?,
     })
+}
+
+/// A script over a disk with room for one segment that holds nothing, where nothing fails.
+pub fn on_empty_disk(alloc: Global, script: &[u8]) -> Result<Setting, Fail> {
+    setting_of(alloc, script, empty_disk(alloc, &[])?)
+}
+
+/// A source of a script of one commit, whose first read fails.
+pub fn failing_source(alloc: Global) -> Result<MemSource, Fail> {
+    Ok(MemSource::new(
+        Vec::from_slice(alloc, b"C 1 0\n")?,
+        Vec::from_slice(alloc, &[1])?,
+    ))
+}
+
+/// A sink whose first write fails.
+pub fn failing_sink(alloc: Global) -> Result<MemSink, Fail> {
+    Ok(MemSink::new(alloc, 65_536, Vec::from_slice(alloc, &[1])?)?)
 }
 
 /// The words of a command line, behind the program's name.
@@ -96,19 +104,4 @@ pub fn play<R: Threads + Wait + Sync>(
     setting: Setting,
 ) -> Result<Played, Fail> {
     play_through(rt, alloc, words, setting, &Open)
-}
-
-/// The disk that a run of one commit leaves.
-pub fn disk_of_one_commit<R: Threads + Wait + Sync>(
-    rt: &R,
-    alloc: Global,
-) -> Result<MemDisk, Fail> {
-    let run = play(
-        rt,
-        alloc,
-        &["run", "--seg", "1048576"],
-        setting_of(alloc, b"C 700 0\n", empty_disk(alloc, &[])?)?,
-    )?;
-    let ended = run.ended;
-    Ok(ended.disk)
 }

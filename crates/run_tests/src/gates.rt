@@ -1,8 +1,8 @@
 //! The gate before each line.
 
 use crate::noting::{NotingDisk, NotingGate};
-use crate::played::{empty_disk, play_through, setting_of, words_of};
 use backend_cli::pgwal;
+use played_commands::{empty_disk, on_empty_disk, play_through, words_of};
 use segment_disk::{MemSink, MemSource};
 use std::alloc::Global;
 use std::process::Abort;
@@ -21,8 +21,7 @@ fn passes<R: Abort + Threads + Wait + Sync>(
     passed: u64,
 ) -> Result<(), Fail> {
     let gate = NotingGate::new();
-    let setting = setting_of(alloc, script, empty_disk(alloc, &[])?)?;
-    let played = play_through(rt, alloc, &RUN, setting, &gate)?;
+    let played = play_through(rt, alloc, &RUN, on_empty_disk(alloc, script)?, &gate)?;
     assert_eq!(rt; played.ended.status, status);
     assert_eq!(rt; gate.passed(), passed);
     Ok(())

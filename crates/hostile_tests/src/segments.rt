@@ -1,8 +1,7 @@
 //! Segments with bytes that no writer leaves: how each is told, and what is listed before it.
 
-use crate::played::{Played, empty_disk, play, setting_of};
-use byte_position::Geometry;
-use segment_disk::{Disk, MemDisk, MemSink};
+use played_commands::{Played, disk_left_by, dump, page_of, put_page};
+use segment_disk::MemDisk;
 use std::alloc::Global;
 use std::process::Abort;
 use std::sync::Wait;
@@ -18,43 +17,10 @@ const CROSSING: &[u8] = b"I 1 10 00 8115*5a\nC 1 0\n";
 
 // The line of the first of these up to its data.
 const CROSSING_HEAD: &[u8] =
-    b"rmgr: Heap        len (rec/tot):   8144/  8144, tx:          1, lsn: 0/00100028, prev 0/00000000, desc: INSERT data ";
+    b"rmgr: Heap        len (rec/tot):   8144/  8144, tx:          1, lsn: 0/00100028, \
+      prev 0/00000000, desc: INSERT data ";
 
-// The disk that a run of a script leaves; it has room for one segment.
-fn left_by<R: Threads + Wait + Sync>(
-    rt: &R,
-    alloc: Global,
-    script: &[u8],
-) -> Result<MemDisk, Fail> {
-    let setting = setting_of(alloc, script, empty_disk(alloc, &[])?)?;
-    let run = play(
-        rt,
-        alloc,
-        &["run", "--seg", "1048576", "--cap", "2"],
-        setting,
-    )?;
-    let ended = run.ended;
-    Ok(ended.disk)
-}
-
-// A page of segment 1.
-fn page_of(disk: &mut MemDisk, page: u32) -> Result<[u8; 8192], Fail> {
-    let geometry = Geometry::new(1 << 20).ok_or("1 MiB is a segment's size")?;
-    let mut bytes = [0; 8192];
-    if page >= 128 || disk.read_page(geometry, 1, page, &mut bytes) != Ok(true) {
-        return Err(Fail::from("the page is there"));
-    }
-    Ok(bytes)
-}
-
-// What a listing of a disk prints, and its status.
-fn dump<R: Threads + Wait + Sync>(rt: &R, alloc: Global, disk: MemDisk) -> Result<Played, Fail> {
-    let mut setting = setting_of(alloc, b"", disk)?;
-    setting.out = MemSink::new(alloc, 2_200_000, Vec::new(alloc))?;
-    play(rt, alloc, &["dump", "--seg", "1048576"], setting)
-}
-
-// The same, with a page of segment 1 in place of the one that is there.
+// What a listing prints of a disk with a page of segment 1 in place of the one that is there.
 fn dump_with<R: Threads + Wait + Sync>(
     rt: &R,
     alloc: Global,
@@ -62,11 +28,8 @@ fn dump_with<R: Threads + Wait + Sync>(
     page: u32,
     bytes: &[u8; 8192],
 ) -> Result<Played, Fail> {
-    let geometry = Geometry::new(1 << 20).ok_or("1 MiB is a segment's size")?;
-    if page >= 128 || disk.write_page(geometry, 1, page, bytes).is_err() {
-        return Err(Fail::from("the page is written"));
-    }
-    dump(rt, alloc, disk)
+    put_page(&mut disk, page, bytes)?;
+    dump(rt, alloc, disk, &[])
 }
 
 // What a script leaves is listed with some bytes of a page of segment 1 changed.
@@ -78,7 +41,7 @@ fn dump_changed<R: Threads + Wait + Sync>(
     at: usize,
     bytes: &[u8],
 ) -> Result<Played, Fail> {
-    let mut disk = left_by(rt, alloc, script)?;
+    let mut disk = disk_left_by(rt, alloc, script)?;
     let mut changed = page_of(&mut disk, page)?;
     if at > 8192 || bytes.len() > 8192 - at {
         return Err(Fail::from("what is changed lies on the page"));
@@ -100,6 +63,40 @@ fn commit_tells<R: Abort + Threads + Wait + Sync>(
     assert_eq!(rt; dump.out.taken(), b"".as_slice());
     assert_eq!(rt; dump.err.taken(), told);
     Ok(())
+}
+
+#[test]
+fn a_damaged_byte_is_told_with_its_place_and_kind(rt: HostRuntime) -> Result<(), Fail> {
+    let alloc = rt.alloc();
+    commit_tells(
+        &rt,
+        alloc,
+        2,
+        &[0x04],
+        b"pgwal: damaged at 0/00100000: nolong\n",
+    )?;
+    commit_tells(
+        &rt,
+        alloc,
+        0,
+        &[0x14],
+        b"pgwal: damaged at 0/00100000: magic\n",
+    )?;
+    commit_tells(
+        &rt,
+        alloc,
+        40,
+        &[23],
+        b"pgwal: damaged at 0/00100028: length\n",
+    )?;
+    commit_tells(
+        &rt,
+        alloc,
+        57,
+        &[22],
+        b"pgwal: damaged at 0/00100028: rmgr\n",
+    )?;
+    commit_tells(&rt, alloc, 70, &[1], b"pgwal: damaged at 0/00100028: crc\n")
 }
 
 #[test]
@@ -205,7 +202,7 @@ fn record_tells<R: Abort + Threads + Wait + Sync>(
     byte: u8,
     told: &[u8],
 ) -> Result<(), Fail> {
-    let mut disk = left_by(rt, alloc, script)?;
+    let mut disk = disk_left_by(rt, alloc, script)?;
     let mut page = page_of(&mut disk, 0)?;
     assert!(rt; at < 8192);
     page[at] = byte;
@@ -217,7 +214,8 @@ fn record_tells<R: Abort + Threads + Wait + Sync>(
     Ok(())
 }
 
-// An item of id 100 in place of the commit's main data, and an image that says that it is compressed.
+// An item of id 100 in place of the commit's main data, and an image that says that it is
+// compressed.
 #[test]
 fn items_are_looked_at_behind_a_right_crc(rt: HostRuntime) -> Result<(), Fail> {
     let alloc = rt.alloc();
@@ -337,13 +335,14 @@ fn a_continuation_is_told_at_its_records_start(rt: HostRuntime) -> Result<(), Fa
 #[test]
 fn a_segment_that_a_record_needs_is_missing(rt: HostRuntime) -> Result<(), Fail> {
     let alloc = rt.alloc();
-    let disk = left_by(&rt, alloc, b"I 1 10 00 1045451*5a\nC 1 0\n")?;
-    let dump = dump(&rt, alloc, disk)?;
+    let disk = disk_left_by(&rt, alloc, b"I 1 10 00 1045451*5a\nC 1 0\n")?;
+    let dump = dump(&rt, alloc, disk, &[])?;
     assert_eq!(rt; dump.ended.status, 6);
     lists_one(
         &rt,
         dump.out.taken(),
-        b"rmgr: Heap        len (rec/tot): 1045480/1045480, tx:          1, lsn: 0/00100028, prev 0/00000000, desc: INSERT data ",
+        b"rmgr: Heap        len (rec/tot): 1045480/1045480, tx:          1, lsn: 0/00100028, \
+          prev 0/00000000, desc: INSERT data ",
         2_090_902,
     );
     assert_eq!(rt;
