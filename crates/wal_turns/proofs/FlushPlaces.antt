@@ -167,7 +167,7 @@ module _ (m : Machine) (ask : Ask) where
   module _ (purpose : Purpose) (l : Lent) (v : View)
       (base : WritesFor (in_hand l v) purpose ask (Out l)) where
     -- as it was, but for the lent writer
-    writes_still : (k : Lent) → WritesFor (in_hand k v) purpose ask (Out k)
+    pub writes_still : (k : Lent) → WritesFor (in_hand k v) purpose ask (Out k)
     writes_still k =
         writes_on purpose ask (Out l) (Out k) (in_hand l v) (in_hand k v) base (refl, refl, refl, refl)
         refl
@@ -260,7 +260,7 @@ module _ (m : Machine) (ask : Ask) where
   pub stores_moment_goes : (v : View) → StandsAt v StoresMoment ask → Goes m ask StoresMoment v
   stores_moment_goes v stands =
       let l = stands.0 in
-      let d : Lent = record l { hard = (l.writer).written } in
+      let d : Lent = Rattle.wal_core.specs.Moves.hardened l in
       of_hold (Goes m ask StoresMoment) (Out l) v (hold_of ForLine ask (Out l) v stands.1)
       ((l, refl, stands.2.0), (d, writes_on ForLine ask (Out l) (Out d) v (in_hand d v) stands.1
       (refl, refl, refl, refl) refl, (stands.2.0, stands.2.1, refl)))
@@ -269,7 +269,7 @@ module _ (m : Machine) (ask : Ask) where
   stores_flushed_goes v stands =
       let l = stands.0 in
       of_hold (Goes m ask StoresFlushed) (Out l) v (hold_of ForLine ask (Out l) v stands.1)
-      ((l, refl, (stands.2.2, stands.2.1)), (l, writes_on ForLine ask (Out l) (Out l) v (in_hand l v)
+      ((l, refl, (stands.2.2, stands.2.1)), (l, writes_on ForLine ask (Out l) (Out l) v _
       stands.1 (refl, refl, refl, refl) refl, (record { up = (stands.2.0).0; awaits = inl (stands.2.0).1 },
       stands.2.1)))
 

@@ -122,23 +122,41 @@ module _ (m : Machine) (ask : Ask) where
 
   fits_at : (lock at : ℕ) (v : View) → IsRecord ask
       → Goes m ask (Reserves lock) (at_reserving lock (Locked at) v)
-  fits_at lock at v insert =
-      let u = at_reserving lock (Locked at) v in
-      bool_cases
-      (λ (b : Bool). fits v ask at ≡ b →
-      let e = cond b load_prev give_position_back in
-      let w = view_behind u e (slice_index words (word_of_step u e)) (m.state).home in
-      MayStep u e × StandsNext (cond b (goes_on (Reserves lock)) (goes_on (Releases lock true)))
-      ask w)
-      (fits v ask at)
-      (λ enough is. ((at, refl), stands_reserving lock (Loaded at _) v enough insert))
-      (λ few is. ((at, refl), record {
-        place_is = refl;
-        locks_are = refl;
-        flight_is = refl;
-        stage_is = refl;
-        hold_is = refl;
-      })) refl
+  fits_at lock at v insert = by_ask ask insert
+    where
+      by_record : (a : Ask) (value : Record) → IsRecord a
+          → (fits v a at ≡ false
+          → log_limit (v.opening).setup < at + room_at ((v.opening).setup).segment_size at value)
+          → let u = at_reserving lock (Locked at) v in
+          let e = cond (fits v a at) load_prev (give_position_back value) in
+          let w = view_behind u e (slice_index words (word_of_step u e)) (m.state).home in
+          MayStep u e × StandsNext
+          (cond (fits v a at) (goes_on (Reserves lock)) (goes_on (Releases lock true))) a w
+      by_record a value insert over =
+          let u = at_reserving lock (Locked at) v in
+          bool_cases
+          (λ (b : Bool).
+          let e = cond b load_prev (give_position_back value) in
+          let w = view_behind u e (slice_index words (word_of_step u e)) (m.state).home in
+          MayStep u e × StandsNext (cond b (goes_on (Reserves lock)) (goes_on (Releases lock true)))
+          a w)
+          (fits v a at)
+          (λ enough. ((at, refl), ((Loaded at _, is_posed _ (lock ∷ []) Landed Away Idle v, enough),
+          insert)))
+          (λ few. ((at, refl, over few), record {
+            place_is = refl;
+            locks_are = refl;
+            flight_is = refl;
+            stage_is = refl;
+            hold_is = refl;
+          }))
+
+      by_ask : (a : Ask) → IsRecord a → Goes m a (Reserves lock) (at_reserving lock (Locked at) v)
+      by_ask (Inserts value) writable =
+          by_record (Inserts value) value writable (λ few. leb-false _ _ few)
+      by_ask (Commits value) writable =
+          by_record (Commits value) value writable (λ few. leb-false _ _ few)
+      by_ask Flushes never = absurd never
 
   stores_prev_at : (lock at prev : ℕ) (v : View) → IsRecord ask → fits v ask at ≡ true
       → Goes m ask (Reserves lock) (at_reserving lock (Loaded at prev) v)

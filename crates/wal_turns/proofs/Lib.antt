@@ -4,3 +4,4 @@ pub mod MapPlaces
 pub mod FlushPlaces
 pub mod Loads
 pub mod SegmentSteps
+pub mod DevicePlaces

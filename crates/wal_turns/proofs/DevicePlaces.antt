@@ -1,0 +1,214 @@
+-- At the calls of the device: the step that the order names may be made, whether the call fails or
+-- not, and the view behind it stands at the next place.
+use Rattle.std.proofs.Common.{◌≡◌, ◌≢◌, ◌⊎◌, inl, inr, ⊎_elim, ℕ, zero, suc, ◌+◌, ◌-◌, ◌*◌, ◌/◌, ◌%◌, ◌<◌, ◌≤◌, Bool, true, false, cond, eqb, eqb-true, min, List, [], ◌∷◌, slice_index, refl, sym, ap, ◌∙◌, subst, arith}
+use Rattle.std.proofs.lemmas.Bool.{eqb-false}
+use Rattle.std.proofs.Math.Nat.{div-add-mod, le-min, min-le_left, min-le_right, mod-lt}
+use mathlib.Core.Option.{Option, none, some}
+use Rattle.byte_position.specs.Geometry.{IsSegmentSize, pages_of}
+use Rattle.byte_position.proofs.SegmentSizes.{segment_size_in_pages}
+use Rattle.segment_disk.specs.Failing.{is_listed}
+use Rattle.segment_disk.specs.Tape.{create_call, sync_call, write_call}
+use Rattle.wal_core.specs.Views.{Plain, Lent, Hold, Out, View}
+use Rattle.wal_core.specs.Moves.{Outcome, Done, Failed, with_hold, after_create, after_write, after_sync}
+use Rattle.wal_core.specs.Steps.{Event, MayStep, IsNextWrite, create, write, sync, word_of_step, view_behind}
+use Rattle.wal_turns.specs.Doing.{Ask, Purpose, ForLine, ForPage, Doing, Creates, Writes, SyncsFull, SyncsLast, StoresWritten, SetsDown, Machine}
+use Rattle.wal_turns.specs.Turned.{outcome, is_done, behind_call, page_or_end, segment_or, page_staged}
+use Rattle.wal_turns.specs.Standing.{IsUp, AwaitsOne, AwaitsSync, IsFailed, LoadsOn, WritesFor, segment_next, StandsAt}
+use Rattle.wal_turns.proofs.Poses.{Goes, StandsNext, bool_cases}
+use Rattle.wal_turns.proofs.FlushPlaces.{hold_of, in_hand, of_hold, page_or_end_stands, writes_on, writes_still}
+use Rattle.wal_turns.proofs.Loads.{bytes-length, bytes-words}
+use Rattle.wal_turns.proofs.SegmentSteps.{segment-still}
+
+module _ (m : Machine) (ask : Ask) where
+  abbrev fails : Outcome
+  fails = Failed ((m.opening).faults + 1) (some false)
+
+  by_outcome : (P : Outcome → Type 0) (v : View) → P fails → P Done → P (outcome m v ask)
+  by_outcome P v failed done = bool_cases (λ (b : Bool). P (cond b fails Done))
+      _ (λ listed. failed) (λ other. done)
+
+  module _ (purpose : Purpose) (l : Lent) (v : View)
+      (base : WritesFor (in_hand m ask l v) purpose ask (Out l))
+      (told : (v.opening).faults ≡ (m.opening).faults) where
+    abbrev here : View
+    here = in_hand m ask l v
+
+    abbrev size : ℕ
+    size = ((v.opening).setup).segment_size
+
+    -- behind the call, as it ended
+    abbrev GoesBy : (Outcome → Event) → Doing → Outcome → Type 0
+    GoesBy event next o =
+        let e = event o in
+        let met = slice_index (m.state).words (word_of_step here e) in
+        let w = view_behind here e met (m.state).home in
+        MayStep here e × StandsNext (behind_call here w ask met (is_done o) purpose next) ask w
+
+    still : (d : Lent) → WritesFor (in_hand m ask d v) purpose ask (Out d)
+    still d = writes_still m ask purpose l v base d
+
+    -- a failed call's count
+    rose : (v.opening).faults < (m.opening).faults + 1
+    rose = omega (arith, told)
+
+    failed_by : (d : Lent) → (d.writer).fault ≡ some ((m.opening).faults + 1)
+        → StandsAt (in_hand m ask d v) (SetsDown purpose) ask
+    failed_by d is =
+        let next : (m.opening).faults + 1 ≡ suc (m.opening).faults = omega arith in
+        (d, still d, ((m.opening).faults, is ∙ ap (λ (n : ℕ). some n) next))
+
+    creates_at : LoadsOn size 1024 l → (l.writer).made < segment_next size l.writer
+        → segment_next size l.writer ≤ (l.writer).made + 1 → Goes m ask (Creates purpose) here
+    creates_at on fresh near =
+        let segment = (l.writer).made + 1 in
+        let call = create_call size segment in
+        let behind : Outcome → Lent = λ (o : Outcome).
+        record l { writer = after_create segment call o l.writer } in
+        let up = (on.writer_up).up in
+        by_outcome (GoesBy (create segment) (Writes purpose)) here
+        (((l, refl, record { up = up; next = refl }), inl rose), failed_by (behind fails) refl)
+        (((l, refl, record { up = up; next = refl }), tt), (behind Done, still (behind Done),
+        (record {
+          writer_up = record {
+            up = up;
+            awaits = ⊎_elim (λ is. inl is) (λ is. let low = is.1 in inr (is.0, omega arith))
+                (on.writer_up).awaits;
+          };
+          left = on.left;
+          loaded = on.loaded;
+        }, near)))
+
+    next_write : IsSegmentSize size → LoadsOn size 1024 l
+        → segment_next size l.writer ≤ (l.writer).made
+        → IsNextWrite (v.opening).setup (segment_next size l.writer)
+        ((l.writer).written / 8192 % pages_of size)
+        (min l.known ((l.writer).written / 8192 * 8192 + 8192)) (page_staged here) l
+    next_write valid on made =
+        let written = (l.writer).written in
+        let page = written / 8192 in
+        let count : ℕ = pages_of size in
+        let geometry = segment_size_in_pages size valid in
+        let split = div-add-mod page count in
+        let left = on.left in
+        let over : written ≤ page * 8192 + 8192 = omega arith in
+        let start : page * 8192 ≤ written = omega arith in
+        record {
+          up = (on.writer_up).up;
+          page_is = omega (arith, split);
+          on_segment = mod-lt page (omega (arith, geometry.1));
+          is_made = made;
+          alone = ⊎_elim (λ is. inl is) (λ is. inr is.0) (on.writer_up).awaits;
+          rises = le-min (omega arith) over;
+          behind_start = le-min (omega (arith, left, start)) (omega arith);
+          within = (let low = min-le_right l.known (page * 8192 + 8192) in omega (arith, low));
+          copied = min-le_left l.known (page * 8192 + 8192);
+          whole = bytes-length here page 1024 l.staged on.loaded;
+          loaded = bytes-words here page 1024 l.staged on.loaded;
+        }
+
+    writes_at : IsSegmentSize size → LoadsOn size 1024 l
+        → segment_next size l.writer ≤ (l.writer).made → Goes m ask (Writes purpose) here
+    writes_at valid on made =
+        let written = (l.writer).written in
+        let page = written / 8192 in
+        let segment = segment_next size l.writer in
+        let upto = min l.known (page * 8192 + 8192) in
+        let call = write_call size segment (page % pages_of size) (page_staged here) in
+        let behind : Outcome → Lent = λ (o : Outcome).
+        record l { writer = after_write segment upto call o l.writer } in
+        let may = next_write valid on made in
+        let event : Outcome → Event = λ (o : Outcome).
+        write segment (page % pages_of size) upto (page_staged here) o in
+        let met = slice_index (m.state).words 11 in
+        by_outcome (λ (o : Outcome).
+        let e = event o in
+        let w = view_behind here e met (m.state).home in
+        MayStep here e × StandsNext (behind_call here w ask met (is_done o) purpose
+        (cond (eqb (Rattle.wal_turns.specs.Turned.of_lent w (λ k. (k.writer).written) % size) 0)
+        (SyncsFull purpose) (page_or_end here w ask met (is_done o) purpose))) ask w) here
+        (((l, refl, may), inl rose), failed_by (behind fails) refl)
+        (((l, refl, may), tt), bool_cases
+        (λ (b : Bool). StandsAt (in_hand m ask (behind Done) v) (cond b (SyncsFull purpose)
+        (page_or_end here (in_hand m ask (behind Done) v) ask met true purpose)) ask)
+        (eqb (upto % size) 0)
+        (λ full. (behind Done, still (behind Done), ((on.writer_up).up, (segment, refl))))
+        (λ inside.
+        let same = segment-still size valid page upto may.behind_start may.within
+            (eqb-false _ _ inside) in
+        page_or_end_stands m ask purpose (behind Done) here v met true (record {
+          up = (on.writer_up).up;
+          awaits = inr (ap (λ (n : ℕ). some n) (sym same), subst (λ (n : ℕ). n ≤ (l.writer).made)
+              (sym same) made);
+        }) (still (behind Done))))
+
+    next_sync : (segment : ℕ) → (l.writer).waiting ≡ some segment
+        → (l.writer).waiting ≡ some (segment_or here 0 (l.writer).waiting)
+    next_sync segment is = is ∙ ap (λ (x : Option ℕ). some (segment_or here 0 x)) (sym is)
+
+    syncs_full_at : AwaitsSync l → Goes m ask (SyncsFull purpose) here
+    syncs_full_at waits =
+        let segment = segment_or here 0 (l.writer).waiting in
+        let call = sync_call size segment in
+        let behind : Outcome → Lent = λ (o : Outcome).
+        record l { writer = after_sync call o l.writer } in
+        let may = next_sync waits.1.0 waits.1.1 in
+        let met = slice_index (m.state).words 11 in
+        by_outcome (λ (o : Outcome).
+        let w = view_behind here (sync segment o) met (m.state).home in
+        MayStep here (sync segment o) × StandsNext (behind_call here w ask met (is_done o) purpose
+        (page_or_end here w ask met (is_done o) purpose)) ask w) here
+        (((l, refl, record { up = waits.0; waits = may }), inl rose), failed_by (behind fails) refl)
+        (((l, refl, record { up = waits.0; waits = may }), tt),
+        page_or_end_stands m ask purpose (behind Done) here v met true
+        (record { up = waits.0; awaits = inl refl }) (still (behind Done)))
+
+  syncs_last_at : (l : Lent) (v : View) → WritesFor (in_hand m ask l v) ForLine ask (Out l)
+      → (v.opening).faults ≡ (m.opening).faults → AwaitsSync l
+      → Goes m ask SyncsLast (in_hand m ask l v)
+  syncs_last_at l v base told waits =
+      let u = in_hand m ask l v in
+      let segment = segment_or u 0 (l.writer).waiting in
+      let call = sync_call ((v.opening).setup).segment_size segment in
+      let behind : Outcome → Lent = λ (o : Outcome).
+      record l { writer = after_sync call o l.writer } in
+      let may = next_sync ForLine l v base told waits.1.0 waits.1.1 in
+      by_outcome (GoesBy ForLine l v base told (sync segment) (StoresWritten ForLine)) u
+      (((l, refl, record { up = waits.0; waits = may }), inl (rose ForLine l v base told)),
+      failed_by ForLine l v base told (behind fails) refl)
+      (((l, refl, record { up = waits.0; waits = may }), tt), (behind Done,
+      still ForLine l v base told (behind Done), (waits.0, refl)))
+
+  module _ (v : View) (told : (v.opening).faults ≡ (m.opening).faults) where
+    again : (purpose : Purpose) (l : Lent) → WritesFor v purpose ask (Out l)
+        → WritesFor (in_hand m ask l v) purpose ask (Out l)
+    again purpose l base = writes_on purpose ask (Out l) (Out l) v (in_hand m ask l v) base
+        (refl, refl, refl, refl) refl
+
+    pub creates_goes : (purpose : Purpose) → ((l : Lent) → (v.writing).hold ≡ Out l
+        → segment_next ((v.opening).setup).segment_size l.writer ≤ (l.writer).made + 1)
+        → StandsAt v (Creates purpose) ask → Goes m ask (Creates purpose) v
+    creates_goes purpose near stands =
+        let l = stands.0 in
+        let is = hold_of purpose ask (Out l) v stands.1 in
+        of_hold (Goes m ask (Creates purpose)) (Out l) v is
+        (creates_at purpose l v (again purpose l stands.1) told stands.2.0 stands.2.1 (near l is))
+
+    pub writes_goes : (purpose : Purpose) → IsSegmentSize ((v.opening).setup).segment_size
+        → StandsAt v (Writes purpose) ask → Goes m ask (Writes purpose) v
+    writes_goes purpose valid stands =
+        let l = stands.0 in
+        of_hold (Goes m ask (Writes purpose)) (Out l) v (hold_of purpose ask (Out l) v stands.1)
+        (writes_at purpose l v (again purpose l stands.1) told valid stands.2.0 stands.2.1)
+
+    pub syncs_full_goes : (purpose : Purpose) → StandsAt v (SyncsFull purpose) ask
+        → Goes m ask (SyncsFull purpose) v
+    syncs_full_goes purpose stands =
+        let l = stands.0 in
+        of_hold (Goes m ask (SyncsFull purpose)) (Out l) v (hold_of purpose ask (Out l) v stands.1)
+        (syncs_full_at purpose l v (again purpose l stands.1) told stands.2)
+
+    pub syncs_last_goes : StandsAt v SyncsLast ask → Goes m ask SyncsLast v
+    syncs_last_goes stands =
+        let l = stands.0 in
+        of_hold (Goes m ask SyncsLast) (Out l) v (hold_of ForLine ask (Out l) v stands.1)
+        (syncs_last_at l v (again ForLine l stands.1) told stands.2)
