@@ -124,7 +124,7 @@ module _ (words : List ℕ) (home : Option Plain) (views : List View) (id : ℕ)
     grounded_behind load_down may = same load_down refl
     grounded_behind store_written may = same store_written refl
     grounded_behind store_moment may = same store_moment refl
-    grounded_behind store_flushed may = same store_flushed refl
+    grounded_behind store_flushed may = sees_more store_flushed refl refl refl (omega arith)
     grounded_behind set_down may = same set_down refl
     grounded_behind take_mapping_turn may = same take_mapping_turn
         (ground_either (eqb (slice_index words 10) 0) (with_stage Taken v) v refl)
