@@ -46,8 +46,8 @@ pub fn copies_keep_the_ring()
         → RingHolds setup order reach memory (set flights id (landed lock flight)) }
 {}
 
-/// In memory each word of an entry in flight that counts as copied is the log's, and each word of an
-/// entry of the order that is in no flight.
+/// In memory each word of an entry in flight that counts as copied is the log's, and each word of
+/// an entry of the order that is in no flight.
 pub fn copied_words_are_the_logs()
     ensures in_flight { (setup : Setup) (order : List Entry) (reach : ℕ) (memory : ℕ → ℕ)
         (flights : List Flight) (id n : ℕ) (c : Copy)

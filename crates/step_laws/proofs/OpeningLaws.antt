@@ -352,7 +352,9 @@ logs_begin opening words writer new first begins = record {
   wide = first.wide;
   grounded = only_one (first_view opening) _ (record {
     opening_is = λ live. refl;
+    watches = λ live. omega arith;
     at_rest = λ dead. absurd (cc);
+    left = λ dead. absurd (cc);
   });
   reserved = order_begins opening words writer new first begins;
   locks = locks_begin opening words writer new first begins;

@@ -81,7 +81,7 @@ module _ (words : List ℕ) (home : Option Plain) (views : List View) (id : ℕ)
   down_known : (v.writing).down_set ≢ 0 → (v.writing).down_set ≡ down_word words
   down_known = ((k.durable).views id (told_of v) (told_here words home views id v k here)).down_set
 
-  lock_low : (lock : ℕ) → Contains (v.working).locks lock → lock < 8
+  pub lock_low : (lock : ℕ) → Contains (v.working).locks lock → lock < 8
   lock_low lock has =
       (((k.locks).locks).each id lock v.working (part_at working_of views id v here) has).0
 

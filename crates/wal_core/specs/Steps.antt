@@ -455,8 +455,8 @@ pub record IsStranded (v : View) : Type 0 where
   pub stage : (v.mapping).stage ≡ Away
   pub hold : (v.writing).hold ≡ Idle
 
--- behind a fault, such a pass gives up its copy, with its locks: they stay with a view of their own,
--- with which nobody steps any more
+-- behind a fault, such a pass gives up its copy, with its locks: they stay with a view of their
+-- own, with which nobody steps any more
 pub record GivesUp (id : ℕ) (s t : State) : Type 0 where
   pub view : View
   pub live : IsLive s id view
