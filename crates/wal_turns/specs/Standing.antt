@@ -8,7 +8,7 @@ use Rattle.wal_core.specs.declared.setup.Setup.{Setup}
 use Rattle.wal_core.specs.Words.{down_word}
 use Rattle.wal_core.specs.Views.{Place, Free, Locked, Loaded, Stored, Copy, Flight, Landed, Copying, Stage, Away, Taken, Looked, Ready, Zeroing, Published, Plain, Lent, Hold, Idle, Turned as HasTurned, Out, View}
 use Rattle.wal_core.specs.Paged.{IsOpen}
-use Rattle.wal_core.specs.Steps.{IsLive, IsResting}
+use Rattle.wal_core.specs.Steps.{IsLive, IsResting, Step}
 use Rattle.wal_core.specs.Sound.{IsSound}
 use Rattle.wal_turns.specs.Doing.{Ask, Inserts, Commits, Flushes, Purpose, ForLine, ForPage, Doing, Begins, Tries, Reserves, Looks, Copies, Maps, GivesTurn, Tells, Releases, FlushBegins, LoadsPosition, LoadsFlushed, LoadsMoment, Visits, TakesTurn, LoadsDown, TakesOut, LoadsPage, Creates, Writes, SyncsFull, SyncsLast, StoresWritten, StoresMoment, StoresFlushed, SetsDown, PutsBack, GivesWriteTurn, Backend, Machine}
 use Rattle.wal_turns.specs.Turned.{fits, own_end, next_address}
@@ -205,9 +205,10 @@ module _ (v : View) where
 abbrev pub StandsFor : Backend → View → Type 0
 StandsFor b v = (ask : Ask) → slice_get b.asks b.answered ≡ Some ask → StandsAt v b.doing ask
 
--- it takes the writer out
-abbrev pub TakesWriter : Doing → Type 0
-TakesWriter doing = (purpose : Purpose) × (doing ≡ TakesOut purpose)
+-- who is to take the writer out knows of no failed disk: the down word is 0
+abbrev pub UpFor : Doing → ℕ → Type 0
+UpFor (TakesOut purpose) down = down ≡ 0
+UpFor other down = Unit {0}
 
 abbrev pub HasBackend : Machine → ℕ → Backend → Type 0
 HasBackend m number b = slice_get m.backends number ≡ Some b
@@ -222,5 +223,9 @@ pub record IsRunning (m : Machine) : Type 0 where
       → (v : View) × IsLive m.state (number + 1) v × StandsFor b v
   pub at_home : (w : Plain) → (m.state).home ≡ some w → w.fault ≡ none
       → AwaitsOne ((m.opening).setup).segment_size w
-  pub taken_up : (number : ℕ) (b : Backend) → HasBackend m number b → TakesWriter b.doing
-      → down_word (m.state).words ≡ 0
+  pub up : (number : ℕ) (b : Backend) → HasBackend m number b
+      → UpFor b.doing (down_word (m.state).words)
+
+-- behind a turn the state is as it was, or a step's
+abbrev pub IsStepOrSame : Machine → Machine → Type 0
+IsStepOrSame m n = (n.state ≡ m.state) ⊎ Step m.state n.state
