@@ -5,3 +5,5 @@ pub mod FlushPlaces
 pub mod Loads
 pub mod SegmentSteps
 pub mod DevicePlaces
+pub mod NextUp
+pub mod DownStays
