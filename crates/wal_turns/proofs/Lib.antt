@@ -7,3 +7,4 @@ pub mod SegmentSteps
 pub mod DevicePlaces
 pub mod NextUp
 pub mod DownStays
+pub mod AtView

@@ -201,9 +201,12 @@ module _ (v : View) where
 
 -- ---- a machine that runs
 
--- a backend stands where it is, while a line is left
+-- a backend with a line left, which is this one, stands where it is
+abbrev pub HasLeft : Backend → Ask → Type 0
+HasLeft b ask = slice_get b.asks b.answered ≡ Some ask
+
 abbrev pub StandsFor : Backend → View → Type 0
-StandsFor b v = (ask : Ask) → slice_get b.asks b.answered ≡ Some ask → StandsAt v b.doing ask
+StandsFor b v = (ask : Ask) → HasLeft b ask → StandsAt v b.doing ask
 
 -- who is to take the writer out knows of no failed disk: the down word is 0
 abbrev pub UpFor : Doing → ℕ → Type 0
@@ -223,7 +226,7 @@ pub record IsRunning (m : Machine) : Type 0 where
       → (v : View) × IsLive m.state (number + 1) v × StandsFor b v
   pub at_home : (w : Plain) → (m.state).home ≡ some w → w.fault ≡ none
       → AwaitsOne ((m.opening).setup).segment_size w
-  pub up : (number : ℕ) (b : Backend) → HasBackend m number b
+  pub up : (number : ℕ) (b : Backend) (ask : Ask) → HasBackend m number b → HasLeft b ask
       → UpFor b.doing (down_word (m.state).words)
 
 -- behind a turn the state is as it was, or a step's
