@@ -108,18 +108,18 @@ module _ (m : Machine) (run : IsRunning m) (number : ℕ) (v : View)
 
   -- ---- the writer
 
-  abbrev Stands : Hold → Type 0
-  Stands h = StandsTo (write_turn words) ((sound.locks).writing).holder home sound.writer id
+  pub to_writer_of : (o : Opening) (k : IsSound o words home views) (h : Hold)
+      → (v.writing).hold ≡ h → StandsTo (write_turn words) ((k.locks).writing).holder home k.writer id
       (v.reserving).number h
-
-  pub to_writer : (h : Hold) → (v.writing).hold ≡ h → Stands h
-  to_writer h is = subst Stands is
-      (((sound.locks).writing).each id (writer_of v) (part_at writer_of views id v live.0))
+  to_writer_of o k h is = subst
+      (λ (g : Hold). StandsTo (write_turn words) ((k.locks).writing).holder home k.writer id
+      (v.reserving).number g) is
+      (((k.locks).writing).each id (writer_of v) (part_at writer_of views id v live.0))
 
   near : (l : Lent) → (v.writing).hold ≡ Out l
       → segment_next size l.writer ≤ (l.writer).made + 1
   near l is = subst (λ (w : Plain). segment_next size w ≤ w.made + 1)
-      (sym (to_writer (Out l) is).3)
+      (sym (to_writer_of v.opening sound (Out l) is).3)
       (next-near size valid (sound.writer).written (sound.writer).made (sound.durable).reached)
 
   -- at home, while no disk has failed
@@ -139,7 +139,8 @@ module _ (m : Machine) (run : IsRunning m) (number : ℕ) (v : View)
   takes_out_now : (purpose : Purpose) → down_word words ≡ 0 → StandsAt v (TakesOut purpose) ask
       → Goes m ask (TakesOut purpose) v
   takes_out_now purpose up stands =
-      let there = (to_writer HasTurned (hold_of purpose ask HasTurned v stands)).2 in
+      let there = (to_writer_of v.opening sound HasTurned
+          (hold_of purpose ask HasTurned v stands)).2 in
       let no_fault = (sound.durable).down_at_home there up in
       takes_out_goes m ask purpose v sound.writer there
       (at_home_up sound.writer no_fault there) stands

@@ -7,4 +7,6 @@ pub mod SegmentSteps
 pub mod DevicePlaces
 pub mod NextUp
 pub mod DownStays
+pub mod LiveStays
 pub mod AtView
+pub mod Running

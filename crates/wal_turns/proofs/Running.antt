@@ -1,0 +1,222 @@
+-- A machine that runs: each turn leaves its state or makes a step, and it runs on.
+use Rattle.std.proofs.Common.{◌≡◌, ◌≢◌, ◌⊎◌, inl, inr, ⊎_elim, ℕ, zero, suc, ◌+◌, Bool, true, false, cond, eqb, eqb-true, not, ◌&&◌, ◌||◌, All, List, [], ◌∷◌, set, slice_index, slice_get, Some, None, refl, sym, ap, ◌∙◌, subst, arith}
+use Rattle.std.specs.Option.{unwrap_or}
+use Rattle.std.proofs.lemmas.Option.{slice_get_within, unwrap_or-slice_get}
+use mathlib.Core.Option.{none, some}
+use lib.ListN.{get_elem?}
+use Rattle.wal_core.specs.Words.{down_word}
+use Rattle.wal_core.specs.Views.{HasAt, Plain, Lent, Hold, Out, Turned as HasTurned, View, working_of}
+use Rattle.wal_core.specs.Steps.{Event, MayStep, State, Step, Moves, IsLive, load_down, word_of_step, value_behind, view_behind, home_behind}
+use Rattle.wal_core.proofs.Lists.{at_else, at_place, part_at}
+use Rattle.wal_core.proofs.WordLists.{word_again}
+use Rattle.step_laws.proofs.EveryStep.{step_keeps}
+use Rattle.wal_turns.specs.Doing.{Ask, Inserts, Commits, Flushes, Purpose, Doing, Begins, FlushBegins, LoadsDown, TakesOut, Backend, Machine}
+use Rattle.wal_turns.specs.Turned.{Turn, Waits, Next, goes_on, answers, can_step, looks_down, event_named, next_of, outcome, is_done, with_answer, with_next, tells_full, start_of, state_behind, moved_on, fallen, word_waited, turned, turned_by, turned_for, turned_of, run_of}
+use Rattle.wal_turns.specs.Standing.{IsRunning, HasBackend, HasLeft, IsLine, IsStepOrSame, MayBegin, StandsAt, StandsFor, UpFor, AwaitsOne}
+use Rattle.wal_turns.proofs.Poses.{Goes, StandsNext, bool_cases}
+use Rattle.wal_turns.proofs.FlushPlaces.{hold_of}
+use Rattle.wal_turns.proofs.NextUp.{UpNext, next_up, up_start}
+use Rattle.wal_turns.proofs.DownStays.{down_still}
+use Rattle.wal_turns.proofs.LiveStays.{live_stays}
+use Rattle.wal_turns.proofs.AtView.{HomeBy, goes, homes, own, sound, to_writer_of, up_by}
+
+-- ---- lists
+
+set_cases : {A : Type 0} (xs : List A) (i j : ℕ) (x y : A) → slice_get (set xs i x) j ≡ Some y
+    → ((j ≡ i) × (x ≡ y)) ⊎ ((j ≢ i) × (slice_get xs j ≡ Some y))
+set_cases [] i j x y e = absurd (cc)
+set_cases (z ∷ zs) zero zero x y e = inl (refl, cc)
+set_cases (z ∷ zs) zero (suc j) x y e = inr (λ is. omega (arith, is), e)
+set_cases (z ∷ zs) (suc i) zero x y e = inr (λ is. omega (arith, is), e)
+set_cases (z ∷ zs) (suc i) (suc j) x y e = ⊎_elim
+    (λ (h : (j ≡ i) × (x ≡ y)). inl (ap suc h.0, h.1))
+    (λ (h : (j ≢ i) × (slice_get zs j ≡ Some y)). inr (λ is. h.0 (omega (arith, is)), h.1))
+    (set_cases zs i j x y e)
+
+all_got : {A : Type 0} (P : A → Type 0) (xs : List A) (i : ℕ) (x : A) → All P xs
+    → slice_get xs i ≡ Some x → P x
+all_got P xs i x all e = subst P
+    (sym (unwrap_or-slice_get xs i x) ∙ ap (λ (o : Rattle.std.specs.Prelude.Option _). unwrap_or o x) e)
+    (all i x (slice_get_within xs i x e))
+
+-- ---- a backend behind its step
+
+begin_stands : (a : Ask) (w : View) → IsLine a → MayBegin w → StandsAt w (start_of (Some a)) a
+begin_stands (Inserts value) w writable may = (may, writable)
+begin_stands (Commits value) w writable may = (may, writable)
+begin_stands Flushes w writable may = may
+
+answer_stands : (b : Backend) (w : View) → All IsLine b.asks → MayBegin w
+    → StandsFor (with_answer b) w
+answer_stands b w lines may ask left = subst
+    (λ (x : Rattle.std.specs.Prelude.Option Ask). StandsAt w (start_of x) ask) (sym left)
+    (begin_stands ask w (all_got IsLine b.asks (b.answered + 1) ask lines left) may)
+
+next_stands : (b : Backend) (ask : Ask) (w : View) → All IsLine b.asks → HasLeft b ask
+    → (next : Next) → StandsNext next ask w → StandsFor (with_next next b) w
+next_stands b ask w lines left (goes_on doing) stands other is =
+    let same : ask ≡ other = cc in subst (StandsAt w doing) same stands
+next_stands b ask w lines left (answers full) stands other is =
+    answer_stands b w lines stands other is
+
+next_lines : (b : Backend) (next : Next) → All IsLine b.asks → All IsLine (with_next next b).asks
+next_lines b (goes_on doing) lines = lines
+next_lines b (answers full) lines = lines
+
+next_up_for : (b : Backend) (next : Next) (d : ℕ) → UpNext next d
+    → UpFor (with_next next b).doing d
+next_up_for b (goes_on doing) d up = up
+next_up_for b (answers full) d up = up_start (slice_get b.asks (b.answered + 1)) d
+
+-- ---- a turn
+
+abbrev pub Good : Machine → Machine → Type 0
+Good m n = IsStepOrSame m n × IsRunning n
+
+module _ (m : Machine) (run : IsRunning m) (number : ℕ) (b : Backend) (here : HasBackend m number b)
+    (v : View) (live : IsLive m.state (number + 1) v) (ask : Ask) (left : HasLeft b ask)
+    (stands : StandsAt v b.doing ask) where
+  abbrev words : List ℕ
+  words = (m.state).words
+
+  abbrev home : mathlib.Core.Option.Option Plain
+  home = (m.state).home
+
+  abbrev views : List View
+  views = (m.state).views
+
+  abbrev id : ℕ
+  id = number + 1
+
+  abbrev later : Event → State
+  later e = state_behind id v e m.state
+
+  abbrev behind : Event → View
+  behind e = view_behind v e (slice_index words (word_of_step v e)) home
+
+  step_made : (e : Event) → MayStep v e → Step m.state (later e)
+  step_made e may = Moves id e (slice_index words (word_of_step v e)) (record {
+    view = v;
+    live = live;
+    may = may;
+    met_is = refl;
+    words = refl;
+    home = refl;
+    views = refl;
+  })
+
+  still_live : (e : Event) → MayStep v e → ((behind e).reserving).live ≡ true
+  still_live e may = live_stays v _ home e ∙ live.1
+
+  -- who is to take the writer out has the turn, so that no other one sets the down word
+  down_kept : (e : Event) → MayStep v e → (j : ℕ) (u : View) → j ≢ number
+      → IsLive m.state (j + 1) u → (u.writing).hold ≡ HasTurned
+      → down_word (later e).words ≡ down_word words
+  down_kept e may j u apart alive turned_there =
+      let k = run.sound in
+      ⊎_elim
+      (λ (same : down_word (later e).words ≡ down_word words). same)
+      (λ (out : (l : Lent) × ((v.writing).hold ≡ Out l)).
+      let mine = (to_writer_of m run number v live ask m.opening k (Out out.0) out.1).1 in
+      let theirs = (to_writer_of m run j u alive ask m.opening k HasTurned turned_there).1 in
+      absurd (apart (omega (arith, mine, theirs))))
+      (down_still words v (λ i held. (((k.locks).locks).each id i (working_of v)
+      (part_at working_of views id v live.0) held).0) e may)
+
+  abbrev with_backend : Event → Backend → Bool → Machine
+  with_backend e c full = record m {
+    state = later e;
+    backends = set m.backends number c;
+    full = full;
+  }
+
+  runs_on : (e : Event) → MayStep v e → (c : Backend) (full : Bool) → All IsLine c.asks
+      → StandsFor c (behind e) → HomeBy m run number v live ask e
+      → UpFor c.doing (down_word (later e).words) → Good m (with_backend e c full)
+  runs_on e may c full lines mine at_home up = (inr (step_made e may), record {
+    sound = step_keeps m.opening m.state (later e) run.sound (step_made e may);
+    lines = λ j d is. ⊎_elim
+        (λ (h : (j ≡ number) × (c ≡ d)). subst (λ (x : Backend). All IsLine x.asks) h.1 lines)
+        (λ (h : (j ≢ number) × HasBackend m j d). run.lines j d h.1)
+        (set_cases m.backends number j c d is);
+    views = λ j d is. ⊎_elim
+        (λ (h : (j ≡ number) × (c ≡ d)). subst
+        (λ (y : ℕ × Backend). (u : View) × IsLive (later e) (y.0 + 1) u × StandsFor y.1 u)
+        (λ i. (sym h.0 i, h.1 i))
+        (behind e, (at_place views id v (behind e) live.0, still_live e may), mine))
+        (λ (h : (j ≢ number) × HasBackend m j d).
+        let old = run.views j d h.1 in
+        (old.0, (at_else views id (j + 1) (behind e) old.0 (λ same. h.0 (omega (arith, same)))
+        old.1.0, old.1.1), old.2))
+        (set_cases m.backends number j c d is);
+    at_home = at_home;
+    up = λ j d a is has. ⊎_elim
+        (λ (h : (j ≡ number) × (c ≡ d)).
+        subst (λ (x : Backend). UpFor x.doing (down_word (later e).words)) h.1 up)
+        (λ (h : (j ≢ number) × HasBackend m j d).
+        let old = run.views j d h.1 in
+        let up_there = run.up j d a h.1 has in
+        up_by d.doing (down_word (later e).words) (λ purpose takes.
+        down_kept e may j old.0 h.0 old.1
+        (hold_of purpose a HasTurned old.0
+        (subst (λ (x : Doing). StandsAt old.0 x a) takes (old.2 a has)))
+        ∙ subst (λ (x : Doing). UpFor x (down_word words)) takes up_there))
+        (set_cases m.backends number j c d is);
+  })
+
+  falls : down_word words ≢ 0 → Good m (fallen m number b v ask).1
+  falls down = runs_on load_down tt (with_answer b) m.full (run.lines number b here)
+      (answer_stands b (behind load_down) (run.lines number b here) (inr (inl down)))
+      run.at_home (up_start (slice_get b.asks (b.answered + 1)) _)
+
+  moves : can_step m v ask b.doing ≡ true
+      → (looks_down m v ask b.doing ≡ true → down_word words ≡ 0)
+      → Good m (moved_on m number b v ask (event_named m v ask b.doing)).1
+  moves can up =
+      let e = event_named m v ask b.doing in
+      let met = slice_index words (word_of_step v e) in
+      let done = is_done (outcome m v ask) in
+      let next = next_of v (behind e) ask met done b.doing in
+      let lines = run.lines number b here in
+      let g = goes m run number v live ask b.doing (run.up number b ask here left) stands can up in
+      runs_on e g.0 (with_next next b) (m.full || tells_full next) (next_lines b next lines)
+      (next_stands b ask (behind e) lines left next g.1)
+      (homes m run number v live ask b.doing stands)
+      (next_up_for b next _ (next_up v (behind e) ask met done _ b.doing
+      (λ purpose is.
+      let loaded : down_word (later e).words ≡ down_word words = subst
+          (λ (d : Doing). down_word (later (event_named m v ask d)).words ≡ down_word words) (sym is)
+          (ap (λ (ws : List ℕ). down_word ws) (word_again words 16)) in
+      loaded ∙ up (ap (λ (d : Doing). looks_down m v ask d) is))))
+
+  and_left : (s t : Bool) → s && t ≡ true → s ≡ true
+  and_left true t is = refl
+  and_left false t is = absurd (cc)
+
+  off_by : (n : ℕ) (s t : Bool) → not (eqb n 0) && (s || t) ≡ false → s ≡ true → n ≡ 0
+  off_by n true t off on = eqb-true n 0 (by_test (eqb n 0) off)
+    where
+      by_test : (x : Bool) → not x && true ≡ false → x ≡ true
+      by_test true is = refl
+      by_test false is = absurd (cc)
+  off_by n false t off on = absurd (cc)
+
+  down_by : (n : ℕ) → not (eqb n 0) ≡ true → n ≢ 0
+  down_by n is zero_now =
+      let same = subst (λ (k : ℕ). not (eqb k 0) ≡ true) zero_now is in absurd (cc)
+
+  pub turn_good : Good m (turned_by m number b v ask).1
+  turn_good =
+      let down = down_word words in
+      let can = can_step m v ask b.doing in
+      let looks = looks_down m v ask b.doing in
+      let waits : Turn × Machine = (Waits (word_waited m v ask b.doing)
+          (slice_index words (word_waited m v ask b.doing)), m) in
+      let moved = moved_on m number b v ask (event_named m v ask b.doing) in
+      bool_cases
+      (λ (t : Bool). Good m (cond t (fallen m number b v ask) (cond can moved waits)).1)
+      (not (eqb down 0) && (looks || not can))
+      (λ on. falls (down_by down (and_left _ _ on)))
+      (λ off. bool_cases (λ (c : Bool). Good m (cond c moved waits).1) can
+      (λ may. moves may (λ on. off_by down looks (not can) off on))
+      (λ waiting. (inl refl, run)))
