@@ -10,3 +10,4 @@ pub mod DownStays
 pub mod LiveStays
 pub mod AtView
 pub mod Running
+pub mod Schedules

@@ -1,5 +1,5 @@
 -- How a backend's view stands at its place in the order of steps, and a machine that runs.
-use Rattle.std.specs.Prelude.{◌≡◌, ◌≢◌, ◌⊎◌, ℕ, zero, suc, ◌+◌, ◌*◌, ◌/◌, ◌%◌, ◌<◌, ◌≤◌, Bool, true, false, All, List, [], ◌∷◌, slice_get, Some}
+use Rattle.std.specs.Prelude.{◌≡◌, ◌≢◌, ◌⊎◌, ℕ, zero, suc, ◌+◌, ◌*◌, ◌/◌, ◌%◌, ◌<◌, ◌≤◌, Bool, true, false, All, List, [], ◌∷◌, length, slice_get, Some}
 use mathlib.Core.Option.{none, some}
 use Rattle.byte_position.specs.Geometry.{pages_of}
 use Rattle.record_spelling.specs.Spelling.{IsWritable}
@@ -11,7 +11,8 @@ use Rattle.wal_core.specs.Paged.{IsOpen}
 use Rattle.wal_core.specs.Steps.{IsLive, IsResting, Step}
 use Rattle.wal_core.specs.Sound.{IsSound}
 use Rattle.wal_turns.specs.Doing.{Ask, Inserts, Commits, Flushes, Purpose, ForLine, ForPage, Doing, Begins, Tries, Reserves, Looks, Copies, Maps, GivesTurn, Tells, Releases, FlushBegins, LoadsPosition, LoadsFlushed, LoadsMoment, Visits, TakesTurn, LoadsDown, TakesOut, LoadsPage, Creates, Writes, SyncsFull, SyncsLast, StoresWritten, StoresMoment, StoresFlushed, SetsDown, PutsBack, GivesWriteTurn, Backend, Machine}
-use Rattle.wal_turns.specs.Turned.{fits, own_end, next_address}
+use Rattle.step_laws.specs.Runs.{Runs}
+use Rattle.wal_turns.specs.Turned.{fits, run_of}
 
 -- ---- what a line asks for
 
@@ -232,3 +233,8 @@ pub record IsRunning (m : Machine) : Type 0 where
 -- behind a turn the state is as it was, or a step's
 abbrev pub IsStepOrSame : Machine → Machine → Type 0
 IsStepOrSame m n = (n.state ≡ m.state) ⊎ Step m.state n.state
+
+-- behind a schedule the state is that of a run of at most as many steps
+abbrev pub RunsOn : Machine → List ℕ → Type 0
+RunsOn m schedule =
+    (n : ℕ) × (n ≤ length schedule) × Runs n m.state (run_of m schedule).state

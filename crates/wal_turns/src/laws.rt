@@ -1,11 +1,17 @@
 //! Laws of turns, each proved by a function that does nothing.
 
-ghost use Rattle.std.specs.Prelude.{◌≡◌, ◌⊎◌, ℕ};
-ghost use Rattle.wal_core.specs.Steps.{Step};
+ghost use Rattle.std.specs.Prelude.{List, ℕ};
 ghost use Rattle.wal_turns.specs.Doing.{Machine};
-ghost use Rattle.wal_turns.specs.Turned.{turned};
+ghost use Rattle.wal_turns.specs.Standing.{IsRunning, IsStepOrSame, RunsOn};
+ghost use Rattle.wal_turns.specs.Turned.{run_of, turned};
 
-/// trial
-pub fn trial()
-    ensures { (m : Machine) (number : ℕ) → turned m number ≡ turned m number }
+/// In a machine that runs the step that the order names for a backend may be made: each turn leaves
+/// the state as it was, where the backend waits or is done, or makes one step; and the machine runs
+/// on, so that its state keeps the invariant. Behind any schedule the state is that of a run of at
+/// most as many steps, whichever calls of the device fail.
+pub fn turns_are_steps()
+    ensures turn { (m : Machine) (number : ℕ) → IsRunning m
+        → IsStepOrSame m (turned m number).1 × IsRunning (turned m number).1 }
+    ensures schedule { (schedule : List ℕ) (m : Machine) → IsRunning m
+        → RunsOn m schedule × IsRunning (run_of m schedule) }
 {}
