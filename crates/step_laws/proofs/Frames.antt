@@ -149,7 +149,7 @@ module _ (s : Moved) where
 
   pub positions_stay : flight_of w ≡ flight_of v → writing_of w ≡ writing_of v
       → i ≢ 13 → i ≢ 14 → i ≢ 16
-      → PositionsHold setup k.order (written_word later) (flushed_word later) (down_word later)
+      → PositionsHold opening k.order (written_word later) (flushed_word later) (down_word later)
       home k.writer (map flight_of views_later) (map writing_of views_later)
   positions_stay same_flight same apart_13 apart_14 apart_16 =
       let written = same_word 13 (λ e. apart_13 (sym e)) in
@@ -158,5 +158,5 @@ module _ (s : Moved) where
       let flights = part_same flight_of views id v w here same_flight in
       let parts = part_same writing_of views id v w here same in
       subst (λ (x : ℕ × ℕ × ℕ × List _ × List _).
-      PositionsHold setup k.order x.0 x.1 x.2 home k.writer x.3 x.4)
+      PositionsHold opening k.order x.0 x.1 x.2 home k.writer x.3 x.4)
       (λ j. (sym written j, sym flushed j, sym down j, sym flights j, sym parts j)) k.positions

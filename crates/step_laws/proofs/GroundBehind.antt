@@ -106,7 +106,8 @@ module _ (words : List ℕ) (home : Option Plain) (views : List View) (id : ℕ)
     grounded_behind load_prev may = same load_prev (rw may.1 refl)
     grounded_behind store_prev may = same store_prev (rw may.2 refl)
     grounded_behind (store_position lock value) may = reserved lock value may
-    grounded_behind give_position_back may = same give_position_back (rw may.1 refl)
+    grounded_behind (give_position_back value) may =
+        same (give_position_back value) (rw may.1 refl)
     grounded_behind (load_lock lock asked) may = grounded_live v.opening down
         (behind (load_lock lock asked)) refl live (visited_low lock (slice_index words (2 + lock))
         (end_form (v.opening).setup (v.reserving).seen) (begun lock asked v) (begun_low lock asked))
@@ -124,7 +125,7 @@ module _ (words : List ℕ) (home : Option Plain) (views : List View) (id : ℕ)
     grounded_behind load_down may = same load_down refl
     grounded_behind store_written may = same store_written refl
     grounded_behind store_moment may = same store_moment refl
-    grounded_behind store_flushed may = same store_flushed refl
+    grounded_behind store_flushed may = sees_more store_flushed refl refl refl (omega arith)
     grounded_behind set_down may = same set_down refl
     grounded_behind take_mapping_turn may = same take_mapping_turn
         (ground_either (eqb (slice_index words 10) 0) (with_stage Taken v) v refl)
@@ -177,7 +178,8 @@ module _ (words : List ℕ) (home : Option Plain) (views : List View) (id : ℕ)
   down_stays store_prev may = not_stored store_prev (λ e. omega arith)
   down_stays (store_position lock value) may =
       not_stored (store_position lock value) (λ e. omega arith)
-  down_stays give_position_back may = not_stored give_position_back (λ e. omega arith)
+  down_stays (give_position_back value) may =
+      not_stored (give_position_back value) (λ e. omega arith)
   down_stays (load_lock lock asked) may = not_stored (load_lock lock asked) (λ e. omega arith)
   down_stays (take_lock lock) may = not_stored (take_lock lock) (λ e. omega arith)
   down_stays (advance lock upto) may =

@@ -53,7 +53,7 @@ module _ (words : List ℕ) (home : Option Plain) (views : List View) (id : ℕ)
         (position_word words) (prev_word words) rs
 
     abbrev HasPositionsWith : List Flight → List Writing → Type 0
-    HasPositionsWith fs ws = PositionsHold (v.opening).setup k.order (written_word words)
+    HasPositionsWith fs ws = PositionsHold v.opening k.order (written_word words)
         (flushed_word words) (down_word words) home k.writer fs ws
 
     changed_sound : ((j : ℕ) (u : View) → HasAt changed j u
@@ -176,7 +176,7 @@ module _ (words : List ℕ) (home : Option Plain) (views : List View) (id : ℕ)
       (max (v.reserving).seen (w.reserving).seen) low (omega arith))))
       _ (two_change reserving_of views id v here other (both_of v w) (spent w))
       (order.join_keeps k.order (position_word words) (prev_word words) (map reserving_of views)
-      id v other w part (part_at reserving_of views other w there) alive apart)
+      id v other w part (part_at reserving_of views other w there) alive apart rests.place)
       (works_join (v.opening).setup k.order words views id v here
       (works_now v.opening words home views k) other w there apart rests)
       (turns_join words home k.stage k.writer views id v here

@@ -68,8 +68,8 @@ module _ (words : List ℕ) (home : Option Plain) (views : List View) (id : ℕ)
       (k.order ++ entry_at number at value ∷ []) k.reach k.memory)
       (sym (ap (place_at v) may.2))
       (ring.ring_behind-reserved v words home views id k here lock value live may)
-  ring_holds give_position_back may =
-      left.ring_behind-left v words home views id k here give_position_back tt
+  ring_holds (give_position_back value) may =
+      left.ring_behind-left v words home views id k here (give_position_back value) tt
   ring_holds (load_lock lock asked) may =
       left.ring_behind-left v words home views id k here (load_lock lock asked) tt
   ring_holds (take_lock lock) may =
@@ -144,8 +144,8 @@ module _ (words : List ℕ) (home : Option Plain) (views : List View) (id : ℕ)
       left.pages_behind-left v words home views id k here store_prev may tt
   pages_hold (store_position lock value) may =
       left.pages_behind-left v words home views id k here (store_position lock value) may tt
-  pages_hold give_position_back may =
-      left.pages_behind-left v words home views id k here give_position_back may tt
+  pages_hold (give_position_back value) may =
+      left.pages_behind-left v words home views id k here (give_position_back value) may tt
   pages_hold (load_lock lock asked) may =
       left.pages_behind-left v words home views id k here (load_lock lock asked) may tt
   pages_hold (take_lock lock) may =
@@ -209,7 +209,7 @@ module _ (words : List ℕ) (home : Option Plain) (views : List View) (id : ℕ)
   durable_holds load_prev may = durable.durable-inside words home views id v k here load_prev may tt tt
   durable_holds store_prev may = durable.durable-inside words home views id v k here store_prev may tt tt
   durable_holds (store_position lock value) may = durable.durable-reserved words home views id v k here live lock value may
-  durable_holds give_position_back may = durable.durable-inside words home views id v k here give_position_back may tt tt
+  durable_holds (give_position_back value) may = durable.durable-inside words home views id v k here (give_position_back value) may tt tt
   durable_holds (load_lock lock asked) may = durable.durable-inside words home views id v k here (load_lock lock asked) may tt tt
   durable_holds (take_lock lock) may = durable.durable-inside words home views id v k here (take_lock lock) may tt tt
   durable_holds (advance lock upto) may = durable.durable-inside words home views id v k here (advance lock upto) may tt tt

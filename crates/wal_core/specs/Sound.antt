@@ -59,7 +59,7 @@ pub record IsSound (opening : Opening) (words : List ℕ) (home : Option Plain) 
   pub pages : PagesHold opening.setup.ring_pages reach stage (initialised_word words)
       (written_word words) (end_word words) (ring_word opening.setup words) memory
       (map confirmed_of views)
-  pub positions : PositionsHold opening.setup order (written_word words) (flushed_word words)
+  pub positions : PositionsHold opening order (written_word words) (flushed_word words)
       (down_word words) home writer (map flight_of views) (map writing_of views)
   pub durable : DurabilityHolds opening order (flushed_word words) (moment_word words)
       (down_word words) home writer (map told_of views)

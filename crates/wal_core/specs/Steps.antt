@@ -18,7 +18,7 @@ use Rattle.wal_core.specs.declared.setup.Setup.{Setup}
 use Rattle.wal_core.specs.Words.{log_limit}
 use Rattle.wal_core.specs.Views.{HasAt, Place, Free, Locked, Loaded, Stored, Copy, Flight, Landed, Copying, Stage, Taken, Looked, Ready, Zeroing, Published, Plain, Lent, Hold, Idle, Turned, Out, Away, View}
 use Rattle.wal_core.specs.Paged.{IsOpen}
-use Rattle.wal_core.specs.Moves.{Outcome, Done, Failed, left_of, right_of, both_of, spent, without_work, orphan_of, with_stage, with_hold, with_confirmed, with_writer, after_load_position, after_take_write_turn, after_slot_out, after_lock_position, after_load_prev, after_store_prev, after_store_position, after_give_back, after_load_lock, after_take_lock, after_release, after_store_word, after_load_word, after_load_written, after_load_flushed, after_load_moment, after_load_down, after_store_written, after_store_moment, after_set_down, after_take_mapping_turn, after_load_initialised, after_create, after_write, after_sync}
+use Rattle.wal_core.specs.Moves.{Outcome, Done, Failed, left_of, right_of, both_of, spent, without_work, orphan_of, with_stage, with_hold, with_confirmed, with_writer, after_load_position, after_take_write_turn, after_slot_out, after_lock_position, after_load_prev, after_store_prev, after_store_position, after_give_back, after_load_lock, after_take_lock, after_release, after_store_word, after_load_word, after_load_written, after_load_flushed, after_load_moment, after_load_down, after_store_written, after_store_moment, after_store_flushed, after_set_down, after_take_mapping_turn, after_load_initialised, after_create, after_write, after_sync}
 
 -- ---- what a step may rest on
 
@@ -86,7 +86,7 @@ pub data Event : Type 0 where
   load_prev : Event
   store_prev : Event
   store_position : ℕ → Record → Event
-  give_position_back : Event
+  give_position_back : Record → Event
   -- insertion locks
   load_lock : ℕ → ℕ → Event
   take_lock : ℕ → Event
@@ -171,7 +171,7 @@ module _ (v : View) where
   word_of_step load_prev = 1
   word_of_step store_prev = 1
   word_of_step (store_position lock value) = 0
-  word_of_step give_position_back = 0
+  word_of_step (give_position_back value) = 0
   word_of_step (load_lock lock asked) = 2 + lock
   word_of_step (take_lock lock) = 2 + lock
   word_of_step (advance lock upto) = 2 + lock
@@ -237,7 +237,7 @@ module _ (v : View) where
   value_behind (store_position lock value) met =
       place_at (v.reserving).place
       + room_at (setup_of).segment_size (place_at (v.reserving).place) value
-  value_behind give_position_back met = place_at (v.reserving).place
+  value_behind (give_position_back value) met = place_at (v.reserving).place
   value_behind (load_lock lock asked) met = met
   value_behind (take_lock lock) met = exchanged 0 1 met
   value_behind (advance lock upto) met = upto + 1
@@ -291,7 +291,8 @@ module _ (v : View) where
   MayStep (store_position lock value) = (at prev : ℕ) × ((v.reserving).place ≡ Stored at prev)
       × IsWritable value × (at + room_at (setup_of).segment_size at value ≤ log_limit setup_of)
       × Contains (v.working).locks lock × ((v.working).flight ≡ Landed)
-  MayStep give_position_back = (at : ℕ) × ((v.reserving).place ≡ Locked at)
+  MayStep (give_position_back value) = (at : ℕ) × ((v.reserving).place ≡ Locked at)
+      × (log_limit setup_of < at + room_at (setup_of).segment_size at value)
   MayStep (load_lock lock asked) = lock < 8
   MayStep (take_lock lock) = lock < 8
   MayStep (advance lock upto) = Contains (v.working).locks lock
@@ -347,7 +348,7 @@ module _ (v : View) where
   view_behind load_prev met home = after_load_prev met v
   view_behind store_prev met home = after_store_prev v
   view_behind (store_position lock value) met home = after_store_position lock value v
-  view_behind give_position_back met home = after_give_back v
+  view_behind (give_position_back value) met home = after_give_back v
   view_behind (load_lock lock asked) met home = after_load_lock lock asked met v
   view_behind (take_lock lock) met home = after_take_lock lock met v
   view_behind (advance lock upto) met home = v
@@ -361,7 +362,9 @@ module _ (v : View) where
   view_behind load_down met home = after_load_down met v
   view_behind store_written met home = after_store_written v
   view_behind store_moment met home = after_store_moment v
-  view_behind store_flushed met home = v
+  view_behind store_flushed met home = after_store_flushed
+      (number_lent (λ l. l.hard) (v.writing).hold)
+      (number_lent (λ l. l.hard_moment) (v.writing).hold) v
   view_behind set_down met home =
       after_set_down (number_lent (λ l. fault_number (l.writer).fault) (v.writing).hold) v
   view_behind take_mapping_turn met home = after_take_mapping_turn met v
