@@ -4,7 +4,7 @@
 
 ghost use Rattle.std.specs.Prelude.{◌≡◌, ◌≢◌, ℕ, ◌<◌, Contains, List, [], ◌∷◌, ◌++◌, set};
 ghost use Rattle.std.specs.List.{filter};
-ghost use Rattle.wal_core.specs.Views.{HasAt, Copy, Copying, Flight, Landed, Working, View, working_of};
+ghost use Rattle.wal_core.specs.Views.{HasAt, Copy, Copying, Flight, Landed, Working, AreSomeOf, View, working_of};
 ghost use Rattle.wal_core.specs.Locked.{AreHeld};
 ghost use Rattle.wal_core.specs.Moves.{landed, one_more, after_take_lock};
 ghost use Rattle.wal_core.specs.Steps.{exchanged};
@@ -34,10 +34,10 @@ pub fn locks_are_taken_and_given_back()
         })) }
 {}
 
-/// An entry begins its flight under a lock that its view holds, and stays under it.
+/// An entry begins its flight under locks that its view holds, at least one, and stays under them.
 pub fn entries_are_copied_under_locks_held()
     ensures begun { (lock : ℕ → ℕ) (parts : List Working) (id : ℕ) (w : Working) (c : Copy)
-        → AreHeld lock parts → HasAt parts id w → Contains w.locks c.lock
+        → AreHeld lock parts → HasAt parts id w → AreSomeOf c.locks w.locks
         → AreHeld lock (set parts id (record { locks = w.locks; flight = Copying c })) }
     ensures copied_on { (lock : ℕ → ℕ) (parts : List Working) (id : ℕ) (w : Working)
         → AreHeld lock parts → HasAt parts id w → AreHeld lock

@@ -19,7 +19,7 @@ pub fn locks_tell_no_more_than_is_copied()
         → ProgressHolds size later parts }
     ensures advanced { (size : ℕ) (lock later : ℕ → ℕ) (parts : List Working) (id i : ℕ)
         (w : Working) (c : Copy) → AreHeld lock parts → ProgressHolds size lock parts
-        → HasAt parts id w → Contains w.locks i → w.flight ≡ Copying c → c.lock ≡ i
+        → HasAt parts id w → Contains w.locks i → w.flight ≡ Copying c → Contains c.locks i
         → ChangesAt lock later i → later i ≤ address_of_word size c.entry c.copied + 1
         → ProgressHolds size later parts }
 {}

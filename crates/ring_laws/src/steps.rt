@@ -18,9 +18,9 @@ ghost use Rattle.ring_laws.specs.Left.{LeavesCopies, LeavesPages};
 pub fn steps_keep_the_ring()
     ensures reserved { (v : View) (words : List ℕ) (home : Option Plain) (views : List View)
         (id : ℕ) (s : IsSound v.opening words home views) → HasAt views id v
-        → (lock : ℕ) (value : Record) → v.reserving.live ≡ true
-        → (may : MayStep v (store_position lock value))
-        → HasRing v words home views id (store_position lock value)
+        → (locks : List ℕ) (value : Record) → v.reserving.live ≡ true
+        → (may : MayStep v (store_position locks value))
+        → HasRing v words home views id (store_position locks value)
         (s.order ++ entry_at v.reserving.number may.0 value ∷ []) s.reach s.memory }
     ensures stored { (v : View) (words : List ℕ) (home : Option Plain) (views : List View)
         (id : ℕ) (s : IsSound v.opening words home views) → HasAt views id v

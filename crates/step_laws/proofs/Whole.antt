@@ -81,16 +81,16 @@ module _ (words : List ℕ) (home : Option Plain) (views : List View) (id : ℕ)
       left.ring_behind-left v words home views id k here load_prev tt
   ring_holds store_prev may =
       left.ring_behind-left v words home views id k here store_prev tt
-  ring_holds (store_position lock value) may =
+  ring_holds (store_position locks value) may =
       let number = (v.reserving).number in
-      subst (λ (at : ℕ). HasRing v words home views id (store_position lock value)
+      subst (λ (at : ℕ). HasRing v words home views id (store_position locks value)
       (k.order ++ entry_at number at value ∷ []) k.reach k.memory)
       (sym (ap (place_at v) may.2))
-      (ring.ring_behind-reserved v words home views id k here lock value live may)
+      (ring.ring_behind-reserved v words home views id k here locks value live may)
   ring_holds give_position_back may =
       left.ring_behind-left v words home views id k here give_position_back tt
-  ring_holds (load_lock lock asked) may =
-      left.ring_behind-left v words home views id k here (load_lock lock asked) tt
+  ring_holds (load_lock lock limit) may =
+      left.ring_behind-left v words home views id k here (load_lock lock limit) tt
   ring_holds (take_lock lock) may =
       left.ring_behind-left v words home views id k here (take_lock lock) tt
   ring_holds (advance lock upto) may =
@@ -161,12 +161,12 @@ module _ (words : List ℕ) (home : Option Plain) (views : List View) (id : ℕ)
       left.pages_behind-left v words home views id k here load_prev may tt
   pages_hold store_prev may =
       left.pages_behind-left v words home views id k here store_prev may tt
-  pages_hold (store_position lock value) may =
-      left.pages_behind-left v words home views id k here (store_position lock value) may tt
+  pages_hold (store_position locks value) may =
+      left.pages_behind-left v words home views id k here (store_position locks value) may tt
   pages_hold give_position_back may =
       left.pages_behind-left v words home views id k here give_position_back may tt
-  pages_hold (load_lock lock asked) may =
-      left.pages_behind-left v words home views id k here (load_lock lock asked) may tt
+  pages_hold (load_lock lock limit) may =
+      left.pages_behind-left v words home views id k here (load_lock lock limit) may tt
   pages_hold (take_lock lock) may =
       left.pages_behind-left v words home views id k here (take_lock lock) may tt
   pages_hold (advance lock upto) may =
@@ -227,9 +227,9 @@ module _ (words : List ℕ) (home : Option Plain) (views : List View) (id : ℕ)
   durable_holds (lock_position expected) may = durable.durable-inside words home views id v k here (lock_position expected) may tt tt
   durable_holds load_prev may = durable.durable-inside words home views id v k here load_prev may tt tt
   durable_holds store_prev may = durable.durable-inside words home views id v k here store_prev may tt tt
-  durable_holds (store_position lock value) may = durable.durable-reserved words home views id v k here live lock value may
+  durable_holds (store_position locks value) may = durable.durable-reserved words home views id v k here live locks value may
   durable_holds give_position_back may = durable.durable-inside words home views id v k here give_position_back may tt tt
-  durable_holds (load_lock lock asked) may = durable.durable-inside words home views id v k here (load_lock lock asked) may tt tt
+  durable_holds (load_lock lock limit) may = durable.durable-inside words home views id v k here (load_lock lock limit) may tt tt
   durable_holds (take_lock lock) may = durable.durable-inside words home views id v k here (take_lock lock) may tt tt
   durable_holds (advance lock upto) may = durable.durable-inside words home views id v k here (advance lock upto) may tt tt
   durable_holds (release lock) may = durable.durable-inside words home views id v k here (release lock) may tt tt
@@ -269,9 +269,9 @@ module _ (words : List ℕ) (home : Option Plain) (views : List View) (id : ℕ)
       (with_place (Locked expected) v) v refl
   ground_stays load_prev may = rw may.1 refl
   ground_stays store_prev may = rw may.2 refl
-  ground_stays (store_position lock value) may = rw may.2 refl
+  ground_stays (store_position locks value) may = rw may.2 refl
   ground_stays give_position_back may = rw may.1 refl
-  ground_stays (load_lock lock asked) may = refl
+  ground_stays (load_lock lock limit) may = refl
   ground_stays (take_lock lock) may = ground_either (eqb (slice_index words (2 + lock)) 0)
       (with_working ((v.working).locks ++ lock ∷ []) (v.working).flight v) v refl
   ground_stays (advance lock upto) may = refl

@@ -1,3 +1,4 @@
 pub mod Lists
 pub mod WordLists
 pub mod Stages
+pub mod Landing

@@ -126,8 +126,8 @@ module _ (v : View) where
   reserve_event words ask lock Free = lock_position (position_word words)
   reserve_event words ask lock (Locked at) = if fits ask at then load_prev else give_position_back
   reserve_event words ask lock (Loaded at prev) = store_prev
-  reserve_event words (Inserts value) lock (Stored at prev) = store_position lock value
-  reserve_event words (Commits value) lock (Stored at prev) = store_position lock value
+  reserve_event words (Inserts value) lock (Stored at prev) = store_position (lock ∷ []) value
+  reserve_event words (Commits value) lock (Stored at prev) = store_position (lock ∷ []) value
   reserve_event words Flushes lock (Stored at prev) = load_down
 
   abbrev pub map_event : Stage → Event
