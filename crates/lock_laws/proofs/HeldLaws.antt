@@ -1,58 +1,60 @@
 -- Who holds which insertion lock, through each kind of step that changes a lock's word, the locks
 -- that a view holds, or its entry in flight. `lock'` is the words of locks behind the step.
-use Rattle.std.proofs.Common.{arith, ◌≡◌, ◌≢◌, ℕ, ◌+◌, ◌<◌, ◌≤◌, Bool, true, not, cond, eqb, eq-eqb, ne_eqb, List, [], ◌∷◌, ◌++◌, length, set, Contains, filter, sym, refl, ap, ◌∙◌, subst, ⊎_elim}
+use Rattle.std.proofs.Common.{arith, ◌≡◌, ◌≢◌, ℕ, ◌+◌, ◌<◌, ◌≤◌, Bool, not, cond, eqb, eq-eqb, ne_eqb, List, [], ◌∷◌, ◌++◌, length, set, Contains, sym, refl, ap, ◌∙◌, subst, ⊎_elim}
 use Rattle.std.proofs.lemmas.List.Elements.{Contains-append_left, Contains-push, Contains-push_cases}
 use mathlib.Core.Logic.{dite}
 use native.Mathlib.Decide.{ℕ_discrete}
 use Rattle.atomic_table.proofs.Lists.{set_else, set_again, at_longer, at_last}
 use Rattle.wal_core.specs.Views.{HasAt, Copy, Flight, Landed, Copying, Working, AreSomeOf, View, working_of}
 use Rattle.wal_core.specs.Locked.{AreHeld}
-use Rattle.wal_core.specs.Moves.{landed, one_more, with_working, after_take_lock}
+use Rattle.wal_core.specs.Moves.{landed, without_lock, one_more, with_working, after_take_lock}
 use Rattle.wal_core.specs.Steps.{exchanged}
-use Rattle.lock_laws.specs.Locks.{ChangesAt, idle, other_than}
-use Rattle.wal_core.proofs.Landing.{landed_was}
+use Rattle.lock_laws.specs.Locks.{ChangesAt, idle}
+use Rattle.wal_core.proofs.Landing.{landed_was, none_lands}
 use Rattle.wal_core.proofs.Lists.{one_set, one_added, at_same, at_place}
 use Rattle.lock_laws.proofs.Kept.{met_cases, kept, kept_was, none_in_nothing, two_set_again}
 
-pub is_other : (i j : ℕ) → j ≢ i → other_than i j ≡ true
-is_other i j ne = ap not (ne_eqb j i ne)
+-- the locks but one: what is left was there, and what was there is left
+pub was_there : (i : ℕ) (locks : List ℕ) (j : ℕ) → Contains (without_lock i locks) j
+    → Contains locks j × (j ≢ i)
+was_there i locks j has =
+    let was = kept_was (λ (one : ℕ). not (eqb one i)) locks j has in
+    (was.0, λ e. let same = ap not (eq-eqb j i e) in let other = was.1 in cc)
 
-pub other_is : (i j : ℕ) → other_than i j ≡ true → j ≢ i
-other_is i j is e = let same = ap not (eq-eqb j i e) in cc
-
-pub none_lands : (c : Copy) → Landed ≡ Copying c → ⊥
-none_lands c is = cc
+pub still_there : (i : ℕ) (locks : List ℕ) (j : ℕ) → Contains locks j → j ≢ i
+    → Contains (without_lock i locks) j
+still_there i locks j has ne =
+    kept (λ (one : ℕ). not (eqb one i)) locks j has (ap not (ne_eqb j i ne))
 
 pub copying_same : (x y : Copy) → Copying x ≡ Copying y → x ≡ y
 copying_same x y same = cc
 
 -- of the locks of an entry, those that a release leaves are still held
 module _ (i : ℕ) (few all : List ℕ) (some : AreSomeOf few all) where
-  holds_still : (Contains few i → ⊥) → AreSomeOf few (filter (other_than i) all)
+  holds_still : (Contains few i → ⊥) → AreSomeOf few (without_lock i all)
   holds_still none = (
     some.0,
-    λ j has. kept (other_than i) all j (some.1 j has)
-        (is_other i j (λ e. none (subst (λ (n : ℕ). Contains few n) e has))),
+    λ j has. still_there i all j (some.1 j has)
+        (λ e. none (subst (λ (n : ℕ). Contains few n) e has)),
   )
 
-  holds_rest : 1 ≤ length (filter (other_than i) few)
-      → AreSomeOf (filter (other_than i) few) (filter (other_than i) all)
+  holds_rest : 1 ≤ length (without_lock i few)
+      → AreSomeOf (without_lock i few) (without_lock i all)
   holds_rest left = (
     left,
-    λ j has. let was = kept_was (other_than i) few j has in
-        kept (other_than i) all j (some.1 j was.0) was.1,
+    λ j has. let was = was_there i few j has in still_there i all j (some.1 j was.0) was.1,
   )
 
 released_under : (i : ℕ) (w : Working) (c : Copy) → landed i w.flight ≡ Copying c
     → ((d : Copy) → w.flight ≡ Copying d → AreSomeOf d.locks w.locks)
-    → AreSomeOf c.locks (filter (other_than i) w.locks)
+    → AreSomeOf c.locks (without_lock i w.locks)
 released_under i w c is under =
     let was = landed_was i w.flight c is in
     let d : Copy = was.0 in
     ⊎_elim
-    (λ t. subst (λ (x : Copy). AreSomeOf x.locks (filter (other_than i) w.locks)) t.1
+    (λ t. subst (λ (x : Copy). AreSomeOf x.locks (without_lock i w.locks)) t.1
     (holds_still i d.locks w.locks (under d was.1) t.0))
-    (λ t. subst (λ (x : Copy). AreSomeOf x.locks (filter (other_than i) w.locks)) t.1
+    (λ t. subst (λ (x : Copy). AreSomeOf x.locks (without_lock i w.locks)) t.1
     (holds_rest i d.locks w.locks (under d was.1) t.2))
     was.2
 
@@ -203,12 +205,12 @@ module _ (lock : ℕ → ℕ) (parts : List Working) (k : AreHeld lock parts) wh
     pub held_released : (lock' : ℕ → ℕ) (i : ℕ) → Contains w.locks i → lock' i ≡ 0
         → ChangesAt lock lock' i
         → AreHeld lock' (set parts id (record {
-          locks = filter (other_than i) w.locks;
+          locks = without_lock i w.locks;
           flight = landed i w.flight;
         }))
     held_released lock' i mine free same =
         let new : Working
-        = record { locks = filter (other_than i) w.locks; flight = landed i w.flight } in
+        = record { locks = without_lock i w.locks; flight = landed i w.flight } in
         let before : (j m : ℕ) (u : Working) → HasAt parts j u → Contains u.locks m → m ≢ i
         → (m < 8) × (k.holder m ≡ j) × (lock' m ≢ 0)
         = λ j m u at has ne. let t = k.each j m u at has in
@@ -219,12 +221,12 @@ module _ (lock : ℕ → ℕ) (parts : List Working) (k : AreHeld lock parts) wh
               (λ j u. Contains u.locks m → (m < 8) × (k.holder m ≡ j) × (lock' m ≢ 0)) parts id new
               (λ j u apart at has.
               before j m u at has (held_is_other id j i m w u here mine at has apart))
-              (λ has. let was = kept_was (other_than i) w.locks m has in
-              before id m w here was.0 (other_is i m was.1)) j u at;
+              (λ has. let was = was_there i w.locks m has in
+              before id m w here was.0 was.1) j u at;
           held = λ m below now. let ne : m ≢ i = λ e. now (ap lock' e ∙ free) in
               let h = k.held m below (λ z. now (same m below ne ∙ z)) in
               still_held new m (k.holder m)
-              (λ has. kept (other_than i) w.locks m has (is_other i m ne)) h.0 h.1 h.2;
+              (λ has. still_there i w.locks m has ne) h.0 h.1 h.2;
           under = λ j u c at. one_set (λ j u. u.flight ≡ Copying c → AreSomeOf c.locks u.locks)
               parts id new (λ j u apart at. k.under j u c at)
               (λ is. released_under i w c is (λ d is. k.under id w d here is)) j u at;

@@ -1,7 +1,7 @@
 -- What the words of insertion locks tell of the copies under them, through each kind of step that
 -- changes a lock's word, the locks that a view holds, or its entry in flight. `lock'` is the words
 -- of locks behind the step.
-use Rattle.std.proofs.Common.{◌≡◌, ◌≢◌, ℕ, ◌+◌, ◌<◌, ◌≤◌, Bool, cond, List, [], ◌∷◌, ◌++◌, set, Contains, filter, sym, ap, ◌∙◌, subst, ⊎_elim, arith}
+use Rattle.std.proofs.Common.{◌≡◌, ◌≢◌, ℕ, ◌+◌, ◌<◌, ◌≤◌, Bool, cond, List, [], ◌∷◌, ◌++◌, set, Contains, sym, ap, ◌∙◌, subst, ⊎_elim, arith}
 use Rattle.std.proofs.lemmas.List.Elements.{Contains-push_cases}
 use mathlib.Core.Logic.{dite}
 use native.Mathlib.Decide.{ℕ_discrete}
@@ -13,9 +13,9 @@ use Rattle.wal_core.specs.Moves.{landed, standing, without_lock, one_more, with_
 use Rattle.wal_core.specs.Steps.{exchanged}
 use Rattle.wal_core.proofs.Landing.{among_cases, is_among_them}
 use Rattle.wal_core.proofs.Lists.{one_set, one_added}
-use Rattle.lock_laws.specs.Locks.{ChangesAt, idle, other_than}
-use Rattle.lock_laws.proofs.Kept.{met_cases, kept, kept_was, none_in_nothing, two_set_again}
-use Rattle.lock_laws.proofs.HeldLaws.{other_is, is_other, held_is_not, held_is_other, held_by_one}
+use Rattle.lock_laws.specs.Locks.{ChangesAt, idle}
+use Rattle.lock_laws.proofs.Kept.{met_cases, none_in_nothing, two_set_again}
+use Rattle.lock_laws.proofs.HeldLaws.{was_there, still_there, held_is_not, held_is_other, held_by_one}
 
 module _ (size : ℕ) where
   -- a lock may always tell nothing
@@ -60,7 +60,7 @@ module _ (size : ℕ) where
       ≤ most_told size m (cond b (standing c (without_lock i c.locks)) (Copying c)))
       c.locks i
       (λ mine. tells_standing m c (without_lock i c.locks)
-      (λ has. kept (other_than i) c.locks m has (is_other i m ne)))
+      (λ has. still_there i c.locks m has ne))
       (λ other. omega arith)
 
 module _ (size : ℕ) (lock : ℕ → ℕ) (parts : List Working) (k : ProgressHolds size lock parts) where
@@ -151,19 +151,18 @@ module _ (size : ℕ) (lock : ℕ → ℕ) (parts : List Working) (k : ProgressH
 
       pub told_released : Contains w.locks i → lock' i ≡ 0
           → ProgressHolds size lock' (set parts id (record {
-            locks = filter (other_than i) w.locks;
+            locks = without_lock i w.locks;
             flight = landed i w.flight;
           }))
       told_released mine free = λ j m u at. one_set
           (λ j u. Contains u.locks m → lock' m ≤ most_told size m u.flight) parts id
-          (record { locks = filter (other_than i) w.locks; flight = landed i w.flight })
+          (record { locks = without_lock i w.locks; flight = landed i w.flight })
           (λ j u apart at has. at_other j m u at has
           (held_is_other lock parts held id j i m w u here mine at has apart))
           (λ has.
-          let was = kept_was (other_than i) w.locks m has in
-          let ne : m ≢ i = other_is i m was.1 in
-          let old = at_other id m w here was.0 ne in
-          let up = tells_still size i m w.flight ne in omega arith) j u at
+          let was = was_there i w.locks m has in
+          let old = at_other id m w here was.0 was.1 in
+          let up = tells_still size i m w.flight was.1 in omega arith) j u at
 
       -- a lock is asked for: it is taken where it is free
       pub told_asked : (v : View) → v.working ≡ w → lock' i ≡ exchanged v 0 1 (lock i)

@@ -18,11 +18,11 @@ use Rattle.wal_core.specs.Locked.{AreHeld, ProgressHolds, most_told}
 use Rattle.wal_core.specs.Moves.{landed, one_more, is_landed, is_own, begun, visited_on, copied_below, with_working, after_load_lock, after_take_lock}
 use Rattle.wal_core.specs.Positioned.{IsCopiedBelow}
 use Rattle.wal_core.specs.Watched.{IsBehind, WatchHolds}
-use Rattle.wal_core.proofs.Landing.{landed_was, lock_of}
+use Rattle.wal_core.proofs.Landing.{landed_was, lock_of, none_lands}
 use Rattle.wal_core.proofs.Lists.{one_set, one_added, part_at, view_from}
-use Rattle.lock_laws.specs.Locks.{idle, other_than, unwatching}
-use Rattle.lock_laws.proofs.Kept.{met_cases, kept_was, two_set_again}
-use Rattle.lock_laws.proofs.HeldLaws.{none_lands, copying_same, held_by_one}
+use Rattle.lock_laws.specs.Locks.{idle, unwatching}
+use Rattle.lock_laws.proofs.Kept.{met_cases, two_set_again}
+use Rattle.lock_laws.proofs.HeldLaws.{was_there, copying_same, held_by_one}
 use Rattle.lock_laws.proofs.ToldLaws.{told_of_copy}
 
 module _ (size : ℕ) where
@@ -47,7 +47,7 @@ module _ (size : ℕ) where
       (λ among starts. sees d lock was.1 among visited starts) among starts)
       (λ t. subst (λ (y : Copy). Contains y.locks lock → address_of_word size y.entry 0 < x.end
       → x.bound ≤ address_of_word size y.entry y.copied) t.1
-      (λ among starts. sees d lock was.1 (kept_was (other_than i) d.locks lock among).0 visited
+      (λ among starts. sees d lock was.1 (was_there i d.locks lock among).0 visited
       starts) among starts)
       was.2
 

@@ -3,12 +3,11 @@
 //! words are behind a step.
 
 ghost use Rattle.std.specs.Prelude.{◌≡◌, ◌≢◌, ℕ, ◌<◌, Contains, List, [], ◌∷◌, ◌++◌, set};
-ghost use Rattle.std.specs.List.{filter};
 ghost use Rattle.wal_core.specs.Views.{HasAt, Copy, Copying, Flight, Landed, Working, AreSomeOf, View, working_of};
 ghost use Rattle.wal_core.specs.Locked.{AreHeld};
-ghost use Rattle.wal_core.specs.Moves.{landed, one_more, after_take_lock};
+ghost use Rattle.wal_core.specs.Moves.{landed, without_lock, one_more, after_take_lock};
 ghost use Rattle.wal_core.specs.Steps.{exchanged};
-ghost use Rattle.lock_laws.specs.Locks.{ChangesAt, idle, other_than};
+ghost use Rattle.lock_laws.specs.Locks.{ChangesAt, idle};
 
 /// What is said of locks held stays true where no lock's word changes, and where one that is held
 /// comes to tell more.
@@ -29,7 +28,7 @@ pub fn locks_are_taken_and_given_back()
     ensures released { (lock later : ℕ → ℕ) (parts : List Working) (id i : ℕ) (w : Working)
         → AreHeld lock parts → HasAt parts id w → Contains w.locks i → ChangesAt lock later i
         → later i ≡ 0 → AreHeld later (set parts id (record {
-          locks = filter (other_than i) w.locks;
+          locks = without_lock i w.locks;
           flight = landed i w.flight;
         })) }
 {}

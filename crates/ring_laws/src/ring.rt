@@ -16,7 +16,7 @@ ghost use Rattle.wal_core.specs.Positioned.{PositionsHold};
 ghost use Rattle.wal_core.specs.Durable.{IsStaged};
 ghost use Rattle.ring_laws.specs.Put.{IsPut};
 
-/// An entry is reserved, and its copy begins; each of its words is stored; its lock is released
+/// An entry is reserved, and its copy begins; each of its words is stored; its locks are released
 /// where all of them are copied.
 pub fn copies_keep_the_ring()
     ensures begun { (setup : Setup) (order : List Entry) (reach : ℕ) (memory : ℕ → ℕ)

@@ -13,7 +13,7 @@ ghost use Rattle.wal_core.specs.Sound.{IsSound};
 ghost use Rattle.ring_laws.specs.Behind.{HasPages, HasPagesWith, HasRing, HasRingWith, memory_stored, met_by};
 ghost use Rattle.ring_laws.specs.Left.{LeavesCopies, LeavesPages};
 
-/// The log's words in memory: an entry is reserved, its next word is stored, its lock is released,
+/// The log's words in memory: an entry is reserved, its next word is stored, a lock is released,
 /// a page more is there.
 pub fn steps_keep_the_ring()
     ensures reserved { (v : View) (words : List ℕ) (home : Option Plain) (views : List View)

@@ -27,12 +27,12 @@ lock_of (lock ∷ few) all some =
     let first : Contains (lock ∷ few) lock = (0, omega arith, refl) in
     (lock, first, some.1 lock first)
 
-pub lands_never : (c : Copy) → Landed ≡ Copying c → ⊥
-lands_never c is = cc
+pub none_lands : (c : Copy) → Landed ≡ Copying c → ⊥
+none_lands c is = cc
 
 standing_was : (d c : Copy) (locks : List ℕ) → standing d locks ≡ Copying c
     → (record d { locks = locks } ≡ c) × (1 ≤ length locks)
-standing_was d c [] is = absurd (lands_never c is)
+standing_was d c [] is = absurd (none_lands c is)
 standing_was d c (lock ∷ locks) is = (cc, omega arith)
 
 -- a flight that a release leaves is the one that was: as it was, where the lock is none of its own,
@@ -42,7 +42,7 @@ pub landed_was : (i : ℕ) (f : Flight) (c : Copy) → landed i f ≡ Copying c
     × (((Contains d.locks i → ⊥) × (d ≡ c))
     ⊎ (Contains d.locks i × (record d { locks = without_lock i d.locks } ≡ c)
     × (1 ≤ length (without_lock i d.locks))))
-landed_was i Landed c is = absurd (lands_never c is)
+landed_was i Landed c is = absurd (none_lands c is)
 landed_was i (Copying d) c is = (
   d,
   refl,

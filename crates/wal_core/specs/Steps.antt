@@ -85,6 +85,7 @@ pub data Event : Type 0 where
   lock_position : ℕ → Event
   load_prev : Event
   store_prev : Event
+  -- the entry is to stand under these locks
   store_position : List ℕ → Record → Event
   give_position_back : Event
   -- insertion locks
