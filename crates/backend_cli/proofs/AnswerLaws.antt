@@ -6,14 +6,14 @@ use Rattle.log_answers.specs.declared.Receipt.{Receipt}
 use Rattle.log_answers.specs.declared.Hard.{Hard}
 use Rattle.log_answers.specs.declared.Sealed.{Sealed}
 use Rattle.log_answers.specs.declared.Refused.{Refused}
-use Rattle.serial_log.specs.History.{LogHistory, end_of}
+use Rattle.serial_log.specs.History.{LogHistory}
 use Rattle.serial_log.specs.Steps.{Inserts, Commits, Flushes}
 use Rattle.wal_script.specs.Asked.{Asked}
 use Rattle.wal_script.specs.Asked as asking
 use Rattle.backend_cli.specs.declared.told.Told.{Told}
 use Rattle.wal_script.specs.declared.line.Action.{Action}
 use Rattle.wal_script.specs.declared.line.Action.TheVariants as actions
-use Rattle.backend_cli.specs.Steps.{Steps, told_of_insert, told_of_commit, told_of_flush}
+use Rattle.backend_cli.specs.Steps.{Steps, own_end, told_of_insert, told_of_commit, told_of_flush}
 use Rattle.wal_script.specs.Bodies.{IsActionOf}
 
 module _ (size capacity faults_at_open : ℕ) (s : LogHistory) (backend : ℕ) (IsAfter : LogHistory → Type 0) (told : Told) where
@@ -36,8 +36,9 @@ module _ (size capacity faults_at_open : ℕ) (s : LogHistory) (backend : ℕ) (
       (step.0, (answer, tells, does_it.1, step.1), step.2)
   commit_steps asking.Flush action body answer is tells does commits = absurd (let no : IsActionOf asking.Flush (actions.Commit body) = subst (IsActionOf asking.Flush) is does in no)
 
-  pub flush_steps : (asked : Asked) (action : Action) (answer : Result Hard Refused) → action ≡ actions.Flush → told ≡ told_of_flush answer → IsActionOf asked action
-      → ((after : LogHistory) × Flushes size faults_at_open s (end_of size s.entries) answer after × IsAfter after) → (after : LogHistory) × Steps size capacity faults_at_open s backend asked told after × IsAfter after
-  flush_steps (asking.Insert value) action answer is tells does step = absurd (let no : IsActionOf (asking.Insert value) actions.Flush = subst (IsActionOf (asking.Insert value)) is does in no)
-  flush_steps (asking.Commit value) action answer is tells does step = absurd (let no : IsActionOf (asking.Commit value) actions.Flush = subst (IsActionOf (asking.Commit value)) is does in no)
-  flush_steps asking.Flush action answer is tells does step = (step.0, (answer, tells, step.1), step.2)
+module _ (size capacity faults_at_open : ℕ) (s : LogHistory) (backend : ℕ) (after : LogHistory) (told : Told) where
+  pub flush_step : (asked : Asked) (action : Action) (answer : Result Hard Refused) → action ≡ actions.Flush → told ≡ told_of_flush answer → IsActionOf asked action
+      → Flushes size faults_at_open s (own_end size backend s.entries) answer after → Steps size capacity faults_at_open s backend asked told after
+  flush_step (asking.Insert value) action answer is tells does flushes = absurd (let no : IsActionOf (asking.Insert value) actions.Flush = subst (IsActionOf (asking.Insert value)) is does in no)
+  flush_step (asking.Commit value) action answer is tells does flushes = absurd (let no : IsActionOf (asking.Commit value) actions.Flush = subst (IsActionOf (asking.Commit value)) is does in no)
+  flush_step asking.Flush action answer is tells does flushes = (answer, tells, flushes)

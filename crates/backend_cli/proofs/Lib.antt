@@ -1,5 +1,6 @@
 pub mod Orders
 pub mod StepCases
+pub mod OwnEnds
 pub mod PlayedEntries
 pub mod PlayedAnswers
 pub mod PlayedTells

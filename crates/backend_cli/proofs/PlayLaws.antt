@@ -8,8 +8,9 @@ use Rattle.serial_log.specs.LogState.{LogState, IsSameLog, StepsLog}
 use Rattle.serial_log.specs.History.{LogHistory}
 use Rattle.wal_script.specs.declared.line.Line.{Line}
 use Rattle.backend_cli.specs.declared.told.Told.{Told}
-use Rattle.backend_cli.specs.Steps.{Event, Plays, Steps, events_of}
+use Rattle.backend_cli.specs.Steps.{EndsWithOwn, Event, Plays, Steps, events_of}
 use Rattle.wal_script.specs.Bodies.{IsActionOf, AreLinesOf}
+use Rattle.backend_cli.proofs.OwnEnds.{plays_own}
 
 -- one event more at the end
 pub Plays_push : (size capacity faults_at_open : ℕ) (before mid after : LogHistory) (events : List Event) (event : Event) → Plays size capacity faults_at_open before events mid → Steps size capacity faults_at_open mid event.backend event.asked event.told after
@@ -44,12 +45,12 @@ asked_of_line (asked_line ∷ asked) (t ∷ lines) (suc i) line are within is =
 -- whatever asked for the lines, those before a place were played, from whatever history
 abbrev pub IsPlayed : {D : Type 0} → (D → Option Tape) → (D → ℕ) → LogState D → LogState D → List Line → ℕ → List Told → Type 0
 IsPlayed tape faults old new lines i told =
-    (asked : List AskedLine) → AreLinesOf asked lines → StepsLog tape faults old new (λ faults_at_open before after. Plays old.size old.capacity faults_at_open before (events_of 0 (take i asked) told) after)
+    (asked : List AskedLine) → AreLinesOf asked lines → StepsLog tape faults old new (λ faults_at_open before after. EndsWithOwn old.size 0 before → Plays old.size old.capacity faults_at_open before (events_of 0 (take i asked) told) after)
 
 module _ (D : Type 0) (tape : D → Option Tape) (faults : D → ℕ) (old : LogState D) (lines : List Line) where
   -- one line more, whose action a log did
   pub IsPlayed_more : (mid new : LogState D) (i : ℕ) (told all : List Told) (line : Line) (answer : Told) → IsPlayed tape faults old mid lines i told → IsSameLog old mid → length told ≡ i → i < length lines → line ≡ get_or lines i line → all ≡ told ++ answer ∷ []
-      → ((backend : ℕ) (asked : Asked) → IsActionOf asked line.action → StepsLog tape faults mid new (λ faults_at_open before after. Steps mid.size mid.capacity faults_at_open before backend asked answer after))
+      → ((backend : ℕ) (asked : Asked) → IsActionOf asked line.action → StepsLog tape faults mid new (λ faults_at_open before after. EndsWithOwn mid.size backend before → Steps mid.size mid.capacity faults_at_open before backend asked answer after))
       → IsPlayed tape faults old new lines (i + 1) all
   IsPlayed_more mid new i told all line answer played same each within is pushed steps asked are tape_at_open faults_at_open before is_log =
       let size = old.size in
@@ -58,23 +59,23 @@ module _ (D : Type 0) (tape : D → Option Tape) (faults : D → ℕ) (old : Log
       let found = asked_of_line asked lines i line are within is in
       let event : Event = record { backend = 0; asked = found.0.asked; told = answer } in
       let step = steps 0 found.0.asked found.1 tape_at_open faults_at_open so_far.0 so_far.2 in
-      let stepped : Steps size capacity faults_at_open so_far.0 0 found.0.asked answer step.0 =
-      subst (λ (n : ℕ). Steps size n faults_at_open so_far.0 0 found.0.asked answer step.0) same.capacity (subst (λ (n : ℕ). Steps n mid.capacity faults_at_open so_far.0 0 found.0.asked answer step.0) same.size step.1) in
-      let plays = Plays_push size capacity faults_at_open before so_far.0 step.0 (events_of 0 (take i asked) told) event so_far.1 stepped in
+      let stepped : EndsWithOwn size 0 so_far.0 → Steps size capacity faults_at_open so_far.0 0 found.0.asked answer step.0 =
+      subst (λ (n : ℕ). EndsWithOwn size 0 so_far.0 → Steps size n faults_at_open so_far.0 0 found.0.asked answer step.0) same.capacity (subst (λ (n : ℕ). EndsWithOwn n 0 so_far.0 → Steps n mid.capacity faults_at_open so_far.0 0 found.0.asked answer step.0) same.size step.1) in
+      let plays = λ (own : EndsWithOwn size 0 before). Plays_push size capacity faults_at_open before so_far.0 step.0 (events_of 0 (take i asked) told) event (so_far.1 own) (stepped (plays_own size capacity faults_at_open 0 (take i asked) told before so_far.0 (so_far.1 own) own)) in
       let whole : length (take i asked) ≡ length told = omega (arith, each, length-take-le i asked (omega (arith, within, length-AreLinesOf asked lines are))) in
       let pushed_events : events_of 0 (take i asked) told ++ event ∷ [] ≡ events_of 0 (take (i + 1) asked) all =
       sym (events_of_push 0 (take i asked) told found.0 answer whole)
       ∙ ap (λ (ls : List AskedLine). events_of 0 ls (told ++ answer ∷ [])) (sym found.2)
       ∙ ap (λ (answers : List Told). events_of 0 (take (i + 1) asked) answers) (sym pushed) in
-      (step.0, subst (λ (es : List Event). Plays size capacity faults_at_open before es step.0) pushed_events plays, step.2)
+      (step.0, (λ own. subst (λ (es : List Event). Plays size capacity faults_at_open before es step.0) pushed_events (plays own)), step.2)
 
   -- all lines
   pub IsPlayed_all : (new : LogState D) (i : ℕ) (told : List Told) → IsPlayed tape faults old new lines i told → length lines ≤ i → (asked : List AskedLine) → AreLinesOf asked lines
-      → StepsLog tape faults old new (λ faults_at_open before after. Plays old.size old.capacity faults_at_open before (events_of 0 asked told) after)
+      → StepsLog tape faults old new (λ faults_at_open before after. EndsWithOwn old.size 0 before → Plays old.size old.capacity faults_at_open before (events_of 0 asked told) after)
   IsPlayed_all new i told played end asked are tape_at_open faults_at_open before is_log =
       let so_far = played asked are tape_at_open faults_at_open before is_log in
       let whole : take i asked ≡ asked = take_all i asked (omega (arith, length-AreLinesOf asked lines are)) in
-      (so_far.0, subst (λ (ls : List AskedLine). Plays old.size old.capacity faults_at_open before (events_of 0 ls told) so_far.0) whole so_far.1, so_far.2)
+      (so_far.0, (λ own. subst (λ (ls : List AskedLine). Plays old.size old.capacity faults_at_open before (events_of 0 ls told) so_far.0) whole (so_far.1 own)), so_far.2)
 
 -- the same log
 pub IsSameLog-refl : {D : Type 0} (log : LogState D) → IsSameLog log log

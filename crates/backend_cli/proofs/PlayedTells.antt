@@ -15,8 +15,9 @@ use Rattle.wal_script.specs.Asked.{Asked}
 use Rattle.backend_cli.specs.declared.told.Told.{Told}
 use Rattle.backend_cli.specs.Told.{Logged, IsFault, MayBeFull, IsPlaced, FitsLine, TellsFrom, TellsAll, behind_or, entry_of, order_of}
 use Rattle.serial_log.specs.History.{LogHistory, at_opening, next_entry, end_of}
-use Rattle.backend_cli.specs.Steps.{Event, Plays, entries_in, events_of}
+use Rattle.backend_cli.specs.Steps.{EndsWithOwn, Event, Plays, entries_in, events_of}
 use Rattle.backend_cli.proofs.StepCases.{StepFact, HoldsOfSteps, Reserves, fact-Steps}
+use Rattle.backend_cli.proofs.OwnEnds.{own_at_opening, step_own}
 use Rattle.backend_cli.proofs.PlayedEntries.{plays_entries, played_order}
 
 -- where the disk has failed, its count of faults was not that of the opening
@@ -67,7 +68,7 @@ record TellsLine (size capacity faults_at_open last : ℕ) (order es : List Entr
 
 abbrev TellsStep : ℕ → ℕ → ℕ → ℕ → List Entry → StepFact
 TellsStep size capacity faults_at_open last order before pass action told after =
-    (more : List Entry) → order ≡ after.entries ++ more → HasFailed faults_at_open before.down → IsLast last after.down → TellsLine size capacity faults_at_open last order before.entries pass action told after
+    (more : List Entry) → order ≡ after.entries ++ more → HasFailed faults_at_open before.down → IsLast last after.down → EndsWithOwn size pass before → TellsLine size capacity faults_at_open last order before.entries pass action told after
 
 position_at_end : (size : ℕ) → IsSegmentSize size → (es : List Entry) (start : Lsn) → start.0 ≡ address_of size (first_position size + rooms_of size es) → position_of size start.0 ≡ first_position size + rooms_of size es
 position_at_end size valid es start at = ap (position_of size) at ∙ position_of-address_of size valid (first_position size + rooms_of size es)
@@ -118,57 +119,57 @@ failed_now faults_at_open faults rose others same = let equal : faults ≡ other
 
 steps_tell : (size capacity faults_at_open last : ℕ) (order : List Entry) → IsSegmentSize size → HoldsOfSteps size capacity faults_at_open (TellsStep size capacity faults_at_open last order)
 steps_tell size capacity faults_at_open last order valid = record {
-  wrote = λ s pass value start end reserves ends more parts failed is_last. record {
+  wrote = λ s pass value start end reserves ends more parts failed is_last own. record {
     fits = placed_line size capacity valid s pass value start end reserves ends;
     behind = behind_at_end size valid s.entries pass value start reserves.reserved.start_is;
     failed = failed;
   };
-  insert_full = λ s pass value free up left short more parts failed is_last. record {
+  insert_full = λ s pass value free up left short more parts failed is_last own. record {
     fits = full_line size capacity faults_at_open last order s.entries more value free parts left short;
     behind = refl;
     failed = failed;
   };
-  insert_failed = λ s pass value start faults reserves rose more parts failed is_last. record {
+  insert_failed = λ s pass value start faults reserves rose more parts failed is_last own. record {
     fits = (fault_line size capacity faults_at_open last order faults rose (is_last faults refl), start_at_end size valid s.entries start reserves.reserved.start_is);
     behind = behind_at_end size valid s.entries pass value start reserves.reserved.start_is;
     failed = failed_now faults_at_open faults rose;
   };
-  insert_down = λ s pass value faults down more parts failed is_last. record {
+  insert_down = λ s pass value faults down more parts failed is_last own. record {
     fits = fault_line size capacity faults_at_open last order faults (failed faults down) (is_last faults down);
     behind = refl;
     failed = failed;
   };
-  hard = λ s pass value start end moment reserves ends more parts failed is_last. record {
+  hard = λ s pass value start end moment reserves ends more parts failed is_last own. record {
     fits = placed_line size capacity valid s pass value start end reserves ends;
     behind = behind_at_end size valid s.entries pass value start reserves.reserved.start_is;
     failed = failed;
   };
-  commit_full = λ s pass value free up left short more parts failed is_last. record {
+  commit_full = λ s pass value free up left short more parts failed is_last own. record {
     fits = full_line size capacity faults_at_open last order s.entries more value free parts left short;
     behind = refl;
     failed = failed;
   };
-  commit_failed = λ s pass value start faults reserves rose more parts failed is_last. record {
+  commit_failed = λ s pass value start faults reserves rose more parts failed is_last own. record {
     fits = (fault_line size capacity faults_at_open last order faults rose (is_last faults refl), start_at_end size valid s.entries start reserves.reserved.start_is);
     behind = behind_at_end size valid s.entries pass value start reserves.reserved.start_is;
     failed = failed_now faults_at_open faults rose;
   };
-  commit_down = λ s pass value faults down more parts failed is_last. record {
+  commit_down = λ s pass value faults down more parts failed is_last own. record {
     fits = fault_line size capacity faults_at_open last order faults (failed faults down) (is_last faults down);
     behind = refl;
     failed = failed;
   };
-  flushed = λ s pass upto moment up at more parts failed is_last. record {
-    fits = flushed_line size capacity faults_at_open last valid order s.entries more upto parts at;
+  flushed = λ s pass upto moment up at more parts failed is_last own. record {
+    fits = flushed_line size capacity faults_at_open last valid order s.entries more upto parts (at own);
     behind = refl;
     failed = failed;
   };
-  flush_failed = λ s pass faults up rose more parts failed is_last. record {
+  flush_failed = λ s pass faults up rose more parts failed is_last own. record {
     fits = (fault_line size capacity faults_at_open last order faults rose (is_last faults refl), refl);
     behind = refl;
     failed = failed_now faults_at_open faults rose;
   };
-  flush_down = λ s pass faults down more parts failed is_last. record {
+  flush_down = λ s pass faults down more parts failed is_last own. record {
     fits = (fault_line size capacity faults_at_open last order faults (failed faults down) (is_last faults down), refl);
     behind = refl;
     failed = failed;
@@ -176,16 +177,17 @@ steps_tell size capacity faults_at_open last order valid = record {
 }
 
 plays_tell : (size capacity faults_at_open last : ℕ) (order : List Entry) → IsSegmentSize size → (backend : ℕ) (lines : List AskedLine) (told : List Told) → length lines ≡ length told → (before after : LogHistory) → Plays size capacity faults_at_open before (events_of backend lines told) after → order ≡ after.entries
-    → HasFailed faults_at_open before.down → IsLast last after.down → TellsFrom (logged_of size capacity order faults_at_open last) backend (first_position size + rooms_of size before.entries) lines told
-plays_tell size capacity faults_at_open last order valid backend [] [] same before after plays all failed is_last = tt
-plays_tell size capacity faults_at_open last order valid backend [] (answer ∷ told) same before after plays all failed is_last = absurd (omega (arith, same))
-plays_tell size capacity faults_at_open last order valid backend (line ∷ lines) [] same before after plays all failed is_last = absurd (omega (arith, same))
-plays_tell size capacity faults_at_open last order valid backend (line ∷ lines) (answer ∷ told) same before after plays all failed is_last =
+    → HasFailed faults_at_open before.down → IsLast last after.down → EndsWithOwn size backend before → TellsFrom (logged_of size capacity order faults_at_open last) backend (first_position size + rooms_of size before.entries) lines told
+plays_tell size capacity faults_at_open last order valid backend [] [] same before after plays all failed is_last own = tt
+plays_tell size capacity faults_at_open last order valid backend [] (answer ∷ told) same before after plays all failed is_last own = absurd (omega (arith, same))
+plays_tell size capacity faults_at_open last order valid backend (line ∷ lines) [] same before after plays all failed is_last own = absurd (omega (arith, same))
+plays_tell size capacity faults_at_open last order valid backend (line ∷ lines) (answer ∷ told) same before after plays all failed is_last own =
     let others = events_of backend lines told in
     let parts = all ∙ plays_entries size capacity faults_at_open others plays.0 after valid plays.2 in
     let last_then = λ (faults : ℕ) (down : plays.0.down ≡ Some faults). is_last faults (plays_down size capacity faults_at_open others plays.0 after plays.2 faults down) in
-    let here = fact-Steps size capacity faults_at_open (TellsStep size capacity faults_at_open last order) (steps_tell size capacity faults_at_open last order valid) before backend line.asked answer plays.0 plays.1 (entries_in size others) parts failed last_then in
-    let rest = plays_tell size capacity faults_at_open last order valid backend lines told (omega (arith, same)) plays.0 after plays.2 all here.failed is_last in
+    let here = fact-Steps size capacity faults_at_open (TellsStep size capacity faults_at_open last order) (steps_tell size capacity faults_at_open last order valid) before backend line.asked answer plays.0 plays.1 (entries_in size others) parts failed last_then own in
+    let own_then = step_own size capacity faults_at_open before backend line.asked answer plays.0 plays.1 own in
+    let rest = plays_tell size capacity faults_at_open last order valid backend lines told (omega (arith, same)) plays.0 after plays.2 all here.failed is_last own_then in
     (here.fits, subst (λ (n : ℕ). TellsFrom (logged_of size capacity order faults_at_open last) backend n lines told) (sym here.behind) rest)
 
 IsLast-IfSome : (last : ℕ) (down : Option ℕ) → IfSome down (λ faults. faults ≡ last) → IsLast last down
@@ -197,7 +199,7 @@ module _ (size capacity faults_at_open last : ℕ) (valid : IsSegmentSize size) 
   tells_over : (order : List Entry) → order ≡ after.entries → TellsAll (record { size = size; capacity = capacity; order = order; faults_at_open = faults_at_open; last = last }) 0 (lines ∷ []) (told ∷ [])
   tells_over order all =
       let failed : HasFailed faults_at_open None = λ faults down. absurd (let no : ⊥ = cc in no) in
-      let tells = plays_tell size capacity faults_at_open last order valid 0 lines told same (at_opening size) after plays all failed (IsLast-IfSome last after.down known) in
+      let tells = plays_tell size capacity faults_at_open last order valid 0 lines told same (at_opening size) after plays all failed (IsLast-IfSome last after.down known) (own_at_opening size 0) in
       let from : first_position size + rooms_of size [] ≡ first_position size = omega arith in
       (subst (λ (n : ℕ). TellsFrom (logged_of size capacity order faults_at_open last) 0 n lines told) from tells, tt)
 

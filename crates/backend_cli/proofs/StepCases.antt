@@ -18,7 +18,7 @@ use Rattle.wal_script.specs.Asked.{Asked}
 use Rattle.wal_script.specs.Asked.{Insert, Commit, Flush}
 use Rattle.backend_cli.specs.declared.told.Told.{Told}
 use Rattle.backend_cli.specs.declared.told.Told.TheVariants.{Wrote, Hard, Flushed, Refused}
-use Rattle.backend_cli.specs.Steps.{Steps, told_of_insert, told_of_commit, told_of_flush}
+use Rattle.backend_cli.specs.Steps.{EndsWithOwn, Steps, own_end, told_of_insert, told_of_commit, told_of_flush}
 
 -- a fact about the history before a step, its backend, its action, its answer and the history after it
 abbrev pub StepFact : Type 1
@@ -43,7 +43,7 @@ pub record HoldsOfSteps (size capacity faults_at_open : ℕ) (P : StepFact) : Ty
   pub commit_failed : (s : LogHistory) (pass : ℕ) (value : Record) (start : Lsn) (faults : ℕ) → Reserves size capacity s pass value start.0 → Rose faults_at_open faults
       → P s pass (Commit value) (Refused (Disk faults) (Some start)) (record s { entries = with_entry size s.entries pass value; down = Some faults })
   pub commit_down : (s : LogHistory) (pass : ℕ) (value : Record) (faults : ℕ) → s.down ≡ Some faults → P s pass (Commit value) (Refused (Down faults) None) s
-  pub flushed : (s : LogHistory) (pass : ℕ) (upto : Lsn) (moment : ℕ) → s.down ≡ None → upto.0 ≡ end_of size s.entries → P s pass Flush (Flushed upto moment) (with_promise s upto.0 moment)
+  pub flushed : (s : LogHistory) (pass : ℕ) (upto : Lsn) (moment : ℕ) → s.down ≡ None → (EndsWithOwn size pass s → upto.0 ≡ end_of size s.entries) → P s pass Flush (Flushed upto moment) (with_promise s upto.0 moment)
   pub flush_failed : (s : LogHistory) (pass faults : ℕ) → s.down ≡ None → Rose faults_at_open faults → P s pass Flush (Refused (Disk faults) None) (record s { down = Some faults })
   pub flush_down : (s : LogHistory) (pass faults : ℕ) → s.down ≡ Some faults → P s pass Flush (Refused (Down faults) None) s
 
@@ -88,9 +88,9 @@ module _ (size capacity faults_at_open : ℕ) (P : StepFact) (holds : HoldsOfSte
   flush_refused s pass asked (Down faults) None after step = subst (P s pass Flush (Refused (Down faults) None)) (sym step.same) (holds.flush_down s pass faults step.down)
   flush_refused s pass asked (Down faults) (Some start) after step = absurd step
 
-  flushes : (s : LogHistory) (pass : ℕ) (answer : Result hard.Hard refused.Refused) (after : LogHistory) → Flushes size faults_at_open s (end_of size s.entries) answer after → P s pass Flush (told_of_flush answer) after
-  flushes s pass (Ok done) after step = subst (P s pass Flush (Flushed done.upto done.moment)) (sym step.after_is) (holds.flushed s pass done.upto done.moment step.up (to_end size s done.upto.0 done.moment after step))
-  flushes s pass (Err refusal) after step = flush_refused s pass (end_of size s.entries) refusal.cause refusal.reserved after step
+  flushes : (s : LogHistory) (pass : ℕ) (answer : Result hard.Hard refused.Refused) (after : LogHistory) → Flushes size faults_at_open s (own_end size pass s.entries) answer after → P s pass Flush (told_of_flush answer) after
+  flushes s pass (Ok done) after step = subst (P s pass Flush (Flushed done.upto done.moment)) (sym step.after_is) (holds.flushed s pass done.upto done.moment step.up (λ own. to_end size s done.upto.0 done.moment after (subst (λ (n : ℕ). HasFlushed size s n done.upto.0 done.moment after) own step)))
+  flushes s pass (Err refusal) after step = flush_refused s pass (own_end size pass s.entries) refusal.cause refusal.reserved after step
 
   -- what holds of each kind of step holds of each step
   pub fact-Steps : (before : LogHistory) (pass : ℕ) (action : Asked) (told : Told) (after : LogHistory) → Steps size capacity faults_at_open before pass action told after → P before pass action told after

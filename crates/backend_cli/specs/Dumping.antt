@@ -10,7 +10,7 @@ use Rattle.command_words.specs.declared.commands.DumpOptions.{DumpOptions}
 use Rattle.backend_cli.specs.declared.outcome.Outcome.{Outcome}
 use Rattle.backend_cli.specs.declared.outcome.Outcome.TheVariants.{Done, OutOfMemory, DiskFault, Stopped, SinkFault}
 use Rattle.backend_cli.specs.declared.told.Told.{Told}
-use Rattle.segment_disk.specs.Cause.{Rose, RoseByOne}
+use Rattle.segment_disk.specs.Cause.{RoseByOne}
 use Rattle.backend_cli.specs.Outside.{Outside}
 
 -- what a listing printed, by how it may end: the lines of the records that the filter lists of
@@ -42,8 +42,8 @@ pub data ListingEnds (outside : Outside) : Outcome → Type 0 where
   ended : NoFaults outside → ListingEnds outside Done
   stopped : {stop : LogStop} → NoFaults outside → ListingEnds outside (Stopped stop)
   without_memory : NoFaults outside → ListingEnds outside OutOfMemory
-  by_disk : Rose outside.disk_before outside.disk_after → outside.sink_after ≡ outside.sink_before
-      → ListingEnds outside DiskFault
+  by_disk : RoseByOne outside.disk_before outside.disk_after
+      → outside.sink_after ≡ outside.sink_before → ListingEnds outside DiskFault
   by_sink : outside.disk_after ≡ outside.disk_before
       → RoseByOne outside.sink_before outside.sink_after → ListingEnds outside SinkFault
 

@@ -54,10 +54,12 @@ Obeys (Command (Run options)) outside outcome lists =
     options.list outcome lists
 Obeys (Command (Dump options)) outside outcome lists = DumpHolds outside options outcome lists
 
--- the same, or memory ran out before the command was known
-abbrev pub ObeysInMemory : Request → Outside → Outcome → List (List Told) → Type 0
-ObeysInMemory request outside outcome lists =
-    IsCutShort outside outcome lists ⊎ Obeys request outside outcome lists
+-- the same of a disk, or memory ran out before the command was known, and then the very disk comes
+-- back
+abbrev pub ObeysInMemory : {D : Type 0} → Request → D → D → Outside → Outcome → List (List Told)
+    → Type 0
+ObeysInMemory request disk disk_now outside outcome lists =
+    (IsCutShort outside outcome lists × (disk_now ≡ disk)) ⊎ Obeys request outside outcome lists
 
 -- a run is asked for
 abbrev pub AsksRun : Request → Type 0
@@ -66,3 +68,10 @@ AsksRun Help = ⊥
 AsksRun Version = ⊥
 AsksRun (Command (Run options)) = Unit {0}
 AsksRun (Command (Dump options)) = ⊥
+
+-- no command is asked for
+abbrev pub AsksNoCommand : Request → Type 0
+AsksNoCommand Nothing = Unit {0}
+AsksNoCommand Help = Unit {0}
+AsksNoCommand Version = Unit {0}
+AsksNoCommand (Command command) = ⊥

@@ -9,7 +9,7 @@ use Rattle.backend_cli.specs.declared.outcome.Outcome.{Outcome}
 use Rattle.backend_cli.specs.declared.outcome.Outcome.TheVariants.{OutOfMemory, SourceFault, ScriptRefused}
 use Rattle.backend_cli.specs.Outside.{SourceView}
 use Rattle.backend_cli.specs.Reading.{ScriptMeans}
-use Rattle.segment_disk.specs.Cause.{Rose}
+use Rattle.segment_disk.specs.Cause.{RoseByOne}
 use Rattle.wal_script.specs.Bodies.{AreLinesOf}
 
 -- the lines that are asked for, room for a log, and room for what the lines are told
@@ -24,7 +24,7 @@ pub record IsPrepared (shape : Shape) (asked : List AskedLine) (prepared : Prepa
 -- why nothing was made ready: memory, the source, or the script, and nothing else
 abbrev pub IsUnprepared : SourceView → SourceView → Outcome → Type 0
 IsUnprepared before after OutOfMemory = after.faults ≡ before.faults
-IsUnprepared before after SourceFault = Rose before.faults after.faults
+IsUnprepared before after SourceFault = RoseByOne before.faults after.faults
 IsUnprepared before after (ScriptRefused refusal) = ScriptMeans before after (Err refusal)
 IsUnprepared before after others = ⊥
 

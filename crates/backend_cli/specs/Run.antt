@@ -19,7 +19,7 @@ use Rattle.backend_cli.specs.Moments.{EachRises}
 use Rattle.backend_cli.specs.Crash.{EachIsTimely, SurvivesCrashes}
 use Rattle.backend_cli.specs.Texts.{run_text}
 use Rattle.backend_cli.specs.Reading.{ScriptMeans}
-use Rattle.segment_disk.specs.Cause.{Rose}
+use Rattle.segment_disk.specs.Cause.{Rose, RoseByOne}
 use Rattle.backend_cli.specs.Outside.{Outside, Took, IsUntouched}
 
 -- the script that the source handed out means some lines
@@ -30,9 +30,11 @@ MeansSome outside =
 
 -- how a run ends that did not open the log, and why; it ends in no other way
 abbrev pub EndsUnopened : Outside → Outcome → Type 0
-EndsUnopened outside OutOfMemory = outside.disk_after ≡ outside.disk_before
+EndsUnopened outside OutOfMemory =
+    (outside.source_after.faults ≡ outside.source_before.faults)
+    × (outside.disk_after ≡ outside.disk_before)
 EndsUnopened outside SourceFault =
-    Rose outside.source_before.faults outside.source_after.faults
+    RoseByOne outside.source_before.faults outside.source_after.faults
     × (outside.disk_after ≡ outside.disk_before)
 EndsUnopened outside (ScriptRefused refusal) =
     ScriptMeans outside.source_before outside.source_after (Err refusal)
@@ -41,7 +43,8 @@ EndsUnopened outside NotEmpty =
     MeansSome outside
     × IfSome outside.tape_before (λ t. IsSome (page_of_segment (state_now t 1) 0))
     × (outside.disk_after ≡ outside.disk_before)
-EndsUnopened outside DiskFault = MeansSome outside × Rose outside.disk_before outside.disk_after
+EndsUnopened outside DiskFault =
+    MeansSome outside × RoseByOne outside.disk_before outside.disk_after
 EndsUnopened outside others = ⊥
 
 -- how a run ends that opened the log: a disk's fault, else a full log, else a sink's fault, else

@@ -1,13 +1,15 @@
 -- What a log was asked and what it told, step by step: the history of a run, however many
 -- backends wrote it. Throughout, `capacity` is how many bytes its records may take up,
 -- `faults_at_open` the disk's count of faults when it was opened.
-use Rattle.std.specs.Prelude.{◌≡◌, ℕ, ◌+◌, List, [], ◌∷◌, ◌++◌, map, Option, Some, None, option_to_list, Result, Ok, Err}
+use Rattle.std.specs.Prelude.{◌≡◌, ℕ, ◌+◌, false, List, [], ◌∷◌, ◌++◌, map, Option, Some, None, option_to_list, Result, Ok, Err, ◌==◌, if◌then◌else◌}
+use Rattle.std.specs.Option.{option_map_or}
+use Rattle.byte_position.specs.Position.{end_address_of, first_position}
 use Rattle.record_spelling.specs.Spelling.{IsWritable}
 use Rattle.log_answers.specs.declared.Receipt.{Receipt}
 use Rattle.log_answers.specs.declared.Hard as hard
 use Rattle.log_answers.specs.declared.Sealed.{Sealed}
 use Rattle.log_answers.specs.declared.Refused as refused
-use Rattle.wal_page.specs.Order.{Entry}
+use Rattle.wal_page.specs.Order.{Entry, position_behind}
 use Rattle.serial_log.specs.History.{LogHistory, Promise, end_of}
 use Rattle.serial_log.specs.Steps.{Inserts, Commits, Flushes}
 use Rattle.wal_script.specs.Asked.{AskedLine}
@@ -31,9 +33,25 @@ abbrev pub told_of_flush : Result hard.Hard refused.Refused → Told
 told_of_flush (Ok done) = Flushed done.upto done.moment
 told_of_flush (Err refusal) = Refused refusal.cause refusal.reserved
 
+-- the byte position at which the last of a backend's entries ends, `behind` where it has none
+abbrev pub behind_last : ℕ → ℕ → ℕ → List Entry → ℕ
+behind_last size backend behind [] = behind
+behind_last size backend behind (e ∷ es) =
+    behind_last size backend
+    (if option_map_or (λ pass. pass == backend) e.pass false
+    then position_behind size e else behind) es
+
+-- the address at which the last of a backend's records ends, segment 1's start where it has none
+abbrev pub own_end : ℕ → ℕ → List Entry → ℕ
+own_end size backend es = end_address_of size (behind_last size backend (first_position size) es)
+
+-- a log ends with a record of the backend, or has none: so long as no other backend writes
+abbrev pub EndsWithOwn : ℕ → ℕ → LogHistory → Type 0
+EndsWithOwn size backend s = own_end size backend s.entries ≡ end_of size s.entries
+
 -- one line: the history before it, the backend whose line it is, what it asks for, what it is told,
 -- and the history after it. The backend is the pass of an entry that it makes. A flush asks for the
--- log's end, which is that of the backend's own last record as long as one backend writes
+-- end of the backend's own last record
 abbrev pub Steps : ℕ → ℕ → ℕ → LogHistory → ℕ → Asked → Told → LogHistory → Type 0
 Steps size capacity faults_at_open before backend (Insert value) told after =
     (answer : Result Receipt refused.Refused) × (told ≡ told_of_insert answer) × IsWritable value
@@ -43,7 +61,7 @@ Steps size capacity faults_at_open before backend (Commit value) told after =
     × Commits size capacity faults_at_open before backend value answer after
 Steps size capacity faults_at_open before backend Flush told after =
     (answer : Result hard.Hard refused.Refused) × (told ≡ told_of_flush answer)
-    × Flushes size faults_at_open before (end_of size before.entries) answer after
+    × Flushes size faults_at_open before (own_end size backend before.entries) answer after
 
 -- a line that was played: whose it is, what it asks for, and what it was told
 pub record Event : Type 0 where

@@ -3,7 +3,7 @@ ghost use Rattle.wal_script.specs.Asked.{AskedLine};
 ghost use Rattle.wal_script.specs.Bodies.{AreLinesOf};
 ghost use Rattle.serial_log.specs.LogState.{IsSameLog, StepsLog};
 ghost use Rattle.backend_cli.specs.Moments.{LastTold, MomentsReach};
-ghost use Rattle.backend_cli.specs.Steps.{Plays, events_of};
+ghost use Rattle.backend_cli.specs.Steps.{EndsWithOwn, Plays, events_of};
 ghost use Rattle.backend_cli.specs.Tracked.{IsTracked};
 
 use crate::answer::answer;
@@ -27,7 +27,8 @@ pub(crate) fn play<D: Disk, G: Gate>(
     requires room { length lines.now ≤ vec_capacity told.old }
     ensures plays { (asked : List AskedLine) → AreLinesOf asked lines.now
         → StepsLog D.tape D.faults log.old log.new (λ faults_at_open before after.
-        Plays log.old.size log.old.capacity faults_at_open before
+        EndsWithOwn log.old.size 0 before
+        → Plays log.old.size log.old.capacity faults_at_open before
         (events_of 0 asked told.new.items) after) }
     ensures same { IsSameLog log.old log.new }
     ensures moments { (last : LastTold) → IsTracked D.moment last log.old

@@ -4,7 +4,7 @@ ghost use Rattle.command_line.specs.Asking.{AsksInRange, asks};
 ghost use Rattle.command_line.specs.Texts.{help, version};
 ghost use Rattle.backend_cli.specs.Outcome.{status_of, outcome_text};
 ghost use Rattle.backend_cli.specs.Outside.{SourceView, Took, outside_of, source_view};
-ghost use Rattle.backend_cli.specs.Obeying.{AsksRun, IsExplained, Obeys, ObeysInMemory};
+ghost use Rattle.backend_cli.specs.Obeying.{AsksNoCommand, AsksRun, IsExplained, Obeys, ObeysInMemory};
 ghost use Rattle.backend_cli.specs.declared.outcome.Outcome.{Outcome};
 
 use crate::dump::list;
@@ -36,9 +36,10 @@ pub struct Ended<D> {
 
 // Prints a text for who asks for it: the words are no command, and tell so by their status.
 fn explain<O: Sink, D: Disk>(alloc: Global, text: &str, disk: D, out: &mut O) -> Finished<D>
-    ensures { (source : SourceView) → IsExplained text.now (outside_of source source
+    ensures explained { (source : SourceView) → IsExplained text.now (outside_of source source
         D.tape D.moment D.faults disk result.disk O.taken O.faults out.old out.new)
         result.outcome result.told }
+    ensures same_disk { result.disk ≡ disk }
 {
     // A fault while it is printed changes no status.
     let _ = put(out, text.as_bytes());
@@ -66,6 +67,7 @@ fn obey<S: Source, O: Sink, D: Disk, G: Gate>(
         result.outcome result.told }
     ensures as_handed_in { AsksRun request → result.outcome ≡ Outcome.OutOfMemory
         → result.disk ≡ disk }
+    ensures no_command { AsksNoCommand request → result.disk ≡ disk }
 {
     match &request {
         Request::Nothing => Finished {
@@ -96,13 +98,16 @@ fn obey_words<S: Source, O: Sink, D: Disk, G: Gate>(
     out: &mut O,
     gate: &G,
 ) -> Finished<D>
-    ensures obeys { ObeysInMemory (asks (map (λ w. string_bytes w) words.now)) (outside_of
+    ensures obeys { ObeysInMemory (asks (map (λ w. string_bytes w) words.now))
+        disk result.disk (outside_of
         (source_view S.left S.handed S.ends_told S.faults script.old)
         (source_view S.left S.handed S.ends_told S.faults script.new)
         D.tape D.moment D.faults disk result.disk O.taken O.faults out.old out.new)
         result.outcome result.told }
     ensures as_handed_in { AsksRun (asks (map (λ w. string_bytes w) words.now))
         → result.outcome ≡ Outcome.OutOfMemory → result.disk ≡ disk }
+    ensures no_command { AsksNoCommand (asks (map (λ w. string_bytes w) words.now))
+        → result.disk ≡ disk }
 {
     match asked(alloc, words) {
         Ok(request) => obey(alloc, request, script, disk, out, gate),
@@ -131,18 +136,21 @@ pub fn pgwal<R: Threads + Wait + Sync, S: Source, O: Sink, E: Sink, D: Disk + Se
     // The status and its line on `err` are those of one outcome; for it the command's promises
     // hold: of `run` told, gapless, crash, no late receipt, whole, printed, and how it ends; of
     // `dump` listed; of words that ask for help its text, and of others that are no command
-    // nothing. Or memory ran out before the command was known, with no counted call made, and
+    // nothing. Or memory ran out before the command was known, with the disk as it came, and
     // nothing read or printed.
     ensures obeys { (outcome : Outcome) × (result.status ≡ status_of outcome)
         × Took (E.taken err.old) (E.taken err.new) (E.faults err.old) (E.faults err.new)
         (joined (outcome_text outcome))
-        × ObeysInMemory (asks (map (λ w. string_bytes w) words.now)) (outside_of
+        × ObeysInMemory (asks (map (λ w. string_bytes w) words.now)) disk result.disk (outside_of
         (source_view S.left S.handed S.ends_told S.faults script.old)
         (source_view S.left S.handed S.ends_told S.faults script.new)
         D.tape D.moment D.faults disk result.disk O.taken O.faults out.old out.new)
         outcome result.told }
     // A run that ends for want of memory hands the disk back as it came.
     ensures as_handed_in { AsksRun (asks (map (λ w. string_bytes w) words.now)) → result.status ≡ 1
+        → result.disk ≡ disk }
+    // So do words that are no command.
+    ensures no_command { AsksNoCommand (asks (map (λ w. string_bytes w) words.now))
         → result.disk ≡ disk }
 {
     let Finished {

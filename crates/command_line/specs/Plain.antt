@@ -138,7 +138,8 @@ is_switched name pairs =
 abbrev pub are_plain_behind : List (Text × Text) → List Use → Bool
 are_plain_behind pairs [] = true
 are_plain_behind pairs (first ∷ uses) =
-    not (begins_with_hyphen (pair_given first).1) && not (is_some (value_for (pair_given first).0 pairs))
+    not (begins_with_hyphen (pair_given first).1)
+    && not (is_some (value_for (pair_given first).0 pairs))
     && are_plain_behind (pairs ++ pair_given first ∷ []) uses
 
 -- no option is given twice, and no value begins with a hyphen

@@ -1,7 +1,8 @@
 -- The command that the words of a command line make, each word in the place that it was given for.
-use Rattle.std.specs.Prelude.{ℕ, ◌≤◌, Bool, false, ◌&&◌, ◌||◌, not, List, Option, Some, None, is_some, option_map, codes, if◌then◌else◌}
+use Rattle.std.specs.Prelude.{ℕ, ◌≤◌, Bool, ◌&&◌, ◌||◌, not, List, Option, Some, None, is_some, option_map, codes, if◌then◌else◌}
 use Rattle.std.specs.Borrow.{Bor}
 use Rattle.std.specs.Str.{bytes_eq}
+use Rattle.listing_filter.specs.Keeping.{everything_from}
 use Rattle.listing_filter.specs.Names.{fork_named}
 use Rattle.listing_filter.specs.declared.Filter.{Filter}
 use Rattle.command_words.specs.Meanings.{block_number_of, cap_segments_of, limit_of, lsn_of, manager_of, relation_of, ring_pages_of, segment_size_of, xid_of}
@@ -68,7 +69,7 @@ or_default value meaning None = Some value
 or_default value meaning (Some word) = meaning word
 
 infixl 10 ◌>>=◌
-abbrev pub ◌>>=◌ : {A B : Type 0} → Option A → (A → Option B) → Option B
+abbrev ◌>>=◌ : {A B : Type 0} → Option A → (A → Option B) → Option B
 None >>= next = None
 (Some a) >>= next = next a
 
@@ -113,21 +114,6 @@ run_of g = if is_some g.topic || gives_dump g then None else do
     list = g.list;
   }))
 
--- what keeps every record from segment 1 on
-abbrev pub whole_log : ℕ → Filter
-whole_log size = record {
-  rmid = None;
-  xid = None;
-  rel = None;
-  blk = None;
-  fork = None;
-  fullpage = false;
-  start = record { 0 = size };
-  end = None;
-  limit = None;
-  quiet = false;
-}
-
 -- a filter with the rules on a record's manager, transaction and images
 abbrev pub with_record_rules : Given → Filter → Option Filter
 with_record_rules g filter = do
@@ -155,10 +141,10 @@ with_extent g filter = do
   limit ← read limit_of g.limit
   Some (record filter { start = first; end = last; limit = limit; quiet = g.quiet })
 
--- what is listed
+-- what is listed: where no rule is given every record, from segment 1 on
 abbrev pub filter_of : ℕ → Given → Option Filter
 filter_of size g = do
-  by_record ← with_record_rules g (whole_log size)
+  by_record ← with_record_rules g (everything_from (record { 0 = size }))
   by_block ← with_block_rules g by_record
   with_extent g by_block
 

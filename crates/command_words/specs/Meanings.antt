@@ -1,8 +1,9 @@
 -- What the word of each option means, as a function of that one word.
-use Rattle.std.specs.Prelude.{ℕ, ◌+◌, ◌-◌, ◌*◌, ◌^◌, Bool, ◌&&◌, ◌||◌, List, [], ◌∷◌, Option, Some, None, ◌==◌, codes, drop, if◌then◌else◌, length, map, nat_le, option_and_then, option_map, take}
+use Rattle.std.specs.Prelude.{ℕ, ◌+◌, ◌-◌, ◌*◌, ◌^◌, ◌&&◌, List, [], ◌∷◌, Option, Some, None, ◌==◌, codes, drop, if◌then◌else◌, length, map, nat_le, option_and_then, option_map, take}
 use Rattle.std.specs.Int.Digits.{number_from_digits}
 use Rattle.std.specs.List.{list_all}
 use Rattle.byte_position.specs.Geometry.{is_segment_size}
+use Rattle.decimal_numbers.specs.Hexadecimal.{hexadecimal_digit, is_hexadecimal_digit}
 use Rattle.decimal_numbers.specs.Numbers.{number_of}
 use Rattle.listing_filter.specs.Names.{is_same_name, own_manager_of}
 use Rattle.wal_types.specs.declared.lsn.Lsn.{Lsn}
@@ -68,15 +69,6 @@ relation_behind tablespace (Some parts) =
 abbrev pub relation_of : List ℕ → Option Rel
 relation_of word =
     option_and_then (λ parts. relation_behind parts.0 (cut_at_slash parts.1)) (cut_at_slash word)
-
--- a hexadecimal digit, in either case: 48 is `0`, 65 `A` and 97 `a`
-abbrev pub is_hexadecimal_digit : ℕ → Bool
-is_hexadecimal_digit c =
-    (nat_le 48 c && nat_le c 57) || (nat_le 65 c && nat_le c 70) || (nat_le 97 c && nat_le c 102)
-
-abbrev pub hexadecimal_digit : ℕ → ℕ
-hexadecimal_digit c =
-    if nat_le c 57 then c - 48 else (if nat_le c 70 then c - 55 else c - 87)
 
 -- a number in 1 to 8 hexadecimal digits
 abbrev pub hexadecimal_of : List ℕ → Option ℕ

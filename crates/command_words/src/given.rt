@@ -1,6 +1,6 @@
 ghost use Rattle.std.specs.Prelude.{◌≡◌, ◌||◌, IfSome, is_some, option_map};
 ghost use Rattle.command_words.specs.Meanings.{block_number_of, cap_segments_of, limit_of, lsn_of, manager_of, relation_of, ring_pages_of, segment_size_of, xid_of};
-ghost use Rattle.command_words.specs.Given.{IsInRange, command_of, default_segment_size, dump_of, filter_of, gives_dump, gives_extent, gives_run, gives_selection, given_of, lacks_relation, or_default, run_of, settled, text_of, whole_log, with_block_rules, with_extent, with_record_rules};
+ghost use Rattle.command_words.specs.Given.{IsInRange, command_of, default_segment_size, dump_of, filter_of, gives_dump, gives_extent, gives_run, gives_selection, given_of, lacks_relation, or_default, run_of, settled, text_of, with_block_rules, with_extent, with_record_rules};
 
 use crate::commands::{Command, DumpOptions, RunOptions};
 use crate::meanings::{
@@ -128,7 +128,9 @@ impl GivenWords<'_> {
     fn filter(&self, geometry: Geometry) -> Option<Filter>
         ensures { result ≡ filter_of geometry (given_of self.now) }
     {
-        let filter = self.with_record_rules(whole_log(geometry))?;
+        // Segment 1 begins where segment 0 ends.
+        let everything = Filter::everything_from(Lsn(geometry.segment_size()));
+        let filter = self.with_record_rules(everything)?;
         let filter = self.with_block_rules(filter)?;
         self.with_extent(filter)
     }
@@ -186,24 +188,6 @@ impl GivenWords<'_> {
             quiet: self.quiet,
             ..filter
         })
-    }
-}
-
-// Keeps every record from segment 1 on.
-fn whole_log(geometry: Geometry) -> Filter
-    ensures { result ≡ whole_log geometry }
-{
-    Filter {
-        rmid: None,
-        xid: None,
-        rel: None,
-        blk: None,
-        fork: None,
-        fullpage: false,
-        start: Lsn(geometry.segment_size()),
-        end: None,
-        limit: None,
-        quiet: false,
     }
 }
 

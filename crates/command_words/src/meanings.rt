@@ -2,10 +2,10 @@
 
 ghost use Rattle.std.specs.Prelude.{◌≡◌, ◌<◌, ◌≤◌, IfSome, codes, is_some, option_map};
 ghost use Rattle.listing_filter.specs.Names.{fork_named, is_same_name};
-ghost use Rattle.command_words.specs.Meanings.{block_number_of, cap_segments_of, cut_at_slash, hexadecimal_digit, hexadecimal_of, is_hexadecimal_digit, limit_of, lsn_of, manager_of, number_behind_custom, number_within, object_of, relation_of, ring_pages_of, segment_size_of, xid_of};
+ghost use Rattle.command_words.specs.Meanings.{block_number_of, cap_segments_of, cut_at_slash, hexadecimal_of, limit_of, lsn_of, manager_of, number_behind_custom, number_within, object_of, relation_of, ring_pages_of, segment_size_of, xid_of};
 
 use byte_position::Geometry;
-use decimal_numbers::number;
+use decimal_numbers::{hexadecimal_digit, number};
 use wal_types::{Lsn, Rel, Xid};
 
 const MIN_RING_PAGES: u64 = 4;
@@ -135,18 +135,6 @@ fn hexadecimal(digits: &[u8]) -> Option<u32>
         value = value * 16 + u32::from(hexadecimal_digit(*byte)?);
     }
     Some(value)
-}
-
-fn hexadecimal_digit(byte: u8) -> Option<u8>
-    ensures digit { IfSome result (λ d. (d ≡ hexadecimal_digit byte) × (d < 16)) }
-    ensures test { is_some result ≡ is_hexadecimal_digit byte }
-{
-    match byte {
-        b'0'..=b'9' => Some(byte - b'0'),
-        b'A'..=b'F' => Some(byte - b'A' + 10),
-        b'a'..=b'f' => Some(byte - b'a' + 10),
-        _ => None,
-    }
 }
 
 /// The number of the manager that the word of `--rmgr` means: a name of PostgreSQL's own managers,

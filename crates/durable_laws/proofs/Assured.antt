@@ -14,7 +14,9 @@ use Rattle.wal_core.specs.Locked.{StandsTo}
 use Rattle.wal_core.specs.Durable.{AreKept, DurabilityHolds, IsAssured, IsFirm, IsInHand, IsKept, IsLogBelow, IsPromised}
 use Rattle.wal_core.proofs.Lists.{one_added, one_set}
 use Rattle.durable_laws.proofs.Growth.{IsFirm-lower}
-use Rattle.durable_laws.proofs.Tapes.{TapeAssures-later, at_told, told_as}
+use Rattle.wal_core.proofs.Tapes.{at_told, told_as, told_suited, at_suited}
+use Rattle.durable_laws.proofs.Tapes.{TapeAssures-later}
+use Rattle.wal_core.specs.Suited.{IfSuited}
 
 -- a pass's part, by its own parts
 abbrev pub told : List Entry → List Joined → Writing → Told
@@ -48,7 +50,7 @@ module _ (opening : Opening) (order : List Entry) (flushed moment down : ℕ) (w
   Is x = IsAssured opening order flushed moment down writer x
 
   abbrev IsHeld : Lent → Type 0
-  IsHeld l = IsInHand opening.setup order moment writer l
+  IsHeld l = IsInHand opening order moment writer l
 
   -- with another of what is loaded, and in hand
   pub rebuilt : (es : List Entry) (js : List Joined) (x y : Writing) → y.promises ≡ x.promises
@@ -58,7 +60,7 @@ module _ (opening : Opening) (order : List Entry) (flushed moment down : ℕ) (w
     own_promised = subst (λ (ps : List Promise). All (IsPromised flushed moment) ps)
         (sym promises) a.own_promised;
     joined_promised = a.joined_promised;
-    own = subst (λ (ps : List Promise). IfSome writer.tape (λ t. AreKept opening order t es ps))
+    own = subst (λ (ps : List Promise). IfSuited opening writer (λ t. AreKept opening order t es ps))
         (sym promises) a.own;
     joined = a.joined;
     in_hand = held;
@@ -92,32 +94,31 @@ module _ (opening : Opening) (order : List Entry) (flushed moment down : ℕ) (w
   }
 
   -- a promise more
-  abbrev promise : List Entry → Writing → Promise
-  promise es x = record { upto = x.flushed; moment = moment; entries = length es }
+  abbrev promise : ℕ → ℕ → List Entry → Promise
+  promise upto from es = record { upto = upto; moment = from; entries = length es }
 
-  is_kept : (es : List Entry) (x : Writing) (t : Tape) → opening.moment ≤ moment
-      → x.flushed ≤ flushed
-      → IsFirm opening.setup order flushed moment t → IsKept opening order t es (promise es x)
-  is_kept es x t begun low firm = record {
+  is_kept : (upto from : ℕ) (es : List Entry) (t : Tape) → opening.moment ≤ from
+      → IsFirm opening.setup order upto from t → IsKept opening order t es (promise upto from es)
+  is_kept upto from es t begun firm = record {
     since = begun;
-    firm = IsFirm-lower opening.setup order x.flushed flushed moment t low firm;
-    later = λ k e from there.
-        absurd (none-some e (sym (slice_get_past es k from) ∙ there));
+    firm = firm;
+    later = λ k e past there.
+        absurd (none-some e (sym (slice_get_past es k past) ∙ there));
   }
 
-  pub is_promised : (es : List Entry) (js : List Joined) (x : Writing) → opening.moment ≤ moment
-      → x.flushed ≤ flushed
-      → IfSome writer.tape (IsFirm opening.setup order flushed moment) → Is (told es js x)
-      → Is (told es js (record x { promises = x.promises ++ promise es x ∷ [] }))
-  is_promised es js x begun low firm a = record {
-    own_promised = All-push (IsPromised flushed moment) x.promises (promise es x) a.own_promised
-        (record { upto_low = low; moment_low = omega arith });
+  pub is_promised : (upto from : ℕ) (es : List Entry) (js : List Joined) (x : Writing)
+      → opening.moment ≤ from → from ≤ moment → upto ≤ flushed
+      → IfSuited opening writer (IsFirm opening.setup order upto from) → Is (told es js x)
+      → Is (told es js (record x { promises = x.promises ++ promise upto from es ∷ [] }))
+  is_promised upto from es js x begun past low firm a = record {
+    own_promised = All-push (IsPromised flushed moment) x.promises (promise upto from es)
+        a.own_promised (record { upto_low = low; moment_low = past });
     joined_promised = a.joined_promised;
-    own = told_as writer.tape (λ t is. All-push (IsKept opening order t es) x.promises
-        (promise es x)
-        (at_told (λ t. AreKept opening order t es x.promises) writer.tape t is a.own)
-        (is_kept es x t begun low
-        (at_told (IsFirm opening.setup order flushed moment) writer.tape t is firm)));
+    own = told_suited opening writer (λ t is suited. All-push (IsKept opening order t es) x.promises
+        (promise upto from es)
+        (at_suited opening writer (λ t. AreKept opening order t es x.promises) t is suited a.own)
+        (is_kept upto from es t begun
+        (at_suited opening writer (IsFirm opening.setup order upto from) t is suited firm)));
     joined = a.joined;
     in_hand = a.in_hand;
     down_met = a.down_met;
@@ -129,8 +130,8 @@ module _ (opening : Opening) (order : List Entry) (flushed moment down : ℕ) (w
   is_new = record {
     own_promised = All-nil (IsPromised flushed moment);
     joined_promised = All-nil (λ (j : Joined). All (IsPromised flushed moment) j.promises);
-    own = told_as writer.tape (λ t is. All-nil (IsKept opening order t []));
-    joined = told_as writer.tape (λ t is.
+    own = told_suited opening writer (λ t is suited. All-nil (IsKept opening order t []));
+    joined = told_suited opening writer (λ t is suited.
         All-nil (λ (j : Joined). AreKept opening order t j.entries j.promises));
     in_hand = λ l is. absurd (cc);
     down_met = λ some_met. absurd (some_met refl);
@@ -199,16 +200,16 @@ module _ (opening : Opening) (order : List Entry) (flushed moment down : ℕ) (w
         joined_promised = All-append Promised js (j ∷ ks) a.joined_promised
             (All-cons Promised j ks b.own_promised b.joined_promised);
         own = a.own;
-        joined = told_as writer.tape (λ t is.
+        joined = told_suited opening writer (λ t is suited.
             let Kept : Joined → Type 0 = λ j. AreKept opening order t j.entries j.promises in
-            All-append Kept js (j ∷ ks) (at_told (λ t.
+            All-append Kept js (j ∷ ks) (at_suited opening writer (λ t.
             All (λ (j : Joined). AreKept opening order t j.entries j.promises) js)
-            writer.tape t is a.joined)
+            t is suited a.joined)
             (All-cons Kept j ks
-            (at_told (λ t. AreKept opening order t fs y.promises) writer.tape t is b.own)
-            (at_told (λ t.
+            (at_suited opening writer (λ t. AreKept opening order t fs y.promises) t is suited b.own)
+            (at_suited opening writer (λ t.
             All (λ (j : Joined). AreKept opening order t j.entries j.promises) ks)
-            writer.tape t is b.joined)));
+            t is suited b.joined)));
         in_hand = a.in_hand;
         down_met = max_down x.down_met y.down_met a.down_met b.down_met;
         down_set = max_down x.down_set y.down_set a.down_set b.down_set;
@@ -251,10 +252,9 @@ module _ (opening : Opening) (order : List Entry) (flushed moment down : ℕ) (w
     in_hand = λ l is. let i = a.in_hand l is in record {
       staged = i.staged;
       hard_low = i.hard_low;
-      hard_moment = IfSome_then writer.tape i.hard_moment (λ t firm.
-          TapeAssures-later opening.setup.segment_size
-          (IsMadeUpto opening.setup.segment_size l.hard) (IsLogBelow opening.setup order l.hard)
-          moment later t low firm);
+      moment_low = omega (arith, i.moment_low, low);
+      since = i.since;
+      firm = i.firm;
     };
     down_met = a.down_met;
     down_set = a.down_set;

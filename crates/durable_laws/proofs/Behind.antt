@@ -13,7 +13,9 @@ use Rattle.wal_core.specs.Durable.{AreKept, DurabilityHolds, IsAssured, IsFirm, 
 use Rattle.wal_core.specs.Steps.{IsFault, with_call_on}
 use Rattle.durable_laws.proofs.Assured.{lent_cases, rebuilt, told, view_set}
 use Rattle.durable_laws.proofs.Segments.{All-both}
-use Rattle.durable_laws.proofs.Tapes.{IsUnwritten-behind, TapeAssures-behind, at_told, counted_behind, moment_rises, on_tape, tape_behind}
+use Rattle.wal_core.proofs.Tapes.{at_told, on_tape, tape_behind, began_behind, at_suited}
+use Rattle.durable_laws.proofs.Tapes.{IsUnwritten-behind, TapeAssures-behind, counted_behind, moment_rises}
+use Rattle.wal_core.specs.Suited.{BeganSuited, IfSuited}
 
 -- a call leaves of the writer all but its tape, its moment and its fault
 pub same_written : (call : Call) (outcome : Outcome) (w : Plain)
@@ -53,17 +55,25 @@ module _ (o : Opening) (order : List Entry) (flushed moment down : ℕ) (home : 
       → ((t : Tape) → w.tape ≡ Some t → Q (tape_behind outcome call t)) → IfSome n.tape Q
   behind Q f = subst (λ (p : Option Tape). IfSome p Q) (sym is.tape) (on_tape Q call outcome w f)
 
-  firm_behind : (upto from : ℕ) → upto ≤ w.written
-      → IfSome w.tape (IsFirm o.setup order upto from)
-      → IfSome n.tape (IsFirm o.setup order upto from)
-  firm_behind upto from under firm = behind (IsFirm o.setup order upto from) (λ t there.
-      TapeAssures-behind size (IsMadeUpto size upto) (IsLogBelow o.setup order upto) call outcome
-      from t (fits upto under) (at_told (IsFirm o.setup order upto from) w.tape t there firm))
-
   counts : (t : Tape) → w.tape ≡ Some t → w.moment ≡ length t.calls
   counts t there =
       let Counts : Tape → Type 0 = λ t. w.moment ≡ length t.calls in
       at_told Counts w.tape t there h.counted
+
+  suited_behind : (Q : Tape → Type 0)
+      → ((t : Tape) → w.tape ≡ Some t → BeganSuited o t → Q (tape_behind outcome call t))
+      → IfSuited o n Q
+  suited_behind Q f = behind (λ t. BeganSuited o t → Q t) (λ t there suited. f t there
+      (began_behind o call outcome t (omega (arith, h.begun, h.moment_low, counts t there)) suited))
+
+  firm_behind : (upto from : ℕ) → upto ≤ w.written
+      → IfSuited o w (IsFirm o.setup order upto from)
+      → IfSuited o n (IsFirm o.setup order upto from)
+  firm_behind upto from under firm = suited_behind (IsFirm o.setup order upto from)
+      (λ t there suited.
+      TapeAssures-behind size (IsMadeUpto size upto) (IsLogBelow o.setup order upto) call outcome
+      from t (fits upto under)
+      (at_suited o w (IsFirm o.setup order upto from) t there suited firm))
 
   kept_behind : (t : Tape) → w.tape ≡ Some t → (es : List Entry) (p : Promise)
       → IsKept o order t es p → IsPromised flushed moment p
@@ -77,12 +87,13 @@ module _ (o : Opening) (order : List Entry) (flushed moment down : ℕ) (home : 
         (kept.later k e from got);
   }
 
-  in_hand_behind : (l : Lent) → IsInHand o.setup order moment w l
-      → IsInHand o.setup order moment n l
+  in_hand_behind : (l : Lent) → IsInHand o order moment w l → IsInHand o order moment n l
   in_hand_behind l i = record {
     staged = i.staged;
     hard_low = omega (arith, i.hard_low, is.rises);
-    hard_moment = firm_behind l.hard moment i.hard_low i.hard_moment;
+    moment_low = i.moment_low;
+    since = i.since;
+    firm = λ some_hard. firm_behind l.hard l.hard_moment i.hard_low (i.firm some_hard);
   }
 
   assured_behind : (x : Told) → IsAssured o order flushed moment down w x
@@ -90,28 +101,31 @@ module _ (o : Opening) (order : List Entry) (flushed moment down : ℕ) (home : 
   assured_behind x a = record {
     own_promised = a.own_promised;
     joined_promised = a.joined_promised;
-    own = behind (λ t. AreKept o order t x.entries (x.writing).promises) (λ t there.
+    own = suited_behind (λ t. AreKept o order t x.entries (x.writing).promises)
+        (λ t there suited.
         All-both (IsKept o order t x.entries) (IsPromised flushed moment)
         (IsKept o order (tape_behind outcome call t) x.entries)
         (kept_behind t there x.entries) (x.writing).promises
-        (at_told (λ t. AreKept o order t x.entries (x.writing).promises) w.tape t there a.own)
+        (at_suited o w (λ t. AreKept o order t x.entries (x.writing).promises) t there suited a.own)
         a.own_promised);
-    joined = behind (λ t. All (λ (j : Joined). AreKept o order t j.entries j.promises) x.joined)
-        (λ t there. All-both (λ (j : Joined). AreKept o order t j.entries j.promises)
+    joined = suited_behind
+        (λ t. All (λ (j : Joined). AreKept o order t j.entries j.promises) x.joined)
+        (λ t there suited. All-both (λ (j : Joined). AreKept o order t j.entries j.promises)
         (λ (j : Joined). All (IsPromised flushed moment) j.promises)
         (λ (j : Joined). AreKept o order (tape_behind outcome call t) j.entries j.promises)
         (λ j kept promised. All-both (IsKept o order t j.entries) (IsPromised flushed moment)
         (IsKept o order (tape_behind outcome call t) j.entries)
         (kept_behind t there j.entries) j.promises kept promised) x.joined
-        (at_told (λ t. All (λ (j : Joined). AreKept o order t j.entries j.promises) x.joined)
-        w.tape t there a.joined) a.joined_promised);
+        (at_suited o w
+        (λ t. All (λ (j : Joined). AreKept o order t j.entries j.promises) x.joined) t there suited
+        a.joined) a.joined_promised);
     in_hand = λ l out. in_hand_behind l (a.in_hand l out);
     down_met = a.down_met;
     down_set = a.down_set;
   }
 
   module _ (reached : n.written ≤ n.made * (o.setup).segment_size + (o.setup).segment_size)
-      (disk : (t : Tape) → w.tape ≡ Some t → IsOnDisk o.setup order w t
+      (disk : (t : Tape) → w.tape ≡ Some t → BeganSuited o t → IsOnDisk o.setup order w t
       → IsOnDisk o.setup order n (tape_behind outcome call t))
       (up : w.fault ≡ none) (away : home ≡ none)
       (rose : (f : ℕ) → n.fault ≡ some f → Rose o.faults f) where
@@ -122,14 +136,14 @@ module _ (o : Opening) (order : List Entry) (flushed moment down : ℕ) (home : 
       moment_low = omega (arith, h.moment_low, moment_rises call outcome w, is.moment);
       begun = h.begun;
       reached = reached;
-      lawful = behind (TapeAssures size IsNowhere (IsLawfulAt o.setup order) o.moment)
-          (λ t there. TapeAssures-behind size IsNowhere (IsLawfulAt o.setup order) call outcome
+      lawful = suited_behind (TapeAssures size IsNowhere (IsLawfulAt o.setup order) o.moment)
+          (λ t there suited. TapeAssures-behind size IsNowhere (IsLawfulAt o.setup order) call outcome
           o.moment t lawful
-          (at_told (TapeAssures size IsNowhere (IsLawfulAt o.setup order) o.moment) w.tape t there
-          h.lawful));
+          (at_suited o w (TapeAssures size IsNowhere (IsLawfulAt o.setup order) o.moment) t there
+          suited h.lawful));
       firm = firm_behind flushed moment low h.firm;
-      on_disk = behind (IsOnDisk o.setup order n) (λ t there.
-          disk t there (at_told (IsOnDisk o.setup order w) w.tape t there h.on_disk));
+      on_disk = suited_behind (IsOnDisk o.setup order n) (λ t there suited. disk t there suited
+          (at_suited o w (IsOnDisk o.setup order w) t there suited h.on_disk));
       down_is = λ is_down. absurd (some-ne-none down (sym (h.down_is is_down) ∙ up));
       down_at_home = λ at_home. absurd (some-ne-none n (sym at_home ∙ away));
       fault_rose = rose;
@@ -151,9 +165,11 @@ module _ (o : Opening) (order : List Entry) (flushed moment down : ℕ) (home : 
         (told v.reserving.entries v.reserving.joined x) all_behind
         (rebuilt o order flushed moment down n v.reserving.entries v.reserving.joined v.writing x
         refl refl refl now
-        (lent_cases g (IsInHand o.setup order moment n) v.writing.hold (λ m has.
+        (lent_cases g (IsInHand o order moment n) v.writing.hold (λ m has.
         let i = now.in_hand m has in record {
           staged = i.staged;
           hard_low = i.hard_low;
-          hard_moment = i.hard_moment;
+          moment_low = i.moment_low;
+          since = i.since;
+          firm = i.firm;
         }))))

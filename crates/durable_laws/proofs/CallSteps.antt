@@ -19,7 +19,7 @@ use Rattle.wal_core.specs.Steps.{IsNextWrite, MayStep, create, sync, view_behind
 use Rattle.durable_laws.proofs.Assured.{stands_out}
 use Rattle.durable_laws.proofs.Behind.{call_keeps, fault_rose, same_written}
 use Rattle.durable_laws.proofs.Calls.{create_below, create_lawful, on_disk_created, on_disk_synced, on_disk_written, write_below, write_lawful}
-use Rattle.durable_laws.proofs.Tapes.{at_told}
+use Rattle.wal_core.proofs.Tapes.{at_suited}
 
 -- ---- all that is written lies in segments that are made, or in the next one
 
@@ -62,7 +62,7 @@ module _ (o : Opening) (order : List Entry) (flushed moment down : ℕ) (home : 
     (setup : IsSetup o.setup) (turn : ℕ) (writers : List (ℕ × Hold))
     (has : IsWriteTurn turn home writer writers) (at : HasAt writers id (writer_of v))
     (written : ℕ) (flights : List Flight) (writings : List Writing)
-    (positions : PositionsHold o.setup order written flushed down home writer flights writings)
+    (positions : PositionsHold o order written flushed down home writer flights writings)
   where
     abbrev size : ℕ
     size = (o.setup).segment_size
@@ -97,7 +97,7 @@ module _ (o : Opening) (order : List Entry) (flushed moment down : ℕ) (home : 
         (λ a under. create_below o.setup setup.size order segment writer.made a next
         (omega (arith, h.reached)))
         (created_reached size segment writer outcome next h.reached)
-        (λ t _ d.
+        (λ t _ _ d.
         on_disk_created o.setup setup.size order segment writer next h.reached outcome t d)
         up holds.0
         (λ f is. subst (λ (q : Opening). Rose q.faults f) opening
@@ -148,7 +148,7 @@ module _ (o : Opening) (order : List Entry) (flushed moment down : ℕ) (home : 
         (λ a under. write_below o.setup setup.size order segment page upto bytes l step staged a
         (omega (arith, rises, step.copied)))
         (written_reached size segment page upto bytes writer outcome high h.reached)
-        (λ t _ d. on_disk_written o.setup setup.size order segment page upto bytes writer page_is
+        (λ t _ _ d. on_disk_written o.setup setup.size order segment page upto bytes writer page_is
         step.on_segment alone rises start within outcome t d)
         up holds.0
         (λ f is. subst (λ (q : Opening). Rose q.faults f) opening
@@ -177,11 +177,11 @@ module _ (o : Opening) (order : List Entry) (flushed moment down : ℕ) (home : 
         })
         tt (λ a under. tt)
         (synced_reached size segment writer outcome h.reached)
-        (λ t is d. on_disk_synced o.setup setup.size order segment writer waits h.reached t d
-        (at_told (TapeAssures size IsNowhere (IsLawfulAt o.setup order) o.moment) writer.tape t is
-        h.lawful).now
-        (at_told (λ t. ReadsBelow o.setup order writer.written (state_now t)) writer.tape t is
-        positions.reads) outcome)
+        (λ t is suited d. on_disk_synced o.setup setup.size order segment writer waits h.reached t d
+        (at_suited o writer (TapeAssures size IsNowhere (IsLawfulAt o.setup order) o.moment) t is
+        suited h.lawful).now
+        (at_suited o writer (λ t. ReadsBelow o.setup order writer.written (state_now t)) t is
+        suited positions.reads) outcome)
         up holds.0
         (λ f is. subst (λ (q : Opening). Rose q.faults f) opening
         (fault_rose v call outcome writer up may.1 f is))

@@ -27,7 +27,7 @@ use Rattle.wal_core.specs.Positioned.{ReadsBelow}
 use Rattle.wal_core.specs.Durable.{IsLawfulAt, IsLogBelow, IsOnDisk, IsStaged}
 use Rattle.wal_core.specs.Steps.{IsNextWrite}
 use Rattle.durable_laws.proofs.Segments.{SegmentAssures-weaker}
-use Rattle.durable_laws.proofs.Tapes.{state_behind, tape_behind}
+use Rattle.wal_core.proofs.Tapes.{state_behind, tape_behind}
 
 -- ---- where a word stands
 

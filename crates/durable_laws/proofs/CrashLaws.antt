@@ -29,7 +29,8 @@ use Rattle.wal_core.specs.Steps.{MayStep, create, fault_number, number_lent, set
 use Rattle.wal_core.specs.Durable.{AreKept, DurabilityHolds, IsFirm, IsKept, IsLawfulAt, IsLogBelow}
 use Rattle.durable_laws.specs.Crashes.{CrashesLeave, DownTells, HoldsPromise, LeavesLawful, PutsOwned}
 use Rattle.durable_laws.proofs.Assured.{stands_out}
-use Rattle.durable_laws.proofs.Tapes.{at_told, told_as}
+use Rattle.wal_core.proofs.Tapes.{at_suited, told_suited}
+use Rattle.wal_core.specs.Suited.{BeganSuited, IfSuited}
 
 module _ (setup : Setup) (valid : IsSegmentSize setup.segment_size) (order : List Entry)
     (chained : IsChained setup.segment_size order) (image : DiskImage) where
@@ -97,11 +98,11 @@ module _ (o : Opening) (order : List Entry) (flushed moment down : ℕ) (home : 
     (parts : List Told) (h : DurabilityHolds o order flushed moment down home writer parts)
     (valid : IsSegmentSize (o.setup).segment_size)
     (chained : IsChained (o.setup).segment_size order) where
-  module _ (t : Tape) (is : writer.tape ≡ Some t) where
+  module _ (t : Tape) (is : writer.tape ≡ Some t) (suited : BeganSuited o t) where
     only_log : TapeAssures (o.setup).segment_size IsNowhere (IsLawfulAt o.setup order) o.moment t
-    only_log = at_told
+    only_log = at_suited o writer
         (TapeAssures (o.setup).segment_size IsNowhere (IsLawfulAt o.setup order) o.moment)
-        writer.tape t is h.lawful
+        t is suited h.lawful
 
     firm_lawful : (upto from : ℕ) → o.moment ≤ from → IsFirm o.setup order upto from t
         → LeavesLawful o.setup order upto from t
@@ -147,24 +148,25 @@ module _ (o : Opening) (order : List Entry) (flushed moment down : ℕ) (home : 
         there = λ k below owned. absurd (omega arith);
       };
       flushed_kept = firm_lawful flushed moment h.begun
-          (at_told (IsFirm o.setup order flushed moment) writer.tape t is h.firm);
+          (at_suited o writer (IsFirm o.setup order flushed moment) t is suited h.firm);
       owned = All-weaker (CallFits (o.setup).segment_size (IsLawfulAt o.setup order))
           (λ (c : Call). PutsOwned (o.setup).segment_size order c.segment c.kind)
           (λ c fits. puts_owned c.geometry c.segment c.kind fits) (drop o.moment t.calls)
           only_log.calls;
       own = λ id x here. keeps_promises x.entries (x.writing).promises
-          (at_told (λ t. AreKept o order t x.entries (x.writing).promises) writer.tape t is
+          (at_suited o writer (λ t. AreKept o order t x.entries (x.writing).promises) t is suited
           (h.views id x here).own);
       joined = λ id x here. All-weaker
           (λ (j : Joined). AreKept o order t j.entries j.promises)
           (λ (j : Joined). All (HoldsPromise o order t j.entries) j.promises)
           (λ j kept. keeps_promises j.entries j.promises kept) x.joined
-          (at_told (λ t. All (λ (j : Joined). AreKept o order t j.entries j.promises) x.joined)
-          writer.tape t is (h.views id x here).joined);
+          (at_suited o writer (λ t. All (λ (j : Joined). AreKept o order t j.entries j.promises) x.joined)
+          t is suited (h.views id x here).joined);
     }
 
-  pub crashes_leave_the_log : IfSome writer.tape (λ t. CrashesLeave o order flushed moment t parts)
-  crashes_leave_the_log = told_as writer.tape left_behind
+  pub crashes_leave_the_log : IfSuited o writer
+      (λ t. CrashesLeave o order flushed moment t parts)
+  crashes_leave_the_log = told_suited o writer left_behind
 
 -- ---- the down value
 

@@ -19,7 +19,8 @@ use Rattle.wal_core.proofs.Lists.{part_at, view_from}
 use Rattle.durable_laws.proofs.Assured.{told, view_set}
 use Rattle.durable_laws.proofs.Growth.{IsUnwritten-new, below_grows, firm_stays, lawful_stays, staged_stays}
 use Rattle.durable_laws.proofs.Segments.{All-both, SegmentAssures-weaker}
-use Rattle.durable_laws.proofs.Tapes.{at_told, told_as}
+use Rattle.wal_core.proofs.Tapes.{at_told, told_as, told_suited, at_suited}
+use Rattle.wal_core.specs.Suited.{BeganSuited}
 
 got_cases : (es : List Entry) (e f : Entry) (k : ℕ) → slice_get (es ++ e ∷ []) k ≡ Some f
     → (slice_get es k ≡ Some f) ⊎ (e ≡ f)
@@ -31,7 +32,7 @@ got_cases (x ∷ es) e f (suc k) is = got_cases es e f k is
 -- a view with the writer in hand knows no more copied than is reserved
 pub known_reserved : (o : Opening) (order : List Entry) (written flushed down : ℕ) (home : _)
     (writer : Plain) (flights : List Flight) (views : List View)
-    → PositionsHold o.setup order written flushed down home writer flights (map writing_of views)
+    → PositionsHold o order written flushed down home writer flights (map writing_of views)
     → (id : ℕ) (x : Told) → HasAt (map told_of views) id x
     → (l : Lent) → (x.writing).hold ≡ Out l
     → l.known ≤ end_form o.setup (end_position (o.setup).segment_size order)
@@ -99,35 +100,37 @@ module _ (o : Opening) (order : List Entry) (flushed moment down : ℕ) (home : 
     -- of each view, whose entries may be one more
     longer_assured : (x : Told) (es : List Entry)
         → ((l : Lent) → (x.writing).hold ≡ Out l → l.known ≤ end)
-        → ((t : Tape) → writer.tape ≡ Some t → (p : Promise) → IsKept o order t x.entries p
+        → ((t : Tape) → writer.tape ≡ Some t → BeganSuited o t → (p : Promise) → IsKept o order t x.entries p
         → IsPromised flushed moment p → IsKept o longer t es p)
         → IsAssured o order flushed moment down writer x
         → IsAssured o longer flushed moment down writer (told es x.joined x.writing)
     longer_assured x es within keeps a = record {
       own_promised = a.own_promised;
       joined_promised = a.joined_promised;
-      own = told_as writer.tape (λ t is. All-both (IsKept o order t x.entries)
-          (IsPromised flushed moment) (IsKept o longer t es) (keeps t is)
+      own = told_suited o writer (λ t is suited. All-both (IsKept o order t x.entries)
+          (IsPromised flushed moment) (IsKept o longer t es) (keeps t is suited)
           (x.writing).promises
-          (at_told (λ t. AreKept o order t x.entries (x.writing).promises) writer.tape t is a.own)
+          (at_suited o writer (λ t. AreKept o order t x.entries (x.writing).promises) t is suited a.own)
           a.own_promised);
-      joined = told_as writer.tape (λ t is.
+      joined = told_suited o writer (λ t is suited.
           All-both (λ (j : Joined). AreKept o order t j.entries j.promises)
           (λ (j : Joined). All (IsPromised flushed moment) j.promises)
           (λ (j : Joined). AreKept o longer t j.entries j.promises)
           (λ j kept promised. All-both (IsKept o order t j.entries) (IsPromised flushed moment)
           (IsKept o longer t j.entries) (kept_longer t j.entries) j.promises kept promised)
           x.joined
-          (at_told (λ t. All (λ (j : Joined). AreKept o order t j.entries j.promises) x.joined)
-          writer.tape t is a.joined) a.joined_promised);
+          (at_suited o writer (λ t. All (λ (j : Joined). AreKept o order t j.entries j.promises) x.joined)
+          t is suited a.joined) a.joined_promised);
       in_hand = λ l is. let i = a.in_hand l is in record {
         staged = All-weaker (IsStaged o.setup order l.known) (IsStaged o.setup longer l.known)
             (λ s staged. staged_stays o.setup valid order e chained start l.known s (within l is)
             staged) l.staged i.staged;
         hard_low = i.hard_low;
-        hard_moment = IfSome_then writer.tape i.hard_moment (λ t firm.
-            firm_stays o.setup valid order e chained start l.hard moment t
-            (omega (arith, i.hard_low)) firm);
+        moment_low = i.moment_low;
+        since = i.since;
+        firm = λ some_hard. IfSome_then writer.tape (i.firm some_hard) (λ t firm suited.
+            firm_stays o.setup valid order e chained start l.hard l.hard_moment t
+            (omega (arith, i.hard_low)) (firm suited));
       };
       down_met = a.down_met;
       down_set = a.down_set;
@@ -152,16 +155,16 @@ module _ (o : Opening) (order : List Entry) (flushed moment down : ℕ) (home : 
       moment_low = h.moment_low;
       begun = h.begun;
       reached = h.reached;
-      lawful = IfSome_then writer.tape h.lawful (λ t lawful.
-          lawful_stays o.setup valid order e chained start opened t lawful);
-      firm = IfSome_then writer.tape h.firm (λ t firm.
-          firm_stays o.setup valid order e chained start flushed moment t (omega arith) firm);
-      on_disk = IfSome_then writer.tape h.on_disk on_disk_longer;
+      lawful = IfSome_then writer.tape h.lawful (λ t lawful suited.
+          lawful_stays o.setup valid order e chained start opened t (lawful suited));
+      firm = IfSome_then writer.tape h.firm (λ t firm suited.
+          firm_stays o.setup valid order e chained start flushed moment t (omega arith) (firm suited));
+      on_disk = IfSome_then writer.tape h.on_disk (λ t is suited. on_disk_longer t (is suited));
       down_is = h.down_is;
       down_at_home = h.down_at_home;
       fault_rose = h.fault_rose;
       views = λ j x at. longer_assured x x.entries (known j x at)
-          (λ t _. kept_longer t x.entries) (h.views j x at);
+          (λ t _ _. kept_longer t x.entries) (h.views j x at);
     }
 
     pub reserve_keeps : (id : ℕ) (x : Told) → HasAt parts id x
@@ -170,9 +173,9 @@ module _ (o : Opening) (order : List Entry) (flushed moment down : ℕ) (home : 
     reserve_keeps id x here = view_set o longer flushed moment down writer home parts id
         (told (x.entries ++ e ∷ []) x.joined x.writing) all_longer
         (longer_assured x (x.entries ++ e ∷ []) (known id x here)
-        (λ t is p. kept_more t x.entries p (at_told
+        (λ t is suited p. kept_more t x.entries p (at_suited o writer
         (TapeAssures (o.setup).segment_size IsNowhere (IsLawfulAt o.setup order) opened)
-        writer.tape t is h.lawful))
+        t is suited h.lawful))
         (h.views id x here))
 
 -- the step, of all views
@@ -183,7 +186,7 @@ pub store_position_keeps : (o : Opening) (order : List Entry) (flushed moment do
     → HasAt views id v → IsSetup o.setup → IsChained (o.setup).segment_size order
     → AtPlace (o.setup).segment_size (end_position (o.setup).segment_size order) last word locked
     holder id (v.reserving).place
-    → PositionsHold o.setup order written flushed down home writer flights (map writing_of views)
+    → PositionsHold o order written flushed down home writer flights (map writing_of views)
     → (v.reserving).place ≡ Stored at prev
     → DurabilityHolds o (order ++ entry_at (v.reserving).number at value ∷ []) flushed moment down
     home writer

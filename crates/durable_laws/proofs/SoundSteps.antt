@@ -1,6 +1,7 @@
 -- Durability behind each kind of step, from a state that keeps the invariant.
 use Rattle.std.proofs.Common.{◌≡◌, ◌≢◌, ℕ, ◌+◌, ◌<◌, ◌≤◌, Bool, true, false, Contains, List, [], ◌∷◌, ◌++◌, map, set, slice_index, refl, sym, ap, subst, ◌∙◌, ◌==◌, if◌then◌else◌, arith}
 use mathlib.Core.Option.{Option}
+use Rattle.byte_position.proofs.SegmentSizes.{segment_size_in_pages}
 use Rattle.segment_disk.specs.Tape.{create_call, sync_call, write_call}
 use Rattle.wal_types.specs.declared.record.Record.{Record}
 use Rattle.wal_page.specs.Order.{Entry}
@@ -33,6 +34,11 @@ module _ (words : List ℕ) (home : Option Plain) (views : List View) (id : ℕ)
 
   turn_at : HasAt (map writer_of views) id (writer_of v)
   turn_at = part_at writer_of views id v here
+
+  some_flushed : 1 ≤ flushed_word words
+  some_flushed =
+      let whole = segment_size_in_pages ((v.opening).setup).segment_size (k.setup_is).size in
+      omega (arith, (k.positions).begun, whole.0, whole.1)
 
   low : flushed_word words ≤ (k.writer).written
   low = omega (arith, (k.positions).flushed_low, (k.positions).written_low)
@@ -236,7 +242,7 @@ module _ (words : List ℕ) (home : Option Plain) (views : List View) (id : ℕ)
   durable-inside store_prev may inside staged =
       untouched 1 _ _ (rw may.2 refl) (λ e. omega arith) (λ e. omega arith) (λ e. omega arith)
   durable-inside (store_position locks value) may inside staged = absurd inside
-  durable-inside give_position_back may inside staged =
+  durable-inside (give_position_back value) may inside staged =
       untouched 0 _ _ (rw may.1 refl) (λ e. omega arith) (λ e. omega arith) (λ e. omega arith)
   durable-inside (load_lock lock limit) may inside staged =
       untouched (2 + lock) _ _ refl (λ e. omega arith) (λ e. omega arith) (λ e. omega arith)
@@ -297,7 +303,7 @@ module _ (words : List ℕ) (home : Option Plain) (views : List View) (id : ℕ)
       (away 14 n 16 (λ e. omega arith))
       (one.store_flushed_keeps o k.order (flushed_word words) (moment_word words)
       (down_word words) home k.writer (map told_of views) k.durable id v mine (write_turn words)
-      (map writer_of views) (k.locks).writing turn_at (slice_index words 14) low may)
+      (map writer_of views) (k.locks).writing turn_at (slice_index words 14) some_flushed low may)
   durable-inside set_down may inside staged =
       let n = value_behind v set_down (slice_index words 16) in
       with_words k.order k.writer home 16 n _ (flushed_word words) (moment_word words) n

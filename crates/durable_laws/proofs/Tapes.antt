@@ -5,13 +5,13 @@ use Rattle.std.proofs.lemmas.List.Elements.{All-drop, All-same}
 use mathlib.Core.Option.{none, some}
 use Rattle.segment_disk.specs.declared.disk.Call.{Call}
 use Rattle.segment_disk.specs.Tape.{Tape, after_call, failed_call, state_now, with_call}
-use Rattle.segment_disk.proofs.Reading.{after_calls-push}
 use Rattle.flush_core.specs.Left.{CallFits, TapeAssures}
 use Rattle.flush_core.proofs.GrowingTapes.{take-before}
 use Rattle.flush_core.proofs.LeftLaws.{TapeAssures-with_call, TapeAssures-failed}
 use Rattle.wal_page.specs.Order.{Entry}
 use Rattle.wal_core.specs.Views.{Plain}
 use Rattle.wal_core.specs.Moves.{Outcome, Done, Failed, with_outcome}
+use Rattle.wal_core.proofs.Tapes.{tape_behind}
 use Rattle.wal_core.specs.Durable.{IsUnwritten, PutsNone}
 
 -- what holds behind a place holds behind a later one
@@ -22,38 +22,6 @@ All-later P m n xs low all =
     All-same P (drop n xs) (drop (n - m) (drop m xs))
     (sym (drop-drop (n - m) m xs ∙ ap (λ (k : ℕ). drop k xs) at))
     (All-drop P (n - m) (drop m xs) all)
-
--- ---- tapes that are told
-
-pub told_as : {P : Tape → Type 0} (o : Option Tape) → ((t : Tape) → o ≡ Some t → P t)
-    → IfSome o P
-told_as None holds = tt
-told_as (Some t) holds = holds t refl
-
-pub at_told : (P : Tape → Type 0) (o : Option Tape) (t : Tape) → o ≡ Some t → IfSome o P → P t
-at_told P o t is holds = subst (λ (o : Option Tape). IfSome o P) is holds
-
--- ---- the tape behind a call
-
-abbrev pub tape_behind : Outcome → Call → Tape → Tape
-tape_behind Done call t = record t { calls = t.calls ++ call ∷ [] }
-tape_behind (Failed faults none) call t = t
-tape_behind (Failed faults (some made)) call t =
-    record t { calls = t.calls ++ failed_call made call ∷ [] }
-
-called : (Q : Tape → Type 0) (o : Option Tape) (call : Call)
-    → ((t : Tape) → o ≡ Some t → Q (record t { calls = t.calls ++ call ∷ [] }))
-    → IfSome (with_call o call) Q
-called Q None call f = tt
-called Q (Some t) call f = f t refl
-
--- what holds of the tape behind a call holds of the writer's
-pub on_tape : (Q : Tape → Type 0) (call : Call) (outcome : Outcome) (w : Plain)
-    → ((t : Tape) → w.tape ≡ Some t → Q (tape_behind outcome call t))
-    → IfSome (with_outcome call outcome w).tape Q
-on_tape Q call Done w f = called Q w.tape call f
-on_tape Q call (Failed faults none) w f = told_as w.tape f
-on_tape Q call (Failed faults (some made)) w f = called Q w.tape (failed_call made call) f
 
 module _ (size : ℕ) (IsThere : ℕ → Type 0) (Fits : ℕ → ℕ → List ℕ → Type 0) where
   pub TapeAssures-later : (moment later : ℕ) (t : Tape) → moment ≤ later
@@ -109,8 +77,3 @@ pub moment_rises : (call : Call) (outcome : Outcome) (w : Plain)
 moment_rises call Done w = omega arith
 moment_rises call (Failed faults none) w = omega arith
 moment_rises call (Failed faults (some made)) w = omega arith
-
--- the state behind a call that is done, or that failed and was counted
-pub state_behind : (t : Tape) (call : Call)
-    → state_now (record t { calls = t.calls ++ call ∷ [] }) ≡ after_call (state_now t) call
-state_behind t call = after_calls-push t.at_first t.calls call

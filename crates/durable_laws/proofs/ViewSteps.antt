@@ -10,13 +10,15 @@ use Rattle.flush_core.proofs.LeftLaws.{TapeAssures-now}
 use Rattle.wal_page.specs.Order.{Entry}
 use Rattle.wal_core.specs.Words.{Opening}
 use Rattle.wal_core.specs.Views.{HasAt, Hold, Idle, Turned, Out, Joined, Lent, Plain, Told, View, told_of, writer_of}
-use Rattle.wal_core.specs.Moves.{lent, both_of, left_of, no_writing, orphan_of, right_of, spent, with_hold, with_lent, without_work, after_load_down, after_load_flushed, after_load_moment, after_load_word, after_load_written, after_set_down, after_slot_out, after_store_moment, after_store_written, after_take_write_turn}
+use Rattle.wal_core.specs.Moves.{lent, both_of, left_of, no_writing, orphan_of, right_of, spent, with_hold, with_lent, without_work, after_load_down, after_load_flushed, after_load_moment, after_load_word, after_load_written, after_set_down, after_slot_out, after_store_flushed, after_store_moment, after_store_written, after_take_write_turn, hardened}
 use Rattle.wal_core.specs.Locked.{IsWriteTurn}
 use Rattle.wal_core.specs.Durable.{DurabilityHolds, IsAssured, IsFirm, IsInHand, IsLogBelow, IsOnDisk, IsStaged}
 use Rattle.wal_core.specs.Steps.{MayStep, fault_number, home_behind, number_lent, returned, value_behind, view_behind, with_slot, set_down, slot_in, slot_out, store_flushed, store_moment}
 use Rattle.durable_laws.proofs.Assured.{did_set_down, with_down, with_words, is_joined, is_new, is_promised, lent_cases, met_down, rebuilt, stands_out, stands_turned, told, view_added, view_set}
 use Rattle.durable_laws.proofs.Growth.{IsFirm-lower}
-use Rattle.durable_laws.proofs.Tapes.{TapeAssures-later, at_told, told_as}
+use Rattle.wal_core.proofs.Tapes.{at_told, told_as, told_suited, at_suited}
+use Rattle.durable_laws.proofs.Tapes.{TapeAssures-later}
+use Rattle.wal_core.specs.Suited.{IfSuited}
 
 module _ (o : Opening) (order : List Entry) (flushed moment down : ℕ) (home : Option Plain)
     (writer : Plain) (parts : List Told)
@@ -64,8 +66,10 @@ module _ (o : Opening) (order : List Entry) (flushed moment down : ℕ) (home : 
     pub load_moment_keeps : v.writing.flushed ≤ flushed
         → Holds (set parts id (told_of (after_load_moment moment v)))
     load_moment_keeps low = one (told_of (after_load_moment moment v))
-        (is_promised o order flushed moment down writer es js v.writing h.begun low h.firm
-        was)
+        (is_promised o order flushed moment down writer v.writing.flushed moment es js v.writing
+        h.begun (omega arith) low
+        (IfSome_then writer.tape h.firm (λ t firm suited.
+        IsFirm-lower o.setup order v.writing.flushed flushed moment t low (firm suited))) was)
 
     pub load_down_keeps : Holds (set parts id (told_of (after_load_down down v)))
     load_down_keeps = one (told_of (after_load_down down v))
@@ -84,21 +88,23 @@ module _ (o : Opening) (order : List Entry) (flushed moment down : ℕ) (home : 
 
     -- with the writer in hand, where what is said of it stays
     in_hand_keeps : (f : Lent → Lent)
-        → ((m : Lent) → v.writing.hold ≡ Out m → IsInHand o.setup order moment writer (f m))
+        → ((m : Lent) → v.writing.hold ≡ Out m → IsInHand o order moment writer (f m))
         → Holds (set parts id (told es js
         (record v.writing { hold = with_lent f v.writing.hold })))
     in_hand_keeps f stays =
         one (told es js (record v.writing { hold = with_lent f v.writing.hold }))
         (rebuilt o order flushed moment down writer es js v.writing
         (record v.writing { hold = with_lent f v.writing.hold }) refl refl refl was
-        (lent_cases f (IsInHand o.setup order moment writer) v.writing.hold stays))
+        (lent_cases f (IsInHand o order moment writer) v.writing.hold stays))
 
     pub store_written_keeps : Holds (set parts id (told_of (after_store_written v)))
     store_written_keeps = in_hand_keeps (λ l. record l { stored = (l.writer).written })
         (λ m is. let i = was.in_hand m is in record {
           staged = i.staged;
           hard_low = i.hard_low;
-          hard_moment = i.hard_moment;
+          moment_low = i.moment_low;
+          since = i.since;
+          firm = i.firm;
         })
 
     pub load_word_keeps : (k met : ℕ)
@@ -110,7 +116,9 @@ module _ (o : Opening) (order : List Entry) (flushed moment down : ℕ) (home : 
           staged = All-cons (IsStaged o.setup order m.known) (k, met) m.staged
               (staged m is) i.staged;
           hard_low = i.hard_low;
-          hard_moment = i.hard_moment;
+          moment_low = i.moment_low;
+          since = i.since;
+          firm = i.firm;
         })
 
     -- with the writer at home, or away
@@ -143,11 +151,12 @@ module _ (o : Opening) (order : List Entry) (flushed moment down : ℕ) (home : 
           (rebuilt o order flushed moment down writer es js v.writing
           ((after_slot_out writer v).writing) refl refl refl was
           (λ l is. let taken : lent writer v ≡ l = cc in
-          subst (IsInHand o.setup order moment writer) taken (record {
+          subst (IsInHand o order moment writer) taken (record {
             staged = All-nil (IsStaged o.setup order (lent writer v).known);
             hard_low = omega arith;
-            hard_moment = IfSome_then writer.tape h.firm (λ t firm.
-                IsFirm-lower o.setup order 0 flushed moment t (omega arith) firm);
+            moment_low = omega arith;
+            since = λ some_hard. absurd (some_hard refl);
+            firm = λ some_hard. absurd (some_hard refl);
           })))
 
       pub slot_out_keeps : (met : ℕ) → MayStep v slot_out
@@ -215,14 +224,14 @@ module _ (o : Opening) (order : List Entry) (flushed moment down : ℕ) (home : 
 
       -- nothing waits: all that is written is durable
       all_firm : writer.waiting ≡ none
-          → IfSome writer.tape (IsFirm o.setup order writer.written writer.moment)
-      all_firm nothing = told_as writer.tape (λ t is.
+          → IfSuited o writer (IsFirm o.setup order writer.written writer.moment)
+      all_firm nothing = told_suited o writer (λ t is suited.
           let Counts : Tape → Type 0 = λ t. writer.moment ≡ length t.calls in
           TapeAssures-now o.setup.segment_size
           (IsMadeUpto o.setup.segment_size writer.written)
           (IsLogBelow o.setup order writer.written) writer.moment t
           (at_told Counts writer.tape t is h.counted)
-          (λ segment. (at_told (IsOnDisk o.setup order writer) writer.tape t is h.on_disk).firm
+          (λ segment. (at_suited o writer (IsOnDisk o.setup order writer) t is suited h.on_disk).firm
           segment (λ waits. absurd (some-ne-none segment (sym waits ∙ nothing)))))
 
       pub store_moment_keeps : (met : ℕ) → MayStep v store_moment
@@ -244,9 +253,10 @@ module _ (o : Opening) (order : List Entry) (flushed moment down : ℕ) (home : 
             begun = omega (arith, h.begun, h.moment_low);
             reached = h.reached;
             lawful = h.lawful;
-            firm = IfSome_then writer.tape h.firm (λ t firm.
+            firm = IfSome_then writer.tape h.firm (λ t firm suited.
                 TapeAssures-later size (IsMadeUpto size flushed)
-                (IsLogBelow o.setup order flushed) moment writer.moment t h.moment_low firm);
+                (IsLogBelow o.setup order flushed) moment writer.moment t h.moment_low
+                (firm suited));
             on_disk = h.on_disk;
             down_is = h.down_is;
             down_at_home = h.down_at_home;
@@ -255,42 +265,51 @@ module _ (o : Opening) (order : List Entry) (flushed moment down : ℕ) (home : 
                 writer.moment x (omega arith) h.moment_low (h.views j x there);
           } in
           let now = behind.views id (told_of v) here in
-          let f = λ (l : Lent). record l { hard = (l.writer).written } in
           subst (λ (n : ℕ). DurabilityHolds o order flushed n down home writer
           (set parts id (told_of (after_store_moment v)))) (sym number)
           (view_set o order flushed writer.moment down writer home parts id
           (told_of (after_store_moment v)) behind
           (rebuilt o order flushed writer.moment down writer es js v.writing
           ((after_store_moment v).writing) refl refl refl now
-          (lent_cases f (IsInHand o.setup order writer.moment writer) v.writing.hold
+          (lent_cases hardened (IsInHand o order writer.moment writer) v.writing.hold
           (λ m is.
-          let low : (m.writer).written ≤ writer.written =
-          omega (arith, ap (λ (p : Plain). p.written) (held m is).1) in
+          let own = (held m is).1 in
+          let from : (m.writer).moment ≡ writer.moment = ap (λ (p : Plain). p.moment) own in
           record {
             staged = (now.in_hand m is).staged;
-            hard_low = low;
-            hard_moment = IfSome_then writer.tape (all_firm nothing) (λ t firm.
-                IsFirm-lower o.setup order (m.writer).written writer.written writer.moment t low
-                firm);
+            hard_low = omega (arith, ap (λ (p : Plain). p.written) own);
+            moment_low = omega (arith, from);
+            since = λ _. omega (arith, from, behind.begun);
+            firm = λ _. subst (λ (p : Plain).
+                IfSuited o writer (IsFirm o.setup order p.written p.moment)) (sym own)
+                (all_firm nothing);
           }))))
 
-      pub store_flushed_keeps : (met : ℕ) → flushed ≤ writer.written → MayStep v store_flushed
+      pub store_flushed_keeps : (met : ℕ) → 1 ≤ flushed → flushed ≤ writer.written
+          → MayStep v store_flushed
           → DurabilityHolds o order (value_behind v store_flushed met) moment down home writer
           (set parts id (told_of (view_behind v store_flushed met home)))
-      store_flushed_keeps met low may =
+      store_flushed_keeps met some_flushed low may =
           let l = may.0 in
           let holds = held l may.1 in
           let number : value_behind v store_flushed met ≡ l.hard =
           ap (number_lent v (λ l. l.hard)) may.1 in
+          let from : number_lent v (λ l. l.hard_moment) v.writing.hold ≡ l.hard_moment =
+          ap (number_lent v (λ l. l.hard_moment)) may.1 in
+          let hand = was.in_hand l may.1 in
           let up : flushed ≤ l.hard =
           omega (arith, low, may.2.0, ap (λ (p : Plain). p.written) holds.1) in
+          let some_hard : l.hard ≢ 0 = λ none. omega (arith, none, some_flushed, up) in
           let behind : DurabilityHolds o order l.hard moment down home writer parts = record {
             counted = h.counted;
             moment_low = h.moment_low;
             begun = h.begun;
             reached = h.reached;
             lawful = h.lawful;
-            firm = (was.in_hand l may.1).hard_moment;
+            firm = IfSome_then writer.tape (hand.firm some_hard) (λ t firm suited.
+                TapeAssures-later o.setup.segment_size (IsMadeUpto o.setup.segment_size l.hard)
+                (IsLogBelow o.setup order l.hard) l.hard_moment moment t hand.moment_low
+                (firm suited));
             on_disk = h.on_disk;
             down_is = h.down_is;
             down_at_home = h.down_at_home;
@@ -298,10 +317,14 @@ module _ (o : Opening) (order : List Entry) (flushed moment down : ℕ) (home : 
             views = λ j x there. with_words o order flushed moment down writer l.hard moment x up
                 (omega arith) (h.views j x there);
           } in
-          subst (λ (n : ℕ). DurabilityHolds o order n moment down home writer
-          (set parts id (told_of v))) (sym number)
-          (view_set o order l.hard moment down writer home parts id (told_of v) behind
-          (behind.views id (told_of v) here))
+          subst (λ (n : ℕ × ℕ). DurabilityHolds o order n.0 moment down home writer
+          (set parts id (told_of (after_store_flushed n.0 n.1 v))))
+          (λ j. (sym number j, sym from j))
+          (view_set o order l.hard moment down writer home parts id
+          (told_of (after_store_flushed l.hard l.hard_moment v)) behind
+          (is_promised o order l.hard moment down writer l.hard l.hard_moment es js v.writing
+          (hand.since some_hard) hand.moment_low (omega arith) (hand.firm some_hard)
+          (behind.views id (told_of v) here)))
 
     -- ---- passes that begin and end
 

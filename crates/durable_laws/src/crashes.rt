@@ -1,11 +1,12 @@
 //! What holds of each image that a crash leaves, and of the down value: laws proved by functions
 //! that do nothing.
 
-ghost use Rattle.std.specs.Prelude.{◌≡◌, ◌≢◌, ℕ, List, IfSome};
+ghost use Rattle.std.specs.Prelude.{◌≡◌, ◌≢◌, ℕ, List};
 ghost use mathlib.Core.Option.{Option};
 ghost use Rattle.wal_page.specs.Order.{Entry, IsChained};
 ghost use Rattle.wal_core.specs.Words.{Opening};
 ghost use Rattle.wal_core.specs.Views.{HasAt, Hold, Plain, Told, View, writer_of};
+ghost use Rattle.wal_core.specs.Suited.{IfSuited};
 ghost use Rattle.wal_core.specs.Locked.{IsWriteTurn};
 ghost use Rattle.wal_core.specs.Durable.{DurabilityHolds};
 ghost use Rattle.wal_core.specs.Moves.{Outcome};
@@ -13,7 +14,7 @@ ghost use Rattle.wal_core.specs.Sound.{IsSetup};
 ghost use Rattle.wal_core.specs.Steps.{MayStep, create, set_down, sync, value_behind, write};
 ghost use Rattle.durable_laws.specs.Crashes.{CrashesLeave, DownTells};
 
-/// Where the disk tells what it holds, a crash at any moment since the opening leaves nothing but
+/// Where the disk tells what it holds, and held at the opening what a log may begin on, a crash at any moment since the opening leaves nothing but
 /// words of the log or zeros; and one at a moment from a promise's on leaves all of the log below
 /// the address that the promise names, in pages that are there.
 pub fn crashes_leave_what_was_promised()
@@ -21,7 +22,7 @@ pub fn crashes_leave_what_was_promised()
         (home : Option Plain) (writer : Plain) (parts : List Told)
         → DurabilityHolds o order flushed moment down home writer parts → IsSetup o.setup
         → IsChained (o.setup).segment_size order
-        → IfSome writer.tape (λ t. CrashesLeave o order flushed moment t parts) }
+        → IfSuited o writer (λ t. CrashesLeave o order flushed moment t parts) }
 {}
 
 /// What the down value tells; once it is not 0 it stays, and no call of the device follows.

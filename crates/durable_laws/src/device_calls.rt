@@ -24,7 +24,7 @@ pub fn calls_keep_durability()
         → DurabilityHolds o order flushed moment down home writer parts
         → HasAt parts id (told_of v) → v.opening ≡ o → IsSetup o.setup
         → IsWriteTurn turn home writer writers → HasAt writers id (writer_of v)
-        → PositionsHold o.setup order written flushed down home writer flights writings
+        → PositionsHold o order written flushed down home writer flights writings
         → MayStep v (create segment outcome)
         → DurabilityHolds o order flushed moment down home
         (after_create segment (create_call (o.setup).segment_size segment) outcome writer)
@@ -37,7 +37,7 @@ pub fn calls_keep_durability()
         → DurabilityHolds o order flushed moment down home writer parts
         → HasAt parts id (told_of v) → v.opening ≡ o → IsSetup o.setup
         → IsWriteTurn turn home writer writers → HasAt writers id (writer_of v)
-        → PositionsHold o.setup order written flushed down home writer flights writings
+        → PositionsHold o order written flushed down home writer flights writings
         → MayStep v (write segment page upto bytes outcome)
         → DurabilityHolds o order flushed moment down home
         (after_write segment upto (write_call (o.setup).segment_size segment page bytes) outcome
@@ -51,7 +51,7 @@ pub fn calls_keep_durability()
         → DurabilityHolds o order flushed moment down home writer parts
         → HasAt parts id (told_of v) → v.opening ≡ o → IsSetup o.setup
         → IsWriteTurn turn home writer writers → HasAt writers id (writer_of v)
-        → PositionsHold o.setup order written flushed down home writer flights writings
+        → PositionsHold o order written flushed down home writer flights writings
         → MayStep v (sync segment outcome)
         → DurabilityHolds o order flushed moment down home
         (after_sync (sync_call (o.setup).segment_size segment) outcome writer)

@@ -24,7 +24,7 @@ pub fn reserving_keeps_durability()
         → HasAt views id v → IsSetup o.setup → IsChained (o.setup).segment_size order
         → AtPlace (o.setup).segment_size (end_position (o.setup).segment_size order) last word
         locked holder id (v.reserving).place
-        → PositionsHold o.setup order written flushed down home writer flights
+        → PositionsHold o order written flushed down home writer flights
         (map writing_of views)
         → (v.reserving).place ≡ Stored at prev
         → DurabilityHolds o (order ++ entry_at (v.reserving).number at value ∷ []) flushed moment

@@ -1,12 +1,13 @@
 //! Durability behind each kind of step, from a state that keeps the invariant: laws proved by
 //! functions that do nothing.
 
-ghost use Rattle.std.specs.Prelude.{◌≡◌, ℕ, true, IfSome, List, [], ◌∷◌, ◌++◌, map, set, slice_index};
+ghost use Rattle.std.specs.Prelude.{◌≡◌, ℕ, true, List, [], ◌∷◌, ◌++◌, map, set, slice_index};
 ghost use mathlib.Core.Option.{Option};
 ghost use Rattle.segment_disk.specs.Tape.{create_call, sync_call, write_call};
 ghost use Rattle.wal_types.specs.declared.record.Record.{Record};
 ghost use Rattle.wal_core.specs.Words.{Opening, down_word, flushed_word, moment_word};
 ghost use Rattle.wal_core.specs.Views.{HasAt, Plain, View, told_of};
+ghost use Rattle.wal_core.specs.Suited.{IfSuited};
 ghost use Rattle.wal_core.specs.Moves.{Outcome, after_create, after_sync, after_write, both_of, entry_at, left_of, orphan_of, right_of, spent, without_work};
 ghost use Rattle.wal_core.specs.Sound.{IsSound};
 ghost use Rattle.wal_core.specs.Steps.{Event, MayStep, create, place_at, store_position, sync, word_of_step, write};
@@ -70,11 +71,11 @@ pub fn passes_leave_a_sound_log_durable()
 {}
 
 /// What a state that keeps the invariant shows: what each crash leaves, where the disk tells what
-/// it holds, and what the down word tells.
+/// it holds and held at the opening what a log may begin on, and what the down word tells.
 pub fn sound_logs_show_what_crashes_leave()
     ensures crashes { (opening : Opening) (words : List ℕ) (home : Option Plain) (views : List View)
         (s : IsSound opening words home views)
-        → IfSome (s.writer).tape (λ t. CrashesLeave opening s.order (flushed_word words)
+        → IfSuited opening s.writer (λ t. CrashesLeave opening s.order (flushed_word words)
         (moment_word words) t (map told_of views)) }
     ensures down { (opening : Opening) (words : List ℕ) (home : Option Plain) (views : List View)
         (s : IsSound opening words home views)

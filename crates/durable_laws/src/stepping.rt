@@ -8,6 +8,7 @@ ghost use Rattle.wal_core.specs.Views.{HasAt, Flight, Hold, Lent, Out, Plain, To
 ghost use Rattle.wal_core.specs.Locked.{IsWriteTurn};
 ghost use Rattle.wal_core.specs.Positioned.{PositionsHold};
 ghost use Rattle.wal_core.specs.Durable.{DurabilityHolds, IsStaged};
+ghost use Rattle.wal_core.specs.Sound.{IsSetup};
 ghost use Rattle.wal_core.specs.Moves.{both_of, left_of, orphan_of, right_of, spent, without_work};
 ghost use Rattle.wal_core.specs.Steps.{MayStep, home_behind, value_behind, view_behind, load_down, load_flushed, load_moment, load_word, load_written, release_write_turn, set_down, slot_in, slot_out, store_flushed, store_moment, store_written, take_write_turn};
 
@@ -99,7 +100,8 @@ pub fn turns_keep_durability()
 {}
 
 /// What the writer's holder stores: how far it has written, the moment from which all of that is
-/// durable, how far it is durable, that the disk has failed.
+/// durable, how far it is durable, of which it is promised that it is so from that moment on, that
+/// the disk has failed.
 pub fn stores_keep_durability()
     ensures written { (o : Opening) (order : List Entry) (flushed moment down : ℕ)
         (home : Option Plain) (writer : Plain) (parts : List Told)
@@ -122,9 +124,9 @@ pub fn stores_keep_durability()
         (id met : ℕ) (v : View) (turn : ℕ) (writers : List (ℕ × Hold))
         (written : ℕ) (flights : List Flight) (writings : List Writing)
         → DurabilityHolds o order flushed moment down home writer parts
-        → HasAt parts id (told_of v)
+        → HasAt parts id (told_of v) → IsSetup o.setup
         → IsWriteTurn turn home writer writers → HasAt writers id (writer_of v)
-        → PositionsHold o.setup order written flushed down home writer flights writings
+        → PositionsHold o order written flushed down home writer flights writings
         → MayStep v store_flushed
         → DurabilityHolds o order (value_behind v store_flushed met) moment down home writer
         (set parts id (told_of (view_behind v store_flushed met home))) }

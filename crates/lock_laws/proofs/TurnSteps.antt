@@ -7,7 +7,7 @@ use Rattle.wal_core.specs.declared.setup.Setup.{Setup}
 use Rattle.wal_core.specs.Words.{lock_word, mapping_turn, write_turn, word_count}
 use Rattle.wal_core.specs.Views.{HasAt, Place, Free, Locked, Loaded, Stored, Stage, Away, Taken, Looked, Ready, Zeroing, Published, Hold, Idle, Turned, Out, Lent, Plain, View, working_of, mapper_of, writer_of}
 use Rattle.wal_core.specs.Locked.{AreHeld, HasTurn, IsMappingTurn, IsWriteTurn}
-use Rattle.wal_core.specs.Moves.{with_place, with_working, with_hold, with_lent, with_stage, looked, ready, lent, after_load_prev, after_store_prev, after_store_position, after_give_back, after_take_lock, after_take_mapping_turn, after_take_write_turn, after_create, after_write, after_sync}
+use Rattle.wal_core.specs.Moves.{with_place, with_working, with_hold, with_lent, with_stage, hardened, looked, ready, lent, after_load_prev, after_store_prev, after_store_position, after_give_back, after_take_lock, after_take_mapping_turn, after_take_write_turn, after_create, after_write, after_sync}
 use Rattle.wal_core.specs.Steps.{MayStep, Event, word_of_step, value_behind, home_behind, returned, with_slot, with_call_on, page_mapped, words_zeroed, load_position, take_write_turn, slot_out, slot_in, release_write_turn, lock_position, load_prev, store_prev, store_position, give_position_back, load_lock, take_lock, advance, release, load_end, store_word, load_word, load_written, load_flushed, load_moment, load_down, store_written, store_moment, store_flushed, set_down, take_mapping_turn, load_initialised, clear_end, zero_word, publish_end, publish_initialised, release_mapping_turn, create, write, sync}
 use Rattle.wal_core.proofs.Lists.{part_same, part_set, part_at}
 use Rattle.wal_core.proofs.WordLists.{word_again, word_else, single_set}
@@ -194,7 +194,7 @@ module _ (setup : Setup) (words : List ℕ) (home : Option Plain) (stage : Stage
   mapping_behind (store_position locks value) may = mapping_stays 0 _ _ (λ e. omega arith)
       (turns_by_place (after_store_position locks value) v
       (turns_on_store_position locks value v)).0
-  mapping_behind give_position_back may = mapping_stays 0 _ _ (λ e. omega arith)
+  mapping_behind (give_position_back value) may = mapping_stays 0 _ _ (λ e. omega arith)
       (turns_by_place after_give_back v (turns_on_give_back v)).0
   mapping_behind (load_lock lock limit) may =
       mapping_stays (2 + lock) _ _ (λ e. let low : lock < 8 = may in omega arith) refl
@@ -351,7 +351,7 @@ module _ (setup : Setup) (words : List ℕ) (home : Option Plain) (stage : Stage
   writing_behind (store_position locks value) may = writing_stays 0 _ _ (λ e. omega arith)
       (turns_by_place (after_store_position locks value) v
       (turns_on_store_position locks value v)).1
-  writing_behind give_position_back may = writing_stays 0 _ _ (λ e. omega arith)
+  writing_behind (give_position_back value) may = writing_stays 0 _ _ (λ e. omega arith)
       (turns_by_place after_give_back v (turns_on_give_back v)).1
   writing_behind (load_lock lock limit) may =
       writing_stays (2 + lock) _ _ (λ e. let low : lock < 8 = may in omega arith) refl
@@ -375,7 +375,7 @@ module _ (setup : Setup) (words : List ℕ) (home : Option Plain) (stage : Stage
   writing_behind store_written may = writing_notes 13 _
       (λ (l : Lent). record l { stored = (l.writer).written }) may.0 (λ e. omega arith) may.1 refl
   writing_behind store_moment may = writing_notes 15 _
-      (λ (l : Lent). record l { hard = (l.writer).written }) may.0 (λ e. omega arith) may.1 refl
+      hardened may.0 (λ e. omega arith) may.1 refl
   writing_behind store_flushed may = writing_stays 14 _ _ (λ e. omega arith) refl
   writing_behind set_down may = writing_stays 16 _ _ (λ e. omega arith) refl
   writing_behind take_mapping_turn may = writing_stays 10 _ _ (λ e. omega arith)

@@ -290,7 +290,7 @@ module _ (setup : Setup) (order : List Entry) (words : List ℕ) (home : Option 
   works_behind store_prev may = stays 1 _ _ (inl (omega arith))
       (works_by_place after_store_prev v (works_on_store_prev v))
   works_behind (store_position locks value) may = store_position_works locks value may
-  works_behind give_position_back may = stays 0 _ _ (inl (omega arith))
+  works_behind (give_position_back value) may = stays 0 _ _ (inl (omega arith))
       (works_by_place after_give_back v (works_on_give_back v))
   works_behind (load_lock lock limit) may = load_lock_works lock limit
   works_behind (take_lock lock) may = take_lock_works lock may

@@ -10,7 +10,7 @@ use Rattle.byte_position.proofs.Rising.{position_of-mono}
 use Rattle.wal_page.specs.Order.{Entry, end_position}
 use Rattle.wal_core.specs.declared.setup.Setup.{Setup}
 use Rattle.wal_core.specs.Words.{end_form}
-use Rattle.wal_core.specs.Views.{HasAt, Place, Locked, Plain, Reserving, View}
+use Rattle.wal_core.specs.Views.{HasAt, Place, Free, Locked, Plain, Reserving, View}
 use Rattle.wal_core.specs.Ordered.{OrderHolds}
 use Rattle.wal_core.specs.Moves.{with_place, entry_at, left_of, right_of, both_of, spent, without_work, orphan_of}
 use Rattle.wal_core.specs.Steps.{MayStep, place_at, load_position, load_flushed, store_position, value_behind, view_behind, lock_position, load_prev, store_prev, give_position_back}
@@ -69,13 +69,13 @@ module _ (order : List Entry) (position prev : ℕ) (parts : List Reserving) (id
       (stores_prev setup found order position prev parts t.holds id v.reserving t.here t.live
       may.0 may.1 may.2)
 
-  pub give_position_back_keeps : (home : Option Plain) → TakesPart order position prev parts id v
-      → MayStep v give_position_back
-      → HoldsWith order (value_behind v give_position_back position) prev parts id v
-      (view_behind v give_position_back position home)
-  give_position_back_keeps home t may = subst
-      (AtPlaceOf (λ (w : View). value_behind w give_position_back position) (λ _. prev)
-      (λ (w : View). view_behind w give_position_back position home))
+  pub give_position_back_keeps : (home : Option Plain) (value : Record)
+      → TakesPart order position prev parts id v → MayStep v (give_position_back value)
+      → HoldsWith order (value_behind v (give_position_back value) position) prev parts id v
+      (view_behind v (give_position_back value) position home)
+  give_position_back_keeps home value t may = subst
+      (AtPlaceOf (λ (w : View). value_behind w (give_position_back value) position) (λ _. prev)
+      (λ (w : View). view_behind w (give_position_back value) position home))
       (sym may.1)
       (gives_back setup found order position prev parts t.holds id v.reserving t.here t.live
       may.0 may.1)
@@ -134,10 +134,11 @@ module _ (order : List Entry) (position prev : ℕ) (parts : List Reserving) (id
 
   pub join_keeps : (other : ℕ) (w : View) → TakesPart order position prev parts id v
       → HasAt parts other w.reserving → (w.reserving).live ≡ true → id ≢ other
+      → (w.reserving).place ≡ Free
       → OrderHolds setup found order position prev
       (set (set parts other (spent w).reserving) id (both_of v w).reserving)
-  join_keeps other w t there alive apart = joins setup found order position prev parts
-      t.holds id v.reserving t.here t.live other w.reserving there alive apart
+  join_keeps other w t there alive apart rests = joins setup found order position prev parts
+      t.holds id v.reserving t.here t.live other w.reserving there alive apart rests
       (w.writing).promises (spent w).reserving refl
 
   pub give_up_keeps : TakesPart order position prev parts id v

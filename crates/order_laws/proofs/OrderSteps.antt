@@ -1,6 +1,6 @@
 -- The reserved order through each kind of step, split and join.
 use Rattle.std.proofs.Common.{◌≡◌, ◌≢◌, ℕ, ◌+◌, ◌-◌, ◌%◌, ◌<◌, ◌≤◌, max, true, false, List, [], ◌∷◌, ◌++◌, length, set, Some, append-nil, append_assoc, IsSome, true≢false, sym, refl, ap, ◌∙◌, subst, arith}
-use Rattle.std.proofs.lemmas.List.{take_all}
+use Rattle.std.proofs.lemmas.List.{take_all, length-append}
 use Rattle.std.proofs.lemmas.List.Elements.{All-push, All-weaker}
 use Rattle.byte_position.specs.Geometry.{IsSegmentSize}
 use Rattle.byte_position.specs.Position.{address_of}
@@ -13,9 +13,10 @@ use Rattle.wal_page.proofs.WordPositions.{first_position-whole}
 use Rattle.wal_core.specs.declared.setup.Setup.{Setup}
 use Rattle.wal_core.specs.Words.{log_limit}
 use Rattle.wal_core.specs.Views.{HasAt, Place, Free, Locked, Loaded, Stored, Filled, Joined, Reserving}
-use Rattle.wal_core.specs.Ordered.{is_pass, Role, active, ended, IsUnused, FrontEndsAt, IsEnded, IsPartOf, AtPlace, OrderHolds}
+use Rattle.wal_core.specs.Ordered.{is_pass, Role, active, ended, IsUnused, FrontEndsAt, IsEnded, IsPartOf, HasLive, TookIn, AtPlace, OrderHolds}
 use Rattle.wal_core.specs.Moves.{entry_at}
-use Rattle.wal_core.proofs.Lists.{one_set, one_added}
+use Rattle.wal_core.proofs.Lists.{one_set, one_added, at_place}
+use Rattle.order_laws.proofs.Going.{GoesOn, StaysPlaced, goes_as, placed_as, Each, each_set, each_added, each_goes_on, goes_by_still, took_in_still, held_still}
 use Rattle.order_laws.proofs.Orders.{is_pass_own, is_pass_other, entries_of-hit, entries_of-miss, end_position_push, FrontEndsAt-longer, FrontEndsAt-more}
 
 -- ---- where the position is locked
@@ -48,30 +49,31 @@ not_other : (role : ℕ → Role) (m n id j : ℕ) → role m ≡ active id → 
     → m ≢ n
 not_other role m n id j is was apart e = apart (cc (ap role e))
 
-not_ended : (role : ℕ → Role) (m n id : ℕ) → role m ≡ active id → role n ≡ ended → m ≢ n
-not_ended role m n id is was e = cc (ap role e)
+not_ended : (role : ℕ → Role) (m n id j : ℕ) → role m ≡ active id → role n ≡ ended j → m ≢ n
+not_ended role m n id j is was e = cc (ap role e)
 
 -- ---- what was taken in stays as it is
 
 -- while an active pass reserves
-IsEnded-longer : (size : ℕ) (order : List Entry) (e : Entry) (role : ℕ → Role) (n id : ℕ)
-    → e.pass ≡ Some n → role n ≡ active id → (j : Joined) → IsEnded size order role j
-    → IsEnded size (order ++ e ∷ []) role j
-IsEnded-longer size order e role n id is active_is j h = record {
+IsEnded-longer : (size : ℕ) (found order : List Entry) (e : Entry) (role : ℕ → Role) (n id : ℕ)
+    → e.pass ≡ Some n → role n ≡ active id → (by : ℕ) (j : Joined)
+    → IsEnded size found order role by j → IsEnded size found (order ++ e ∷ []) role by j
+IsEnded-longer size found order e role n id is active_is by j h = record {
   role_is = h.role_is;
   entries_are = h.entries_are ∙ sym (entries_of-miss j.number order e
       (ap (is_pass j.number) is
-      ∙ is_pass_other j.number n (not_ended role n j.number id active_is h.role_is)));
-  filled = All-weaker (FrontEndsAt size j.number order j.entries)
-      (FrontEndsAt size j.number (order ++ e ∷ []) j.entries)
-      (λ full. FrontEndsAt-longer size j.number order (e ∷ []) j.entries full) j.filled h.filled;
+      ∙ is_pass_other j.number n (not_ended role n j.number id by active_is h.role_is)));
+  filled = All-weaker (FrontEndsAt size j.number found order j.entries)
+      (FrontEndsAt size j.number found (order ++ e ∷ []) j.entries)
+      (λ full. FrontEndsAt-longer size j.number found order (e ∷ []) j.entries full) j.filled
+      h.filled;
 }
 
 -- ---- all that is said of one live view
 
-pub record IsPlaced (size : ℕ) (order : List Entry) (prev : ℕ) (role : ℕ → Role)
+pub record IsPlaced (size : ℕ) (found order : List Entry) (prev : ℕ) (role : ℕ → Role)
     (locked holder keeper id : ℕ) (r : Reserving) : Type 0 where
-  pub part : IsPartOf size order role id r
+  pub part : IsPartOf size found order role id r
   pub place : AtPlace size (end_position size order) (prev_of size 0 order) prev locked holder id
       r.place
   pub spare : r.spare < r.spare_end → id ≡ keeper
@@ -83,7 +85,7 @@ module _ (setup : Setup) (found order : List Entry) (position prev : ℕ) (parts
 
   abbrev Placed : ℕ → Reserving → Type 0
   Placed id r = r.live ≡ true
-      → IsPlaced setup.segment_size order prev k.role k.locked k.holder k.keeper id r
+      → IsPlaced setup.segment_size found order prev k.role k.locked k.holder k.keeper id r
 
   pub placed : (id : ℕ) (r : Reserving) → HasAt parts id r → Placed id r
   placed id r here live = record {
@@ -93,10 +95,10 @@ module _ (setup : Setup) (found order : List Entry) (position prev : ℕ) (parts
   }
 
   -- where the words and the order stay, each view may change as it likes within what is said of it
-  same_words : (parts' : List Reserving)
+  same_words : (parts' : List Reserving) → Each StaysPlaced parts parts'
       → ((id : ℕ) (r : Reserving) → HasAt parts' id r → Placed id r)
       → OrderHolds setup found order position prev parts'
-  same_words parts' each = record {
+  same_words parts' on each = record {
     role = k.role;
     locked = k.locked;
     holder = k.holder;
@@ -112,9 +114,14 @@ module _ (setup : Setup) (found order : List Entry) (position prev : ℕ) (parts
     views = λ j u at alive. (each j u at alive).part;
     places = λ j u at alive. (each j u at alive).place;
     spares = λ j u at alive. (each j u at alive).spare;
+    goes_by = λ n j is. goes_by_still parts parts' (each_goes_on parts parts' on) n j
+        (k.goes_by n j is);
+    took_in = λ n j is. took_in_still parts parts' (each_goes_on parts parts' on) n j
+        (k.took_in n j is);
+    held = λ is. held_still parts parts' on k.holder (k.held is);
   }
 
-  end_even : IsSegmentSize setup.segment_size → end_position setup.segment_size order % 8 ≡ 0
+  pub end_even : IsSegmentSize setup.segment_size → end_position setup.segment_size order % 8 ≡ 0
   end_even valid = omega (
     arith,
     rooms_of-whole setup.segment_size order,
@@ -127,7 +134,7 @@ module _ (setup : Setup) (found order : List Entry) (position prev : ℕ) (parts
   unlocked-is valid = omega (arith, end_even valid, k.position_is, k.one_bit)
 
   module _ (id : ℕ) (r : Reserving) (here : HasAt parts id r) (live : r.live ≡ true) where
-    mine : IsPlaced setup.segment_size order prev k.role k.locked k.holder k.keeper id r
+    mine : IsPlaced setup.segment_size found order prev k.role k.locked k.holder k.keeper id r
     mine = placed id r here live
 
     -- the place of a view, told what it is
@@ -138,7 +145,8 @@ module _ (setup : Setup) (found order : List Entry) (position prev : ℕ) (parts
         (end_position setup.segment_size order)
         (prev_of setup.segment_size 0 order) prev k.locked k.holder id q) is mine.place
 
-    moved_to : (p : Place) → IsPartOf setup.segment_size order k.role id (record r { place = p })
+    moved_to : (p : Place)
+        → IsPartOf setup.segment_size found order k.role id (record r { place = p })
     moved_to p = let m = mine.part in record {
       own = m.own;
       entries_are = m.entries_are;
@@ -146,13 +154,35 @@ module _ (setup : Setup) (found order : List Entry) (position prev : ℕ) (parts
       seen = m.seen;
       filled = m.filled;
       joined = m.joined;
+      apart = m.apart;
     }
+
+    -- where this view goes on as another one
+    on : (w : Reserving) → StaysPlaced r w → Each StaysPlaced parts (set parts id w)
+    on w goes = each_set StaysPlaced placed_as parts id r w here goes
+
+    go_by : (w : Reserving) → GoesOn r w → (n j : ℕ) → k.role n ≡ active j
+        → HasLive (set parts id w) j (λ u. u.number ≡ n)
+    go_by w goes n j is = goes_by_still parts (set parts id w)
+        (each_set GoesOn goes_as parts id r w here goes) n j (k.goes_by n j is)
+
+    take_in : (w : Reserving) → GoesOn r w → (n j : ℕ) → k.role n ≡ ended j
+        → HasLive (set parts id w) j (TookIn n)
+    take_in w goes n j is = took_in_still parts (set parts id w)
+        (each_set GoesOn goes_as parts id r w here goes) n j (k.took_in n j is)
+
+    at_work : (p : Place) → GoesOn r (record r { place = p })
+    at_work p = record { live = λ alive. alive; number = refl; took = λ j has. has }
 
     -- a reserved end is seen
     pub sees : (seen : ℕ) → seen ≤ end_position setup.segment_size order
         → OrderHolds setup found order position prev
         (set parts id (record r { seen = max r.seen seen }))
     sees seen low = same_words (set parts id (record r { seen = max r.seen seen }))
+        (on (record r { seen = max r.seen seen }) (record {
+          goes_on = record { live = λ alive. alive; number = refl; took = λ j has. has };
+          placed = λ some. some;
+        }))
         (one_set Placed parts id (record r { seen = max r.seen seen })
         (λ j u apart there. placed j u there)
         (λ alive. let m = mine.part in record {
@@ -163,6 +193,7 @@ module _ (setup : Setup) (found order : List Entry) (position prev : ℕ) (parts
             seen = omega (arith, m.seen, low);
             filled = m.filled;
             joined = m.joined;
+            apart = m.apart;
           };
           place = mine.place;
           spare = mine.spare;
@@ -173,12 +204,12 @@ module _ (setup : Setup) (found order : List Entry) (position prev : ℕ) (parts
         → expected % 2 ≡ 0
         → OrderHolds setup found order (expected + 1) prev
         (set parts id (record r { place = Locked expected }))
-    locks valid expected found even =
+    locks valid expected hit even =
         let free : k.locked ≡ 0 = omega (arith, end_even valid, k.position_is, k.one_bit) in
         let is : expected ≡ end_position setup.segment_size order =
         omega (arith, k.position_is) in
         let each = one_set (λ (j : ℕ) (u : Reserving). u.live ≡ true
-        → IsPlaced setup.segment_size order prev k.role 1 id k.keeper j u)
+        → IsPlaced setup.segment_size found order prev k.role 1 id k.keeper j u)
         parts id (record r { place = Locked expected })
         (λ j u apart there alive. let t = placed j u there alive in record {
           part = t.part;
@@ -206,6 +237,14 @@ module _ (setup : Setup) (found order : List Entry) (position prev : ℕ) (parts
           views = λ j u at alive. (each j u at alive).part;
           places = λ j u at alive. (each j u at alive).place;
           spares = λ j u at alive. (each j u at alive).spare;
+          goes_by = go_by (record r { place = Locked expected }) (at_work (Locked expected));
+          took_in = take_in (record r { place = Locked expected }) (at_work (Locked expected));
+          held = λ _. (
+            record r { place = Locked expected },
+            at_place parts id r (record r { place = Locked expected }) here,
+            live,
+            λ e. cc,
+          );
         }
 
     -- the word of the last start is loaded
@@ -215,6 +254,8 @@ module _ (setup : Setup) (found order : List Entry) (position prev : ℕ) (parts
     loads_prev expected is =
         let pl = at (Locked expected) is in
         same_words (set parts id (record r { place = Loaded expected prev }))
+        (on (record r { place = Loaded expected prev })
+        (record { goes_on = at_work (Loaded expected prev); placed = λ some e. cc }))
         (one_set Placed parts id (record r { place = Loaded expected prev })
         (λ j u apart there. placed j u there)
         (λ alive. record {
@@ -230,7 +271,7 @@ module _ (setup : Setup) (found order : List Entry) (position prev : ℕ) (parts
     stores_prev expected met is =
         let pl = at (Loaded expected met) is in
         let each = one_set (λ (j : ℕ) (u : Reserving). u.live ≡ true
-        → IsPlaced setup.segment_size order (address_of setup.segment_size expected) k.role
+        → IsPlaced setup.segment_size found order (address_of setup.segment_size expected) k.role
         k.locked k.holder k.keeper j u)
         parts id (record r { place = Stored expected met })
         (λ j u apart there alive. let t = placed j u there alive in record {
@@ -259,6 +300,15 @@ module _ (setup : Setup) (found order : List Entry) (position prev : ℕ) (parts
           views = λ j u at alive. (each j u at alive).part;
           places = λ j u at alive. (each j u at alive).place;
           spares = λ j u at alive. (each j u at alive).spare;
+          goes_by = go_by (record r { place = Stored expected met })
+              (at_work (Stored expected met));
+          took_in = take_in (record r { place = Stored expected met })
+              (at_work (Stored expected met));
+          held = λ locked. held_still parts
+              (set parts id (record r { place = Stored expected met }))
+              (on (record r { place = Stored expected met })
+              (record { goes_on = at_work (Stored expected met); placed = λ some e. cc }))
+              k.holder (k.held locked);
         }
 
     -- the log is full: the position is as it was
@@ -272,16 +322,18 @@ module _ (setup : Setup) (found order : List Entry) (position prev : ℕ) (parts
         let full : Filled = record { position = expected; entries = length r.entries } in
         let m = mine.part in
         let w : Reserving = record r { filled = r.filled ++ full ∷ []; place = Free } in
-        let ends : FrontEndsAt setup.segment_size r.number order r.entries full = record {
+        let ends : FrontEndsAt setup.segment_size r.number found order r.entries full = record {
           front = order;
           back = [];
           are = sym (append-nil order);
           end = pl.2;
           own = sym m.entries_are ∙ sym (take_all (length r.entries) r.entries (omega arith));
           within = omega arith;
+          found_within = let f = k.found_first in
+              omega (arith, ap length f.1, length-append found f.0);
         } in
         let each = one_set (λ (j : ℕ) (u : Reserving). u.live ≡ true
-        → IsPlaced setup.segment_size order prev k.role 0 k.holder k.keeper j u)
+        → IsPlaced setup.segment_size found order prev k.role 0 k.holder k.keeper j u)
         parts id w
         (λ j u apart there alive. let t = placed j u there alive in record {
           part = t.part;
@@ -294,9 +346,10 @@ module _ (setup : Setup) (found order : List Entry) (position prev : ℕ) (parts
             entries_are = m.entries_are;
             spares = m.spares;
             seen = m.seen;
-            filled = All-push (FrontEndsAt setup.segment_size r.number order r.entries)
+            filled = All-push (FrontEndsAt setup.segment_size r.number found order r.entries)
                 r.filled full m.filled ends;
             joined = m.joined;
+            apart = m.apart;
           };
           place = tt;
           spare = mine.spare;
@@ -317,6 +370,10 @@ module _ (setup : Setup) (found order : List Entry) (position prev : ℕ) (parts
           views = λ j u at alive. (each j u at alive).part;
           places = λ j u at alive. (each j u at alive).place;
           spares = λ j u at alive. (each j u at alive).spare;
+          goes_by = go_by w (record { live = λ alive. alive; number = refl; took = λ j has. has });
+          took_in = take_in w
+              (record { live = λ alive. alive; number = refl; took = λ j has. has });
+          held = λ h. absurd (omega (arith, h));
         }
 
     -- an entry is added at the end: the position is unlocked behind it
@@ -336,8 +393,8 @@ module _ (setup : Setup) (found order : List Entry) (position prev : ℕ) (parts
       at_end = let pl = at (Stored expected met) is in pl.2
 
       others_grow : (j : ℕ) (u : Reserving) → j ≢ id
-          → IsPartOf setup.segment_size order k.role j u
-          → IsPartOf setup.segment_size longer k.role j u
+          → IsPartOf setup.segment_size found order k.role j u
+          → IsPartOf setup.segment_size found longer k.role j u
       others_grow j u apart t = record {
         own = t.own;
         entries_are = t.entries_are ∙ sym (entries_of-miss u.number order e
@@ -345,14 +402,16 @@ module _ (setup : Setup) (found order : List Entry) (position prev : ℕ) (parts
             (not_other k.role r.number u.number id j own_is t.own apart)));
         spares = t.spares;
         seen = omega (arith, t.seen, end_position_push setup.segment_size order e);
-        filled = All-weaker (FrontEndsAt setup.segment_size u.number order u.entries)
-            (FrontEndsAt setup.segment_size u.number longer u.entries)
-            (λ full. FrontEndsAt-longer setup.segment_size u.number order (e ∷ []) u.entries full)
+        filled = All-weaker (FrontEndsAt setup.segment_size u.number found order u.entries)
+            (FrontEndsAt setup.segment_size u.number found longer u.entries)
+            (λ full. FrontEndsAt-longer setup.segment_size u.number found order (e ∷ [])
+            u.entries full)
             u.filled t.filled;
-        joined = All-weaker (IsEnded setup.segment_size order k.role)
-            (IsEnded setup.segment_size longer k.role)
-            (IsEnded-longer setup.segment_size order e k.role r.number id refl own_is)
+        joined = All-weaker (IsEnded setup.segment_size found order k.role j)
+            (IsEnded setup.segment_size found longer k.role j)
+            (IsEnded-longer setup.segment_size found order e k.role r.number id refl own_is j)
             u.joined t.joined;
+        apart = t.apart;
       }
 
       abbrev grown : Reserving
@@ -362,22 +421,24 @@ module _ (setup : Setup) (found order : List Entry) (position prev : ℕ) (parts
         place = Free;
       }
 
-      mine_grows : IsPartOf setup.segment_size longer k.role id grown
+      mine_grows : IsPartOf setup.segment_size found longer k.role id grown
       mine_grows = let m = mine.part in record {
         own = m.own;
         entries_are = ap (λ (es : List Entry). es ++ e ∷ []) m.entries_are
             ∙ sym (entries_of-hit r.number order e (is_pass_own r.number));
         spares = m.spares;
         seen = omega (arith, at_end, end_position_push setup.segment_size order e);
-        filled = All-weaker (FrontEndsAt setup.segment_size r.number order r.entries)
-            (FrontEndsAt setup.segment_size r.number longer grown.entries)
-            (λ full h. FrontEndsAt-more setup.segment_size r.number longer r.entries (e ∷ []) full
-            (FrontEndsAt-longer setup.segment_size r.number order (e ∷ []) r.entries full h))
+        filled = All-weaker (FrontEndsAt setup.segment_size r.number found order r.entries)
+            (FrontEndsAt setup.segment_size r.number found longer grown.entries)
+            (λ full h. FrontEndsAt-more setup.segment_size r.number found longer r.entries
+            (e ∷ []) full
+            (FrontEndsAt-longer setup.segment_size r.number found order (e ∷ []) r.entries full h))
             r.filled m.filled;
-        joined = All-weaker (IsEnded setup.segment_size order k.role)
-            (IsEnded setup.segment_size longer k.role)
-            (IsEnded-longer setup.segment_size order e k.role r.number id refl own_is)
+        joined = All-weaker (IsEnded setup.segment_size found order k.role id)
+            (IsEnded setup.segment_size found longer k.role id)
+            (IsEnded-longer setup.segment_size found order e k.role r.number id refl own_is id)
             r.joined m.joined;
+        apart = m.apart;
       }
 
       pub reserves : OrderHolds setup found longer
@@ -385,7 +446,7 @@ module _ (setup : Setup) (found order : List Entry) (position prev : ℕ) (parts
       reserves =
           let pl = at (Stored expected met) is in
           let each = one_set (λ (j : ℕ) (u : Reserving). u.live ≡ true
-          → IsPlaced setup.segment_size longer prev k.role 0 k.holder k.keeper j u)
+          → IsPlaced setup.segment_size found longer prev k.role 0 k.holder k.keeper j u)
           parts id grown
           (λ j u apart there alive. let t = placed j u there alive in record {
             part = others_grow j u apart t.part;
@@ -404,6 +465,7 @@ module _ (setup : Setup) (found order : List Entry) (position prev : ℕ) (parts
                   f.0 ++ e ∷ [],
                   ap (λ (es : List Entry). es ++ e ∷ []) f.1 ∙ append_assoc found f.0 (e ∷ []),
                   All-push (λ (x : Entry). IsSome x.pass) f.0 e f.2 refl,
+                  f.3,
                 );
             within = omega (arith, fits, at_end, end_position_push setup.segment_size order e);
             position_is = omega (arith, at_end, end_position_push setup.segment_size order e);
@@ -416,12 +478,18 @@ module _ (setup : Setup) (found order : List Entry) (position prev : ℕ) (parts
             views = λ j u at alive. (each j u at alive).part;
             places = λ j u at alive. (each j u at alive).place;
             spares = λ j u at alive. (each j u at alive).spare;
+            goes_by = go_by grown
+                (record { live = λ alive. alive; number = refl; took = λ j has. has });
+            took_in = take_in grown
+                (record { live = λ alive. alive; number = refl; took = λ j has. has });
+            held = λ h. absurd (omega (arith, h));
           }
 
     -- a pass that gives up leaves a view that is not live
     pub gives_up : (gone : Reserving) → gone.live ≡ false
         → OrderHolds setup found order position prev (set parts id r ++ gone ∷ [])
     gives_up gone dead = same_words (set parts id r ++ gone ∷ [])
+        (each_added StaysPlaced parts (set parts id r) gone (on r (placed_as r)))
         (one_added Placed (set parts id r) gone
         (one_set Placed parts id r (λ j u apart there. placed j u there) (placed id r here))
         (λ alive. absurd (true≢false (sym alive ∙ dead))))

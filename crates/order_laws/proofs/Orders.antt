@@ -35,26 +35,28 @@ pub end_position_push : (size : ℕ) (es : List Entry) (e : Entry)
 end_position_push size es e = omega (arith, rooms_of_push size es e)
 
 -- a front of an order is one of a longer order, for a log that grew too
-pub FrontEndsAt-longer : (size number : ℕ) (order back entries : List Entry) (full : Filled)
-    → FrontEndsAt size number order entries full
-    → FrontEndsAt size number (order ++ back) entries full
-FrontEndsAt-longer size number order back entries full h = record {
+pub FrontEndsAt-longer : (size number : ℕ) (found order back entries : List Entry) (full : Filled)
+    → FrontEndsAt size number found order entries full
+    → FrontEndsAt size number found (order ++ back) entries full
+FrontEndsAt-longer size number found order back entries full h = record {
   front = h.front;
   back = h.back ++ back;
   are = ap (λ (es : List Entry). es ++ back) h.are ∙ append_assoc h.front h.back back;
   end = h.end;
   own = h.own;
   within = h.within;
+  found_within = h.found_within;
 }
 
-pub FrontEndsAt-more : (size number : ℕ) (order entries more : List Entry) (full : Filled)
-    → FrontEndsAt size number order entries full
-    → FrontEndsAt size number order (entries ++ more) full
-FrontEndsAt-more size number order entries more full h = record {
+pub FrontEndsAt-more : (size number : ℕ) (found order entries more : List Entry) (full : Filled)
+    → FrontEndsAt size number found order entries full
+    → FrontEndsAt size number found order (entries ++ more) full
+FrontEndsAt-more size number found order entries more full h = record {
   front = h.front;
   back = h.back;
   are = h.are;
   end = h.end;
   own = h.own ∙ sym (take-append-le full.entries entries more h.within);
   within = omega (arith, h.within, length-append entries more);
+  found_within = h.found_within;
 }

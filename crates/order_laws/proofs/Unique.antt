@@ -12,7 +12,7 @@ abbrev IsNamed : Entry → Type 0
 IsNamed e = IsSome e.pass
 
 -- the pass of an entry
-named : (p : Option ℕ) → IsSome p → (n : ℕ) × (p ≡ Some n)
+pub named : (p : Option ℕ) → IsSome p → (n : ℕ) × (p ≡ Some n)
 named None h = absurd (true≢false (sym h))
 named (Some n) h = (n, refl)
 

@@ -6,14 +6,16 @@ ghost use Rattle.std.specs.Prelude.{◌≡◌, ◌≢◌, ℕ, ◌<◌, ◌≤�
 ghost use mathlib.Core.Option.{Option};
 ghost use Rattle.wal_types.specs.declared.record.Record.{Record};
 ghost use Rattle.wal_page.specs.Order.{Entry, IsChained, end_position};
-ghost use Rattle.wal_core.specs.Views.{HasAt, Plain, Reserving, View};
-ghost use Rattle.wal_core.specs.Words.{end_form};
+ghost use Rattle.wal_core.specs.Views.{HasAt, Free, Plain, Reserving, View};
+ghost use Rattle.wal_core.specs.Words.{Opening, end_form};
 ghost use Rattle.wal_core.specs.Steps.{Event, MayStep, value_behind, view_behind};
 ghost use Rattle.wal_core.specs.Ordered.{BeginsWith, OrderHolds, entries_of};
 ghost use Rattle.wal_core.specs.Moves.{entry_at, left_of, right_of, both_of, spent, without_work, orphan_of};
 ghost use Rattle.wal_core.specs.Steps.{place_at, load_position, load_flushed, store_position};
 ghost use Rattle.wal_core.specs.Steps.{lock_position, load_prev, store_prev, give_position_back};
 ghost use Rattle.order_laws.specs.Parts.{TakesPart, HoldsWith};
+ghost use Rattle.order_laws.specs.Shared.{OrderIsShared};
+ghost use Rattle.wal_core.specs.Sound.{IsSound};
 
 /// The position is locked only where nobody has it locked, and what its holder loads is the last
 /// start; so the position that it gives back is the one that was.
@@ -33,10 +35,10 @@ pub fn positions_are_locked_and_given_back()
         → HoldsWith order position (value_behind v store_prev prev) parts id v
         (view_behind v store_prev prev home) }
     ensures give_position_back { (order : List Entry) (position prev : ℕ)
-        (parts : List Reserving) (id : ℕ) (v : View) (home : Option Plain)
-        → TakesPart order position prev parts id v → MayStep v give_position_back
-        → HoldsWith order (value_behind v give_position_back position) prev parts id v
-        (view_behind v give_position_back position home) }
+        (parts : List Reserving) (id : ℕ) (v : View) (home : Option Plain) (value : Record)
+        → TakesPart order position prev parts id v → MayStep v (give_position_back value)
+        → HoldsWith order (value_behind v (give_position_back value) position) prev parts id v
+        (view_behind v (give_position_back value) position home) }
 {}
 
 /// An entry that is reserved is the order's last, and its pass's: other passes keep theirs, and
@@ -78,6 +80,7 @@ pub fn passes_share_one_order()
     ensures join { (order : List Entry) (position prev : ℕ) (parts : List Reserving) (id : ℕ)
         (v : View) (other : ℕ) (w : View) → TakesPart order position prev parts id v
         → HasAt parts other w.reserving → (w.reserving).live ≡ true → id ≢ other
+        → (w.reserving).place ≡ Free
         → OrderHolds (v.opening).setup (v.opening).found order position prev
         (set (set parts other (spent w).reserving) id (both_of v w).reserving) }
     ensures give_up { (order : List Entry) (position prev : ℕ) (parts : List Reserving) (id : ℕ)
@@ -92,4 +95,18 @@ pub fn passes_fix_the_order()
     ensures one_order { (size : ℕ) (found es fs : List Entry) → IsChained size es
         → IsChained size fs → BeginsWith found es → BeginsWith found fs
         → ((n : ℕ) → entries_of n es ≡ entries_of n fs) → es ≡ fs }
+{}
+
+/// A sound state shows the reserved order as its users know it: the numbers of the passes (a pass's
+/// own, those that it may give away, those of passes that it took in) all differ and are below how
+/// many there may be; the order ends at the position word less its lock bit, and no pass has seen
+/// more; each position at which a log was full is where a front of the order ends that holds what
+/// that log held by then; the word of the last start is that of the order's last entry, but while
+/// the position is locked the view that locked it says whether the next start is stored; and the
+/// order holds the logs of the live passes, of the passes that they took in, what was found when
+/// the log was opened, and nothing else.
+pub fn sound_orders_are_shared()
+    ensures shared { (opening : Opening) (words : List ℕ) (home : Option Plain)
+        (views : List View) (s : IsSound opening words home views)
+        → OrderIsShared opening s.order words views }
 {}

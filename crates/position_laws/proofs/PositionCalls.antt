@@ -1,6 +1,5 @@
 -- The written and flushed positions through each call of the device, however it ended.
-use Rattle.std.proofs.Common.{◌≡◌, ℕ, ◌+◌, ◌*◌, ◌/◌, ◌<◌, ◌≤◌, inl, inr, Bool, true, false, List, set, IfSome, refl, sym, ap, ◌∙◌, subst, arith, if◌then◌else◌}
-use Rattle.std.proofs.lemmas.Option.{IfSome_then}
+use Rattle.std.proofs.Common.{◌≡◌, ℕ, ◌+◌, ◌*◌, ◌/◌, ◌<◌, ◌≤◌, inl, inr, Bool, true, false, List, Some, length, set, refl, sym, ap, ◌∙◌, subst, arith, if◌then◌else◌}
 use Rattle.std.proofs.lemmas.Bool.{cases_lt}
 use mathlib.Core.Option.{none, some}
 use Rattle.byte_position.specs.Geometry.{pages_of}
@@ -11,8 +10,10 @@ use Rattle.wal_page.specs.Order.{end_position}
 use Rattle.wal_core.specs.declared.setup.Setup.{Setup}
 use Rattle.wal_core.specs.Words.{end_form}
 use Rattle.wal_core.specs.Views.{HasAt, Plain, Lent, Hold, Out, Told, View, flight_of, told_of}
+use Rattle.wal_core.specs.Suited.{BeganSuited, IfSuited}
+use Rattle.wal_core.proofs.Tapes.{at_suited, at_told, began_behind, on_tape, tape_behind}
 use Rattle.wal_core.specs.Positioned.{IsCopiedBelow, ReadsBelow}
-use Rattle.wal_core.specs.Durable.{DurabilityHolds}
+use Rattle.wal_core.specs.Durable.{DurabilityHolds, IsOnDisk}
 use Rattle.wal_core.specs.Moves.{Outcome, Done, Failed, is_done, with_hold, with_outcome, after_create, after_write, after_sync}
 use Rattle.wal_core.specs.Steps.{MayStep, IsNextWrite, view_behind, create, write, sync}
 use Rattle.position_laws.specs.Parts.{Positions, HasPositions, HoldAmong, HoldBehind}
@@ -53,38 +54,59 @@ module _ (p : Positions) (id : ℕ) (v : View) (t : HasPositions p id v) where
       → (p.writer).written ≤ (f p.writer).written
       → (f p.writer).written ≤ end_form setup (end_position size p.order)
       → IsCopiedBelow size p.flights (f p.writer).written
-      → IfSome (f p.writer).tape (ReadUpto (f p.writer).written)
+      → IfSuited v.opening (f p.writer) (ReadUpto (f p.writer).written)
       → CalledOn f l l.writer
   called f l is rises low copied reads =
       let s = stands p id v t (Out l) is in
       subst (CalledOn f l) (sym s.3)
-      (calls setup p t.holds id v.writing t.here (flight_of v) t.flight_here l is s.2 (f p.writer)
+      (calls v.opening p t.holds id v.writing t.here (flight_of v) t.flight_here l is s.2 (f p.writer)
       rises low copied reads)
 
   -- the writer keeps its position
   stays_there : (f : Plain → Plain) (l : Lent) → (v.writing).hold ≡ Out l
       → (f p.writer).written ≡ (p.writer).written
-      → IfSome (f p.writer).tape (ReadUpto (p.writer).written)
+      → IfSuited v.opening (f p.writer) (ReadUpto (p.writer).written)
       → CalledOn f l l.writer
   stays_there f l is same reads = called f l is (omega (arith, same))
       (omega (arith, same, (t.holds).reserved))
       (subst (λ (a : ℕ). IsCopiedBelow size p.flights a) (sym same) (t.holds).copied)
-      (subst (λ (a : ℕ). IfSome (f p.writer).tape (ReadUpto a)) (sym same) reads)
-
-  pub sync_keeps : (met segment : ℕ) (outcome : Outcome) → MayStep v (sync segment outcome)
-      → HoldBehind
-      (record p { writer = after_sync (sync_call size segment) outcome p.writer }) id v
-      (view_behind v (sync segment outcome) met p.home)
-  sync_keeps met segment outcome may = subst (λ (h : Hold). HoldBehind
-      (record p { writer = after_sync (sync_call size segment) outcome p.writer }) id v
-      (view_behind (with_hold h v) (sync segment outcome) met p.home))
-      (sym (may.0).1)
-      (stays_there (after_sync (sync_call size segment) outcome) (may.0).0 (may.0).1
-      (same_written (sync_call size segment) outcome p.writer)
-      (sync_reads setup t.size p.order p.writer segment outcome (t.holds).reads))
+      (subst (λ (a : ℕ). IfSuited v.opening (f p.writer) (ReadUpto a)) (sym same) reads)
 
   module _ (moment : ℕ) (tolds : List Told)
       (d : DurabilityHolds v.opening p.order p.flushed moment p.down p.home p.writer tolds) where
+    -- what is read before, of a disk that held at the opening what a log may begin on
+    read_now : (tape : Tape) → (p.writer).tape ≡ Some tape → BeganSuited v.opening tape
+        → ReadUpto (p.writer).written tape
+    read_now tape is suited =
+        at_suited v.opening p.writer (ReadUpto (p.writer).written) tape is suited (t.holds).reads
+
+    -- what is read behind a call
+    read_behind : (call : Call) (outcome : Outcome) (address : ℕ)
+        → ((tape : Tape) → (p.writer).tape ≡ Some tape → BeganSuited v.opening tape
+        → ReadUpto address (tape_behind outcome call tape))
+        → IfSuited v.opening (with_outcome call outcome p.writer) (ReadUpto address)
+    read_behind call outcome address reads =
+        on_tape (λ tape. BeganSuited v.opening tape → ReadUpto address tape) call outcome p.writer
+        (λ tape is suited.
+        let Counts : Tape → Type 0 = λ tape. (p.writer).moment ≡ length tape.calls in
+        let counts = at_told Counts (p.writer).tape tape is d.counted in
+        reads tape is (began_behind v.opening call outcome tape
+        (omega (arith, d.begun, d.moment_low, counts)) suited))
+
+    pub sync_keeps : (met segment : ℕ) (outcome : Outcome) → MayStep v (sync segment outcome)
+        → HoldBehind
+        (record p { writer = after_sync (sync_call size segment) outcome p.writer }) id v
+        (view_behind v (sync segment outcome) met p.home)
+    sync_keeps met segment outcome may = subst (λ (h : Hold). HoldBehind
+        (record p { writer = after_sync (sync_call size segment) outcome p.writer }) id v
+        (view_behind (with_hold h v) (sync segment outcome) met p.home))
+        (sym (may.0).1)
+        (stays_there (after_sync (sync_call size segment) outcome) (may.0).0 (may.0).1
+        (same_written (sync_call size segment) outcome p.writer)
+        (read_behind (sync_call size segment) outcome (p.writer).written
+        (λ tape is suited. sync_reads setup t.size p.order p.writer segment outcome tape
+        (read_now tape is suited))))
+
     pub create_keeps : (met segment : ℕ) (outcome : Outcome) → MayStep v (create segment outcome)
         → HoldBehind (record p {
           writer = after_create segment (create_call size segment) outcome p.writer;
@@ -103,8 +125,9 @@ module _ (p : Positions) (id : ℕ) (v : View) (t : HasPositions p id v) where
         (sym is)
         (stays_there (after_create segment (create_call size segment) outcome) l is
         (same_written (create_call size segment) outcome p.writer)
-        (create_reads setup t.size p.order p.writer segment outcome
-        (omega (arith, at, d.reached)) (t.holds).reads))
+        (read_behind (create_call size segment) outcome (p.writer).written
+        (λ tape told suited. create_reads setup t.size p.order p.writer segment outcome
+        (omega (arith, at, d.reached)) tape (read_now tape told suited))))
 
     -- the page under way lies in a segment of the log
     behind_first : (segment page : ℕ) → page < pages_of size
@@ -152,10 +175,12 @@ module _ (p : Positions) (id : ℕ) (v : View) (t : HasPositions p id v) where
         (called (after_write segment upto (write_call size segment page bytes) outcome) l is
         both.0 (omega (arith, both.1, n.copied, known.0))
         (IsCopiedBelow-lower size _ l.known p.flights (omega (arith, both.1, n.copied)) known.1)
-        (write_reads setup t.size p.order p.writer segment page upto bytes n.on_segment
-        n.page_is n.rises n.within
+        (read_behind (write_call size segment page bytes) outcome
+        (if is_done outcome then upto else (p.writer).written)
+        (λ tape told suited. write_reads setup t.size p.order p.writer segment page upto bytes
+        n.on_segment n.page_is n.rises n.within
         (λ k low below. loaded_words setup p.order l.known ((p.writer).written / 8192) bytes
         l.staged n.loaded hand.staged k low (omega (arith, below, n.copied)))
-        (t.holds).reads
-        (IfSome_then (p.writer).tape d.on_disk (λ (tape : Tape) disk.
-        disk.there segment first n.is_made)) outcome))
+        tape (read_now tape told suited)
+        ((at_suited v.opening p.writer (IsOnDisk setup p.order p.writer) tape told suited
+        d.on_disk).there segment first n.is_made) outcome)))

@@ -1,5 +1,5 @@
 -- The written and flushed positions through each kind of step, as the machine tells what it does.
-use Rattle.std.proofs.Common.{◌≡◌, ◌≢◌, ℕ, ◌≤◌, Bool, true, cond, eq-eqb, ne_eqb, List, [], ◌∷◌, ◌++◌, set, map, refl, sym, ◌∙◌, subst, inl, inr, ⊎_elim, arith}
+use Rattle.std.proofs.Common.{◌≡◌, ◌≢◌, ℕ, ◌≤◌, Bool, true, cond, eq-eqb, ne_eqb, List, [], ◌∷◌, ◌++◌, set, map, refl, sym, ap, ◌∙◌, subst, inl, inr, ⊎_elim, arith}
 use Rattle.std.proofs.lemmas.Bool.{cases_lt}
 use mathlib.Core.Logic.{dite}
 use mathlib.Core.Option.{Option, none}
@@ -14,8 +14,8 @@ use Rattle.wal_core.specs.Ordered.{OrderHolds, AtPlace}
 use Rattle.wal_core.specs.Locked.{AreHeld, StandsTo}
 use Rattle.wal_core.specs.Watched.{WatchHolds}
 use Rattle.wal_core.specs.Positioned.{IsCopiedBelow}
-use Rattle.wal_core.specs.Moves.{landed, one_more, with_place, with_hold, copied_below, lent, entry_at, left_of, right_of, both_of, spent, without_work, orphan_of, no_writing}
-use Rattle.wal_core.specs.Steps.{MayStep, place_at, value_behind, view_behind, home_behind, take_write_turn, slot_out, slot_in, release_write_turn, store_position, release, store_word, load_word, load_written, load_flushed, load_moment, load_down, store_written, store_moment, store_flushed, set_down}
+use Rattle.wal_core.specs.Moves.{hardened, landed, one_more, with_place, with_hold, copied_below, lent, entry_at, left_of, right_of, both_of, spent, without_work, orphan_of, no_writing}
+use Rattle.wal_core.specs.Steps.{MayStep, number_lent, place_at, value_behind, view_behind, home_behind, take_write_turn, slot_out, slot_in, release_write_turn, store_position, release, store_word, load_word, load_written, load_flushed, load_moment, load_down, store_written, store_moment, store_flushed, set_down}
 use Rattle.wal_core.proofs.Landing.{lock_of}
 use Rattle.wal_core.proofs.Lists.{one_set, one_added, part_at, view_from}
 use Rattle.position_laws.specs.Parts.{Positions, HasPositions, HoldAmong, HoldBehind}
@@ -73,20 +73,20 @@ module _ (p : Positions) (id : ℕ) (v : View) (t : HasPositions p id v) where
       (λ (o : Hold). StandsTo p.turn (t.turns).holder p.home p.writer id (v.reserving).number o)
       is ((t.turns).each id _ t.writer_here)
 
-  mine : Within setup p t.holds v.writing
+  mine : Within v.opening p t.holds v.writing
   mine = (t.holds).views id v.writing t.here
 
-  others : (j : ℕ) (u : Writing) → HasAt p.parts j u → Within setup p t.holds u
+  others : (j : ℕ) (u : Writing) → HasAt p.parts j u → Within v.opening p t.holds u
   others j u there = (t.holds).views j u there
 
   stays : Still v
-  stays = view_stays setup p t.holds id v.writing t.here (flight_of v) t.flight_here
+  stays = view_stays v.opening p t.holds id v.writing t.here (flight_of v) t.flight_here
 
   -- the view with another part of writing, of the same flight
   changed : (y : Writing) → y.written ≤ p.written → y.flushed ≤ p.flushed
       → KeepsKnown (v.writing).hold y.hold
       → HoldAmong p v (set p.flights id (flight_of v)) (set p.parts id y)
-  changed = view_changes setup p t.holds id v.writing t.here (flight_of v) t.flight_here
+  changed = view_changes v.opening p t.holds id v.writing t.here (flight_of v) t.flight_here
 
   -- only what it holds is another
   rehold : (h : Hold) → KeepsKnown (v.writing).hold h → Still (with_hold h v)
@@ -131,9 +131,9 @@ module _ (p : Positions) (id : ℕ) (v : View) (t : HasPositions p id v) where
 
   copied_still : (f : Flight) → CopiedStill setup.segment_size p.flights (set p.flights id f)
       → HoldAmong p v (set p.flights id f) (set p.parts id v.writing)
-  copied_still f still = both_change setup p t.holds (set p.flights id f)
+  copied_still f still = both_change v.opening p t.holds (set p.flights id f)
       (set p.parts id v.writing) still
-      (one_set (λ (j : ℕ) (u : Writing). Within setup p t.holds u) p.parts id v.writing
+      (one_set (λ (j : ℕ) (u : Writing). Within v.opening p t.holds u) p.parts id v.writing
       (λ j u _ there. others j u there) mine)
 
   pub release_keeps : (lock met : ℕ) → Still (view_behind v (release lock) met p.home)
@@ -154,33 +154,45 @@ module _ (p : Positions) (id : ℕ) (v : View) (t : HasPositions p id v) where
       (record p { written = value_behind (with_hold h v) store_written p.written }) id v
       (view_behind (with_hold h v) store_written p.written p.home))
       (sym may.1)
-      (stores_written setup p t.holds id v.writing t.here (flight_of v) t.flight_here may.0 may.1
+      (stores_written v.opening p t.holds id v.writing t.here (flight_of v) t.flight_here may.0 may.1
       (stands (Out may.0) may.1).3)
 
   pub store_moment_keeps : (met : ℕ) → Still (view_behind v store_moment met p.home)
   store_moment_keeps met = rehold _ (KeepsKnown-lent
-      (λ l. record l { hard = (l.writer).written }) (λ _. refl) (λ _. refl) (v.writing).hold)
+      hardened (λ _. refl) (λ _. refl) (v.writing).hold)
 
   pub store_flushed_keeps : MayStep v store_flushed
       → HoldBehind (record p { flushed = value_behind v store_flushed p.flushed }) id v
       (view_behind v store_flushed p.flushed p.home)
   store_flushed_keeps may = subst
       (λ (h : Hold). HoldBehind
-      (record p { flushed = value_behind (with_hold h v) store_flushed p.flushed }) id v v)
+      (record p { flushed = value_behind (with_hold h v) store_flushed p.flushed }) id v
+      (view_behind v store_flushed p.flushed p.home))
       (sym may.1)
-      (stores_flushed setup p t.holds id v.writing t.here (flight_of v) t.flight_here may.0 may.1
-      (stands (Out may.0) may.1).3 (may.2).0 (may.2).1)
+      (stores_flushed v.opening p t.holds id v.writing t.here (flight_of v) t.flight_here may.0 may.1
+      (stands (Out may.0) may.1).3 (may.2).0 (may.2).1
+      (writing_of (view_behind v store_flushed p.flushed p.home)) refl refl refl)
 
   pub set_down_keeps : MayStep v set_down
       → HoldBehind (record p { down = value_behind v set_down p.down }) id v
       (view_behind v set_down p.down p.home)
-  set_down_keeps may = tells_down setup p t.holds id v.writing t.here (flight_of v) t.flight_here
+  set_down_keeps may = tells_down v.opening p t.holds id v.writing t.here (flight_of v) t.flight_here
       (value_behind v set_down p.down) (stands (Out may.0) may.1).2
       (writing_of (view_behind v set_down p.down p.home)) refl refl refl
 
   pub flushed_is_reserved : p.flushed ≤ end_form setup (end_position setup.segment_size p.order)
   flushed_is_reserved =
       let k = t.holds in omega (arith, k.flushed_low, k.written_low, k.reserved)
+
+  pub hard_is_reserved : MayStep v store_flushed
+      → number_lent v (λ l. l.hard) (v.writing).hold
+      ≤ end_form setup (end_position setup.segment_size p.order)
+  hard_is_reserved may =
+      let number : number_lent v (λ l. l.hard) (v.writing).hold ≡ (may.0).hard =
+      ap (number_lent v (λ l. l.hard)) may.1 in
+      let own : ((may.0).writer).written ≡ (p.writer).written =
+      ap (λ (w : Plain). w.written) (stands (Out may.0) may.1).3 in
+      omega (arith, number, (may.2).0, own, (t.holds).reserved)
 
   -- ---- the writer goes out, and comes home
 
@@ -200,7 +212,7 @@ module _ (p : Positions) (id : ℕ) (v : View) (t : HasPositions p id v) where
       subst (λ (o : Option Plain). HoldBehind (record p { home = none }) id v
       (view_behind v slot_out p.turn o))
       (sym (stands Turned may).2)
-      (goes_out setup p t.holds id v.writing t.here (flight_of v) t.flight_here
+      (goes_out v.opening p t.holds id v.writing t.here (flight_of v) t.flight_here
       (lent p.writer v) known.0 copied (omega arith))
 
   pub slot_in_keeps : (met : ℕ) → ((v.writing).down_set ≢ 0 → (v.writing).down_set ≡ p.down)
@@ -211,7 +223,7 @@ module _ (p : Positions) (id : ℕ) (v : View) (t : HasPositions p id v) where
       (λ (h : Hold). HoldBehind (record p { home = home_behind (with_hold h v) slot_in p.home })
       id v (view_behind v slot_in met p.home))
       (sym may.1)
-      (comes_home setup p t.holds id v.writing t.here (flight_of v) t.flight_here may.0 may.1
+      (comes_home v.opening p t.holds id v.writing t.here (flight_of v) t.flight_here may.0 may.1
       (stands (Out may.0) may.1).3
       (⊎_elim (λ settled. inl settled.1)
       (λ failed. inr (λ up. failed (told failed ∙ up))) may.2))
@@ -236,7 +248,7 @@ module _ (p : Positions) (id : ℕ) (v : View) (t : HasPositions p id v) where
         order = p.order ++ entry_at (v.reserving).number (place_at v q) value ∷ [];
       }) id v (view_behind (with_place q v) (store_position locks value) position p.home))
       (sym may.2)
-      (order_grows setup p t.holds t.size (entry_at (v.reserving).number may.0 value) at.2 id
+      (order_grows v.opening p t.holds t.size (entry_at (v.reserving).number may.0 value) at.2 id
       (record {
         entry = entry_at (v.reserving).number may.0 value;
         prev = may.1;
@@ -247,33 +259,33 @@ module _ (p : Positions) (id : ℕ) (v : View) (t : HasPositions p id v) where
   -- ---- passes
 
   within_added : (j : ℕ) (u : Writing) → HasAt (set p.parts id v.writing ++ no_writing ∷ []) j u
-      → Within setup p t.holds u
-  within_added = one_added (λ (j : ℕ) (u : Writing). Within setup p t.holds u)
+      → Within v.opening p t.holds u
+  within_added = one_added (λ (j : ℕ) (u : Writing). Within v.opening p t.holds u)
       (set p.parts id v.writing) no_writing
-      (one_set (λ (j : ℕ) (u : Writing). Within setup p t.holds u) p.parts id v.writing
-      (λ j u _ there. others j u there) mine) (none_within setup p t.holds)
+      (one_set (λ (j : ℕ) (u : Writing). Within v.opening p t.holds u) p.parts id v.writing
+      (λ j u _ there. others j u there) mine) (none_within v.opening p t.holds)
 
   pub split_keeps : HoldAmong p v
       (set p.flights id (flight_of (left_of v)) ++ flight_of (right_of v) ∷ [])
       (set p.parts id (writing_of (left_of v)) ++ writing_of (right_of v) ∷ [])
-  split_keeps = both_change setup p t.holds _ _
+  split_keeps = both_change v.opening p t.holds _ _
       (added_still setup.segment_size p.flights id (flight_of v) t.flight_here) within_added
 
   pub give_up_keeps : HoldAmong p v
       (set p.flights id (flight_of (without_work v)) ++ flight_of (orphan_of v) ∷ [])
       (set p.parts id (writing_of (without_work v)) ++ writing_of (orphan_of v) ∷ [])
-  give_up_keeps = both_change setup p t.holds _ _
+  give_up_keeps = both_change v.opening p t.holds _ _
       (given_up_still setup.segment_size p.flights id (flight_of v) t.flight_here) within_added
 
   pub join_keeps : (other : ℕ) (w : View) → HoldAmong p v
       (set (set p.flights other (flight_of (spent w))) id (flight_of (both_of v w)))
       (set (set p.parts other (writing_of (spent w))) id (writing_of (both_of v w)))
-  join_keeps other w = both_change setup p t.holds _ _
+  join_keeps other w = both_change v.opening p t.holds _ _
       (joined_still setup.segment_size p.flights id (flight_of v) t.flight_here other)
-      (one_set (λ (j : ℕ) (u : Writing). Within setup p t.holds u)
+      (one_set (λ (j : ℕ) (u : Writing). Within v.opening p t.holds u)
       (set p.parts other no_writing) id (writing_of (both_of v w))
-      (λ j u _ there. one_set (λ (j : ℕ) (u : Writing). Within setup p t.holds u) p.parts other
-      no_writing (λ j u _ there. others j u there) (none_within setup p t.holds) j u there)
+      (λ j u _ there. one_set (λ (j : ℕ) (u : Writing). Within v.opening p t.holds u) p.parts other
+      no_writing (λ j u _ there. others j u there) (none_within v.opening p t.holds) j u there)
       (record {
         written_met = mine.written_met;
         flushed_met = mine.flushed_met;

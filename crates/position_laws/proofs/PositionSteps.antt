@@ -15,7 +15,8 @@ use Rattle.wal_page.proofs.OrderLaws.{rooms_of_push}
 use Rattle.wal_page.proofs.OwnerLaws.{Owns-between}
 use Rattle.lawful_image.specs.Lawful.{log_word_bytes}
 use Rattle.wal_core.specs.declared.setup.Setup.{Setup}
-use Rattle.wal_core.specs.Words.{end_form}
+use Rattle.wal_core.specs.Words.{Opening, end_form}
+use Rattle.wal_core.specs.Suited.{IfSuited}
 use Rattle.wal_core.specs.Views.{HasAt, Copy, Flight, Copying, Plain, Lent, Hold, Idle, Turned, Out, Writing}
 use Rattle.wal_core.specs.Moves.{no_writing, with_lent}
 use Rattle.wal_core.specs.Positioned.{IsCopiedBelow, ReadsBelow, IsWithin, PositionsHold}
@@ -46,8 +47,11 @@ KeepsKnown-lent f known stored (Out l) n is =
       ap (λ (x : Lent). x.stored) (sym same) ∙ stored l,
     )
 
-module _ (setup : Setup) (p : Positions) (k : PositionsHold setup p.order p.written p.flushed p.down
-    p.home p.writer p.flights p.parts) where
+module _ (opening : Opening) (p : Positions) (k : PositionsHold opening p.order p.written p.flushed
+    p.down p.home p.writer p.flights p.parts) where
+  abbrev setup : Setup
+  setup = opening.setup
+
   abbrev order : List Entry
   order = p.order
 
@@ -92,7 +96,7 @@ module _ (setup : Setup) (p : Positions) (k : PositionsHold setup p.order p.writ
   pub both_change : (flights' : List Flight) (parts' : List Writing)
       → CopiedStill setup.segment_size flights flights'
       → ((id : ℕ) (x : Writing) → HasAt parts' id x → Within x)
-      → PositionsHold setup order written flushed down home writer flights' parts'
+      → PositionsHold opening order written flushed down home writer flights' parts'
   both_change flights' parts' still each = record {
     begun = k.begun;
     flushed_low = k.flushed_low;
@@ -137,7 +141,7 @@ module _ (setup : Setup) (p : Positions) (k : PositionsHold setup p.order p.writ
 
     pub view_changes : (f : Flight) → HasAt flights id f → (y : Writing) → y.written ≤ written
         → y.flushed ≤ flushed → KeepsKnown x.hold y.hold
-        → PositionsHold setup order written flushed down home writer (set flights id f)
+        → PositionsHold opening order written flushed down home writer (set flights id f)
         (set parts id y)
     view_changes f at y low_written low_flushed keeps = both_change (set flights id f)
         (set parts id y) (same_still setup.segment_size flights id f at)
@@ -146,7 +150,7 @@ module _ (setup : Setup) (p : Positions) (k : PositionsHold setup p.order p.writ
 
     -- as it was, with other words
     pub view_stays : (f : Flight) → HasAt flights id f
-        → PositionsHold setup order written flushed down home writer (set flights id f)
+        → PositionsHold opening order written flushed down home writer (set flights id f)
         (set parts id x)
     view_stays f at = view_changes f at x mine.written_met mine.flushed_met
         (λ n is. (n, is, refl, refl))
@@ -155,7 +159,7 @@ module _ (setup : Setup) (p : Positions) (k : PositionsHold setup p.order p.writ
 
     pub goes_out : (f : Flight) → HasAt flights id f → (l : Lent) → l.known ≤ end
         → IsCopiedBelow setup.segment_size flights l.known → l.stored ≤ written
-        → PositionsHold setup order written flushed down none writer (set flights id f)
+        → PositionsHold opening order written flushed down none writer (set flights id f)
         (set parts id (record x { hold = Out l }))
     goes_out f at l low copied stored =
         let still = same_still setup.segment_size flights id f at in
@@ -190,7 +194,7 @@ module _ (setup : Setup) (p : Positions) (k : PositionsHold setup p.order p.writ
 
       pub comes_home : (l : Lent) → x.hold ≡ Out l → l.writer ≡ writer
           → (l.stored ≡ (l.writer).written) ⊎ (down ≢ 0)
-          → PositionsHold setup order written flushed down (some l.writer) writer
+          → PositionsHold opening order written flushed down (some l.writer) writer
           (set flights id f) (set parts id (record x { hold = Turned }))
       comes_home l is own settled =
           let after = view_changes f at (record x { hold = Turned }) mine.written_met
@@ -214,7 +218,7 @@ module _ (setup : Setup) (p : Positions) (k : PositionsHold setup p.order p.writ
       -- the down word, while the writer is away
       pub tells_down : (down' : ℕ) → home ≡ none → (y : Writing) → y.written ≡ x.written
           → y.flushed ≡ x.flushed → y.hold ≡ x.hold
-          → PositionsHold setup order written flushed down' home writer (set flights id f)
+          → PositionsHold opening order written flushed down' home writer (set flights id f)
           (set parts id y)
       tells_down down' away y is_w is_f is_h =
           let after = view_changes f at y (omega (arith, is_w, mine.written_met))
@@ -241,7 +245,7 @@ module _ (setup : Setup) (p : Positions) (k : PositionsHold setup p.order p.writ
 
       -- the written word, up to the writer's
       pub stores_written : (l : Lent) → x.hold ≡ Out l → l.writer ≡ writer
-          → PositionsHold setup order (l.writer).written flushed down home writer
+          → PositionsHold opening order (l.writer).written flushed down home writer
           (set flights id f)
           (set parts id (record x { hold = Out (record l { stored = (l.writer).written }) }))
       stores_written l is own =
@@ -285,13 +289,16 @@ module _ (setup : Setup) (p : Positions) (k : PositionsHold setup p.order p.writ
       -- the flushed word, up to the written one
       pub stores_flushed : (l : Lent) → x.hold ≡ Out l → l.writer ≡ writer
           → l.hard ≡ (l.writer).written → l.stored ≡ (l.writer).written
-          → PositionsHold setup order written l.hard down home writer (set flights id f)
-          (set parts id x)
-      stores_flushed l is own hard stored =
+          → (y : Writing) → y.written ≡ x.written → y.flushed ≡ x.flushed → y.hold ≡ x.hold
+          → PositionsHold opening order written l.hard down home writer (set flights id f)
+          (set parts id y)
+      stores_flushed l is own hard stored y is_w is_f is_h =
           let same : (l.writer).written ≡ writer.written = ap (λ (w : Plain). w.written) own in
           let low : l.hard ≤ written = omega (arith, hard, stored, mine.stored l is) in
           let up : flushed ≤ l.hard =
           omega (arith, hard, same, k.flushed_low, k.written_low) in
+          let after = view_changes f at y (omega (arith, is_w, mine.written_met))
+          (omega (arith, is_f, mine.flushed_met)) (λ n out. (n, sym is_h ∙ out, refl, refl)) in
           record {
             begun = omega (arith, k.begun, up);
             flushed_low = low;
@@ -301,7 +308,7 @@ module _ (setup : Setup) (p : Positions) (k : PositionsHold setup p.order p.writ
             copied = still writer.written k.copied;
             reads = k.reads;
             views = λ j u there.
-                let w = (view_stays f at).views j u there in
+                let w = after.views j u there in
                 record {
                   written_met = w.written_met;
                   flushed_met = omega (arith, w.flushed_met, up);
@@ -315,8 +322,8 @@ module _ (setup : Setup) (p : Positions) (k : PositionsHold setup p.order p.writ
       pub calls : (l : Lent) → x.hold ≡ Out l → home ≡ none → (after : Plain)
           → writer.written ≤ after.written → after.written ≤ end
           → IsCopiedBelow setup.segment_size flights after.written
-          → IfSome after.tape (λ (t : Tape). ReadsBelow setup order after.written (state_now t))
-          → PositionsHold setup order written flushed down home after (set flights id f)
+          → IfSuited opening after (λ (t : Tape). ReadsBelow setup order after.written (state_now t))
+          → PositionsHold opening order written flushed down home after (set flights id f)
           (set parts id (record x { hold = Out (record l { writer = after }) }))
       calls l is away after rises low copied reads =
           let n : Lent = record l { writer = after } in
@@ -360,7 +367,7 @@ module _ (setup : Setup) (p : Positions) (k : PositionsHold setup p.order p.writ
 
     pub order_grows : (id : ℕ) (c : Copy) → c.entry ≡ e → c.copied ≡ 0 → (x : Writing)
         → HasAt parts id x
-        → PositionsHold setup longer written flushed down home writer
+        → PositionsHold opening longer written flushed down home writer
         (set flights id (Copying c)) (set parts id x)
     order_grows id c of_e none_yet x here =
         let begins : end ≡ end_form setup (c.entry).start =
@@ -376,8 +383,8 @@ module _ (setup : Setup) (p : Positions) (k : PositionsHold setup p.order p.writ
           at_home = k.at_home;
           reserved = omega (arith, k.reserved, grown_end);
           copied = clear writer.written k.reserved k.copied;
-          reads = IfSome_then writer.tape k.reads (λ (t : Tape) reads n below.
-              reads n below ∙ sym (word_stays n (omega (arith, below, k.reserved))));
+          reads = IfSome_then writer.tape k.reads (λ (t : Tape) reads suited n below.
+              reads suited n below ∙ sym (word_stays n (omega (arith, below, k.reserved))));
           views = λ j u there.
               let w = k.views j u (subst (λ (ps : List Writing). HasAt ps j u)
               (set_again parts id x here) there) in

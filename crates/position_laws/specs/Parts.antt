@@ -42,7 +42,7 @@ positions_in opening words home views s = record {
 
 pub record HasPositions (p : Positions) (id : ℕ) (v : View) : Type 0 where
   pub size : IsSegmentSize ((v.opening).setup).segment_size
-  pub holds : PositionsHold (v.opening).setup p.order p.written p.flushed p.down p.home p.writer
+  pub holds : PositionsHold v.opening p.order p.written p.flushed p.down p.home p.writer
       p.flights p.parts
   pub turns : IsWriteTurn p.turn p.home p.writer p.writers
   pub writer_here : HasAt p.writers id (writer_of v)
@@ -51,7 +51,7 @@ pub record HasPositions (p : Positions) (id : ℕ) (v : View) : Type 0 where
 
 -- the positions hold still with these flights and parts
 abbrev pub HoldAmong : Positions → View → List Flight → List Writing → Type 0
-HoldAmong p v flights parts = PositionsHold (v.opening).setup p.order p.written p.flushed p.down
+HoldAmong p v flights parts = PositionsHold v.opening p.order p.written p.flushed p.down
     p.home p.writer flights parts
 
 -- and where the view has become another one

@@ -121,6 +121,8 @@ pub fn calls_leave_the_log_readable()
               (write_call ((v.opening).setup).segment_size segment page bytes) outcome p.writer;
         }) id v (view_behind v (write segment page upto bytes outcome) met p.home) }
     ensures sync { (p : Positions) (id : ℕ) (v : View) → HasPositions p id v
+        → (moment : ℕ) (tolds : List Told)
+        → DurabilityHolds v.opening p.order p.flushed moment p.down p.home p.writer tolds
         → (met segment : ℕ) (outcome : Outcome) → MayStep v (sync segment outcome)
         → HoldBehind (record p {
           writer = after_sync (sync_call ((v.opening).setup).segment_size segment) outcome

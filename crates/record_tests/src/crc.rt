@@ -10,11 +10,12 @@ fn crc_of(pieces: &[&[u8]]) -> u32 {
 
 #[test]
 fn known_crcs(rt: HostRuntime) {
-    let cases: [(&[u8], u32); 4] = [
+    let cases: [(&[u8], u32); 5] = [
         (b"", 0x0000_0000),
         (b"123456789", 0xe306_9283),
         (&[0x00; 32], 0x8a91_36aa),
         (&[0xff; 32], 0x62a8_ab43),
+        (&[0x5a; 200], 0x4a38_6ab2),
     ];
     for (bytes, known) in cases {
         let (first, second) = bytes.split_at(bytes.len() / 3);

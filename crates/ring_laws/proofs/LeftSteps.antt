@@ -75,7 +75,7 @@ module _ (v : View) where
   flight_left store_prev met home leaves =
       store_prev_same flight_of v (λ x. refl) (λ x. refl) (v.reserving).place
   flight_left (store_position locks value) met home leaves = absurd leaves
-  flight_left give_position_back met home leaves =
+  flight_left (give_position_back value) met home leaves =
       give_back_same flight_of v (λ x. refl) (λ x. refl) (v.reserving).place
   flight_left (load_lock lock limit) met home leaves = refl
   flight_left (take_lock lock) met home leaves =
@@ -126,7 +126,7 @@ module _ (v : View) where
       store_prev_same confirmed_of v (λ x. refl) (λ x. refl) (v.reserving).place
   confirmed_left (store_position locks value) met home leaves =
       reserved_met locks value (v.reserving).place
-  confirmed_left give_position_back met home leaves =
+  confirmed_left (give_position_back value) met home leaves =
       give_back_same confirmed_of v (λ x. refl) (λ x. refl) (v.reserving).place
   confirmed_left (load_lock lock limit) met home leaves = refl
   confirmed_left (take_lock lock) met home leaves =
@@ -221,8 +221,8 @@ module _ (v : View) (words : List ℕ) (home : Option Plain) (views : List View)
   pages_behind-left store_prev may leaves = pages_by_word store_prev tt (inl (omega arith))
   pages_behind-left (store_position locks value) may leaves =
       pages_by_word (store_position locks value) tt (inl (omega arith))
-  pages_behind-left give_position_back may leaves =
-      pages_by_word give_position_back tt (inl (omega arith))
+  pages_behind-left (give_position_back value) may leaves =
+      pages_by_word (give_position_back value) tt (inl (omega arith))
   pages_behind-left (load_lock lock limit) may leaves =
       pages_by_word (load_lock lock limit) tt (inl (omega arith))
   pages_behind-left (take_lock lock) may leaves =

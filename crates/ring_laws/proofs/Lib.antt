@@ -9,3 +9,4 @@ pub mod RingLaws
 pub mod RingSteps
 pub mod ShownLaws
 pub mod StoredWords
+pub mod CopiedWords

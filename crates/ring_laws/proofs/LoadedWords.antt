@@ -7,7 +7,7 @@ use Rattle.byte_position.specs.Geometry.{IsSegmentSize}
 use Rattle.byte_position.proofs.SegmentSizes.{segment_size_in_pages}
 use Rattle.wal_page.specs.Order.{Entry, IsChained, end_position}
 use Rattle.wal_core.specs.declared.setup.Setup.{Setup}
-use Rattle.wal_core.specs.Words.{end_form}
+use Rattle.wal_core.specs.Words.{Opening, end_form}
 use Rattle.wal_core.specs.Views.{HasAt, Flight, Stage, Plain, Lent, Out, Writing}
 use Rattle.wal_core.specs.Ringed.{IsAwaited, RingHolds}
 use Rattle.wal_core.specs.Paged.{PagesHold}
@@ -62,17 +62,17 @@ module _ (setup : Setup) (order : List Entry) (reach : ℕ) (memory : ℕ → �
                 (λ t. absurd (not_awaited (8 * n) less t.1)) (k.words n);
           }
 
-pub loads_staged : (setup : Setup) (order : List Entry) (reach : ℕ) (memory : ℕ → ℕ)
+pub loads_staged : (o : Opening) (order : List Entry) (reach : ℕ) (memory : ℕ → ℕ)
     (flights : List Flight) (stage : Stage) (initialised written flushed down : ℕ)
     (ends ring : ℕ → ℕ) (confirmed : List ℕ) (home : Option Plain) (writer : Plain)
     (parts : List Writing) (id n : ℕ) (x : Writing) (l : Lent)
-    → IsSegmentSize setup.segment_size → IsChained setup.segment_size order
-    → RingHolds setup order reach memory flights
-    → PagesHold setup.ring_pages reach stage initialised written ends ring memory confirmed
-    → PositionsHold setup order written flushed down home writer flights parts
+    → IsSegmentSize (o.setup).segment_size → IsChained (o.setup).segment_size order
+    → RingHolds o.setup order reach memory flights
+    → PagesHold (o.setup).ring_pages reach stage initialised written ends ring memory confirmed
+    → PositionsHold o order written flushed down home writer flights parts
     → HasAt parts id x → x.hold ≡ Out l → l.writer ≡ writer → IsToBeWritten n l
-    → IsStaged setup order l.known (n, ring (ring_place setup n))
-loads_staged setup order reach memory flights stage initialised written flushed down ends ring
+    → IsStaged o.setup order l.known (n, ring (ring_place o.setup n))
+loads_staged o order reach memory flights stage initialised written flushed down ends ring
     confirmed home writer parts id n x l valid chain k pages positions here out same to_write =
     let of_view = (positions.views id x here).known l out in
     let begun = positions.begun in
@@ -80,5 +80,5 @@ loads_staged setup order reach memory flights stage initialised written flushed 
     let written_low = positions.written_low in
     let own : (l.writer).written ≡ writer.written = ap (λ (p : Plain). p.written) same in
     let unwritten = to_write.unwritten in
-    loads setup order reach memory flights k valid chain l.known of_view.1 stage initialised
+    loads o.setup order reach memory flights k valid chain l.known of_view.1 stage initialised
     written ends ring confirmed pages (omega arith) of_view.0 n (omega arith) to_write.copied

@@ -151,14 +151,26 @@ module _ (pages reach : ℕ) (stage : Stage) (initialised written : ℕ) (ends r
       → PagesHold pages reach Taken initialised written ends ring memory confirmed
   takes_turn away = on_to Taken (subst Now away k.mapping) confirmed k.seen
 
-  -- a view more, which met nothing, beside one that stays
+  -- a view more, beside one that stays
+  added : (id c new : ℕ) → HasAt confirmed id c → new ≤ reach * 8192
+      → PagesHold pages reach stage initialised written ends ring memory
+      (set confirmed id c ++ new ∷ [])
+  added id c new here low = on_to stage k.mapping (set confirmed id c ++ new ∷ [])
+      (one_added (λ j d. d ≤ reach * 8192) (set confirmed id c) new
+      (one_set (λ j d. d ≤ reach * 8192) confirmed id c (λ j d ne there. k.seen j d there)
+      (k.seen id c here)) low)
+
+  -- one that met nothing
   pub one_more : (id c : ℕ) → HasAt confirmed id c
       → PagesHold pages reach stage initialised written ends ring memory
       (set confirmed id c ++ 0 ∷ [])
-  one_more id c here = on_to stage k.mapping (set confirmed id c ++ 0 ∷ [])
-      (one_added (λ j d. d ≤ reach * 8192) (set confirmed id c) 0
-      (one_set (λ j d. d ≤ reach * 8192) confirmed id c (λ j d ne there. k.seen j d there)
-      (k.seen id c here)) (omega arith))
+  one_more id c here = added id c 0 here (omega arith)
+
+  -- one that met what the other has
+  pub one_beside : (id c : ℕ) → HasAt confirmed id c
+      → PagesHold pages reach stage initialised written ends ring memory
+      (set confirmed id c ++ c ∷ [])
+  one_beside id c here = added id c c here (k.seen id c here)
 
   -- a view is spent, another stays
   pub one_less : (id other c : ℕ) → HasAt confirmed id c

@@ -147,7 +147,7 @@ module _ (v : View) (words : List ℕ) (home : Option Plain) (views : List View)
       let same : may.0 ≡ l = (let e : Out may.0 ≡ Out l = sym may.1 ∙ out in cc) in
       let writer_is = subst (StandsTo _ _ _ _ _ _) out
       (((s.locks).writing).each id (writer_of v) (part_at writer_of views id v here)) in
-      loads_staged setup s.order s.reach s.memory (map flight_of views) s.stage
+      loads_staged v.opening s.order s.reach s.memory (map flight_of views) s.stage
       (initialised_word words) (written_word words) _ _ (end_word words) (ring_word setup words)
       all_met home s.writer (map writing_of views) id n v.writing l (s.setup_is).size
       (s.reserved).chained s.ring s.pages s.positions (part_at writing_of views id v here) out

@@ -66,7 +66,7 @@ module _ (opening : Opening) (words : List ℕ) (home : Option Plain) (views : L
       (set views id (without_work v) ++ orphan_of v ∷ [])
   pages-given_up = subst Pages
       (sym (part_set_added confirmed_of views id (without_work v) (orphan_of v)))
-      (page.one_more (opening.setup).ring_pages s.reach s.stage (initialised_word words)
+      (page.one_beside (opening.setup).ring_pages s.reach s.stage (initialised_word words)
       (written_word words) (end_word words) (ring_word opening.setup words) s.memory
       (map confirmed_of views) s.pages id (v.mapping).confirmed mine)
 

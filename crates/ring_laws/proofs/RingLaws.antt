@@ -1,29 +1,29 @@
 -- The log's words in memory, through each kind of step that changes what is said of them.
-use Rattle.std.proofs.Common.{◌≡◌, ◌≢◌, inl, inr, ℕ, ◌+◌, ◌*◌, ◌/◌, ◌%◌, ◌<◌, ◌≤◌, List, [], ◌∷◌, ◌++◌, length, set, Contains, sym, refl, ap, ◌∙◌, subst, ⊎_elim, arith}
+use Rattle.std.proofs.Common.{◌≡◌, ◌≢◌, ◌⊎◌, inl, inr, ℕ, ◌+◌, ◌*◌, ◌/◌, ◌%◌, ◌<◌, ◌≤◌, List, [], ◌∷◌, ◌++◌, length, set, Contains, sym, refl, ap, ◌∙◌, subst, ⊎_elim, arith}
 use Rattle.std.proofs.lemmas.List.{append_assoc}
 use mathlib.Core.Option.{some}
 use mathlib.Core.Logic.{dite}
 use native.Mathlib.Decide.{ℕ_discrete, dec_le}
-use Rattle.atomic_table.proofs.Lists.{set_else, set_again, at_set, at_snoc, at_longer, at_last}
+use Rattle.atomic_table.proofs.Lists.{set_else, set_again, at_set, at_longer, at_last}
 use Rattle.byte_position.specs.Geometry.{IsSegmentSize}
-use Rattle.byte_position.specs.Position.{end_address_of}
+use Rattle.byte_position.specs.Position.{end_address_of, first_position}
 use Rattle.byte_position.proofs.EndAddresses.{end_address_of-mono}
 use Rattle.byte_position.proofs.Words.{end_address_of-mod_word}
 use Rattle.record_spelling.specs.Spelling.{assembled}
-use Rattle.wal_page.specs.Order.{Entry, IsChained, end_position, finish_of, position_behind, prev_of}
+use Rattle.wal_page.specs.Order.{Entry, IsChained, end_position, finish_of, position_behind, prev_of, rooms_of}
 use Rattle.wal_page.specs.EntryWords.{address_of_word, words_owned}
 use Rattle.wal_page.specs.Placed.{entry_word}
-use Rattle.wal_page.proofs.OrderLaws.{rooms_of_push}
+use Rattle.wal_page.proofs.OrderLaws.{FollowsFrom-parts, room_at-pos, rooms_of-append, rooms_of_cons, rooms_of_push}
 use Rattle.wal_page.proofs.OwnerLaws.{Owns-between, start-whole}
 use Rattle.wal_page.proofs.EntryWordLaws.{numbered_word-owned}
 use Rattle.wal_page.proofs.LogWordLaws.{log_word-entry, log_word_push, log_word-behind}
 use Rattle.wal_core.specs.declared.setup.Setup.{Setup}
 use Rattle.wal_core.specs.Views.{HasAt, Copy, Flight, Landed, Copying}
-use Rattle.wal_core.specs.Ringed.{log_word_of, StandsIn, IsAwaited, RingHolds}
+use Rattle.wal_core.specs.Ringed.{log_word_of, StandsIn, IsAwaited, IsInFlightOnce, RingHolds}
 use Rattle.wal_core.specs.Moves.{landed}
 use Rattle.wal_core.specs.Steps.{next_number, next_word}
 use Rattle.wal_core.proofs.Landing.{landed_was, landed_stays}
-use Rattle.wal_core.proofs.Lists.{one_set, at_same, at_place}
+use Rattle.wal_core.proofs.Lists.{one_set, at_new, at_same, at_place}
 use Rattle.ring_laws.specs.Put.{IsPut}
 
 -- ---- the words of an entry
@@ -53,6 +53,20 @@ pub copy-whole : (size : ℕ) → IsSegmentSize size → (order : List Entry) �
 copy-whole size valid order chain c s =
     start-whole size valid s.front s.back c.entry (subst (IsChained size) s.are chain)
 
+-- and before the order's end
+start-before_end : (size : ℕ) (order : List Entry) → IsChained size order → (c : Copy)
+    → StandsIn size order c → (c.entry).start < end_position size order
+start-before_end size order chain c s =
+    let parts = FollowsFrom-parts size (first_position size) s.front (c.entry ∷ s.back)
+    (subst (IsChained size) s.are chain) in
+    let start : (c.entry).start ≡ first_position size + rooms_of size s.front = parts.1.0 in
+    let all : rooms_of size order
+    ≡ rooms_of size s.front + rooms_of size (c.entry ∷ s.back) =
+    ap (rooms_of size) s.are ∙ rooms_of-append size s.front (c.entry ∷ s.back) in
+    let own = rooms_of_cons size c.entry s.back in
+    let room = room_at-pos size c.entry in
+    omega arith
+
 -- an entry in flight goes on to stand in an order that grows
 still_stands : (size : ℕ) (order : List Entry) (e : Entry) (c : Copy) → StandsIn size order c
     → StandsIn size (order ++ e ∷ []) c
@@ -72,6 +86,16 @@ awaited_at : (size : ℕ) (flights flights2 : List Flight) (address j : ℕ)
 awaited_at size flights flights2 address j w there =
     record { id = j; copy = w.copy; in_flight = there; from = w.from; to = w.to }
 
+-- copies of the same entries, at the same places, are each in flight once
+once_as : (flights flights2 : List Flight) → IsInFlightOnce flights
+    → ((id : ℕ) (c : Copy) → HasAt flights2 id (Copying c)
+    → (b : Copy) × HasAt flights id (Copying b) × ((b.entry).start ≡ (c.entry).start))
+    → IsInFlightOnce flights2
+once_as flights flights2 once back i j c d at there same =
+    let a = back i c at in
+    let b = back j d there in
+    once i j a.0 b.0 a.1 b.1 (a.2 ∙ same ∙ sym b.2)
+
 -- ---- steps
 
 module _ (setup : Setup) (order : List Entry) (reach : ℕ) (memory : ℕ → ℕ) (flights : List Flight)
@@ -80,29 +104,40 @@ module _ (setup : Setup) (order : List Entry) (reach : ℕ) (memory : ℕ → �
   size = setup.segment_size
 
   -- the views change, each entry in flight is one of the order, and all that is awaited stays so
-  rearrange : (flights2 : List Flight)
+  rearrange : (flights2 : List Flight) → IsInFlightOnce flights2
       → ((id : ℕ) (c : Copy) → HasAt flights2 id (Copying c) → StandsIn size order c)
       → ((address : ℕ) → IsAwaited size flights address → IsAwaited size flights2 address)
       → RingHolds setup order reach memory flights2
-  rearrange flights2 stand forth = record {
+  rearrange flights2 once stand forth = record {
     in_flight = stand;
+    alone = once;
     words = λ n. ⊎_elim (λ t. inl t) (λ t. inr (t.0, forth (8 * n) t.1)) (k.words n);
     ahead = λ n far from low. forth (8 * n) (k.ahead n far from low);
   }
 
   -- the views change, but no copy comes, and all that is awaited stays so
-  regroup : (flights2 : List Flight)
+  regroup : (flights2 : List Flight) → IsInFlightOnce flights2
       → ((id : ℕ) (c : Copy) → HasAt flights2 id (Copying c)
       → (j : ℕ) × HasAt flights j (Copying c))
       → ((address : ℕ) → IsAwaited size flights address → IsAwaited size flights2 address)
       → RingHolds setup order reach memory flights2
-  regroup flights2 back forth = rearrange flights2
+  regroup flights2 once back forth = rearrange flights2 once
       (λ id c there. let h = back id c there in k.in_flight h.0 c h.1) forth
+
+  -- the same, where each copy is where it was
+  regroup_here : (flights2 : List Flight)
+      → ((id : ℕ) (c : Copy) → HasAt flights2 id (Copying c) → HasAt flights id (Copying c))
+      → ((address : ℕ) → IsAwaited size flights address → IsAwaited size flights2 address)
+      → RingHolds setup order reach memory flights2
+  regroup_here flights2 back forth = regroup flights2
+      (once_as flights flights2 k.alone (λ id c there. (c, back id c there, refl)))
+      (λ id c there. (id, back id c there)) forth
 
   -- pages more are mapped
   pub reaches : (reach2 : ℕ) → reach ≤ reach2 → RingHolds setup order reach2 memory flights
   reaches reach2 up = record {
     in_flight = k.in_flight;
+    alone = k.alone;
     words = k.words;
     ahead = λ n far from low. k.ahead n (omega arith) from low;
   }
@@ -117,9 +152,9 @@ module _ (setup : Setup) (order : List Entry) (reach : ℕ) (memory : ℕ → �
     pub splits : RingHolds setup order reach memory (set flights id f ++ Landed ∷ [])
     splits = subst (λ (x : List Flight). RingHolds setup order reach memory (x ++ Landed ∷ []))
         (sym (set_again flights id f here))
-        (regroup (flights ++ Landed ∷ [])
-        (λ j c there. ⊎_elim (λ was. (j, was)) (λ new. absurd (cc))
-        (at_snoc flights Landed (Copying c) j there))
+        (regroup_here (flights ++ Landed ∷ [])
+        (λ j c there. ⊎_elim (λ was. was) (λ new. let none = new.1 in absurd (cc))
+        (at_new flights Landed (Copying c) j there))
         (λ address w. awaited_at size flights (flights ++ Landed ∷ []) address w.id w
         (at_longer flights (Landed ∷ []) w.id (Copying w.copy) w.in_flight)))
 
@@ -130,16 +165,33 @@ module _ (setup : Setup) (order : List Entry) (reach : ℕ) (memory : ℕ → �
         (λ (x : List Flight). RingHolds setup order reach memory (set x id f))
         (sym (set_again flights other Landed there)) stays
 
-    -- a view's flight moves to a view of its own
+    -- a view's flight moves to a view of its own: where a copy was that is found then
+    was_at : (j : ℕ) (c : Copy) → HasAt (set flights id Landed ++ f ∷ []) j (Copying c)
+        → ((j ≢ id) × HasAt flights j (Copying c))
+        ⊎ ((j ≡ length (set flights id Landed)) × HasAt flights id (Copying c))
+    was_at j c there = ⊎_elim
+        (λ was. ⊎_elim (λ t. let e = t.1 in absurd (cc)) (λ t. inl t)
+        (at_set flights id j Landed (Copying c) was))
+        (λ own. inr (own.0, here ∙ ap (λ (x : Flight). some x) own.1))
+        (at_new (set flights id Landed) f (Copying c) j there)
+
+    moves_once : IsInFlightOnce (set flights id Landed ++ f ∷ [])
+    moves_once i j c d at there same = ⊎_elim
+        (λ a. ⊎_elim
+        (λ b. k.alone i j c d a.1 b.1 same)
+        (λ b. absurd (a.0 (k.alone i id c d a.1 b.1 same)))
+        (was_at j d there))
+        (λ a. ⊎_elim
+        (λ b. absurd (b.0 (k.alone j id d c b.1 a.1 (sym same))))
+        (λ b. a.0 ∙ sym b.0)
+        (was_at j d there))
+        (was_at i c at)
+
     pub gives_up : RingHolds setup order reach memory (set flights id Landed ++ f ∷ [])
     gives_up =
         let rest : List Flight = set flights id Landed in
-        regroup (rest ++ f ∷ [])
-        (λ j c there. ⊎_elim
-        (λ was. ⊎_elim (λ t. let e = t.1 in absurd (cc)) (λ t. (j, t.1))
-        (at_set flights id j Landed (Copying c) was))
-        (λ own. (id, here ∙ ap (λ (x : Flight). some x) own))
-        (at_snoc rest f (Copying c) j there))
+        regroup (rest ++ f ∷ []) moves_once
+        (λ j c there. ⊎_elim (λ t. (j, t.1)) (λ t. (id, t.1)) (was_at j c there))
         (λ address w. dite (ℕ_discrete w.id id)
         (λ mine. awaited_at size flights (rest ++ f ∷ []) address (length rest) w
         (at_last rest f (length rest) refl
@@ -149,23 +201,33 @@ module _ (setup : Setup) (order : List Entry) (reach : ℕ) (memory : ℕ → �
         (at_longer rest (f ∷ []) w.id (Copying w.copy)
         (set_else flights id w.id Landed ne ∙ w.in_flight))))
 
+-- a copy is of the entry that another one is of, and stands in the order where it does
+abbrev StandsAs : ℕ → List Entry → Copy → Copy → Type 0
+StandsAs size order d c = ((d.entry).start ≡ (c.entry).start)
+    × (StandsIn size order d → StandsIn size order c)
+
 -- an entry that a release leaves in flight stands where it stood
 landed_stands : (size : ℕ) (order : List Entry) (lock : ℕ) (f : Flight) (c : Copy)
-    → landed lock f ≡ Copying c → ((d : Copy) → f ≡ Copying d → StandsIn size order d)
-    → StandsIn size order c
-landed_stands size order lock f c is stands =
+    → landed lock f ≡ Copying c → (d : Copy) × (f ≡ Copying d) × StandsAs size order d c
+landed_stands size order lock f c is =
     let was = landed_was lock f c is in
-    let s = stands was.0 was.1 in
-    ⊎_elim
-    (λ t. subst (λ (x : Copy). StandsIn size order x) t.1 s)
-    (λ t. subst (λ (x : Copy). StandsIn size order x) t.1 (record {
-      front = s.front;
-      back = s.back;
-      are = s.are;
-      prev_is = s.prev_is;
-      copied_within = s.copied_within;
-    }))
-    was.2
+    let d : Copy = was.0 in (
+      d,
+      was.1,
+      ⊎_elim
+          (λ t. subst (λ (x : Copy). StandsAs size order d x) t.1 (refl, λ s. s))
+          (λ t. subst (λ (x : Copy). StandsAs size order d x) t.1 (
+            refl,
+            λ s. record {
+              front = s.front;
+              back = s.back;
+              are = s.are;
+              prev_is = s.prev_is;
+              copied_within = s.copied_within;
+            },
+          ))
+          was.2,
+    )
 
 module _ (setup : Setup) (order : List Entry) (reach : ℕ) (memory : ℕ → ℕ) (flights : List Flight)
     (k : RingHolds setup order reach memory flights)
@@ -187,12 +249,20 @@ module _ (setup : Setup) (order : List Entry) (reach : ℕ) (memory : ℕ → �
         → RingHolds setup order reach memory (set flights id (landed lock f))
     releases lock whole =
         let after : List Flight = set flights id (landed lock f) in
+        let was : (j : ℕ) (c : Copy) → HasAt after j (Copying c) → (d : Copy)
+        × HasAt flights j (Copying d) × StandsAs segment order d c
+        = λ j c there. ⊎_elim
+        (λ t. let d = landed_stands segment order lock f c t.1 in (
+          d.0,
+          subst (λ (i : ℕ). HasAt flights i (Copying d.0)) (sym t.0)
+              (here ∙ ap (λ (x : Flight). some x) d.1),
+          d.2,
+        ))
+        (λ t. (c, t.1, (refl, λ s. s)))
+        (at_set flights id j (landed lock f) (Copying c) there) in
         rearrange setup order reach memory flights k after
-        (λ j c there. ⊎_elim
-        (λ t. landed_stands segment order lock f c t.1 (λ d own. k.in_flight id d
-        (here ∙ ap (λ (x : Flight). some x) own)))
-        (λ t. k.in_flight j c t.1)
-        (at_set flights id j (landed lock f) (Copying c) there))
+        (once_as flights after k.alone (λ j c there. let d = was j c there in (d.0, d.1, d.2.0)))
+        (λ j c there. let d = was j c there in d.2.1 (k.in_flight j d.0 d.1))
         (λ address w. dite (ℕ_discrete w.id id)
         (λ mine.
         let own : f ≡ Copying w.copy = at_same flights f (Copying w.copy) id here
@@ -206,6 +276,26 @@ module _ (setup : Setup) (order : List Entry) (reach : ℕ) (memory : ℕ → �
         (at_place flights id f (landed lock f) here ∙ ap (λ (x : Flight). some x) stays))
         (λ ne. awaited_at segment flights after address w.id w
         (set_else flights id w.id (landed lock f) ne ∙ w.in_flight)))
+
+  -- no copy is one of an entry that starts at the order's end; so such a copy may begin
+  begins_once : (id : ℕ) (new : Copy) → HasAt flights id Landed
+      → (new.entry).start ≡ end_position segment order
+      → IsInFlightOnce (set flights id (Copying new))
+  begins_once id new here at i j c d one other same = ⊎_elim
+      (λ a. ⊎_elim
+      (λ b. a.0 ∙ sym b.0)
+      (λ b. let low = start-before_end segment order chain d (k.in_flight j d b.1) in
+      let is : new ≡ c = (let e = a.1 in cc) in
+      let start : (new.entry).start ≡ (c.entry).start = ap (λ (x : Copy). (x.entry).start) is in
+      absurd (omega arith))
+      (at_set flights id j (Copying new) (Copying d) other))
+      (λ a. let low = start-before_end segment order chain c (k.in_flight i c a.1) in ⊎_elim
+      (λ b. let is : new ≡ d = (let e = b.1 in cc) in
+      let start : (new.entry).start ≡ (d.entry).start = ap (λ (x : Copy). (x.entry).start) is in
+      absurd (omega arith))
+      (λ b. k.alone i j c d a.1 b.1 same)
+      (at_set flights id j (Copying new) (Copying d) other))
+      (at_set flights id i (Copying new) (Copying c) one)
 
   -- the view's entry joins the order and is in flight
   pub reserves : (id : ℕ) (e : Entry) (prev : ℕ) (locks : List ℕ) → HasAt flights id Landed
@@ -249,6 +339,7 @@ module _ (setup : Setup) (order : List Entry) (reach : ℕ) (memory : ℕ → �
               copied_within = omega arith;
             })
             j (Copying c) there refl;
+        alone = begins_once id new here at;
         words = λ n.
             let a : ℕ = 8 * n in
             let whole : a % 8 ≡ 0 = omega arith in
@@ -324,6 +415,14 @@ module _ (setup : Setup) (order : List Entry) (reach : ℕ) (memory : ℕ → �
               copied_within = omega arith;
             })
             j (Copying d) there refl;
+        alone = once_as flights after k.alone (λ j d there. ⊎_elim
+            (λ t. let is : new ≡ d = (let e = t.1 in cc) in (
+              c,
+              subst (λ (i : ℕ). HasAt flights i (Copying c)) (sym t.0) here,
+              ap (λ (x : Copy). (x.entry).start) is,
+            ))
+            (λ t. (d, t.1, refl))
+            (at_set flights id j (Copying new) (Copying d) there));
         words = λ n. dite (ℕ_discrete n (a / 8))
             (λ e. let at : 8 * n ≡ a = omega arith in
             inl (ap memory2 e ∙ put.here ∙ sym word ∙ ap (log_word_of setup order) (sym at)))

@@ -4,17 +4,19 @@ use Rattle.std.proofs.Math.Nat.{mod-lt}
 use mathlib.Core.Option.{Option}
 use mathlib.Core.Logic.{dite}
 use native.Mathlib.Decide.{dec_le}
+use Rattle.wal_page.specs.EntryWords.{address_of_word}
 use Rattle.wal_core.specs.declared.setup.Setup.{Setup}
 use Rattle.wal_core.specs.Words.{Opening, initialised_word, written_word, mapping_turn, end_word, ring_word}
-use Rattle.wal_core.specs.Views.{HasAt, Stage, Away, Taken, Looked, Ready, Zeroing, Published, Plain, View, Copying, working_of, flight_of, watching_of, mapper_of, confirmed_of, told_of}
+use Rattle.wal_core.specs.Views.{HasAt, Stage, Away, Taken, Looked, Ready, Zeroing, Published, Plain, View, Copy, Flight, Copying, working_of, flight_of, watching_of, mapper_of, confirmed_of, told_of}
 use Rattle.wal_core.specs.Locked.{HasTurn}
-use Rattle.wal_core.specs.Ringed.{IsAwaited}
+use Rattle.wal_core.specs.Ringed.{IsAwaited, log_word_of}
 use Rattle.wal_core.specs.Paged.{AtStage, PagesHold}
 use Rattle.wal_core.specs.Steps.{page_mapped, words_zeroed, ring_place}
 use Rattle.wal_core.specs.Sound.{IsSound}
-use Rattle.wal_core.specs.Shown.{IsPresent, HasLooked, HasCleared, IsPublished, WordsAreLogs, PagesArePresent, MappersAreNext}
+use Rattle.wal_core.specs.Shown.{IsPresent, HasLooked, HasCleared, HasLogWord, IsPublished, EntriesAreCopied, WordsAreLogs, PagesArePresent, MappersAreNext}
 use Rattle.wal_core.proofs.Landing.{lock_of}
 use Rattle.wal_core.proofs.Lists.{part_at, view_from}
+use Rattle.ring_laws.proofs.CopiedWords.{copied-stored, landed-stored}
 use Rattle.ring_laws.proofs.RingLaws.{awaited-left}
 use Rattle.ring_laws.proofs.PageLaws.{end_low, not_given_up}
 
@@ -195,6 +197,33 @@ module _ (opening : Opening) (words : List ℕ) (home : Option Plain) (views : L
           word_is n present ∙ ⊎_elim (λ t. t)
               (λ t. absurd (watched-not_awaited id v (8 * n) here all low t.1)) ((s.ring).words n),
         );
+  }
+
+  -- where a page is present, what is the log's in memory is so in the ring
+  in_ring : (address : ℕ)
+      → s.memory (address / 8) ≡ log_word_of setup s.order address
+      → HasLogWord setup s.order words address
+  in_ring address is here = word_is (address / 8)
+      (subst (λ (page : ℕ). IsPresent setup words page) (omega arith) here) ∙ is
+
+  -- who copies an entry has it in flight
+  flies : (id : ℕ) (v : View) (c : Copy) → HasAt views id v → (v.working).flight ≡ Copying c
+      → HasAt (map flight_of views) id (Copying c)
+  flies id v c here is = subst (λ (f : Flight). HasAt (map flight_of views) id f) is
+      (part_at flight_of views id v here)
+
+  pub entries_are_copied : EntriesAreCopied setup s.order words views
+  entries_are_copied = record {
+    once = λ i j v w c d one other copies this.
+        (s.ring).alone i j c d (flies i v c one copies) (flies j w d other this);
+    copied = λ id v c n here is low. in_ring (address_of_word setup.segment_size c.entry n)
+        (copied-stored setup s.order s.reach s.memory (map flight_of views) s.ring
+        (s.setup_is).size (s.reserved).chained id c (flies id v c here is) n low);
+    landed = λ front back e n are nowhere owned. in_ring (address_of_word setup.segment_size e n)
+        (landed-stored setup s.order s.reach s.memory (map flight_of views) s.ring
+        (s.setup_is).size (s.reserved).chained front back e are n owned
+        (λ id c there. let u = view_from flight_of views id (Copying c) there in
+        nowhere id u.0 c u.1 u.2));
   }
 
   pub pages_are_present : PagesArePresent setup s.order words views

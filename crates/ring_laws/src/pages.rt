@@ -108,6 +108,12 @@ pub fn passes_keep_pages()
         → HasAt confirmed id met
         → PagesHold pages reach stage initialised written ends ring memory
         (set confirmed id met ++ 0 ∷ []) }
+    ensures given_up { (pages reach : ℕ) (stage : Stage) (initialised written : ℕ)
+        (ends ring memory : ℕ → ℕ) (confirmed : List ℕ) (id met : ℕ)
+        → PagesHold pages reach stage initialised written ends ring memory confirmed
+        → HasAt confirmed id met
+        → PagesHold pages reach stage initialised written ends ring memory
+        (set confirmed id met ++ met ∷ []) }
     ensures taken_in { (pages reach : ℕ) (stage : Stage) (initialised written : ℕ)
         (ends ring memory : ℕ → ℕ) (confirmed : List ℕ) (id other met : ℕ)
         → PagesHold pages reach stage initialised written ends ring memory confirmed

@@ -1,16 +1,17 @@
 //! The log's words in memory, through each kind of step that changes what is said of them; and what
 //! a load of one of the ring's words meets.
 
-ghost use Rattle.std.specs.Prelude.{◌≡◌, ℕ, ◌+◌, ◌≤◌, Contains, List, [], ◌∷◌, ◌++◌, set};
+ghost use Rattle.std.specs.Prelude.{◌≡◌, ◌≢◌, ℕ, ◌+◌, ◌/◌, ◌<◌, ◌≤◌, Contains, List, [], ◌∷◌, ◌++◌, set};
 ghost use mathlib.Core.Option.{Option};
 ghost use Rattle.byte_position.specs.Geometry.{IsSegmentSize};
 ghost use Rattle.wal_page.specs.Order.{Entry, IsChained, end_position, prev_of};
-ghost use Rattle.wal_page.specs.EntryWords.{words_owned};
+ghost use Rattle.wal_page.specs.EntryWords.{address_of_word, words_owned};
 ghost use Rattle.wal_core.specs.declared.setup.Setup.{Setup};
+ghost use Rattle.wal_core.specs.Words.{Opening};
 ghost use Rattle.wal_core.specs.Views.{HasAt, Copy, Flight, Landed, Copying, Stage, Plain, Lent, Out, Writing};
 ghost use Rattle.wal_core.specs.Moves.{landed, one_more};
 ghost use Rattle.wal_core.specs.Steps.{CopiesOn, IsToBeWritten, next_number, next_word, ring_place};
-ghost use Rattle.wal_core.specs.Ringed.{RingHolds};
+ghost use Rattle.wal_core.specs.Ringed.{RingHolds, log_word_of};
 ghost use Rattle.wal_core.specs.Paged.{PagesHold};
 ghost use Rattle.wal_core.specs.Positioned.{PositionsHold};
 ghost use Rattle.wal_core.specs.Durable.{IsStaged};
@@ -43,6 +44,25 @@ pub fn copies_keep_the_ring()
         → ((c : Copy) → flight ≡ Copying c → Contains c.locks lock
         → c.copied ≡ words_owned setup.segment_size c.entry)
         → RingHolds setup order reach memory (set flights id (landed lock flight)) }
+{}
+
+/// In memory each word of an entry in flight that counts as copied is the log's, and each word of
+/// an entry of the order that is in no flight.
+pub fn copied_words_are_the_logs()
+    ensures in_flight { (setup : Setup) (order : List Entry) (reach : ℕ) (memory : ℕ → ℕ)
+        (flights : List Flight) (id n : ℕ) (c : Copy)
+        → IsSegmentSize setup.segment_size → IsChained setup.segment_size order
+        → RingHolds setup order reach memory flights → HasAt flights id (Copying c)
+        → n < c.copied → memory (address_of_word setup.segment_size c.entry n / 8)
+        ≡ log_word_of setup order (address_of_word setup.segment_size c.entry n) }
+    ensures in_no_flight { (setup : Setup) (order : List Entry) (reach : ℕ) (memory : ℕ → ℕ)
+        (flights : List Flight) (front back : List Entry) (e : Entry) (n : ℕ)
+        → IsSegmentSize setup.segment_size → IsChained setup.segment_size order
+        → RingHolds setup order reach memory flights → order ≡ front ++ e ∷ back
+        → ((id : ℕ) (c : Copy) → HasAt flights id (Copying c) → (c.entry).start ≢ e.start)
+        → n < words_owned setup.segment_size e
+        → memory (address_of_word setup.segment_size e n / 8)
+        ≡ log_word_of setup order (address_of_word setup.segment_size e n) }
 {}
 
 /// Pages more are mapped.
@@ -78,14 +98,15 @@ pub fn passes_keep_the_ring()
 /// What the writer's holder loads from the ring for a write is 0 or the log's word, and the log's
 /// where the word lies in what was known to be copied.
 pub fn loaded_words_are_the_logs()
-    ensures { (setup : Setup) (order : List Entry) (reach : ℕ) (memory : ℕ → ℕ)
+    ensures { (o : Opening) (order : List Entry) (reach : ℕ) (memory : ℕ → ℕ)
         (flights : List Flight) (stage : Stage) (initialised written flushed down : ℕ)
         (ends ring : ℕ → ℕ) (confirmed : List ℕ) (home : Option Plain) (writer : Plain)
         (parts : List Writing) (id k : ℕ) (x : Writing) (l : Lent)
-        → IsSegmentSize setup.segment_size → IsChained setup.segment_size order
-        → RingHolds setup order reach memory flights
-        → PagesHold setup.ring_pages reach stage initialised written ends ring memory confirmed
-        → PositionsHold setup order written flushed down home writer flights parts
+        → IsSegmentSize (o.setup).segment_size → IsChained (o.setup).segment_size order
+        → RingHolds o.setup order reach memory flights
+        → PagesHold (o.setup).ring_pages reach stage initialised written ends ring memory
+        confirmed
+        → PositionsHold o order written flushed down home writer flights parts
         → HasAt parts id x → x.hold ≡ Out l → l.writer ≡ writer → IsToBeWritten k l
-        → IsStaged setup order l.known (k, ring (ring_place setup k)) }
+        → IsStaged o.setup order l.known (k, ring (ring_place o.setup k)) }
 {}

@@ -1,6 +1,7 @@
 -- Every image that a crash may leave is that of some list of numbers.
-use Rattle.std.proofs.Common.{◌≡◌, ℕ, zero, suc, ◌+◌, ◌-◌, ◌*◌, ◌<◌, ◌≤◌, ◌⊎◌, Bool, true, false, List, [], ◌∷◌, ◌++◌, length, get_or, min, Option, Some, None, refl, sym, ap, ◌∙◌, ◌==◌, if◌then◌else◌, arith, inl, inr, mul-add}
+use Rattle.std.proofs.Common.{◌≡◌, ℕ, zero, suc, ◌+◌, ◌-◌, ◌*◌, ◌<◌, ◌≤◌, ◌⊎◌, Bool, true, false, List, [], ◌∷◌, ◌++◌, length, get_or, min, All, IfSome, Option, Some, None, refl, sym, ap, ◌∙◌, ◌==◌, if◌then◌else◌, arith, inl, inr, mul-add}
 use Rattle.std.proofs.lemmas.Bool.{cases_lt, eq-eqb}
+use Rattle.std.proofs.lemmas.List.Elements.{All-append, All-nil, All-push}
 use Rattle.std.proofs.lemmas.List.{length-append, get_or_append_left, get_or_push, get_or-append-add, length_push}
 use Rattle.segment_disk.specs.Tape.{Segment, DiskState}
 use Rattle.segment_disk.specs.DiskImage.{ImageSegment, DiskImage, word_of, IsWritten, MayLeavePage, MayLeaveSegment, MayLeave}
@@ -11,35 +12,37 @@ use Rattle.segment_disk.proofs.TakenWords.{numbered-none}
 abbrev pub IsNumbered : List (List ℕ) → List ℕ → ℕ → List ℕ → ℕ → Type 0
 IsNumbered writes durable k word n = word ≡ word_of (numbered_page writes durable n) k
 
-written_at : (writes : List (ℕ × List ℕ)) (page k : ℕ) (durable word : List ℕ) → IsWritten writes page k word → (n : ℕ) × (word ≡ word_of (get_or (writes_to writes page) n durable) k)
+written_at : (writes : List (ℕ × List ℕ)) (page k : ℕ) (durable word : List ℕ) → IsWritten writes page k word → (n : ℕ) × (word ≡ word_of (get_or (writes_to writes page) n durable) k) × (n < length writes)
 written_at [] page k durable word written = absurd written
 written_at (w ∷ writes) page k durable word (inl here) =
-    (0, here.1 ∙ sym (ap (λ (b : Bool). word_of (get_or (if b then w.1 ∷ writes_to writes page else writes_to writes page) 0 durable) k) (eq-eqb w.0 page here.0)))
+    (0, here.1 ∙ sym (ap (λ (b : Bool). word_of (get_or (if b then w.1 ∷ writes_to writes page else writes_to writes page) 0 durable) k) (eq-eqb w.0 page here.0)), omega arith)
 written_at (w ∷ writes) page k durable word (inr further) = by_test (w.0 == page) (written_at writes page k durable word further)
   where
-    by_test : (b : Bool) → (n : ℕ) × (word ≡ word_of (get_or (writes_to writes page) n durable) k) → (n : ℕ) × (word ≡ word_of (get_or (if b then w.1 ∷ writes_to writes page else writes_to writes page) n durable) k)
-    by_test true found = (suc found.0, found.1)
-    by_test false found = found
+    by_test : (b : Bool) → (n : ℕ) × (word ≡ word_of (get_or (writes_to writes page) n durable) k) × (n < length writes)
+        → (n : ℕ) × (word ≡ word_of (get_or (if b then w.1 ∷ writes_to writes page else writes_to writes page) n durable) k) × (n < length (w ∷ writes))
+    by_test true found = (suc found.0, found.1, omega (arith, found.2))
+    by_test false found = (found.0, found.1, omega (arith, found.2))
 
-number_of : (writes : List (ℕ × List ℕ)) (page k : ℕ) (durable word : List ℕ) → (word ≡ word_of durable k) ⊎ IsWritten writes page k word → (n : ℕ) × IsNumbered (writes_to writes page) durable k word n
-number_of writes page k durable word (inl same) = (0, same)
-number_of writes page k durable word (inr written) = (let found = written_at writes page k durable word written in (suc found.0, found.1))
+number_of : (writes : List (ℕ × List ℕ)) (page k : ℕ) (durable word : List ℕ) → (word ≡ word_of durable k) ⊎ IsWritten writes page k word → (n : ℕ) × IsNumbered (writes_to writes page) durable k word n × (n ≤ length writes)
+number_of writes page k durable word (inl same) = (0, same, omega arith)
+number_of writes page k durable word (inr written) = (let found = written_at writes page k durable word written in (suc found.0, found.1, omega (arith, found.2)))
 
 -- the numbers of a page's words, one for each index
 word_number : (s : Segment) (page : ℕ) (bytes : List ℕ) → MayLeavePage s page bytes → (k : ℕ) → (k < 1024) ⊎ (1024 ≤ k)
-    → (n : ℕ) × (k < 1024 → IsNumbered (writes_to s.writes page) (s.durable page) k (word_of bytes k) n)
-word_number s page bytes left k (inl below) = (let found = number_of s.writes page k (s.durable page) (word_of bytes k) (left.words k below) in (found.0, λ again. found.1))
-word_number s page bytes left k (inr past) = (0, λ below. absurd (omega arith))
+    → (n : ℕ) × (k < 1024 → IsNumbered (writes_to s.writes page) (s.durable page) k (word_of bytes k) n) × (n ≤ length s.writes)
+word_number s page bytes left k (inl below) = (let found = number_of s.writes page k (s.durable page) (word_of bytes k) (left.words k below) in (found.0, (λ again. found.1), found.2))
+word_number s page bytes left k (inr past) = (0, (λ below. absurd (omega arith)), omega arith)
 
 abbrev pub ArePageNumbers : Segment → ℕ → List ℕ → (ℕ → ℕ) → Type 0
 ArePageNumbers s page bytes f = (k : ℕ) → k < 1024 → IsNumbered (writes_to s.writes page) (s.durable page) k (word_of bytes k) (f k)
 
-page_numbers : (s : Segment) (i : ImageSegment) (page : ℕ) → ((p : ℕ) → p < s.pages → MayLeavePage s p (i.page p)) → (page < s.pages) ⊎ (s.pages ≤ page) → (f : ℕ → ℕ) × (page < s.pages → ArePageNumbers s page (i.page page) f)
+page_numbers : (s : Segment) (i : ImageSegment) (page : ℕ) → ((p : ℕ) → p < s.pages → MayLeavePage s p (i.page p)) → (page < s.pages) ⊎ (s.pages ≤ page) → (f : ℕ → ℕ) × (page < s.pages → ArePageNumbers s page (i.page page) f) × ((k : ℕ) → f k ≤ length s.writes)
 page_numbers s i page left (inl below) = (
   (λ k. (word_number s page (i.page page) (left page below) k (cases_lt k 1024)).0),
   (λ again k inside. (word_number s page (i.page page) (left page below) k (cases_lt k 1024)).1 inside),
+  (λ k. (word_number s page (i.page page) (left page below) k (cases_lt k 1024)).2),
 )
-page_numbers s i page left (inr past) = ((λ k. 0), (λ below. absurd (omega arith)))
+page_numbers s i page left (inr past) = ((λ k. 0), (λ below. absurd (omega arith)), (λ k. omega arith))
 
 -- the numbers of a segment's words, by page and index
 abbrev pub AreNumbers : Option Segment → Option ImageSegment → (ℕ → ℕ → ℕ) → Type 0
@@ -47,12 +50,17 @@ AreNumbers None i f = Unit {0}
 AreNumbers (Some s) None f = Unit {0}
 AreNumbers (Some s) (Some i) f = (page : ℕ) → page < s.pages → ArePageNumbers s page (i.page page) (f page)
 
-segment_numbers : (s : Option Segment) (i : Option ImageSegment) → MayLeaveSegment s i → (f : ℕ → ℕ → ℕ) × AreNumbers s i f
-segment_numbers None i left = ((λ page k. 0), tt)
-segment_numbers (Some s) None left = ((λ page k. 0), tt)
-segment_numbers (Some s) (Some i) left = (
+-- none of them is above a number
+abbrev pub AreAtMost : ℕ → (ℕ → ℕ → ℕ) → Type 0
+AreAtMost most f = (page k : ℕ) → f page k ≤ most
+
+segment_numbers : (most : ℕ) (s : Option Segment) (i : Option ImageSegment) → IfSome s (λ s. length s.writes ≤ most) → MayLeaveSegment s i → (f : ℕ → ℕ → ℕ) × AreNumbers s i f × AreAtMost most f
+segment_numbers most None i few left = ((λ page k. 0), tt, λ page k. omega arith)
+segment_numbers most (Some s) None few left = ((λ page k. 0), tt, λ page k. omega arith)
+segment_numbers most (Some s) (Some i) few left = (
   (λ page. (page_numbers s i page left.1 (cases_lt page s.pages)).0),
   (λ page below. (page_numbers s i page left.1 (cases_lt page s.pages)).1 below),
+  (λ page k. (let own = (page_numbers s i page left.1 (cases_lt page s.pages)).2 k in omega (arith, own, few))),
 )
 
 -- the first n values of a function
@@ -73,6 +81,11 @@ value-at f (suc n) k below = elim (cases_lt k n) [
   | inr last ↦ (let same : k ≡ n = omega arith in ap (λ (m : ℕ). get_or (values f n ++ f n ∷ []) m 0) same ∙ get_or_push (values f n) (f n) 0 n (length-values f n) ∙ ap f (sym same))
 ]
 
+all-values : (most : ℕ) (f : ℕ → ℕ) (n : ℕ) → ((k : ℕ) → f k ≤ most) → All (λ v. v ≤ most) (values f n)
+unfolding values
+all-values most f zero few = All-nil (λ v. v ≤ most)
+all-values most f (suc n) few = All-push (λ v. v ≤ most) (values f n) (f n) (all-values most f n few) (few n)
+
 module _ (words : ℕ) where
   -- the numbers of a page, if it is undecided
   page_list : List (List ℕ) → (ℕ → ℕ) → List ℕ
@@ -83,6 +96,11 @@ module _ (words : ℕ) where
   unfolding page_list
   length-page_list [] f = omega arith
   length-page_list (w ∷ ws) f = (let some : min 1 (suc (length ws)) ≡ 1 = omega arith in length-values f words ∙ sym (ap (λ (n : ℕ). words * n) some ∙ omega arith))
+
+  all-page_list : (most : ℕ) (writes : List (List ℕ)) (f : ℕ → ℕ) → ((k : ℕ) → f k ≤ most) → All (λ v. v ≤ most) (page_list writes f)
+  unfolding page_list
+  all-page_list most [] f few = All-nil (λ v. v ≤ most)
+  all-page_list most (w ∷ ws) f few = all-values most f words few
 
   -- of the first pages of a segment
   pages_list : List (ℕ × List ℕ) → (ℕ → ℕ → ℕ) → ℕ → List ℕ
@@ -95,6 +113,12 @@ module _ (words : ℕ) where
   length-pages_list writes f (suc page) =
       length-append (pages_list writes f page) (page_list (writes_to writes page) (f page)) ∙ ap (λ (n : ℕ). n + length (page_list (writes_to writes page) (f page))) (length-pages_list writes f page)
       ∙ ap (λ (n : ℕ). words * undecided_below writes page + n) (length-page_list (writes_to writes page) (f page)) ∙ sym (mul-add words (undecided_below writes page) (min 1 (length (writes_to writes page))))
+
+  all-pages_list : (most : ℕ) (writes : List (ℕ × List ℕ)) (f : ℕ → ℕ → ℕ) (page : ℕ) → AreAtMost most f → All (λ v. v ≤ most) (pages_list writes f page)
+  unfolding pages_list
+  all-pages_list most writes f zero few = All-nil (λ v. v ≤ most)
+  all-pages_list most writes f (suc page) few =
+      All-append (λ v. v ≤ most) (pages_list writes f page) (page_list (writes_to writes page) (f page)) (all-pages_list most writes f page few) (all-page_list most (writes_to writes page) (f page) (few page))
 
   -- further pages add numbers behind
   pages_list-further : (writes : List (ℕ × List ℕ)) (f : ℕ → ℕ → ℕ) (page more at : ℕ) → at < length (pages_list writes f page) → (length (pages_list writes f page) ≤ length (pages_list writes f (page + more))) × (get_or (pages_list writes f (page + more)) at 0 ≡ get_or (pages_list writes f page) at 0)
@@ -115,6 +139,11 @@ module _ (words : ℕ) where
   length-segment_list None f = omega arith
   length-segment_list (Some s) f = length-pages_list s.writes f s.pages
 
+  all-segment_list : (most : ℕ) (s : Option Segment) (f : ℕ → ℕ → ℕ) → AreAtMost most f → All (λ v. v ≤ most) (segment_list s f)
+  unfolding segment_list
+  all-segment_list most None f few = All-nil (λ v. v ≤ most)
+  all-segment_list most (Some s) f few = all-pages_list most s.writes f s.pages few
+
   module _ (state : DiskState) (f : ℕ → ℕ → ℕ → ℕ) where
     -- of the segments of lower numbers
     disk_list : ℕ → List ℕ
@@ -127,6 +156,12 @@ module _ (words : ℕ) where
     length-disk_list (suc segment) =
         length-append (disk_list segment) (segment_list (state segment) (f segment)) ∙ ap (λ (n : ℕ). n + length (segment_list (state segment) (f segment))) (length-disk_list segment)
         ∙ ap (λ (n : ℕ). words * undecided_before state segment + n) (length-segment_list (state segment) (f segment)) ∙ sym (mul-add words (undecided_before state segment) (undecided_in (state segment)))
+
+    all-disk_list : (most segment : ℕ) → ((n : ℕ) → AreAtMost most (f n)) → All (λ v. v ≤ most) (disk_list segment)
+    unfolding disk_list
+    all-disk_list most zero few = All-nil (λ v. v ≤ most)
+    all-disk_list most (suc segment) few =
+        All-append (λ v. v ≤ most) (disk_list segment) (segment_list (state segment) (f segment)) (all-disk_list most segment few) (all-segment_list most (state segment) (f segment) (few segment))
 
     disk_list-further : (segment more at : ℕ) → at < length (disk_list segment) → (length (disk_list segment) ≤ length (disk_list (segment + more))) × (get_or (disk_list (segment + more)) at 0 ≡ get_or (disk_list segment) at 0)
     unfolding disk_list
@@ -193,7 +228,12 @@ picked_segment state f bound segment (Some s) (Some i) is past left are = (
         gone same = cc
 
 -- every image of finitely many segments
-pub picked_by_list : (state : DiskState) (bound : ℕ) (image : DiskImage) → ((segment : ℕ) → bound ≤ segment → state segment ≡ None) → MayLeave state image → (numbers : List ℕ) × IsPicked (by_list numbers) state image
-picked_by_list state bound image none left =
-    let f = λ (segment : ℕ). (segment_numbers (state segment) (image segment) (left segment)).0 in
-    (disk_list 1024 state f bound, λ segment. picked_segment state f bound segment (state segment) (image segment) refl (none segment) (left segment) ((segment_numbers (state segment) (image segment) (left segment)).1))
+pub picked_by_list : (state : DiskState) (bound most : ℕ) (image : DiskImage) → ((segment : ℕ) → bound ≤ segment → state segment ≡ None) → ((segment : ℕ) → IfSome (state segment) (λ s. length s.writes ≤ most)) → MayLeave state image
+    → (numbers : List ℕ) × All (λ n. n ≤ most) numbers × IsPicked (by_list numbers) state image
+picked_by_list state bound most image none few left =
+    let found = λ (segment : ℕ). segment_numbers most (state segment) (image segment) (few segment) (left segment) in
+    let f = λ (segment : ℕ). (found segment).0 in (
+      disk_list 1024 state f bound,
+      all-disk_list 1024 state f most bound (λ segment. (found segment).2),
+      λ segment. picked_segment state f bound segment (state segment) (image segment) refl (none segment) (left segment) ((found segment).1),
+    )

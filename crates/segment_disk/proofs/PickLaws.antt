@@ -1,7 +1,8 @@
 -- An image that a pick names is one that a crash may leave; and which segments it has.
-use Rattle.std.proofs.Common.{◌≡◌, ℕ, zero, suc, ◌+◌, ◌<◌, ◌⊎◌, Bool, true, false, ◌||◌, IsTrue, List, [], ◌∷◌, ◌++◌, get_or, take, drop, Option, Some, None, is_some, option_map, map, refl, sym, ap, subst, ◌∙◌, ◌==◌, if◌then◌else◌, inl, inr, arith, take-append-drop}
+use Rattle.std.proofs.Common.{◌≡◌, ℕ, zero, suc, ◌+◌, ◌<◌, ◌≤◌, ◌⊎◌, Bool, true, false, ◌||◌, IsTrue, List, [], ◌∷◌, ◌++◌, get_or, length, take, drop, Option, Some, None, IfSome, is_some, option_map, map, refl, sym, ap, subst, ◌∙◌, ◌==◌, if◌then◌else◌, inl, inr, arith, take-append-drop}
 use Rattle.std.proofs.lemmas.Bool.{ne_eqb, false≢true}
 use Rattle.std.proofs.lemmas.Bool.Decides.{eqb_tells}
+use Rattle.std.proofs.lemmas.List.{length-take, length_push}
 use Rattle.segment_disk.specs.declared.disk.Call.{Call}
 use Rattle.segment_disk.specs.declared.disk.CallKind.{CallKind}
 use Rattle.segment_disk.specs.declared.disk.CallKind.TheVariants.{Create, Write, Sync}
@@ -111,3 +112,41 @@ gone_above state calls numbers present count segment above =
     gone : (s : Option Segment) → (IsTrue (is_some s) → IsTrue (is_some (after_calls state calls segment))) → s ≡ None
     gone None later = refl
     gone (Some s) later = absurd (false≢true (sym never ∙ later refl))
+
+-- a call adds at most one write to its segment
+abbrev pub HasFewWrites : ℕ → Option Segment → Type 0
+HasFewWrites most s = IfSome s (λ s. length s.writes ≤ most)
+
+few_after : (kind : CallKind) (size most : ℕ) (done : Bool) (s : Option Segment) → HasFewWrites most s → HasFewWrites (suc most) (segment_after kind size done s)
+few_after (Create true) size most done s few = omega arith
+few_after (Create false) size most done None few = tt
+few_after (Create false) size most done (Some s) few = omega (arith, few)
+few_after (Write page bytes) size most done None few = tt
+few_after (Write page bytes) size most done (Some s) few = omega (arith, few, length_push s.writes (page, bytes.bytes))
+few_after Sync size most done None few = tt
+few_after Sync size most true (Some s) few = omega arith
+few_after Sync size most false (Some s) few = omega (arith, few)
+
+few_within : (few most : ℕ) (s : Option Segment) → few ≤ most → HasFewWrites few s → HasFewWrites most s
+few_within few most None less written = tt
+few_within few most (Some s) less written = omega (arith, written)
+
+few_behind : (calls : List Call) (state : DiskState) (most segment : ℕ) → HasFewWrites most (state segment) → HasFewWrites (most + length calls) (after_calls state calls segment)
+few_behind [] state most segment few = subst (λ (n : ℕ). HasFewWrites n (state segment)) (omega arith) few
+few_behind (call ∷ calls) state most segment few =
+    let more : suc most + length calls ≡ most + suc (length calls) = omega arith in
+    subst (λ (n : ℕ). HasFewWrites n (after_calls (after_call state call) calls segment)) more (few_behind calls (after_call state call) (suc most) segment (by_test (segment == call.segment)))
+  where
+    by_test : (b : Bool) → HasFewWrites (suc most) (if b then segment_after call.kind call.geometry call.done (state segment) else state segment)
+    by_test true = few_after call.kind call.geometry most call.done (state segment) few
+    by_test false = few_within most (suc most) (state segment) (omega arith) few
+
+few_at_first : (segment : Option FirstSegment) → HasFewWrites 0 (option_map durable_segment segment)
+few_at_first None = tt
+few_at_first (Some segment) = omega arith
+
+-- no segment has more writes since its last sync than calls were counted
+pub few_writes : (segments : List FirstSegment) (calls : List Call) (moment segment : ℕ) → HasFewWrites (length calls) (after_calls (first_state segments) (take moment calls) segment)
+few_writes segments calls moment segment =
+    few_within (0 + length (take moment calls)) (length calls) (after_calls (first_state segments) (take moment calls) segment) (omega (arith, length-take moment calls))
+    (few_behind (take moment calls) (first_state segments) 0 segment (few_at_first (first_at segments segment)))

@@ -1,5 +1,5 @@
 -- Which segments are there after a list of calls.
-use Rattle.std.specs.Prelude.{◌≡◌, ℕ, List, [], ◌∷◌, ◌++◌, is_some, if◌then◌else◌}
+use Rattle.std.specs.Prelude.{◌≡◌, ℕ, zero, suc, ◌+◌, ◌≤◌, List, [], ◌∷◌, ◌++◌, None, is_some, if◌then◌else◌}
 use Rattle.segment_disk.specs.declared.disk.Call.{Call}
 use Rattle.segment_disk.specs.declared.disk.CallKind.{CallKind}
 use Rattle.segment_disk.specs.declared.disk.CallKind.TheVariants.{Create, Write, Sync}
@@ -10,6 +10,18 @@ use Rattle.segment_disk.specs.Tape.{DiskState, after_calls}
 abbrev pub ListsPresent : List ℕ → DiskState → List Call → Type 0
 ListsPresent numbers at_first calls =
     (segment : ℕ) → is_listed numbers segment ≡ is_some (after_calls at_first calls segment)
+
+-- how many of the segments below a number are there
+abbrev pub present_below : DiskState → ℕ → ℕ
+present_below state zero = 0
+present_below state (suc segment) =
+    present_below state segment + (if is_some (state segment) then 1 else 0)
+
+-- so many segments are there: below some number, and from there on none
+abbrev pub HasSegments : DiskState → ℕ → Type 0
+HasSegments state count =
+    (bound : ℕ) × ((segment : ℕ) → bound ≤ segment → state segment ≡ None)
+    × (count ≡ present_below state bound)
 
 -- the call neither makes a segment nor takes one away
 abbrev pub MakesNone : CallKind → Type 0

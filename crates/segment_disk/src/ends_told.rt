@@ -6,8 +6,8 @@ ghost use Rattle.segment_disk.specs.Stream.{ends_after};
 use std::fmt;
 use std::marker::{Model, PhantomData};
 
-/// How often a source has answered that nothing is left. It takes no memory and changes nothing that
-/// runs: a source keeps one for its member `ends_told`, and notes each answer of a read.
+/// How often a source has answered that nothing is left. It takes no memory and changes nothing
+/// that runs: a source keeps one for its member `ends_told`, and notes each answer of a read.
 #[derive(Drop)]
 pub struct EndsTold {
     marker: PhantomData<u8>,

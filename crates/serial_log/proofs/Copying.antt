@@ -6,7 +6,7 @@ use Rattle.flush_core.specs.declared.writer.Writer.{Writer}
 use Rattle.flush_core.specs.Writer.{written_of, writer_fault}
 use Rattle.serial_log.specs.Ring.{RingState}
 use Rattle.serial_log.specs.Words.{AreGiven}
-use Rattle.serial_log.specs.Buffers.{IsSameOrFurther, RingHas, RingTakes, Spans, WritesOn}
+use Rattle.serial_log.specs.Buffers.{HasPlaceFor, IsSameOrFurther, RingHas, RingTakes, Spans, WritesOn}
 use Rattle.serial_log.specs.DeviceCalls.{MakesWrites}
 use Rattle.serial_log.proofs.CallLaws.{makes_no_writes, MakesWrites-then}
 use Rattle.serial_log.proofs.WritingLaws.{IsSameOrFurther-then, WritesOn-given, WritesOn-none, WritesOn-then}
@@ -24,6 +24,8 @@ module _ (D : Type 0) (tape : D → Option Tape) (moment faults : D → ℕ) (fr
     pub calls : MakesWrites tape moment old new
     pub words : (word : ℕ → ℕ) → RingTakes old_ring from end word → RingHas ring placed.next word
     pub unfinished : from.next < end → written_of new < end
+    pub pages_same : ring.pages ≡ old_ring.pages
+    pub spares : HasPlaceFor old_ring.pages old end → new ≡ old
 
   pub IsCopied-none : writer_fault old ≡ None → Spans old_ring old from.next → from.next % 8 ≡ 0 → from.next ≤ end → IsCopied from old_ring old
   IsCopied-none up spans whole begins = record {
@@ -37,6 +39,8 @@ module _ (D : Type 0) (tape : D → Option Tape) (moment faults : D → ℕ) (fr
     calls = makes_no_writes D tape moment old;
     words = λ word takes. takes.1;
     unfinished = λ some. omega (arith, spans.written_within);
+    pages_same = refl;
+    spares = λ place. refl;
   }
 
   -- a further page is held, and the words that lie in it are copied
@@ -52,6 +56,8 @@ module _ (D : Type 0) (tape : D → Option Tape) (moment faults : D → ℕ) (fr
       pub more_is : more ≡ record placed { next = upto }
       pub pages : copied.pages ≡ held.pages
       pub mapped : copied.mapped ≡ held.mapped
+      pub held_pages : held.pages ≡ ring.pages
+      pub spares : HasPlaceFor ring.pages mid (placed.next + 1) → new ≡ mid
       pub copies : (word : ℕ → ℕ) → AreGiven placed upto word → RingHas held placed.next word → RingHas copied upto word
 
     pub IsCopied-more : end % 8 ≡ 0 → placed.next < end → IsCopied placed ring mid → CopiesPage → IsCopied more copied new
@@ -75,4 +81,8 @@ module _ (D : Type 0) (tape : D → Option Tape) (moment faults : D → ℕ) (fr
           calls = MakesWrites-then D tape moment old mid new is.calls copies.calls;
           words = λ word takes. subst (λ (n : ℕ). RingHas copied n word) (sym at) (copies.copies word (from_here word takes.0) (copies.words word (is.words word takes)));
           unfinished = λ some. omega (arith, copies.spans.written_within);
+          pages_same = copies.pages ∙ copies.held_pages ∙ is.pages_same;
+          spares = λ place.
+              (let same = is.spares place in
+              copies.spares (omega (arith, left, place, is.pages_same, ap (λ (w : Writer D). written_of w) same)) ∙ same);
         }

@@ -1,5 +1,5 @@
 -- What is in memory of a log's last pages, what is written of them, and what writing leaves.
-use Rattle.std.specs.Prelude.{◌≡◌, ℕ, ◌+◌, ◌*◌, ◌<◌, ◌≤◌, ◌⊎◌, Option, Some, None, Result, IfErr, MatchResult, OnOk}
+use Rattle.std.specs.Prelude.{◌≡◌, ℕ, ◌+◌, ◌*◌, ◌/◌, ◌<◌, ◌≤◌, ◌⊎◌, Option, Some, None, Result, IfErr, MatchResult, OnOk}
 use Rattle.segment_disk.specs.Cause.{Rose}
 use Rattle.segment_disk.specs.Tape.{Tape}
 use Rattle.wal_page.specs.Placed.{PlacedState}
@@ -30,6 +30,10 @@ IsSameOrFurther old new = (new ≡ old) ⊎ (written_of old < written_of new)
 -- the ring has these words as far as a position, and zeros from there on
 abbrev pub RingHas : RingState → ℕ → (ℕ → ℕ) → Type 0
 RingHas ring upto word = HoldsWords ring (words_upto word upto)
+
+-- all below a position that is not written yet has a place in a ring of so many pages
+abbrev pub HasPlaceFor : {D : Type 0} → ℕ → Writer D → ℕ → Type 0
+HasPlaceFor pages writer position = position ≤ (written_of writer / 8192 + pages) * 8192
 
 -- so it has, and from there on the words are those of a record up to its end
 abbrev pub RingTakes : RingState → PlacedState → ℕ → (ℕ → ℕ) → Type 0

@@ -43,24 +43,24 @@ pub record MakesFlush {D : Type 0} (tape : D → Option Tape) (moment : D → �
       (moment (disk_of new))
       (calls ++ harden_calls (writer_segment_size old) (written_of new) waits)
 
--- such writes broke off: a front of the calls was made, the next failed, and no other was made
-pub record BreaksWrites {D : Type 0} (tape : D → Option Tape) (moment : D → ℕ)
-    (old new : Writer D) : Type 0 where
+-- such calls broke off: of all of them, which follow from where the writes lead, a front was made,
+-- the next failed, and no other was made
+pub record BreaksOut {D : Type 0} (tape : D → Option Tape) (moment : D → ℕ) (old new : Writer D)
+    (all : ℕ → Bool → List Call → List Call) : Type 0 where
   pub upto : ℕ
   pub last : ℕ
   pub waits : Bool
   pub calls : List Call
   pub out : WritesFrom old upto last waits calls
   pub made : BreaksOff (tape (disk_of old)) (tape (disk_of new)) (moment (disk_of old))
-      (moment (disk_of new)) calls
+      (moment (disk_of new)) (all upto waits calls)
+
+-- such writes broke off
+abbrev pub BreaksWrites : {D : Type 0} → (D → Option Tape) → (D → ℕ) → Writer D → Writer D → Type 0
+BreaksWrites tape moment old new = BreaksOut tape moment old new (λ upto waits calls. calls)
 
 -- such a flush broke off
-pub record BreaksFlush {D : Type 0} (tape : D → Option Tape) (moment : D → ℕ)
-    (old new : Writer D) : Type 0 where
-  pub upto : ℕ
-  pub last : ℕ
-  pub waits : Bool
-  pub calls : List Call
-  pub out : WritesFrom old upto last waits calls
-  pub made : BreaksOff (tape (disk_of old)) (tape (disk_of new)) (moment (disk_of old))
-      (moment (disk_of new)) (calls ++ harden_calls (writer_segment_size old) upto waits)
+abbrev pub BreaksFlush : {D : Type 0} → (D → Option Tape) → (D → ℕ) → Writer D → Writer D → Type 0
+BreaksFlush tape moment old new =
+    BreaksOut tape moment old new
+    (λ upto waits calls. calls ++ harden_calls (writer_segment_size old) upto waits)

@@ -6,7 +6,7 @@ ghost use Rattle.flush_core.specs.Writer.{HoldsOnly, IsMadeAsWritten, IsWriter, 
 ghost use Rattle.serial_log.specs.DeviceCalls.{BreaksFlush, MakesFlush};
 ghost use Rattle.serial_log.specs.OnDisk.{KeepsBelow};
 ghost use Rattle.serial_log.specs.Words.{HasWritten};
-ghost use Rattle.serial_log.specs.Buffers.{GoesDown, IsSameOrFurther, RingHas, RingTakes, Spans, WritesOn, WritingLeaves};
+ghost use Rattle.serial_log.specs.Buffers.{GoesDown, HasPlaceFor, IsSameOrFurther, RingHas, RingTakes, Spans, WritesOn, WritingLeaves};
 
 use crate::copy::end_in_page;
 use crate::ring::Ring;
@@ -118,6 +118,9 @@ impl<D: Disk> Buffers<D> {
         ensures further { OnOk result (IsSameOrFurther self.old.writer self.new.writer) }
         ensures spans { OnOk result (Spans self.new.ring self.new.writer next.0) }
         ensures held { OnOk result (next.0 < self.new.ring.mapped * 8192) }
+        ensures pages { OnOk result (self.new.ring.pages ≡ self.old.ring.pages) }
+        ensures spares { HasPlaceFor self.old.ring.pages self.old.writer (next.0 + 1)
+            → self.new.writer ≡ self.old.writer }
         ensures words { OnOk result ((word : ℕ → ℕ)
             → RingHas self.old.ring next.0 word → RingHas self.new.ring next.0 word) }
     {
@@ -148,6 +151,8 @@ impl<D: Disk> Buffers<D> {
             → RingTakes self.old.ring placed.old end.0 word → RingHas self.new.ring end.0 word) }
         ensures unfinished { OnOk result
             (placed.old.next < end.0 → written_of self.new.writer < end.0) }
+        ensures spares { HasPlaceFor self.old.ring.pages self.old.writer end.0
+            → self.new.writer ≡ self.old.writer }
     {
         while placed.next_lsn() < end {
             let next = placed.next_lsn();

@@ -1,4 +1,4 @@
-ghost use Rattle.std.specs.Prelude.{◌≡◌, ℕ, ◌+◌, ◌*◌, ◌/◌, ◌%◌, ◌<◌, ◌≤◌, ◌^◌, length, IfOk};
+ghost use Rattle.std.specs.Prelude.{◌≡◌, ℕ, ◌+◌, ◌-◌, ◌*◌, ◌/◌, ◌%◌, ◌<◌, ◌≤◌, ◌^◌, length, IfOk};
 ghost use Rattle.std.specs.Int.{w64, to_le_bytes};
 ghost use Rattle.wal_page.specs.Placed.{placed_end};
 ghost use Rattle.segment_disk.specs.DiskImage.{word_of};
@@ -64,6 +64,7 @@ impl Ring {
 
     /// Where the page ends that the next one takes the place of: 0 where there is none.
     pub(crate) fn oldest_end(&self) -> Lsn
+        ensures value { result.0 ≡ (self.now.mapped + 1 - self.now.pages) * 8192 }
         ensures near { result.0 ≤ self.now.mapped * 8192 }
         ensures covers { self.now.mapped * 8192 + 8192 ≤ result.0 + self.now.pages * 8192 }
     {

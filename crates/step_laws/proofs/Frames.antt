@@ -2,8 +2,10 @@
 -- reads, and in its pass's view nothing of which the part speaks.
 use Rattle.std.proofs.Common.{◌≡◌, ◌≢◌, ℕ, ◌≤◌, Bool, cond, true, false, List, length, map, set, slice_index, refl, sym, subst, arith}
 use mathlib.Core.Option.{Option}
+use Rattle.byte_position.specs.Geometry.{IsSegmentSize}
+use Rattle.byte_position.proofs.EndAddresses.{end_address_of-mono}
 use Rattle.wal_core.specs.declared.setup.Setup.{Setup}
-use Rattle.wal_core.specs.Words.{Opening, position_word, prev_word, written_word, flushed_word, down_word, word_count}
+use Rattle.wal_core.specs.Words.{Opening, position_word, prev_word, written_word, flushed_word, down_word, word_count, end_form}
 use Rattle.wal_core.specs.Views.{HasAt, Plain, View, reserving_of, flight_of, writing_of}
 use Rattle.wal_core.specs.Ordered.{OrderHolds}
 use Rattle.wal_core.specs.Positioned.{PositionsHold}
@@ -50,12 +52,31 @@ pub same_either : {A : Type 0} (part : View → A) (b : Bool) (x y : View) → p
 same_either part true x y same = same
 same_either part false x y same = refl
 
--- a live view that knows what is fixed
-pub grounded_live : (opening : Opening) (w : View) → w.opening ≡ opening
-    → (w.reserving).live ≡ true → IsGrounded opening w
-grounded_live opening w is live = record {
+-- whoever has seen more reserved may watch for as much
+pub watches_still : (setup : Setup) → IsSegmentSize setup.segment_size → (end seen more : ℕ)
+    → end ≤ end_form setup seen → seen ≤ more → end ≤ end_form setup more
+watches_still setup valid end seen more low up =
+    let rises = end_address_of-mono setup.segment_size valid seen more up in omega arith
+
+-- a live view that knows what is fixed, and watches for no more than it has seen
+pub grounded_live : (opening : Opening) (down : ℕ) (w : View) → w.opening ≡ opening
+    → (w.reserving).live ≡ true
+    → (w.watching).end ≤ end_form opening.setup (w.reserving).seen → IsGrounded opening down w
+grounded_live opening down w is live low = record {
   opening_is = λ alive. is;
+  watches = λ alive. low;
   at_rest = λ dead. absurd (cc);
+  left = λ dead. absurd (cc);
+}
+
+-- what is said of a view stays, where a down word once set stays set
+grounded_later : (opening : Opening) (down later : ℕ) (w : View) → (down ≢ 0 → later ≢ 0)
+    → IsGrounded opening down w → IsGrounded opening later w
+grounded_later opening down later w stays g = record {
+  opening_is = g.opening_is;
+  watches = g.watches;
+  at_rest = g.at_rest;
+  left = λ dead has. stays (g.left dead has);
 }
 
 module _ (s : Moved) where
@@ -108,10 +129,13 @@ module _ (s : Moved) where
   pub wide_stays : length later ≡ word_count setup
   wide_stays = wide_still setup words i n k.wide
 
-  pub grounded_stays : IsGrounded opening w
-      → (j : ℕ) (u : View) → HasAt views_later j u → IsGrounded opening u
-  grounded_stays grounded =
-      one_set (λ j u. IsGrounded opening u) views id w (λ j u apart at. k.grounded j u at) grounded
+  pub grounded_stay : (down_word words ≢ 0 → down_word later ≢ 0)
+      → IsGrounded opening (down_word later) w
+      → (j : ℕ) (u : View) → HasAt views_later j u → IsGrounded opening (down_word later) u
+  grounded_stay stays grounded =
+      one_set (λ j u. IsGrounded opening (down_word later) u) views id w
+      (λ j u apart at. grounded_later opening (down_word words) (down_word later) u stays
+      (k.grounded j u at)) grounded
 
   pub order_stays : reserving_of w ≡ reserving_of v → 2 ≤ i
       → OrderHolds setup opening.found k.order (position_word later) (prev_word later)
@@ -125,7 +149,7 @@ module _ (s : Moved) where
 
   pub positions_stay : flight_of w ≡ flight_of v → writing_of w ≡ writing_of v
       → i ≢ 13 → i ≢ 14 → i ≢ 16
-      → PositionsHold setup k.order (written_word later) (flushed_word later) (down_word later)
+      → PositionsHold opening k.order (written_word later) (flushed_word later) (down_word later)
       home k.writer (map flight_of views_later) (map writing_of views_later)
   positions_stay same_flight same apart_13 apart_14 apart_16 =
       let written = same_word 13 (λ e. apart_13 (sym e)) in
@@ -134,5 +158,5 @@ module _ (s : Moved) where
       let flights = part_same flight_of views id v w here same_flight in
       let parts = part_same writing_of views id v w here same in
       subst (λ (x : ℕ × ℕ × ℕ × List _ × List _).
-      PositionsHold setup k.order x.0 x.1 x.2 home k.writer x.3 x.4)
+      PositionsHold opening k.order x.0 x.1 x.2 home k.writer x.3 x.4)
       (λ j. (sym written j, sym flushed j, sym down j, sym flights j, sym parts j)) k.positions

@@ -1,5 +1,6 @@
 mod Known
 mod Frames
+mod GroundBehind
 mod OrderBehind
 mod PositionsBehind
 pub mod Whole

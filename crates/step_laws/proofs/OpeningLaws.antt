@@ -1,5 +1,5 @@
 -- A log that holds nothing begins in a state that keeps the invariant: each part by itself.
-use Rattle.std.proofs.Common.{◌≡◌, ◌≢◌, ℕ, zero, suc, ◌+◌, ◌-◌, ◌*◌, ◌/◌, ◌%◌, ◌<◌, ◌≤◌, List, [], ◌∷◌, ◌++◌, length, Option, Some, None, IfSome, nat_lt, if◌then◌else◌, refl, sym, ap, ◌∙◌, subst, inl, inr, arith}
+use Rattle.std.proofs.Common.{◌≡◌, ◌≢◌, ℕ, zero, suc, ◌+◌, ◌-◌, ◌*◌, ◌/◌, ◌%◌, ◌<◌, ◌≤◌, All, Bool, true, false, List, [], ◌∷◌, ◌++◌, length, take, Option, Some, None, IfSome, nat_lt, if◌then◌else◌, refl, sym, ap, ◌∙◌, subst, inl, inr, arith}
 use Rattle.std.specs.Int.{w64, to_le_bytes}
 use Rattle.std.proofs.lemmas.Bool.{cases_eq, le-ltb, lt-ltb}
 use Rattle.std.specs.List.{Contains}
@@ -18,7 +18,7 @@ use Rattle.wal_core.specs.declared.setup.Setup.{Setup}
 use Rattle.wal_core.specs.Words.{Opening, position_word, prev_word, lock_word, mapping_turn, write_turn, initialised_word, written_word, flushed_word, moment_word, down_word, end_word, end_form, ring_word}
 use Rattle.wal_core.specs.Views.{HasAt, Plain, Away, Landed, Copying, AreSomeOf, View, mapper_of, told_of, writer_of}
 use Rattle.wal_core.specs.Opened.{AreFirstWords, IsFirstWriter, IsNew, first_view}
-use Rattle.wal_core.specs.Ordered.{OrderHolds, Role, active, spare, unborn}
+use Rattle.wal_core.specs.Ordered.{HasLive, IsUnused, OrderHolds, Role, active, spare, ended, unborn}
 use Rattle.wal_core.specs.Locked.{LocksHold, ProgressHolds, most_told}
 use Rattle.wal_core.specs.Ringed.{RingHolds, StandsIn}
 use Rattle.wal_core.specs.Paged.{PagesHold}
@@ -27,7 +27,11 @@ use Rattle.wal_core.specs.Positioned.{PositionsHold}
 use Rattle.ring_laws.proofs.Buffers.{one_page}
 use Rattle.wal_core.specs.Durable.{DurabilityHolds, IsAssured, IsLawfulAt, IsLogBelow}
 use Rattle.segment_disk.specs.DiskImage.{image_as_read}
-use Rattle.segment_disk.specs.Tape.{Segment, Tape, state_now}
+use Rattle.segment_disk.specs.declared.disk.Call.{Call}
+use Rattle.segment_disk.specs.Tape.{Segment, Tape, after_calls, state_at, state_now}
+use Rattle.std.proofs.Math.Seq.{take-length}
+use Rattle.flush_core.specs.Pages.{HoldsNothing}
+use Rattle.wal_core.specs.Suited.{BeganSuited}
 use Rattle.lawful_image.specs.ImageWords.{segment_word}
 use Rattle.flush_core.specs.Left.{IsMadeUpto, IsNowhere, SegmentAssures}
 use Rattle.flush_core.proofs.LeftLaws.{TapeAssures-now}
@@ -71,6 +75,32 @@ module _ (opening : Opening) (words : List ℕ) (writer : Plain) (new : IsNew op
   role_beyond zero high = let low = valid.passes_low in absurd (omega arith)
   role_beyond (suc n) high = rw (le-ltb (suc n) setup.passes high) refl
 
+  -- the others are nobody's, and not ended
+  nobody : (n : ℕ) (q : Role) → role (suc n) ≡ q → IsUnused q
+  unfolding role
+  nobody n q is = subst (λ (x : Role). IsUnused x) is (either (nat_lt (suc n) setup.passes))
+    where
+      either : (b : Bool) → IsUnused (if b then spare 0 else unborn)
+      either true = tt
+      either false = tt
+
+  role_active : (n id : ℕ) → role n ≡ active id
+      → HasLive (view.reserving ∷ []) id (λ r. r.number ≡ n)
+  unfolding role
+  role_active zero id is =
+      let same : 0 ≡ id = cc in (
+        view.reserving,
+        subst (λ (i : ℕ). HasAt (view.reserving ∷ []) i view.reserving) same refl,
+        refl,
+        refl,
+      )
+  role_active (suc n) id is = absurd (nobody n (active id) is)
+
+  none_ended : (n id : ℕ) → role n ≡ ended id → ⊥
+  unfolding role
+  none_ended zero id is = cc
+  none_ended (suc n) id is = nobody n (ended id) is
+
   pub order_begins : OrderHolds setup opening.found [] (position_word words) (prev_word words) (view.reserving ∷ [])
   unfolding role
   order_begins = record {
@@ -78,7 +108,12 @@ module _ (opening : Opening) (words : List ℕ) (writer : Plain) (new : IsNew op
     locked = 0;
     holder = 0;
     keeper = 0;
-    found_first = ([], sym (ap (λ (f : List Entry). f ++ []) new.none_found), All-nil _);
+    found_first = (
+      [],
+      sym (ap (λ (f : List Entry). f ++ []) new.none_found),
+      All-nil _,
+      subst (λ (f : List Entry). All (λ e. e.pass ≡ None) f) (sym new.none_found) (All-nil _),
+    );
     chained = tt;
     within = omega arith;
     position_is = first.position ∙ omega arith;
@@ -93,9 +128,13 @@ module _ (opening : Opening) (words : List ℕ) (writer : Plain) (new : IsNew op
       seen = omega arith;
       filled = All-nil _;
       joined = All-nil _;
+      apart = λ i j d low high. absurd (omega (arith, high));
     });
     places = only_one view.reserving _ (λ live. tt);
     spares = only_one view.reserving _ (λ live some_spare. refl);
+    goes_by = role_active;
+    took_in = λ n id is. absurd (none_ended n id is);
+    held = λ locked. absurd (omega (arith, locked));
   }
 
   lock_zero : (i : ℕ) → i < 8 → lock_word words i ≡ 0
@@ -153,6 +192,9 @@ module _ (opening : Opening) (words : List ℕ) (writer : Plain) (new : IsNew op
     in_flight = λ id c at. only_one Landed
         (λ j u. u ≡ Copying c → StandsIn setup.segment_size [] c) (λ is. absurd (cc)) id
         (Copying c) at refl;
+    alone = λ i j c d at. only_one Landed
+        (λ n u. u ≡ Copying c → HasAt (Landed ∷ []) j (Copying d)
+        → (c.entry).start ≡ (d.entry).start → i ≡ j) (λ is. absurd (cc)) i (Copying c) at refl;
     words = λ k. inl (sym (no_words setup.segment_size setup.sysid valid.size k));
     ahead = λ k behind from to.
         let end = start_is in absurd (omega arith);
@@ -195,7 +237,15 @@ module _ (opening : Opening) (words : List ℕ) (writer : Plain) (new : IsNew op
         (λ c is under starts. omega arith) id x at;
   }
 
-  positions_begin : PositionsHold setup [] (written_word words) (flushed_word words) (down_word words) (some writer) writer (Landed ∷ []) (view.writing ∷ [])
+  -- what was there at the opening is there still
+  suited_now : (t : Tape) → writer.moment ≡ length t.calls → BeganSuited opening t → (n : ℕ)
+      → state_now t n ≡ None
+  suited_now t count suited n =
+      let all : take opening.moment t.calls ≡ t.calls =
+      ap (λ (m : ℕ). take m t.calls) (sym begins.moment_is ∙ count) ∙ take-length t.calls in
+      subst (λ (calls : List Call). after_calls t.at_first calls n ≡ None) all (suited n)
+
+  positions_begin : PositionsHold opening [] (written_word words) (flushed_word words) (down_word words) (some writer) writer (Landed ∷ []) (view.writing ∷ [])
   positions_begin =
       let written_is = first.written in
       let flushed_is = first.flushed in
@@ -208,10 +258,10 @@ module _ (opening : Opening) (words : List ℕ) (writer : Plain) (new : IsNew op
         at_home = λ home up. omega arith;
         reserved = omega arith;
         copied = λ id c at left. only_one Landed (λ j u. u ≡ Copying c → writer.written ≤ address_of_word setup.segment_size c.entry c.copied) (λ is. absurd (cc)) id (Copying c) at refl;
-        reads = IfSome_then writer.tape begins.holds (λ t nothing k below.
+        reads = IfSome_then writer.tape begins.counted (λ t count suited k below.
             ap (λ (o : Option Segment). segment_word (image_as_read (λ n. o)
             (8 * k / setup.segment_size)) (8 * k % setup.segment_size))
-            (nothing (8 * k / setup.segment_size))
+            (suited_now t count suited (8 * k / setup.segment_size))
             ∙ ap (to_le_bytes w64)
             (sym (no_words setup.segment_size setup.sysid valid.size k)));
         views = only_one view.writing _ (record {
@@ -237,22 +287,12 @@ module _ (opening : Opening) (words : List ℕ) (writer : Plain) (new : IsNew op
       (SegmentAssures setup.segment_size (IsMadeUpto setup.segment_size upto)
       (IsLogBelow setup [] upto) n) (sym (nothing n)) (none_below n upto is)
 
-  counted_now : (moment : ℕ) → moment ≡ opening.moment
-      → IfSome writer.tape (λ t. (moment ≡ length t.calls) × ((n : ℕ) → state_now t n ≡ None))
-  counted_now moment is = both writer.tape begins.counted begins.holds
-    where
-      both : (tape : Option Tape) → IfSome tape (λ t. writer.moment ≡ length t.calls)
-          → IfSome tape (λ t. (n : ℕ) → state_now t n ≡ None)
-          → IfSome tape (λ t. (moment ≡ length t.calls) × ((n : ℕ) → state_now t n ≡ None))
-      both None count nothing = tt
-      both (Some t) count nothing = (is ∙ sym begins.moment_is ∙ count, nothing)
-
   told_begins : IsAssured opening [] (flushed_word words) (moment_word words) (down_word words) writer (told_of view)
   told_begins = record {
     own_promised = All-nil _;
     joined_promised = All-nil _;
-    own = IfSome_then writer.tape begins.counted (λ t count. All-nil _);
-    joined = IfSome_then writer.tape begins.counted (λ t count. All-nil _);
+    own = IfSome_then writer.tape begins.counted (λ t count suited. All-nil _);
+    joined = IfSome_then writer.tape begins.counted (λ t count suited. All-nil _);
     in_hand = λ l is. absurd (cc);
     down_met = λ some. absurd (some refl);
     down_set = λ some. absurd (some refl);
@@ -264,17 +304,20 @@ module _ (opening : Opening) (words : List ℕ) (writer : Plain) (new : IsNew op
     moment_low = (let moment = first.moment in let same = begins.moment_is in omega arith);
     begun = (let moment = first.moment in omega arith);
     reached = (let written = begins.written in omega arith);
-    lawful = IfSome_then writer.tape (counted_now opening.moment refl) (λ t now.
-        TapeAssures-now setup.segment_size IsNowhere (IsLawfulAt setup []) opening.moment t now.0
+    lawful = IfSome_then writer.tape begins.counted (λ t count suited.
+        TapeAssures-now setup.segment_size IsNowhere (IsLawfulAt setup []) opening.moment t
+        (sym begins.moment_is ∙ count)
         (λ n. subst (SegmentAssures setup.segment_size IsNowhere (IsLawfulAt setup []) n)
-        (sym (now.1 n)) (λ nowhere. nowhere)));
-    firm = IfSome_then writer.tape (counted_now (moment_word words) first.moment) (λ t now.
+        (sym (suited_now t count suited n)) (λ nowhere. nowhere)));
+    firm = IfSome_then writer.tape begins.counted (λ t count suited.
         TapeAssures-now setup.segment_size
         (IsMadeUpto setup.segment_size (flushed_word words))
-        (IsLogBelow setup [] (flushed_word words)) (moment_word words) t now.0
-        (firm_now (flushed_word words) first.flushed t now.1));
-    on_disk = IfSome_then writer.tape begins.holds (λ t nothing. record {
-      firm = λ n other. firm_now writer.written begins.written t nothing n;
+        (IsLogBelow setup [] (flushed_word words)) (moment_word words) t
+        (first.moment ∙ sym begins.moment_is ∙ count)
+        (firm_now (flushed_word words) first.flushed t (suited_now t count suited)));
+    on_disk = IfSome_then writer.tape begins.counted (λ t count suited. record {
+      firm = λ n other.
+          firm_now writer.written begins.written t (suited_now t count suited) n;
       there = λ n low high. (let made = begins.made in absurd (omega arith));
     });
     down_is = λ down. absurd (down first.down);
@@ -282,6 +325,19 @@ module _ (opening : Opening) (words : List ℕ) (writer : Plain) (new : IsNew op
     fault_rose = λ f is. absurd (some-ne-none f (sym is ∙ begins.fault));
     views = only_one (told_of view) _ told_begins;
   }
+
+-- a disk that holds nothing then is one on which a log may begin
+pub suited_begins : (opening : Opening) (writer : Plain) → IsFirstWriter opening writer
+    → HoldsNothing writer.tape → IfSome writer.tape (BeganSuited opening)
+suited_begins opening writer begins holds = both writer.tape begins.counted holds
+  where
+    both : (tape : Option Tape) → IfSome tape (λ t. writer.moment ≡ length t.calls)
+        → HoldsNothing tape → IfSome tape (BeganSuited opening)
+    both None count nothing = tt
+    both (Some t) count nothing = λ n.
+        let all : take opening.moment t.calls ≡ t.calls =
+        ap (λ (m : ℕ). take m t.calls) (sym begins.moment_is ∙ count) ∙ take-length t.calls in
+        subst (λ (calls : List Call). after_calls t.at_first calls n ≡ None) (sym all) (nothing n)
 
 pub logs_begin : (opening : Opening) (words : List ℕ) (writer : Plain) → IsNew opening
     → AreFirstWords opening words → IsFirstWriter opening writer
@@ -296,7 +352,9 @@ logs_begin opening words writer new first begins = record {
   wide = first.wide;
   grounded = only_one (first_view opening) _ (record {
     opening_is = λ live. refl;
+    watches = λ live. omega arith;
     at_rest = λ dead. absurd (cc);
+    left = λ dead. absurd (cc);
   });
   reserved = order_begins opening words writer new first begins;
   locks = locks_begin opening words writer new first begins;

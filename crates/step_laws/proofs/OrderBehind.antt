@@ -6,13 +6,13 @@ use Rattle.wal_core.specs.Words.{position_word, prev_word, flushed_word}
 use Rattle.wal_core.specs.Views.{HasAt, Plain, Reserving, Hold, Idle, Turned, Out, Taken, View, reserving_of}
 use Rattle.wal_core.specs.Ordered.{OrderHolds}
 use Rattle.wal_core.specs.Moves.{with_hold, with_stage, with_working}
-use Rattle.wal_core.specs.Steps.{Event, MayStep, word_of_step, load_position, take_write_turn, slot_out, slot_in, release_write_turn, lock_position, load_prev, store_prev, store_position, give_position_back, load_lock, take_lock, advance, release, load_end, store_word, load_word, load_written, load_flushed, load_moment, load_down, store_written, store_moment, store_flushed, set_down, take_mapping_turn, load_initialised, clear_end, zero_word, publish_end, publish_initialised, release_mapping_turn, create, write, sync, with_slot, with_call_on}
+use Rattle.wal_core.specs.Steps.{Event, MayStep, word_of_step, number_lent, load_position, take_write_turn, slot_out, slot_in, release_write_turn, lock_position, load_prev, store_prev, store_position, give_position_back, load_lock, take_lock, advance, release, load_end, store_word, load_word, load_written, load_flushed, load_moment, load_down, store_written, store_moment, store_flushed, set_down, take_mapping_turn, load_initialised, clear_end, zero_word, publish_end, publish_initialised, release_mapping_turn, create, write, sync, with_slot, with_call_on}
 use Rattle.wal_core.specs.Sound.{IsSound}
 use Rattle.wal_core.proofs.Lists.{part_at, part_set}
 use Rattle.wal_core.proofs.WordLists.{single_set, word_else}
 use Rattle.order_laws.specs.Parts.{TakesPart, HoldsWith}
 use Rattle.order_laws.proofs.OrderKept as order
-use Rattle.position_laws.proofs.PositionKept.{flushed_is_reserved}
+use Rattle.position_laws.proofs.PositionKept.{flushed_is_reserved, hard_is_reserved}
 use Rattle.lock_laws.specs.Behind.{order_behind}
 use Rattle.step_laws.proofs.Frames.{Moved, moved, later, views_later, same_either, order_stays}
 use Rattle.step_laws.proofs.Known.{now, has_now}
@@ -113,9 +113,10 @@ module _ (words : List ℕ) (home : Option Plain) (views : List View) (id : ℕ)
       (order_behind v (store_position locks value) k.order) refl
       (order.store_position_keeps k.order (position_word words) (prev_word words)
       (map reserving_of views) id v home locks value takes_part may)
-  order_holds give_position_back may = position_stored give_position_back k.order refl
+  order_holds (give_position_back value) may =
+      position_stored (give_position_back value) k.order refl
       (order.give_position_back_keeps k.order (position_word words) (prev_word words)
-      (map reserving_of views) id v home takes_part may)
+      (map reserving_of views) id v home value takes_part may)
   order_holds (load_lock lock limit) may = stays (load_lock lock limit) refl (omega arith)
   order_holds (take_lock lock) may = stays (take_lock lock)
       (same_either reserving_of (eqb (slice_index words (2 + lock)) 0)
@@ -134,7 +135,11 @@ module _ (words : List ℕ) (home : Option Plain) (views : List View) (id : ℕ)
   order_holds load_down may = stays load_down refl (omega arith)
   order_holds store_written may = stays store_written refl (omega arith)
   order_holds store_moment may = stays store_moment refl (omega arith)
-  order_holds store_flushed may = stays store_flushed refl (omega arith)
+  order_holds store_flushed may = neither_stored store_flushed (omega arith)
+      (order.load_flushed_keeps k.order (position_word words) (prev_word words)
+      (map reserving_of views) id v home (number_lent v (λ l. l.hard) (v.writing).hold) takes_part
+      (hard_is_reserved (now words home views id v k) id v (has_now words home views id v k here)
+      may))
   order_holds set_down may = stays set_down refl (omega arith)
   order_holds take_mapping_turn may = stays take_mapping_turn
       (same_either reserving_of (eqb (slice_index words 10) 0) (with_stage Taken v) v refl)

@@ -1,13 +1,13 @@
 -- Passes: where one is split off, where one takes another in, and where one gives up its copy, the
 -- invariant is kept.
-use Rattle.std.proofs.Common.{◌≡◌, ◌≢◌, ℕ, ◌<◌, true, List, [], ◌∷◌, ◌++◌, map, set, refl, sym, subst}
+use Rattle.std.proofs.Common.{◌≡◌, ◌≢◌, ℕ, ◌<◌, ◌≤◌, true, List, [], ◌∷◌, ◌++◌, map, max, set, refl, sym, ◌∙◌, subst, ⊎_elim, arith}
 use mathlib.Core.Option.{Option}
-use Rattle.wal_core.specs.Words.{Opening, position_word, prev_word, written_word, flushed_word, down_word}
-use Rattle.wal_core.specs.Views.{HasAt, Flight, Plain, Reserving, View, Writing, reserving_of, flight_of, writing_of}
+use Rattle.wal_core.specs.Words.{Opening, position_word, prev_word, written_word, flushed_word, down_word, end_form}
+use Rattle.wal_core.specs.Views.{HasAt, Flight, Plain, Reserving, View, Writing, reserving_of, flight_of, writing_of, told_of}
 use Rattle.wal_core.specs.Ordered.{OrderHolds}
 use Rattle.wal_core.specs.Positioned.{PositionsHold}
 use Rattle.wal_core.specs.Moves.{left_of, right_of, both_of, spent, without_work, orphan_of}
-use Rattle.wal_core.specs.Steps.{State, Splits, IsResting, Joins, GivesUp}
+use Rattle.wal_core.specs.Steps.{State, Splits, IsResting, Joins, IsStranded, GivesUp}
 use Rattle.wal_core.specs.Sound.{IsGrounded, IsSound}
 use Rattle.wal_core.proofs.Lists.{one_set, one_added, part_at}
 use Rattle.order_laws.specs.Parts.{TakesPart}
@@ -21,21 +21,26 @@ use Rattle.position_laws.specs.Parts.{Positions, HasPositions}
 use Rattle.position_laws.proofs.PositionKept as positions
 use Rattle.durable_laws.specs.Behind.{HasDurableWith}
 use Rattle.durable_laws.proofs.SoundSteps.{durable-split, durable-taken_in, durable-given_up}
-use Rattle.step_laws.proofs.Frames.{grounded_live}
-use Rattle.step_laws.proofs.Known.{now, has_now}
+use Rattle.step_laws.proofs.Frames.{grounded_live, watches_still}
+use Rattle.step_laws.proofs.Known.{now, has_now, told_here}
 use Rattle.step_laws.proofs.OrderBehind.{takes_part}
 
--- a view that is not live, and has neither turn
-grounded_spent : (opening : Opening) (v : View) → IsGrounded opening (spent v)
-grounded_spent opening v = record {
+-- a view that is not live, and has neither turn: with nothing in hand, and behind a fault
+grounded_spent : (opening : Opening) (down : ℕ) (v : View) → IsGrounded opening down (spent v)
+grounded_spent opening down v = record {
   opening_is = λ alive. absurd (cc);
+  watches = λ alive. absurd (cc);
   at_rest = λ dead. (refl, refl);
+  left = λ dead has. absurd (⊎_elim (λ some_lock. some_lock refl) (λ flies. flies refl) has);
 }
 
-grounded_orphan : (opening : Opening) (v : View) → IsGrounded opening (orphan_of v)
-grounded_orphan opening v = record {
+grounded_orphan : (opening : Opening) (down : ℕ) (v : View) → down ≢ 0
+    → IsGrounded opening down (orphan_of v)
+grounded_orphan opening down v failed = record {
   opening_is = λ alive. absurd (cc);
+  watches = λ alive. absurd (cc);
   at_rest = λ dead. (refl, refl);
+  left = λ dead has. failed;
 }
 
 module _ (words : List ℕ) (home : Option Plain) (views : List View) (id : ℕ) (v : View)
@@ -48,10 +53,11 @@ module _ (words : List ℕ) (home : Option Plain) (views : List View) (id : ℕ)
         (position_word words) (prev_word words) rs
 
     abbrev HasPositionsWith : List Flight → List Writing → Type 0
-    HasPositionsWith fs ws = PositionsHold (v.opening).setup k.order (written_word words)
+    HasPositionsWith fs ws = PositionsHold v.opening k.order (written_word words)
         (flushed_word words) (down_word words) home k.writer fs ws
 
-    changed_sound : ((j : ℕ) (u : View) → HasAt changed j u → IsGrounded v.opening u)
+    changed_sound : ((j : ℕ) (u : View) → HasAt changed j u
+        → IsGrounded v.opening (down_word words) u)
         → (rs : List Reserving) → map reserving_of changed ≡ rs → HasOrderWith rs
         → WorksHold (v.opening).setup k.order words changed
         → TurnsHold words home k.stage k.writer changed
@@ -96,18 +102,25 @@ module _ (words : List ℕ) (home : Option Plain) (views : List View) (id : ℕ)
   part = takes_part words home views id v k here live
 
   -- where one view is set, and one is added
-  grounded_added : (w x : View) → IsGrounded v.opening w → IsGrounded v.opening x
-      → (j : ℕ) (u : View) → HasAt (set views id w ++ x ∷ []) j u → IsGrounded v.opening u
+  abbrev Grounded : View → Type 0
+  Grounded u = IsGrounded v.opening (down_word words) u
+
+  grounded_added : (w x : View) → Grounded w → Grounded x
+      → (j : ℕ) (u : View) → HasAt (set views id w ++ x ∷ []) j u → Grounded u
   grounded_added w x changed new =
-      one_added (λ j u. IsGrounded v.opening u) (set views id w) x
-      (one_set (λ j u. IsGrounded v.opening u) views id w (λ j u apart at. k.grounded j u at)
-      changed) new
+      one_added (λ j u. Grounded u) (set views id w) x
+      (one_set (λ j u. Grounded u) views id w (λ j u apart at. k.grounded j u at) changed) new
+
+  -- the view watches for no more than it has seen
+  low : (v.watching).end ≤ end_form (v.opening).setup (v.reserving).seen
+  low = (k.grounded id v here).watches live
 
   pub split_sound : (v.reserving).spare < (v.reserving).spare_end
       → IsSound v.opening words home (set views id (left_of v) ++ right_of v ∷ [])
   split_sound some_left = changed_sound (set views id (left_of v) ++ right_of v ∷ [])
-      (grounded_added (left_of v) (right_of v) (grounded_live v.opening (left_of v) refl live)
-      (grounded_live v.opening (right_of v) refl refl))
+      (grounded_added (left_of v) (right_of v)
+      (grounded_live v.opening (down_word words) (left_of v) refl live low)
+      (grounded_live v.opening (down_word words) (right_of v) refl refl (omega arith)))
       _ (one_changes reserving_of views id v here (left_of v) (right_of v))
       (order.split_keeps k.order (position_word words) (prev_word words)
       (map reserving_of views) id v part some_left)
@@ -122,11 +135,19 @@ module _ (words : List ℕ) (home : Option Plain) (views : List View) (id : ℕ)
       (positions.split_keeps all id v has_all)
       (durable-split words home views id v k here)
 
-  pub give_up_sound : IsSound v.opening words home
+  -- a down value that the view met or set is the down word
+  failed : IsStranded v → down_word words ≢ 0
+  failed may none =
+      let told = (k.durable).views id (told_of v) (told_here words home views id v k here) in
+      ⊎_elim (λ met. met (told.down_met met ∙ none)) (λ set. set (told.down_set set ∙ none))
+      may.down
+
+  pub give_up_sound : IsStranded v → IsSound v.opening words home
       (set views id (without_work v) ++ orphan_of v ∷ [])
-  give_up_sound = changed_sound (set views id (without_work v) ++ orphan_of v ∷ [])
+  give_up_sound may = changed_sound (set views id (without_work v) ++ orphan_of v ∷ [])
       (grounded_added (without_work v) (orphan_of v)
-      (grounded_live v.opening (without_work v) refl live) (grounded_orphan v.opening v))
+      (grounded_live v.opening (down_word words) (without_work v) refl live low)
+      (grounded_orphan v.opening (down_word words) v (failed may)))
       _ (one_changes reserving_of views id v here (without_work v) (orphan_of v))
       (order.give_up_keeps k.order (position_word words) (prev_word words)
       (map reserving_of views) id v part)
@@ -146,13 +167,16 @@ module _ (words : List ℕ) (home : Option Plain) (views : List View) (id : ℕ)
       → IsSound v.opening words home (set (set views other (spent w)) id (both_of v w))
   join_sound other w there alive apart rests =
       changed_sound (set (set views other (spent w)) id (both_of v w))
-      (one_set (λ j u. IsGrounded v.opening u) (set views other (spent w)) id (both_of v w)
-      (λ j u not_this at. one_set (λ i x. IsGrounded v.opening x) views other (spent w)
-      (λ i x not_other found. k.grounded i x found) (grounded_spent v.opening w) j u at)
-      (grounded_live v.opening (both_of v w) refl live))
+      (one_set (λ j u. Grounded u) (set views other (spent w)) id (both_of v w)
+      (λ j u not_this at. one_set (λ i x. Grounded x) views other (spent w)
+      (λ i x not_other found. k.grounded i x found)
+      (grounded_spent v.opening (down_word words) w) j u at)
+      (grounded_live v.opening (down_word words) (both_of v w) refl live
+      (watches_still (v.opening).setup (k.setup_is).size (v.watching).end (v.reserving).seen
+      (max (v.reserving).seen (w.reserving).seen) low (omega arith))))
       _ (two_change reserving_of views id v here other (both_of v w) (spent w))
       (order.join_keeps k.order (position_word words) (prev_word words) (map reserving_of views)
-      id v other w part (part_at reserving_of views other w there) alive apart)
+      id v other w part (part_at reserving_of views other w there) alive apart rests.place)
       (works_join (v.opening).setup k.order words views id v here
       (works_now v.opening words home views k) other w there apart rests)
       (turns_join words home k.stage k.writer views id v here
@@ -203,7 +227,7 @@ module _ (opening : Opening) (s t : State) (id : ℕ) (k : IsSound opening s.wor
         sound_as s.words s.home views m.words m.home m.views
         (at_own_opening opening s.words s.home s.views id v k (m.live).0 (m.live).1 s.words s.home
         views
-        (λ own. give_up_sound s.words s.home s.views id v own (m.live).0 (m.live).1))
+        (λ own. give_up_sound s.words s.home s.views id v own (m.live).0 (m.live).1 m.may))
 
     pub joins_keep : (other : ℕ) → Joins id other s t → IsSound opening t.words t.home t.views
     joins_keep other m =

@@ -29,7 +29,7 @@ module _ (words : List ℕ) (home : Option Plain) (views : List View) (id : ℕ)
 
     -- the positions over the words and views behind
     abbrev pub HasPositions : List Entry → Plain → Type 0
-    HasPositions es writer = PositionsHold setup es (written_word (later s))
+    HasPositions es writer = PositionsHold v.opening es (written_word (later s))
         (flushed_word (later s)) (down_word (later s)) (home_behind v e home) writer
         (map flight_of (views_later s)) (map writing_of (views_later s))
 
@@ -37,13 +37,13 @@ module _ (words : List ℕ) (home : Option Plain) (views : List View) (id : ℕ)
     with_words : (es : List Entry) (writer : Plain) (written flushed down : ℕ)
         → written_word (later s) ≡ written → flushed_word (later s) ≡ flushed
         → down_word (later s) ≡ down
-        → PositionsHold setup es written flushed down (home_behind v e home) writer
+        → PositionsHold v.opening es written flushed down (home_behind v e home) writer
         (set (map flight_of views) id (flight_of s.w))
         (set (map writing_of views) id (writing_of s.w))
         → HasPositions es writer
     with_words es writer written flushed down is_written is_flushed is_down holds =
         subst (λ (x : ℕ × ℕ × ℕ × List Flight × List Writing).
-        PositionsHold setup es x.0 x.1 x.2 (home_behind v e home) writer x.3 x.4)
+        PositionsHold v.opening es x.0 x.1 x.2 (home_behind v e home) writer x.3 x.4)
         (λ j. (
           sym is_written j,
           sym is_flushed j,
@@ -57,7 +57,7 @@ module _ (words : List ℕ) (home : Option Plain) (views : List View) (id : ℕ)
 
     -- where none of them is stored
     by_law : (es : List Entry) (writer : Plain) → 13 ≢ s.i → 14 ≢ s.i → 16 ≢ s.i
-        → PositionsHold setup es (written_word words) (flushed_word words) (down_word words)
+        → PositionsHold v.opening es (written_word words) (flushed_word words) (down_word words)
         (home_behind v e home) writer (set (map flight_of views) id (flight_of s.w))
         (set (map writing_of views) id (writing_of s.w))
         → HasPositions es writer
@@ -67,7 +67,7 @@ module _ (words : List ℕ) (home : Option Plain) (views : List View) (id : ℕ)
 
     -- where a load leaves all words
     by_load : (es : List Entry) (writer : Plain) → later s ≡ words
-        → PositionsHold setup es (written_word words) (flushed_word words) (down_word words)
+        → PositionsHold v.opening es (written_word words) (flushed_word words) (down_word words)
         (home_behind v e home) writer (set (map flight_of views) id (flight_of s.w))
         (set (map writing_of views) id (writing_of s.w))
         → HasPositions es writer
@@ -81,7 +81,7 @@ module _ (words : List ℕ) (home : Option Plain) (views : List View) (id : ℕ)
   down_known : (v.writing).down_set ≢ 0 → (v.writing).down_set ≡ down_word words
   down_known = ((k.durable).views id (told_of v) (told_here words home views id v k here)).down_set
 
-  lock_low : (lock : ℕ) → Contains (v.working).locks lock → lock < 8
+  pub lock_low : (lock : ℕ) → Contains (v.working).locks lock → lock < 8
   lock_low lock has =
       (((k.locks).locks).each id lock v.working (part_at working_of views id v here) has).0
 
@@ -119,7 +119,7 @@ module _ (words : List ℕ) (home : Option Plain) (views : List View) (id : ℕ)
       (kept.store_position_keeps (now words home views id v k) id v (has_now words home views id v k here)
       (position_word words) (prev_word words) (map reserving_of views) locks value k.reserved
       (part_at reserving_of views id v here) live may)
-  positions_hold give_position_back may = positions_stay (step give_position_back)
+  positions_hold (give_position_back value) may = positions_stay (step (give_position_back value))
       (rw may.1 refl) (rw may.1 refl) (λ e. omega arith) (λ e. omega arith) (λ e. omega arith)
   positions_hold (load_lock lock limit) may = positions_stay (step (load_lock lock limit)) refl
       refl (λ e. omega arith) (λ e. omega arith) (λ e. omega arith)
@@ -212,4 +212,4 @@ module _ (words : List ℕ) (home : Option Plain) (views : List View) (id : ℕ)
       (writer_behind v (sync segment outcome) k.writer)
       (λ e. omega arith) (λ e. omega arith) (λ e. omega arith)
       (calls.sync_keeps (now words home views id v k) id v (has_now words home views id v k here)
-      (slice_index words 11) segment outcome may)
+      (moment_word words) (map told_of views) k.durable (slice_index words 11) segment outcome may)

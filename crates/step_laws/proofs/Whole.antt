@@ -1,11 +1,11 @@
 -- The invariant behind a step of any kind: each part by its own laws.
-use Rattle.std.proofs.Common.{◌≡◌, ℕ, ◌+◌, Bool, cond, true, false, List, [], ◌∷◌, ◌++◌, slice_index, refl, sym, ap, ◌∙◌, subst, eqb}
-use mathlib.Core.Option.{Option, none, some}
-use Rattle.wal_core.specs.Views.{HasAt, Plain, Hold, Idle, Turned, Out, Stage, Away, Taken, Looked, Ready, Zeroing, Published, Locked, View, mapper_of}
+use Rattle.std.proofs.Common.{◌≡◌, ℕ, ◌+◌, true, List, [], ◌∷◌, ◌++◌, slice_index, sym, ap, subst}
+use mathlib.Core.Option.{Option}
+use Rattle.wal_core.specs.Views.{HasAt, Plain, Stage, Away, Taken, Looked, Ready, Zeroing, Published, View, mapper_of}
 use Rattle.wal_core.specs.Locked.{HasTurn}
-use Rattle.wal_core.specs.Moves.{entry_at, with_hold, with_place, with_stage, with_working, looked, ready}
-use Rattle.wal_core.specs.Steps.{Event, MayStep, place_at, word_of_step, view_behind, load_position, take_write_turn, slot_out, slot_in, release_write_turn, lock_position, load_prev, store_prev, store_position, give_position_back, load_lock, take_lock, advance, release, load_end, store_word, load_word, load_written, load_flushed, load_moment, load_down, store_written, store_moment, store_flushed, set_down, take_mapping_turn, load_initialised, clear_end, zero_word, publish_end, publish_initialised, release_mapping_turn, create, write, sync, with_slot, with_call_on}
-use Rattle.wal_core.specs.Words.{Opening}
+use Rattle.wal_core.specs.Moves.{entry_at, looked, ready}
+use Rattle.wal_core.specs.Steps.{Event, MayStep, place_at, word_of_step, load_position, take_write_turn, slot_out, slot_in, release_write_turn, lock_position, load_prev, store_prev, store_position, give_position_back, load_lock, take_lock, advance, release, load_end, store_word, load_word, load_written, load_flushed, load_moment, load_down, store_written, store_moment, store_flushed, set_down, take_mapping_turn, load_initialised, clear_end, zero_word, publish_end, publish_initialised, release_mapping_turn, create, write, sync}
+use Rattle.wal_core.specs.Words.{down_word}
 use Rattle.wal_core.specs.Sound.{IsSound}
 use Rattle.wal_core.proofs.Lists.{part_at}
 use Rattle.lock_laws.specs.Behind.{order_behind, stage_behind, writer_behind, moved as stage_moved}
@@ -17,7 +17,8 @@ use Rattle.ring_laws.proofs.RingSteps as ring
 use Rattle.durable_laws.specs.Behind.{HasDurable}
 use Rattle.durable_laws.proofs.SoundSteps as durable
 use Rattle.step_laws.specs.Kept.{KeepsSound}
-use Rattle.step_laws.proofs.Frames.{moved, grounded_live, grounded_stays, wide_stays}
+use Rattle.step_laws.proofs.Frames.{moved, later, grounded_stay, wide_stays}
+use Rattle.step_laws.proofs.GroundBehind.{grounded_behind, down_stays}
 use Rattle.step_laws.proofs.OrderBehind.{order_holds}
 use Rattle.step_laws.proofs.PositionsBehind.{positions_hold}
 
@@ -30,10 +31,6 @@ abbrev pub memory_behind : View → Event → (ℕ → ℕ) → ℕ → ℕ
 memory_behind v store_word memory = memory_stored v memory
 memory_behind v other memory = memory
 
--- what is fixed of a view, and that it is live
-abbrev ground_of : View → Opening × Bool
-ground_of v = (v.opening, (v.reserving).live)
-
 -- what holds of the stage that a load leaves, where only the mapper moves it
 by_moved : (P : Stage → Type 0) (own stage : Stage) (f : Stage → Stage) → P stage
     → (HasTurn own → P (f stage)) → P (stage_moved own stage (f stage))
@@ -43,22 +40,6 @@ by_moved P (Looked at) stage f stays goes = goes tt
 by_moved P (Ready at written) stage f stays goes = goes tt
 by_moved P (Zeroing at count) stage f stays goes = goes tt
 by_moved P (Published at) stage f stays goes = goes tt
-
--- one of two views, of the same ground
-ground_either : (b : Bool) (x y : View) → ground_of x ≡ ground_of y
-    → ground_of (cond b x y) ≡ ground_of y
-ground_either true x y same = same
-ground_either false x y same = refl
-
-ground_slot : (v : View) (home : Option Plain) → ground_of (with_slot v home) ≡ ground_of v
-ground_slot v none = refl
-ground_slot v (some writer) = refl
-
-ground_call : (v : View) (f : Plain → Plain) (hold : Hold)
-    → ground_of (with_call_on v f hold) ≡ ground_of v
-ground_call v f Idle = refl
-ground_call v f Turned = refl
-ground_call v f (Out l) = refl
 
 module _ (words : List ℕ) (home : Option Plain) (views : List View) (id : ℕ) (v : View)
     (k : IsSound v.opening words home views) (here : HasAt views id v)
@@ -87,8 +68,8 @@ module _ (words : List ℕ) (home : Option Plain) (views : List View) (id : ℕ)
       (k.order ++ entry_at number at value ∷ []) k.reach k.memory)
       (sym (ap (place_at v) may.2))
       (ring.ring_behind-reserved v words home views id k here locks value live may)
-  ring_holds give_position_back may =
-      left.ring_behind-left v words home views id k here give_position_back tt
+  ring_holds (give_position_back value) may =
+      left.ring_behind-left v words home views id k here (give_position_back value) tt
   ring_holds (load_lock lock limit) may =
       left.ring_behind-left v words home views id k here (load_lock lock limit) tt
   ring_holds (take_lock lock) may =
@@ -163,8 +144,8 @@ module _ (words : List ℕ) (home : Option Plain) (views : List View) (id : ℕ)
       left.pages_behind-left v words home views id k here store_prev may tt
   pages_hold (store_position locks value) may =
       left.pages_behind-left v words home views id k here (store_position locks value) may tt
-  pages_hold give_position_back may =
-      left.pages_behind-left v words home views id k here give_position_back may tt
+  pages_hold (give_position_back value) may =
+      left.pages_behind-left v words home views id k here (give_position_back value) may tt
   pages_hold (load_lock lock limit) may =
       left.pages_behind-left v words home views id k here (load_lock lock limit) may tt
   pages_hold (take_lock lock) may =
@@ -228,7 +209,7 @@ module _ (words : List ℕ) (home : Option Plain) (views : List View) (id : ℕ)
   durable_holds load_prev may = durable.durable-inside words home views id v k here load_prev may tt tt
   durable_holds store_prev may = durable.durable-inside words home views id v k here store_prev may tt tt
   durable_holds (store_position locks value) may = durable.durable-reserved words home views id v k here live locks value may
-  durable_holds give_position_back may = durable.durable-inside words home views id v k here give_position_back may tt tt
+  durable_holds (give_position_back value) may = durable.durable-inside words home views id v k here (give_position_back value) may tt tt
   durable_holds (load_lock lock limit) may = durable.durable-inside words home views id v k here (load_lock lock limit) may tt tt
   durable_holds (take_lock lock) may = durable.durable-inside words home views id v k here (take_lock lock) may tt tt
   durable_holds (advance lock upto) may = durable.durable-inside words home views id v k here (advance lock upto) may tt tt
@@ -257,52 +238,10 @@ module _ (words : List ℕ) (home : Option Plain) (views : List View) (id : ℕ)
       durable.durable-write words home views id v k here segment page upto bytes outcome may
   durable_holds (sync segment outcome) may = durable.durable-sync words home views id v k here segment outcome may
 
-  -- the step leaves what is fixed of its view, and the view live
-  ground_stays : (e : Event) → MayStep v e
-      → ground_of (view_behind v e (slice_index words (word_of_step v e)) home) ≡ ground_of v
-  ground_stays load_position may = refl
-  ground_stays take_write_turn may = ground_either (eqb (slice_index words 11) 0) (with_hold Turned v) v refl
-  ground_stays slot_out may = ground_slot v home
-  ground_stays slot_in may = refl
-  ground_stays release_write_turn may = refl
-  ground_stays (lock_position expected) may = ground_either (eqb (slice_index words 0) expected)
-      (with_place (Locked expected) v) v refl
-  ground_stays load_prev may = rw may.1 refl
-  ground_stays store_prev may = rw may.2 refl
-  ground_stays (store_position locks value) may = rw may.2 refl
-  ground_stays give_position_back may = rw may.1 refl
-  ground_stays (load_lock lock limit) may = refl
-  ground_stays (take_lock lock) may = ground_either (eqb (slice_index words (2 + lock)) 0)
-      (with_working ((v.working).locks ++ lock ∷ []) (v.working).flight v) v refl
-  ground_stays (advance lock upto) may = refl
-  ground_stays (release lock) may = refl
-  ground_stays (load_end buffer) may = refl
-  ground_stays store_word may = refl
-  ground_stays (load_word number) may = refl
-  ground_stays load_written may = refl
-  ground_stays load_flushed may = refl
-  ground_stays load_moment may = refl
-  ground_stays load_down may = refl
-  ground_stays store_written may = refl
-  ground_stays store_moment may = refl
-  ground_stays store_flushed may = refl
-  ground_stays set_down may = refl
-  ground_stays take_mapping_turn may = ground_either (eqb (slice_index words 10) 0) (with_stage Taken v) v refl
-  ground_stays load_initialised may = refl
-  ground_stays clear_end may = refl
-  ground_stays zero_word may = refl
-  ground_stays publish_end may = refl
-  ground_stays publish_initialised may = refl
-  ground_stays release_mapping_turn may = refl
-  ground_stays (create segment outcome) may = ground_call v _ (v.writing).hold
-  ground_stays (write segment page upto bytes outcome) may = ground_call v _ (v.writing).hold
-  ground_stays (sync segment outcome) may = ground_call v _ (v.writing).hold
-
   pub sound_behind : (e : Event) → MayStep v e → KeepsSound words home views id v e
   sound_behind e may =
       let s = moved words home views id v k here e in
       let behind = locks_behind v.opening words home views k id v here live e may in
-      let ground = ground_stays e may in
       record {
         order = order_behind v e k.order;
         memory = memory_behind v e k.memory;
@@ -311,8 +250,8 @@ module _ (words : List ℕ) (home : Option Plain) (views : List View) (id : ℕ)
         writer = writer_behind v e k.writer;
         setup_is = k.setup_is;
         wide = wide_stays s;
-        grounded = grounded_stays s (grounded_live v.opening s.w (ap (λ g. g.0) ground)
-            (ap (λ g. g.1) ground ∙ live));
+        grounded = grounded_stay s (down_stays words home views id v k here live e may)
+            (grounded_behind words home views id v k here live (down_word (later s)) e may);
         reserved = order_holds words home views id v k here live e may;
         locks = record {
           locks = (behind.0).held;

@@ -2,3 +2,4 @@ pub mod Lists
 pub mod WordLists
 pub mod Stages
 pub mod Landing
+pub mod Tapes

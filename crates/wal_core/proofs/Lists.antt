@@ -16,7 +16,8 @@ module _ {V : Type 0} where
       (λ (x : (j ≢ id) × HasAt views j u). others j u x.0 x.1)
       (at_set views id j w u e)
 
-  at_new : (l : List V) (a b : V) (j : ℕ) → HasAt (l ++ a ∷ []) j b
+  -- what is found in a longer list was there, or is new
+  pub at_new : (l : List V) (a b : V) (j : ℕ) → HasAt (l ++ a ∷ []) j b
       → HasAt l j b ⊎ ((j ≡ length l) × (a ≡ b))
   at_new [] a b zero e = inr (refl, some-injective a b e)
   at_new [] a b (suc j) e = absurd (some-ne-none b (sym e))
@@ -46,6 +47,25 @@ module _ {V : Type 0} where
   at_place [] id v w e = absurd (some-ne-none v (sym e))
   at_place (x ∷ xs) zero v w e = refl
   at_place (x ∷ xs) (suc id) v w e = at_place xs id v w e
+
+  pub at_else : (views : List V) (id j : ℕ) (w u : V) → j ≢ id → HasAt views j u
+      → HasAt (set views id w) j u
+  at_else [] id j w u apart e = absurd (some-ne-none u (sym e))
+  at_else (x ∷ xs) zero zero w u apart e = absurd (apart refl)
+  at_else (x ∷ xs) zero (suc j) w u apart e = e
+  at_else (x ∷ xs) (suc id) zero w u apart e = e
+  at_else (x ∷ xs) (suc id) (suc j) w u apart e =
+      at_else xs id j w u (λ is. apart (ap suc is)) e
+
+  pub at_front : (views : List V) (j : ℕ) (w u : V) → HasAt views j u
+      → HasAt (views ++ w ∷ []) j u
+  at_front [] j w u e = absurd (some-ne-none u (sym e))
+  at_front (x ∷ xs) zero w u e = e
+  at_front (x ∷ xs) (suc j) w u e = at_front xs j w u e
+
+  pub at_end : (views : List V) (w : V) → HasAt (views ++ w ∷ []) (length views) w
+  at_end [] w = refl
+  at_end (x ∷ xs) w = at_end xs w
 
 -- A part f of each view: a step that leaves the part of its view leaves the list of parts, and one
 -- that changes it changes that place alone

@@ -16,6 +16,7 @@ use Rattle.lawful_image.specs.ImageWords.{zero_word}
 use Rattle.lawful_image.specs.Lawful.{IsLawfulWord, log_word_bytes}
 use Rattle.wal_core.specs.declared.setup.Setup.{Setup}
 use Rattle.wal_core.specs.Words.{Opening}
+use Rattle.wal_core.specs.Suited.{IfSuited}
 use Rattle.wal_core.specs.Ringed.{log_word_of}
 use Rattle.wal_core.specs.Views.{HasAt, Joined, Promise, Plain, Lent, Out, Told}
 
@@ -69,12 +70,15 @@ abbrev pub AreKept : Opening → List Entry → Tape → List Entry → List Pro
 AreKept opening order tape entries promises =
     All (IsKept opening order tape entries) promises
 
--- with the writer in hand: what was loaded is lawful, and for which address the moment word is good
-pub record IsInHand (setup : Setup) (order : List Entry) (moment : ℕ) (writer : Plain) (l : Lent)
-    : Type 0 where
-  pub staged : All (IsStaged setup order l.known) l.staged
+-- with the writer in hand: what was loaded is lawful, and below which address all is durable from
+-- the moment on that was stored, where one was
+pub record IsInHand (opening : Opening) (order : List Entry) (moment : ℕ) (writer : Plain)
+    (l : Lent) : Type 0 where
+  pub staged : All (IsStaged opening.setup order l.known) l.staged
   pub hard_low : l.hard ≤ writer.written
-  pub hard_moment : IfSome writer.tape (IsFirm setup order l.hard moment)
+  pub moment_low : l.hard_moment ≤ moment
+  pub since : l.hard ≢ 0 → opening.moment ≤ l.hard_moment
+  pub firm : l.hard ≢ 0 → IfSuited opening writer (IsFirm opening.setup order l.hard l.hard_moment)
 
 -- what a promise names is not above what the words say now
 pub record IsPromised (flushed moment : ℕ) (p : Promise) : Type 0 where
@@ -86,11 +90,11 @@ pub record IsAssured (opening : Opening) (order : List Entry) (flushed moment do
     (writer : Plain) (x : Told) : Type 0 where
   pub own_promised : All (IsPromised flushed moment) (x.writing).promises
   pub joined_promised : All (λ (j : Joined). All (IsPromised flushed moment) j.promises) x.joined
-  pub own : IfSome writer.tape (λ t. AreKept opening order t x.entries (x.writing).promises)
-  pub joined : IfSome writer.tape (λ t.
+  pub own : IfSuited opening writer (λ t. AreKept opening order t x.entries (x.writing).promises)
+  pub joined : IfSuited opening writer (λ t.
       All (λ (j : Joined). AreKept opening order t j.entries j.promises) x.joined)
   pub in_hand : (l : Lent) → (x.writing).hold ≡ Out l
-      → IsInHand opening.setup order moment writer l
+      → IsInHand opening order moment writer l
   pub down_met : (x.writing).down_met ≢ 0 → (x.writing).down_met ≡ down
   pub down_set : (x.writing).down_set ≢ 0 → (x.writing).down_set ≡ down
 
@@ -112,10 +116,10 @@ pub record DurabilityHolds (opening : Opening) (order : List Entry)
     pub begun : opening.moment ≤ moment
     pub reached : writer.written ≤ writer.made * opening.setup.segment_size
         + opening.setup.segment_size
-    pub lawful : IfSome writer.tape (TapeAssures opening.setup.segment_size IsNowhere
+    pub lawful : IfSuited opening writer (TapeAssures opening.setup.segment_size IsNowhere
         (IsLawfulAt opening.setup order) opening.moment)
-    pub firm : IfSome writer.tape (IsFirm opening.setup order flushed moment)
-    pub on_disk : IfSome writer.tape (IsOnDisk opening.setup order writer)
+    pub firm : IfSuited opening writer (IsFirm opening.setup order flushed moment)
+    pub on_disk : IfSuited opening writer (IsOnDisk opening.setup order writer)
     pub down_is : down ≢ 0 → writer.fault ≡ some down
     pub down_at_home : home ≡ some writer → down ≡ 0 → writer.fault ≡ none
     pub fault_rose : (f : ℕ) → writer.fault ≡ some f → Rose opening.faults f

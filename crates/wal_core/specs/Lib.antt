@@ -5,6 +5,7 @@ pub mod Locked
 pub mod Ringed
 pub mod Paged
 pub mod Watched
+pub mod Suited
 pub mod Positioned
 pub mod Durable
 pub mod Sound

@@ -62,6 +62,7 @@ lent writer v = record {
   known = copied_below v.watching;
   staged = [];
   hard = 0;
+  hard_moment = 0;
   stored = 0;
 }
 
@@ -142,12 +143,16 @@ spent v = record (right_of v) {
   };
 }
 
--- a pass that gives up its copy, and the view with which the copy and its locks stay
+-- a pass that gives up its copy, and the view with which the copy and its locks stay, and the
+-- highest end of a page that the copy has met
 abbrev pub without_work : View → View
 without_work v = with_working [] Landed v
 
 abbrev pub orphan_of : View → View
-orphan_of v = record (spent v) { working = v.working }
+orphan_of v = record (spent v) {
+  working = v.working;
+  mapping = record { confirmed = (v.mapping).confirmed; stage = Away };
+}
 
 -- ---- reserving
 
@@ -308,15 +313,19 @@ after_load_flushed met v =
     with_seen (position_of ((v.opening).setup).segment_size met)
     (with_writing (record v.writing { flushed = met }) v)
 
--- what was loaded as flushed is durable from the moment met on: it is told so
-abbrev pub after_load_moment : ℕ → View → View
-after_load_moment met v = with_writing (record v.writing {
+-- a pass is told that all below an address is durable from a moment on
+abbrev pub with_promise : ℕ → ℕ → View → View
+with_promise upto moment v = with_writing (record v.writing {
   promises = (v.writing).promises ++ (record {
-    upto = (v.writing).flushed;
-    moment = met;
+    upto = upto;
+    moment = moment;
     entries = length (v.reserving).entries;
   }) ∷ [];
 }) v
+
+-- what was loaded as flushed is durable from the moment met on: it is told so
+abbrev pub after_load_moment : ℕ → View → View
+after_load_moment met v = with_promise (v.writing).flushed met v
 
 abbrev pub after_load_down : ℕ → View → View
 after_load_down met v = with_writing (record v.writing { down_met = met }) v
@@ -325,9 +334,17 @@ abbrev pub after_store_written : View → View
 after_store_written v = with_hold
     (with_lent (λ l. record l { stored = (l.writer).written }) (v.writing).hold) v
 
+-- all that is written is durable from the moment stored on
+abbrev pub hardened : Lent → Lent
+hardened l = record l { hard = (l.writer).written; hard_moment = (l.writer).moment }
+
 abbrev pub after_store_moment : View → View
-after_store_moment v = with_hold
-    (with_lent (λ l. record l { hard = (l.writer).written }) (v.writing).hold) v
+after_store_moment v = with_hold (with_lent hardened (v.writing).hold) v
+
+-- what is stored as flushed is durable from the moment that was stored before: it is told so
+abbrev pub after_store_flushed : ℕ → ℕ → View → View
+after_store_flushed upto moment v =
+    with_seen (position_of ((v.opening).setup).segment_size upto) (with_promise upto moment v)
 
 abbrev pub after_set_down : ℕ → View → View
 after_set_down faults v = with_writing (record v.writing { down_set = faults }) v

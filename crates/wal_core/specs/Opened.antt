@@ -1,8 +1,6 @@
 -- How a log begins that holds nothing: its words, its writer, and the view of its first pass.
 use Rattle.std.specs.Prelude.{◌≡◌, ℕ, ◌+◌, ◌*◌, ◌/◌, ◌<◌, ◌≤◌, true, List, [], length, slice_index, IfSome}
 use mathlib.Core.Option.{none}
-use Rattle.flush_core.specs.Pages.{HoldsNothing}
-use Rattle.wal_core.specs.declared.setup.Setup.{Setup}
 use Rattle.wal_core.specs.Words.{Opening, position_word, initialised_word, written_word, flushed_word, moment_word, down_word, end_word, ring_word, word_count, log_start}
 use Rattle.wal_core.specs.Views.{Away, Free, Landed, Plain, View}
 use Rattle.wal_core.specs.Moves.{no_writing}
@@ -31,11 +29,10 @@ pub record AreFirstWords (opening : Opening) (words : List ℕ) : Type 0 where
       ((opening.setup).segment_size / 8192 + (opening.setup).ring_pages) b (end_word words b)
   pub ring : (k : ℕ) → k < (opening.setup).ring_pages * 1024 → ring_word opening.setup words k ≡ 0
 
--- a writer that has written nothing, on a disk that holds no segment where it tells what it holds
+-- a writer that has written nothing, on any disk
 pub record IsFirstWriter (opening : Opening) (writer : Plain) : Type 0 where
   pub moment_is : writer.moment ≡ opening.moment
   pub counted : IfSome writer.tape (λ t. writer.moment ≡ length t.calls)
-  pub holds : HoldsNothing writer.tape
   pub written : writer.written ≡ (opening.setup).segment_size
   pub made : writer.made ≡ 0
   pub waiting : writer.waiting ≡ none

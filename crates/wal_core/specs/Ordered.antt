@@ -1,6 +1,6 @@
 -- The reserved order: the entries of all passes without a gap, in the position word, the word of
 -- the last start, and what each pass has of it (PostgreSQL's xlog.c, ReserveXLogInsertLocation).
-use Rattle.std.specs.Prelude.{◌≡◌, ℕ, ◌+◌, ◌<◌, ◌≤◌, Bool, true, false, All, List, [], ◌∷◌, ◌++◌, take, length, Option, Some, None, IsSome, ◌==◌, if◌then◌else◌}
+use Rattle.std.specs.Prelude.{◌≡◌, ◌≢◌, ℕ, ◌+◌, ◌<◌, ◌≤◌, Bool, true, false, All, AllPairs, Contains, List, [], ◌∷◌, ◌++◌, take, length, Option, Some, None, IsSome, ◌==◌, if◌then◌else◌}
 use Rattle.byte_position.specs.Position.{address_of}
 use Rattle.wal_page.specs.Order.{Entry, IsChained, end_position, prev_of}
 use Rattle.wal_core.specs.declared.setup.Setup.{Setup}
@@ -18,46 +18,62 @@ entries_of number [] = []
 entries_of number (e ∷ es) =
     if is_pass number e.pass then e ∷ entries_of number es else entries_of number es
 
--- what has become of a pass's number: the view that goes by it, the view that may give it away, or
--- none, since its pass was taken in or it was not yet given to anybody
+-- what has become of a pass's number: the view that goes by it, the view that may give it away, the
+-- view that took its pass in, or none, since it was not given to anybody
 pub data Role : Type 0 where
   active : ℕ → Role
   spare : ℕ → Role
-  ended : Role
+  ended : ℕ → Role
   unborn : Role
 
 -- nobody reserves under this number
 abbrev pub IsUnused : Role → Type 0
 IsUnused (active id) = ⊥
 IsUnused (spare id) = Unit {0}
-IsUnused ended = ⊥
+IsUnused (ended id) = ⊥
 IsUnused unborn = Unit {0}
 
--- the log was full where an order's front ends that holds all that the pass had reserved by then
-pub record FrontEndsAt (size number : ℕ) (order entries : List Entry) (full : Filled) : Type 0
-  where
-    pub front : List Entry
-    pub back : List Entry
-    pub are : order ≡ front ++ back
-    pub end : full.position ≡ end_position size front
-    pub own : entries_of number front ≡ take full.entries entries
-    pub within : full.entries ≤ length entries
+-- the log was full where an order's front ends that holds all that the pass had reserved by then,
+-- and all that was found
+pub record FrontEndsAt (size number : ℕ) (found order entries : List Entry) (full : Filled)
+    : Type 0 where
+  pub front : List Entry
+  pub back : List Entry
+  pub are : order ≡ front ++ back
+  pub end : full.position ≡ end_position size front
+  pub own : entries_of number front ≡ take full.entries entries
+  pub within : full.entries ≤ length entries
+  pub found_within : length found ≤ length front
 
--- a pass that was taken in reserves no more, and its log is all that it reserved
-pub record IsEnded (size : ℕ) (order : List Entry) (role : ℕ → Role) (j : Joined) : Type 0 where
-  pub role_is : role j.number ≡ ended
+-- a pass that this view took in reserves no more, and its log is all that it reserved
+pub record IsEnded (size : ℕ) (found order : List Entry) (role : ℕ → Role) (id : ℕ) (j : Joined)
+    : Type 0 where
+  pub role_is : role j.number ≡ ended id
   pub entries_are : j.entries ≡ entries_of j.number order
-  pub filled : All (FrontEndsAt size j.number order j.entries) j.filled
+  pub filled : All (FrontEndsAt size j.number found order j.entries) j.filled
+
+-- passes that were taken in have numbers that differ
+abbrev pub AreApart : List Joined → Type 0
+AreApart joined = AllPairs (λ i j. i.number ≢ j.number) joined
 
 -- what is said of a live view
-pub record IsPartOf (size : ℕ) (order : List Entry) (role : ℕ → Role) (id : ℕ) (r : Reserving)
-    : Type 0 where
+pub record IsPartOf (size : ℕ) (found order : List Entry) (role : ℕ → Role) (id : ℕ)
+    (r : Reserving) : Type 0 where
   pub own : role r.number ≡ active id
   pub entries_are : r.entries ≡ entries_of r.number order
   pub spares : (n : ℕ) → r.spare ≤ n → n < r.spare_end → role n ≡ spare id
   pub seen : r.seen ≤ end_position size order
-  pub filled : All (FrontEndsAt size r.number order r.entries) r.filled
-  pub joined : All (IsEnded size order role) r.joined
+  pub filled : All (FrontEndsAt size r.number found order r.entries) r.filled
+  pub joined : All (IsEnded size found order role id) r.joined
+  pub apart : AreApart r.joined
+
+-- a live view is there, and of it this holds
+abbrev pub HasLive : List Reserving → ℕ → (Reserving → Type 0) → Type 0
+HasLive parts id P = (r : Reserving) × HasAt parts id r × (r.live ≡ true) × P r
+
+-- a view took in the pass with this number
+abbrev pub TookIn : ℕ → Reserving → Type 0
+TookIn number r = (j : Joined) × Contains r.joined j × (j.number ≡ number)
 
 -- how the words stand with a view that has locked the position: the order's end and last start, the
 -- word of the last start, the lock bit, and who set it
@@ -70,13 +86,16 @@ module _ (size end last prev locked holder id : ℕ) where
   AtPlace (Stored at met) =
       (locked ≡ 1) × (holder ≡ id) × (at ≡ end) × (prev ≡ address_of size at) × (met ≡ last)
 
--- an order begins with entries that were found, and each behind them is some pass's
+-- an order begins with entries that were found, which are no pass's, and each behind them is some
+-- pass's
 abbrev pub BeginsWith : List Entry → List Entry → Type 0
 BeginsWith found order =
     (back : List Entry) × (order ≡ found ++ back) × All (λ e. IsSome e.pass) back
+    × All (λ e. e.pass ≡ None) found
 
 -- Every view but those that gave up is one that is live or was taken in. `locked` is the lock bit,
--- `holder` the view that set it, `keeper` the one that has spare numbers
+-- `holder` the view that set it, `keeper` the one that has spare numbers. No entry is in the order
+-- but those of live views, of the passes that these took in, and those found
 pub record OrderHolds (setup : Setup) (found order : List Entry) (position prev : ℕ)
     (parts : List Reserving) : Type 0 where
   pub role : ℕ → Role
@@ -92,9 +111,12 @@ pub record OrderHolds (setup : Setup) (found order : List Entry) (position prev 
   pub unused : (n : ℕ) → IsUnused (role n) → entries_of n order ≡ []
   pub beyond : (n : ℕ) → setup.passes ≤ n → role n ≡ unborn
   pub views : (id : ℕ) (r : Reserving) → HasAt parts id r → r.live ≡ true
-      → IsPartOf setup.segment_size order role id r
+      → IsPartOf setup.segment_size found order role id r
   pub places : (id : ℕ) (r : Reserving) → HasAt parts id r → r.live ≡ true
       → AtPlace setup.segment_size (end_position setup.segment_size order)
       (prev_of setup.segment_size 0 order) prev locked holder id r.place
   pub spares : (id : ℕ) (r : Reserving) → HasAt parts id r → r.live ≡ true
       → r.spare < r.spare_end → id ≡ keeper
+  pub goes_by : (n id : ℕ) → role n ≡ active id → HasLive parts id (λ r. r.number ≡ n)
+  pub took_in : (n id : ℕ) → role n ≡ ended id → HasLive parts id (TookIn n)
+  pub held : locked ≡ 1 → HasLive parts holder (λ r. r.place ≢ Free)

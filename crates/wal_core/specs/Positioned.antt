@@ -1,5 +1,5 @@
 -- Up to where the log is reserved, copied, written and durable (PostgreSQL's xlog.c, LogwrtResult).
-use Rattle.std.specs.Prelude.{◌≡◌, ℕ, ◌*◌, ◌<◌, ◌≤◌, List, IfSome}
+use Rattle.std.specs.Prelude.{◌≡◌, ℕ, ◌*◌, ◌<◌, ◌≤◌, List}
 use Rattle.segment_disk.specs.DiskImage.{image_as_read}
 use Rattle.segment_disk.specs.Tape.{DiskState, state_now}
 use mathlib.Core.Option.{Option, some}
@@ -8,7 +8,8 @@ use Rattle.wal_page.specs.EntryWords.{address_of_word, words_owned}
 use Rattle.lawful_image.specs.ImageWords.{image_word}
 use Rattle.lawful_image.specs.Lawful.{log_word_bytes}
 use Rattle.wal_core.specs.declared.setup.Setup.{Setup}
-use Rattle.wal_core.specs.Words.{end_form}
+use Rattle.wal_core.specs.Words.{Opening, end_form}
+use Rattle.wal_core.specs.Suited.{IfSuited}
 use Rattle.wal_core.specs.Views.{HasAt, Copy, Flight, Copying, Plain, Lent, Out, Writing}
 
 -- no entry in flight has a word below this address that is still to copy
@@ -33,16 +34,19 @@ pub record IsWithin (size end written flushed : ℕ) (flights : List Flight) (x 
 
 -- `written`, `flushed` and `down` are the words, `writer` the writer wherever it is, which
 -- is `home` where it is at home
-pub record PositionsHold (setup : Setup) (order : List Entry) (written flushed down : ℕ)
+pub record PositionsHold (opening : Opening) (order : List Entry) (written flushed down : ℕ)
     (home : Option Plain) (writer : Plain) (flights : List Flight) (parts : List Writing) : Type 0
   where
-    pub begun : setup.segment_size ≤ flushed
+    pub begun : opening.setup.segment_size ≤ flushed
     pub flushed_low : flushed ≤ written
     pub written_low : written ≤ writer.written
     pub at_home : home ≡ some writer → down ≡ 0 → written ≡ writer.written
-    pub reserved : writer.written ≤ end_form setup (end_position setup.segment_size order)
-    pub copied : IsCopiedBelow setup.segment_size flights writer.written
-    pub reads : IfSome writer.tape (λ t. ReadsBelow setup order writer.written (state_now t))
+    pub reserved : writer.written
+        ≤ end_form opening.setup (end_position opening.setup.segment_size order)
+    pub copied : IsCopiedBelow opening.setup.segment_size flights writer.written
+    pub reads : IfSuited opening writer
+        (λ t. ReadsBelow opening.setup order writer.written (state_now t))
     pub views : (id : ℕ) (x : Writing) → HasAt parts id x
-        → IsWithin setup.segment_size (end_form setup (end_position setup.segment_size order))
-        written flushed flights x
+        → IsWithin opening.setup.segment_size
+        (end_form opening.setup (end_position opening.setup.segment_size order)) written flushed
+        flights x

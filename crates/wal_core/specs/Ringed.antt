@@ -29,12 +29,18 @@ pub record IsAwaited (size : ℕ) (flights : List Flight) (address : ℕ) : Type
   pub from : address_of_word size copy.entry copy.copied ≤ address
   pub to : address < finish_of size copy.entry
 
+-- an entry in flight, which its start names, is in flight in one view
+abbrev pub IsInFlightOnce : List Flight → Type 0
+IsInFlightOnce flights = (i j : ℕ) (c d : Copy) → HasAt flights i (Copying c)
+    → HasAt flights j (Copying d) → (c.entry).start ≡ (d.entry).start → i ≡ j
+
 -- `memory` is the word of each address, by its number, for ever; `reach` is how many pages, from
 -- address 0 on, have been mapped
 pub record RingHolds (setup : Setup) (order : List Entry) (reach : ℕ) (memory : ℕ → ℕ)
     (flights : List Flight) : Type 0 where
   pub in_flight : (id : ℕ) (c : Copy) → HasAt flights id (Copying c)
       → StandsIn setup.segment_size order c
+  pub alone : IsInFlightOnce flights
   pub words : (k : ℕ) → (memory k ≡ log_word_of setup order (8 * k))
       ⊎ ((memory k ≡ 0) × IsAwaited setup.segment_size flights (8 * k))
   pub ahead : (k : ℕ) → reach * 1024 ≤ k → setup.segment_size ≤ 8 * k

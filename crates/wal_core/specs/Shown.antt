@@ -1,9 +1,10 @@
 -- What the invariant shows of the ring: which pages it has, and what its words are.
-use Rattle.std.specs.Prelude.{◌≡◌, ◌⊎◌, ℕ, ◌+◌, ◌*◌, ◌/◌, ◌%◌, ◌<◌, ◌≤◌, All, List, map}
+use Rattle.std.specs.Prelude.{◌≡◌, ◌≢◌, ◌⊎◌, ℕ, ◌+◌, ◌*◌, ◌/◌, ◌%◌, ◌<◌, ◌≤◌, All, List, ◌∷◌, ◌++◌, map}
 use Rattle.wal_page.specs.Order.{Entry, end_position}
+use Rattle.wal_page.specs.EntryWords.{address_of_word, words_owned}
 use Rattle.wal_core.specs.declared.setup.Setup.{Setup}
 use Rattle.wal_core.specs.Words.{initialised_word, written_word, end_word, ring_word, end_form}
-use Rattle.wal_core.specs.Views.{HasAt, Stage, Away, Taken, Looked, Ready, Zeroing, Published, Lent, Out, View, flight_of}
+use Rattle.wal_core.specs.Views.{HasAt, Stage, Away, Taken, Looked, Ready, Zeroing, Published, Copy, Copying, Lent, Out, View, flight_of}
 use Rattle.wal_core.specs.Ringed.{IsAwaited, log_word_of}
 use Rattle.wal_core.specs.Durable.{IsStaged}
 use Rattle.wal_core.specs.Steps.{buffer_of, page_mapped, words_zeroed, ring_place}
@@ -39,7 +40,30 @@ abbrev pub IsLogOrAwaited : Setup → List Entry → List View → ℕ → ℕ �
 IsLogOrAwaited setup order views k word = (word ≡ log_word_of setup order (8 * k))
     ⊎ ((word ≡ 0) × IsAwaited setup.segment_size (map flight_of views) (8 * k))
 
+-- an entry, which its start names, is in flight in no view
+abbrev pub IsInNoFlight : List View → Entry → Type 0
+IsInNoFlight views e = (id : ℕ) (v : View) (c : Copy) → HasAt views id v
+    → (v.working).flight ≡ Copying c → (c.entry).start ≢ e.start
+
+-- where the ring has the page of a word at this address, it has the log's word there
+abbrev pub HasLogWord : Setup → List Entry → List ℕ → ℕ → Type 0
+HasLogWord setup order words address = IsPresent setup words (address / 8192)
+    → ring_word setup words (ring_place setup (address / 8)) ≡ log_word_of setup order address
+
 module _ (setup : Setup) (order : List Entry) (words : List ℕ) (views : List View) where
+  -- what is said of the order's entries: one in flight is in flight in one view, and what counts as
+  -- copied of it is the log's; of one that is in no flight all is
+  pub record EntriesAreCopied : Type 0 where
+    pub once : (i j : ℕ) (v w : View) (c d : Copy) → HasAt views i v → HasAt views j w
+        → (v.working).flight ≡ Copying c → (w.working).flight ≡ Copying d
+        → (c.entry).start ≡ (d.entry).start → i ≡ j
+    pub copied : (id : ℕ) (v : View) (c : Copy) (n : ℕ) → HasAt views id v
+        → (v.working).flight ≡ Copying c → n < c.copied
+        → HasLogWord setup order words (address_of_word setup.segment_size c.entry n)
+    pub landed : (front back : List Entry) (e : Entry) (n : ℕ) → order ≡ front ++ e ∷ back
+        → IsInNoFlight views e → n < words_owned setup.segment_size e
+        → HasLogWord setup order words (address_of_word setup.segment_size e n)
+
   -- what is said of the ring's words
   pub record WordsAreLogs : Type 0 where
     -- in each page that is present

@@ -1,11 +1,11 @@
 -- The invariant of the words that all backends share, the writer, and what every pass knows.
-use Rattle.std.specs.Prelude.{◌≡◌, ◌≢◌, ◌≤◌, ℕ, true, false, List, length, map}
+use Rattle.std.specs.Prelude.{◌≡◌, ◌≢◌, ◌≤◌, ◌⊎◌, ℕ, true, false, List, [], length, map}
 use mathlib.Core.Option.{Option}
 use Rattle.byte_position.specs.Geometry.{IsSegmentSize}
 use Rattle.wal_page.specs.Order.{Entry, end_position}
 use Rattle.wal_core.specs.declared.setup.Setup.{Setup}
 use Rattle.wal_core.specs.Words.{Opening, position_word, prev_word, lock_word, mapping_turn, write_turn, initialised_word, written_word, flushed_word, moment_word, down_word, end_word, ring_word, word_count, end_form}
-use Rattle.wal_core.specs.Views.{HasAt, Away, Idle, Plain, View, Stage, reserving_of, working_of, flight_of, watching_of, mapper_of, confirmed_of, writer_of, writing_of, told_of}
+use Rattle.wal_core.specs.Views.{HasAt, Landed, Away, Idle, Plain, View, Stage, reserving_of, working_of, flight_of, watching_of, mapper_of, confirmed_of, writer_of, writing_of, told_of}
 use Rattle.wal_core.specs.Ordered.{OrderHolds}
 use Rattle.wal_core.specs.Locked.{LocksHold, ProgressHolds}
 use Rattle.wal_core.specs.Ringed.{RingHolds}
@@ -26,11 +26,16 @@ pub record IsSetup (setup : Setup) : Type 0 where
   pub passes_low : 1 ≤ setup.passes
   pub passes_high : setup.passes ≤ 65536
 
--- a view that is live knows what is fixed; one that is not has no turn
-pub record IsGrounded (opening : Opening) (v : View) : Type 0 where
+-- a view that is live knows what is fixed, and watches for no more than it has seen reserved; one
+-- that is not has no turn, and has locks or an entry in flight only where the disk has failed
+pub record IsGrounded (opening : Opening) (down : ℕ) (v : View) : Type 0 where
   pub opening_is : (v.reserving).live ≡ true → v.opening ≡ opening
+  pub watches : (v.reserving).live ≡ true
+      → (v.watching).end ≤ end_form opening.setup (v.reserving).seen
   pub at_rest : (v.reserving).live ≡ false
       → ((v.mapping).stage ≡ Away) × ((v.writing).hold ≡ Idle)
+  pub left : (v.reserving).live ≡ false
+      → ((v.working).locks ≢ []) ⊎ ((v.working).flight ≢ Landed) → down ≢ 0
 
 -- the parts, all over one reserved order, one memory of the log's words and one writer, wherever it is
 pub record IsSound (opening : Opening) (words : List ℕ) (home : Option Plain) (views : List View)
@@ -42,7 +47,8 @@ pub record IsSound (opening : Opening) (words : List ℕ) (home : Option Plain) 
   pub writer : Plain
   pub setup_is : IsSetup opening.setup
   pub wide : length words ≡ word_count opening.setup
-  pub grounded : (id : ℕ) (v : View) → HasAt views id v → IsGrounded opening v
+  pub grounded : (id : ℕ) (v : View) → HasAt views id v
+      → IsGrounded opening (down_word words) v
   pub reserved : OrderHolds opening.setup opening.found order (position_word words)
       (prev_word words) (map reserving_of views)
   pub locks : LocksHold (lock_word words) (map working_of views)
@@ -53,7 +59,7 @@ pub record IsSound (opening : Opening) (words : List ℕ) (home : Option Plain) 
   pub pages : PagesHold opening.setup.ring_pages reach stage (initialised_word words)
       (written_word words) (end_word words) (ring_word opening.setup words) memory
       (map confirmed_of views)
-  pub positions : PositionsHold opening.setup order (written_word words) (flushed_word words)
+  pub positions : PositionsHold opening order (written_word words) (flushed_word words)
       (down_word words) home writer (map flight_of views) (map writing_of views)
   pub durable : DurabilityHolds opening order (flushed_word words) (moment_word words)
       (down_word words) home writer (map told_of views)

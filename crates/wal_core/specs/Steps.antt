@@ -18,7 +18,7 @@ use Rattle.wal_core.specs.declared.setup.Setup.{Setup}
 use Rattle.wal_core.specs.Words.{log_limit}
 use Rattle.wal_core.specs.Views.{HasAt, Place, Free, Locked, Loaded, Stored, Copy, Flight, Landed, Copying, AreSomeOf, Stage, Taken, Looked, Ready, Zeroing, Published, Plain, Lent, Hold, Idle, Turned, Out, Away, View}
 use Rattle.wal_core.specs.Paged.{IsOpen}
-use Rattle.wal_core.specs.Moves.{Outcome, Done, Failed, left_of, right_of, both_of, spent, without_work, orphan_of, with_stage, with_hold, with_confirmed, with_writer, after_load_position, after_take_write_turn, after_slot_out, after_lock_position, after_load_prev, after_store_prev, after_store_position, after_give_back, after_load_lock, after_take_lock, after_release, after_store_word, after_load_word, after_load_written, after_load_flushed, after_load_moment, after_load_down, after_store_written, after_store_moment, after_set_down, after_take_mapping_turn, after_load_initialised, after_create, after_write, after_sync}
+use Rattle.wal_core.specs.Moves.{Outcome, Done, Failed, left_of, right_of, both_of, spent, without_work, orphan_of, with_stage, with_hold, with_confirmed, with_writer, after_load_position, after_take_write_turn, after_slot_out, after_lock_position, after_load_prev, after_store_prev, after_store_position, after_give_back, after_load_lock, after_take_lock, after_release, after_store_word, after_load_word, after_load_written, after_load_flushed, after_load_moment, after_load_down, after_store_written, after_store_moment, after_store_flushed, after_set_down, after_take_mapping_turn, after_load_initialised, after_create, after_write, after_sync}
 
 -- ---- what a step may rest on
 
@@ -87,7 +87,7 @@ pub data Event : Type 0 where
   store_prev : Event
   -- the entry is to stand under these locks
   store_position : List ℕ → Record → Event
-  give_position_back : Event
+  give_position_back : Record → Event
   -- insertion locks
   -- a watcher's visit, which learns up to the limit at most; an insert's vain try has the limit 0
   load_lock : (lock limit : ℕ) → Event
@@ -122,10 +122,11 @@ pub data Event : Type 0 where
 
 -- ---- the word that a step loads, stores or exchanges, by its number
 
--- the end word of the buffer of the page at an address
+-- the buffer of the page at an address
 abbrev pub buffer_of : Setup → ℕ → ℕ
 buffer_of setup at = at / 8192 % setup.ring_pages
 
+-- the end word of a buffer, and the word at a place of the ring
 abbrev pub end_number : Setup → ℕ → ℕ
 end_number setup buffer = 17 + buffer
 
@@ -141,7 +142,7 @@ page_mapped (Ready at written) = at
 page_mapped (Zeroing at count) = at
 page_mapped (Published at) = at
 
--- how many words of it are count
+-- how many words of it are zeroed
 abbrev pub words_zeroed : Stage → ℕ
 words_zeroed Away = 0
 words_zeroed Taken = 0
@@ -172,7 +173,7 @@ module _ (v : View) where
   word_of_step load_prev = 1
   word_of_step store_prev = 1
   word_of_step (store_position locks value) = 0
-  word_of_step give_position_back = 0
+  word_of_step (give_position_back value) = 0
   word_of_step (load_lock lock limit) = 2 + lock
   word_of_step (take_lock lock) = 2 + lock
   word_of_step (advance lock upto) = 2 + lock
@@ -238,7 +239,7 @@ module _ (v : View) where
   value_behind (store_position locks value) met =
       place_at (v.reserving).place
       + room_at (setup_of).segment_size (place_at (v.reserving).place) value
-  value_behind give_position_back met = place_at (v.reserving).place
+  value_behind (give_position_back value) met = place_at (v.reserving).place
   value_behind (load_lock lock limit) met = met
   value_behind (take_lock lock) met = exchanged 0 1 met
   value_behind (advance lock upto) met = upto + 1
@@ -292,7 +293,8 @@ module _ (v : View) where
   MayStep (store_position locks value) = (at prev : ℕ) × ((v.reserving).place ≡ Stored at prev)
       × IsWritable value × (at + room_at (setup_of).segment_size at value ≤ log_limit setup_of)
       × AreSomeOf locks (v.working).locks × ((v.working).flight ≡ Landed)
-  MayStep give_position_back = (at : ℕ) × ((v.reserving).place ≡ Locked at)
+  MayStep (give_position_back value) = (at : ℕ) × ((v.reserving).place ≡ Locked at)
+      × (log_limit setup_of < at + room_at (setup_of).segment_size at value)
   MayStep (load_lock lock limit) = lock < 8
   MayStep (take_lock lock) = lock < 8
   MayStep (advance lock upto) = Contains (v.working).locks lock
@@ -348,7 +350,7 @@ module _ (v : View) where
   view_behind load_prev met home = after_load_prev met v
   view_behind store_prev met home = after_store_prev v
   view_behind (store_position locks value) met home = after_store_position locks value v
-  view_behind give_position_back met home = after_give_back v
+  view_behind (give_position_back value) met home = after_give_back v
   view_behind (load_lock lock limit) met home = after_load_lock lock limit met v
   view_behind (take_lock lock) met home = after_take_lock lock met v
   view_behind (advance lock upto) met home = v
@@ -362,7 +364,9 @@ module _ (v : View) where
   view_behind load_down met home = after_load_down met v
   view_behind store_written met home = after_store_written v
   view_behind store_moment met home = after_store_moment v
-  view_behind store_flushed met home = v
+  view_behind store_flushed met home = after_store_flushed
+      (number_lent (λ l. l.hard) (v.writing).hold)
+      (number_lent (λ l. l.hard_moment) (v.writing).hold) v
   view_behind set_down met home =
       after_set_down (number_lent (λ l. fault_number (l.writer).fault) (v.writing).hold) v
   view_behind take_mapping_turn met home = after_take_mapping_turn met v
@@ -445,12 +449,20 @@ pub record Joins (id other : ℕ) (s t : State) : Type 0 where
   pub views : t.views
       ≡ set (set s.views other (spent other_view)) id (both_of view other_view)
 
--- behind a fault that it met, a pass gives up a copy that it does not end, with its locks: they stay
--- with a view of their own, with which nobody steps any more
+-- a pass that met or set a down value, and is about nothing but a copy that it does not end
+pub record IsStranded (v : View) : Type 0 where
+  pub down : ((v.writing).down_met ≢ 0) ⊎ ((v.writing).down_set ≢ 0)
+  pub flight : (v.working).flight ≢ Landed
+  pub place : (v.reserving).place ≡ Free
+  pub stage : (v.mapping).stage ≡ Away
+  pub hold : (v.writing).hold ≡ Idle
+
+-- behind a fault, such a pass gives up its copy, with its locks: they stay with a view of their
+-- own, with which nobody steps any more
 pub record GivesUp (id : ℕ) (s t : State) : Type 0 where
   pub view : View
   pub live : IsLive s id view
-  pub may : (view.writing).down_met ≢ 0
+  pub may : IsStranded view
   pub words : t.words ≡ s.words
   pub home : t.home ≡ s.home
   pub views : t.views ≡ set s.views id (without_work view) ++ orphan_of view ∷ []

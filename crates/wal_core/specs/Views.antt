@@ -33,7 +33,7 @@ pub record Promise : Type 0 where
   pub moment : ℕ
   pub entries : ℕ
 
--- a pass that was taken in: its number, its spare numbers, and its log
+-- a pass that was taken in: its number, and its log
 pub record Joined : Type 0 where
   pub number : ℕ
   pub entries : List Entry
@@ -121,13 +121,15 @@ pub record Plain : Type 0 where
   pub fault : Option ℕ
 
 -- with the writer in hand: it, as last kept; the address below which all is copied; the words that
--- were loaded from the ring, by their numbers in the log; the address for which the moment word is
--- good already; and the address that was stored as written
+-- were loaded from the ring, by their numbers in the log; the address below which all is durable
+-- from the moment on that was stored last, and that moment (0 where none was stored); and the address
+-- that was stored as written
 pub record Lent : Type 0 where
   pub writer : Plain
   pub known : ℕ
   pub staged : List (ℕ × ℕ)
   pub hard : ℕ
+  pub hard_moment : ℕ
   pub stored : ℕ
 
 -- what a pass has of the write turn

@@ -1,3 +1,5 @@
+mod HalfBytes
 mod Lookups
 mod Remainders
+mod Spread
 mod Words

@@ -15,7 +15,7 @@ lists_tables bytes_after [] = true
 lists_tables bytes_after (table ∷ tables) =
     eqb (length table) 256 && (lists_remainders (8 * suc bytes_after) 0 table && lists_tables (suc bytes_after) tables)
 
-both_true : (b c : Bool) → (b && c) ≡ true → (b ≡ true) × (c ≡ true)
+pub both_true : (b c : Bool) → (b && c) ≡ true → (b ≡ true) × (c ≡ true)
 both_true true c h = (refl, h)
 both_true false c h = absurd (false≢true h)
 

@@ -5,7 +5,7 @@ use Rattle.std.proofs.lemmas.Nat.{xor_shr, xor_mod, xor_comm, shr_split, pow_pos
 use Rattle.std.specs.Int.Bits.{bit_xor, xor_assoc, xor_zero_r, xor_shifted}
 use Rattle.wal_crc32c.specs.Crc32c.{times_x, times_power}
 
-xor_cross : (a b c d : ℕ) → bit_xor (bit_xor a b) (bit_xor c d) ≡ bit_xor (bit_xor a c) (bit_xor b d)
+pub xor_cross : (a b c d : ℕ) → bit_xor (bit_xor a b) (bit_xor c d) ≡ bit_xor (bit_xor a c) (bit_xor b d)
 xor_cross a b c d =
     xor_assoc a b (bit_xor c d)
     ∙ ap (bit_xor a) (sym (xor_assoc b c d) ∙ ap (λ x. bit_xor x d) (xor_comm b c) ∙ xor_assoc c b d)
@@ -49,7 +49,7 @@ times_power-shifted (suc n) q =
     ∙ ap (times_power n) (times_x-double (q * 2 ^ n))
     ∙ times_power-shifted n q
 
-xor-split : (n r : ℕ) → bit_xor (r % 2 ^ n) (r / 2 ^ n * 2 ^ n) ≡ r
+pub xor-split : (n r : ℕ) → bit_xor (r % 2 ^ n) (r / 2 ^ n * 2 ^ n) ≡ r
 xor-split n r =
     xor_comm (r % 2 ^ n) (r / 2 ^ n * 2 ^ n)
     ∙ xor_shifted (r / 2 ^ n) n (r % 2 ^ n) (mod_below r (2 ^ n) (pow_pos n))

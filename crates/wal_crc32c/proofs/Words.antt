@@ -1,7 +1,11 @@
 -- The remainder of several bytes taken as one number, the first byte lowest.
-use Rattle.std.proofs.Common.{◌≡◌, ℕ, zero, suc, ◌+◌, ◌*◌, ◌/◌, ◌%◌, ◌^◌, ◌<◌, List, [], ◌∷◌, length, get_or, fold, refl, sym, ap, ◌∙◌, arith}
+use Rattle.std.proofs.Common.{w32, subst, replicate, ◌≡◌, ℕ, zero, suc, ◌+◌, ◌*◌, ◌/◌, ◌%◌, ◌^◌, ◌<◌, List, [], ◌∷◌, length, get_or, fold, refl, sym, ap, ◌∙◌, arith}
 use Rattle.std.proofs.Math.Nat.{div-one, div-div-eq-div-mul, pow-suc, add-zero}
 use Rattle.std.proofs.lemmas.Nat.{xor_comm}
+use Rattle.std.proofs.lemmas.Simd.{Each1-replicate}
+use lib.Lanes.{Each1}
+use Rattle.wal_crc32c.specs.Folding.{remainder}
+use Rattle.half_bytes.proofs.LaneLaws.{lane_below}
 use Rattle.std.specs.Int.{w64, from_le_bytes, to_le_bytes, byte_at, bytes_low_first}
 use Rattle.std.specs.Int.Bits.{bit_xor, xor_assoc, xor_zero_r, xor_shifted}
 use Rattle.wal_crc32c.specs.Crc32c.{times_power, after_byte}
@@ -129,3 +133,13 @@ fold_sixteen r (b0 ∷ b1 ∷ b2 ∷ b3 ∷ b4 ∷ b5 ∷ b6 ∷ b7 ∷ b8 ∷ b
     first_small b0 b1 b2 b3 b4 b5 b6 b7 p0 p1 p2 p3 p4 p5 p6 p7 (suc (suc (suc (suc (suc (suc (suc zero))))))) = p7
     first_small b0 b1 b2 b3 b4 b5 b6 b7 p0 p1 p2 p3 p4 p5 p6 p7 (suc (suc (suc (suc (suc (suc (suc (suc i)))))))) = omega arith
 fold_sixteen _ _ e small = absurd (omega arith)
+
+-- a number in four bytes with twelve more of 0 behind them
+pub remainder-number : (r : ℕ) → r < 2 ^ 32 → (bs : List ℕ) → bs ≡ to_le_bytes w32 r
+    → remainder (get_or bs 0 0 ∷ get_or bs 1 0 ∷ get_or bs 2 0 ∷ get_or bs 3 0 ∷ replicate 12 0) ≡ times_power 128 r
+remainder-number r fits bs e =
+    let bytes = r % 256 ∷ r / 256 % 256 ∷ r / 65536 % 256 ∷ r / 16777216 % 256 ∷ replicate 12 0 in
+    let small : Each1 (λ x. x < 256) bytes = (omega arith, (omega arith, (omega arith, (omega arith, Each1-replicate (λ x. x < 256) 12 0 (omega arith))))) in
+    let number : number_of bytes ≡ r = omega arith in
+    subst (λ bs. remainder (get_or bs 0 0 ∷ get_or bs 1 0 ∷ get_or bs 2 0 ∷ get_or bs 3 0 ∷ replicate 12 0) ≡ times_power 128 r) (sym e)
+    (fold-after_byte 0 bytes (lane_below bytes small) ∙ ap (times_power 128) (xor_comm 0 (number_of bytes) ∙ xor_zero_r (number_of bytes) ∙ number))

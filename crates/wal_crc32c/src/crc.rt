@@ -3,8 +3,12 @@
 ghost use Rattle.std.specs.Prelude.{◌≡◌, ℕ, List, [], ◌++◌, fold};
 ghost use Rattle.wal_crc32c.specs.Crc32c.{HasFed, after_byte, crc32c};
 
+use crate::folding::after_blocks;
 use crate::tables::{byte_remainder, word_remainder, word_remainder_ahead};
 use std::marker::Model;
+
+// From so many bytes on vectors pay: two blocks of them.
+const LONG: usize = 192;
 
 /// A CRC-32C under way. Contracts see its remainder.
 #[derive(Clone, Copy, Debug)]
@@ -45,9 +49,31 @@ impl Crc {
     }
 }
 
+fn after_bytes(remainder: u32, bytes: &[u8]) -> u32
+    ensures { result ≡ fold after_byte remainder bytes.now }
+{
+    if bytes.len() < LONG {
+        after_short_bytes(remainder, bytes)
+    } else {
+        after_long_bytes(remainder, bytes)
+    }
+}
+
+fn after_long_bytes(remainder: u32, bytes: &[u8]) -> u32
+    ensures { result ≡ fold after_byte remainder bytes.now }
+{
+    match bytes.split_first_chunk::<96>() {
+        Some((first, behind)) => {
+            let (remainder, rest) = after_blocks(remainder, first, behind);
+            after_short_bytes(remainder, rest)
+        }
+        None => after_short_bytes(remainder, bytes),
+    }
+}
+
 // Sixteen bytes at a time, and the fewer than sixteen that are left: eight where there are so many,
 // and then one by one.
-fn after_bytes(mut remainder: u32, bytes: &[u8]) -> u32
+fn after_short_bytes(mut remainder: u32, bytes: &[u8]) -> u32
     ensures { result ≡ fold after_byte remainder bytes.now }
 {
     let mut rest = bytes;
@@ -90,7 +116,7 @@ fn after_eight_bytes(remainder: u32, bytes: &[u8; 8]) -> u32
 }
 
 // The second eight bytes are looked up apart from the first, which wait for what stands before.
-fn after_sixteen_bytes(remainder: u32, bytes: &[u8; 16]) -> u32
+pub(crate) fn after_sixteen_bytes(remainder: u32, bytes: &[u8; 16]) -> u32
     ensures { result ≡ fold after_byte remainder bytes.now }
 {
     let [

@@ -1,8 +1,10 @@
 //! CRC-32C of bytes, in whatever pieces they come.
 #![tactic(auto)]
 
+mod carries;
 mod crc;
 mod division;
+mod folding;
 mod tables;
 
 pub use crc::Crc;

@@ -18,6 +18,11 @@ abbrev pub room_in : Option Buffers → List ℕ
 room_in None = []
 room_in (Some held) = held.room.items
 
+-- which page is held, if any is
+abbrev pub page_in : Option Buffers → Option ℕ
+page_in None = None
+page_in (Some held) = held.cache.number
+
 -- the page that is held, where there are buffers, is one of these
 abbrev pub HoldsPageOf : ℕ → Option Buffers → Pages → Type 0
 HoldsPageOf size buffers pages =

@@ -1,5 +1,5 @@
 -- A log's reader as contracts see it: where it stands, and what it gives from there on.
-use Rattle.std.specs.Prelude.{◌≡◌, ℕ, ◌<◌, List, [], ◌∷◌, Option, option_map, Result, Ok, Err}
+use Rattle.std.specs.Prelude.{◌≡◌, ℕ, ◌<◌, ◌≤◌, ◌⊎◌, ◌^◌, List, [], ◌∷◌, Option, option_map, Result, Ok, Err}
 use Rattle.wal_reader.specs.declared.found.FoundRecord.{FoundRecord}
 use Rattle.wal_reader.specs.declared.found.Answer.{Answer}
 use Rattle.wal_reader.specs.declared.found.Answer.TheVariants as answers
@@ -11,7 +11,9 @@ use Rattle.wal_reader.specs.declared.standing.ReadErr.{ReadErr}
 use Rattle.wal_reader.specs.declared.standing.ReadErr.TheVariants as reading
 use Rattle.wal_reader.specs.declared.log_reader.Reader.{Reader}
 use Rattle.wal_reader.specs.Decodes.{Decodes}
-use Rattle.wal_reader.specs.Buffers.{HoldsPageOf, room_in}
+use Rattle.byte_position.specs.Position.{address_of}
+use Rattle.wal_reader.specs.Cache.{HoldsLastPage}
+use Rattle.wal_reader.specs.Buffers.{HoldsPageOf, page_in, room_in}
 use Rattle.wal_reader.specs.Pages.{Pages}
 use Rattle.wal_reader.specs.RecordRead.{IsBehind}
 use Rattle.wal_reader.specs.Standings.{found_as, left_at}
@@ -101,8 +103,17 @@ OnEnd (Ok (steps.Record start end prev total value)) fact = Unit {0}
 OnEnd (Ok (steps.End at)) fact = fact
 OnEnd (Err error) fact = Unit {0}
 
--- a reader that needs no page to answer: it has stopped, or it is where nothing is read
-abbrev pub NeedsNoPage : ReaderState → Standing → Type 0
-NeedsNoPage state NotBegun = ⊥
-NeedsNoPage state (At at) = IsOutOfReach state.size state.end at.position
-NeedsNoPage state (Stopped stop) = Unit {0}
+-- which page a reader holds, if any
+abbrev pub reader_page : Reader → Option ℕ
+reader_page reader = page_in reader.buffers
+
+-- a reader that needs no page beside the one that it holds: it has stopped, or it is where nothing
+-- is read, or it stands in the last page that is read and holds it, so that a record which
+-- continues behind that page is not read on; or before it has begun the address that it looks for
+-- lies in a page that ends above address 2 ^ 60
+abbrev pub NeedsNoPage : ReaderState → Option ℕ → Standing → Type 0
+NeedsNoPage state held NotBegun = 2 ^ 60 ≤ state.start
+NeedsNoPage state held (At at) =
+    IsOutOfReach state.size state.end at.position
+    ⊎ HoldsLastPage held (address_of state.size at.position)
+NeedsNoPage state held (Stopped stop) = Unit {0}

@@ -1,5 +1,5 @@
 -- Where a reader stands in the page that it holds, while it gathers the bytes of a record.
-use Rattle.std.specs.Prelude.{◌≡◌, ℕ, ◌+◌, ◌-◌, ◌*◌, ◌^◌, ◌<◌, ◌≤◌, List, Option, Some, None}
+use Rattle.std.specs.Prelude.{◌≡◌, ℕ, ◌+◌, ◌-◌, ◌*◌, ◌^◌, ◌<◌, ◌≤◌, IfOk, List, Option, Some, None, Result}
 use Rattle.byte_position.specs.Geometry.{IsSegmentSize}
 use Rattle.byte_position.specs.Position.{position_of}
 use Rattle.segment_disk.specs.Tape.{Tape}
@@ -30,6 +30,12 @@ SeesStill old_tape new_tape old new = (pages : Pages) → Sees old_tape old page
 abbrev pub IsOn : PageCache → PageCursor → Type 0
 IsOn cache cursor =
     (cache.number ≡ Some cursor.page) × (timeline_of cache.bytes.value ≡ cursor.timeline)
+
+-- nothing was read: disk and page are the same, and the cursor is still on its page
+abbrev pub StaysOnPage : {D E : Type 0} → D → D → PageCache → PageCache → PageCursor
+    → Result PageCursor E → Type 0
+StaysOnPage disk disk_now cache cache_now cursor result =
+    (disk_now ≡ disk) × (cache_now ≡ cache) × IfOk result (λ now. now.page ≡ cursor.page)
 
 -- the byte at a byte position stands at the cursor, or at a page's end it is the next page's first
 pub record StandsIn (size position : ℕ) (cursor : PageCursor) : Type 0 where

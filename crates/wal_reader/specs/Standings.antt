@@ -1,7 +1,7 @@
 -- Where a log's reader stands, and what a step of it tells.
 use Rattle.std.specs.Prelude.{◌≡◌, ℕ, ◌-◌, ◌%◌, ◌^◌, ◌<◌, Result, Ok, Err}
 use Rattle.std.specs.Coded.{Coded-set, coded_ℕ, ×_prop, Unit-prop, le_prop}
-use Rattle.segment_disk.specs.Cause.{Rose}
+use Rattle.segment_disk.specs.Cause.{RoseByOne}
 use Rattle.wal_types.specs.declared.lsn.Lsn.{Lsn}
 use Rattle.wal_types.specs.declared.record.Record.{Record}
 use Rattle.wal_reader.specs.declared.found.FoundRecord.{FoundRecord}
@@ -57,9 +57,9 @@ IsToldAgain NotBegun result old new = Unit {0}
 IsToldAgain (At place) result old new = Unit {0}
 IsToldAgain (Stopped stop) result old new = (result ≡ Err (reading.Stopped stop)) × (new ≡ old)
 
--- the disk's count of faults: it rises only where the disk failed, and is told there
+-- the disk's count of faults: it rises only where the disk failed, by one, and is told there
 abbrev pub HasReadCause : ℕ → ℕ → Result Step ReadErr → Type 0
 HasReadCause old new (Ok step) = new ≡ old
 HasReadCause old new (Err reading.Memory) = new ≡ old
-HasReadCause old new (Err (reading.Disk faults)) = Rose old new × (faults ≡ new)
+HasReadCause old new (Err (reading.Disk faults)) = RoseByOne old new × (faults ≡ new)
 HasReadCause old new (Err (reading.Stopped stop)) = new ≡ old

@@ -1,6 +1,6 @@
 //! Where reading begins (PostgreSQL's XLogFindNextRecord of xlogreader.c).
 
-ghost use Rattle.std.specs.Prelude.{◌≡◌, ℕ, ◌+◌, ◌-◌, ◌*◌, ◌/◌, ◌%◌, ◌<◌, ◌≤◌, ◌^◌, ◌==◌, if◌then◌else◌, Some, IfOk, IfSome, Result};
+ghost use Rattle.std.specs.Prelude.{◌≡◌, ℕ, ◌+◌, ◌-◌, ◌*◌, ◌/◌, ◌%◌, ◌<◌, ◌≤◌, ◌^◌, ◌==◌, if◌then◌else◌, Some, IfOk, IfSome, OnOk, Result};
 ghost use Rattle.byte_position.specs.Position.{position_of};
 ghost use Rattle.segment_disk.specs.Tape.{IsUncalled};
 ghost use Rattle.wal_reader.specs.declared.record_place.RecordPlace.{RecordPlace};
@@ -41,6 +41,7 @@ pub(crate) fn find_beginning<D: Disk>(
 ) -> Result<RecordPlace, ReadFailure>
     ensures geometry { cache.new.geometry ≡ cache.old.geometry }
     ensures reachable { IfOk result IsReachable }
+    ensures unread { 2 ^ 60 ≤ start.0 → (disk.new ≡ disk.old) × OnOk result ⊥ }
     ensures begins { (pages : Pages) → Sees (D.tape disk.old) cache.old pages
         → Sees (D.tape disk.new) cache.new pages
         × IsBegun (beginning cache.old.geometry pages start.0) result }

@@ -1,7 +1,7 @@
 //! What a reader works with.
 
 ghost use Rattle.std.specs.Prelude.{◌≡◌, [], None, IfOk, IsTrue, OnOk, is_some};
-ghost use Rattle.wal_reader.specs.Buffers.{AreFor, HoldsPageOf, room_in};
+ghost use Rattle.wal_reader.specs.Buffers.{AreFor, HoldsPageOf, page_in, room_in};
 ghost use Rattle.wal_reader.specs.Pages.{Pages};
 
 use crate::page_cache::PageCache;
@@ -24,6 +24,7 @@ pub(crate) fn set_up(
     ensures ready { OnOk result (IsTrue (is_some buffers.new)) }
     ensures fit { AreFor geometry buffers.old → AreFor geometry buffers.new }
     ensures room { room_in buffers.new ≡ room_in buffers.old }
+    ensures held { page_in buffers.new ≡ page_in buffers.old }
     ensures holds { (pages : Pages) → HoldsPageOf geometry buffers.old pages
         → HoldsPageOf geometry buffers.new pages }
 {

@@ -4,7 +4,7 @@
 ghost use Rattle.std.specs.Prelude.{◌≡◌, ℕ, ◌+◌, ◌-◌, ◌*◌, ◌/◌, ◌<◌, ◌≤◌, ◌^◌, ◌++◌, length, take, drop, min, vec_len, Some, None, IfOk, OnErr, OnOk, MatchResult};
 ghost use Rattle.wal_page.specs.Page.{first_fault};
 ghost use Rattle.segment_disk.specs.Tape.{IsUncalled};
-ghost use Rattle.wal_reader.specs.PageCursor.{Crosses, HasGathered, HoldsPassed, IsOn, Sees, SeesStill, StandsIn};
+ghost use Rattle.wal_reader.specs.PageCursor.{Crosses, HasGathered, HoldsPassed, IsOn, Sees, SeesStill, StandsIn, StaysOnPage};
 ghost use Rattle.wal_reader.specs.Decodes.{page_of_byte, rows_of_pages};
 ghost use Rattle.wal_reader.specs.Pages.{IsPage, Pages, bytes_from};
 ghost use Rattle.wal_reader.specs.PagesPassed.{PassesPages};
@@ -40,6 +40,8 @@ pub(crate) fn gather<D: Disk>(
     ensures len { OnOk result (vec_len room.new ≡ upto) }
     ensures cursor { IfOk result (λ now. IsOn cache.new now
         × HasGathered cache.old.geometry extent.at.position upto now) }
+    ensures beyond { 2 ^ 47 ≤ cursor.page + 1 → StaysOnPage disk.old disk.new
+        cache.old cache.new cursor result }
     ensures sees { SeesStill (D.tape disk.old) (D.tape disk.new) cache.old cache.new }
     ensures bytes { (pages : Pages) → Sees (D.tape disk.old) cache.old pages → room.old.items
         ≡ bytes_from cache.old.geometry pages (vec_len room.old) extent.at.position
@@ -78,6 +80,8 @@ fn pass_border<D: Disk>(
     ensures geometry { cache.new.geometry ≡ cache.old.geometry }
     ensures cursor { IfOk result (λ now. IsOn cache.new now × StandsIn cache.old.geometry
         (extent.at.position + gathered) now × (now.offset < 8192)) }
+    ensures beyond { 2 ^ 47 ≤ cursor.page + 1 → StaysOnPage disk.old disk.new
+        cache.old cache.new cursor result }
     ensures sees { SeesStill (D.tape disk.old) (D.tape disk.new) cache.old cache.new }
     ensures checks { (pages : Pages) → Sees (D.tape disk.old) cache.old pages
         → MatchResult result (λ now. Crosses cache.old.geometry pages

@@ -1,7 +1,9 @@
 //! The next record that a reader gives.
 
-ghost use Rattle.std.specs.Prelude.{◌≡◌, ◌<◌, option_map, Some, IfOk, IfSome};
+ghost use Rattle.std.specs.Prelude.{◌≡◌, ◌<◌, ◌≤◌, ◌^◌, option_map, Some, None, IfOk, IfSome};
 ghost use Rattle.segment_disk.specs.Tape.{IsUncalled};
+ghost use Rattle.byte_position.specs.Position.{address_of};
+ghost use Rattle.wal_reader.specs.Cache.{HoldsLastPage};
 ghost use Rattle.wal_reader.specs.PageCursor.{Sees};
 ghost use Rattle.wal_reader.specs.Pages.{Pages};
 ghost use Rattle.wal_reader.specs.RecordRead.{GoesOn, IsBehind, IsRoomAfterStep};
@@ -44,6 +46,9 @@ pub(crate) fn next_given<D: Disk>(
         buffers.old.room.items buffers.new.room.items }
     ensures unread { IfSome from (λ at. IsOutOfReach buffers.old.cache.geometry
         (option_map (λ e. e.0) end) at.position → disk.new ≡ disk.old) }
+    ensures last_page { IfSome from (λ at. HoldsLastPage buffers.old.cache.number
+        (address_of buffers.old.cache.geometry at.position) → disk.new ≡ disk.old) }
+    ensures unbegun { from ≡ None → 2 ^ 60 ≤ start.0 → disk.new ≡ disk.old }
     ensures spelled_there { (pages : Pages) → Sees (D.tape disk.old) buffers.old.cache pages
         → IfOk result (λ r. IsSpelledIn buffers.old.cache.geometry pages r.0) }
 
@@ -80,6 +85,8 @@ fn read_given<D: Disk>(
         buffers.old.room.items buffers.new.room.items }
     ensures unread { IsOutOfReach buffers.old.cache.geometry
         (option_map (λ e. e.0) end) from.position → disk.new ≡ disk.old }
+    ensures last_page { HoldsLastPage buffers.old.cache.number
+        (address_of buffers.old.cache.geometry from.position) → disk.new ≡ disk.old }
     ensures spelled_there { (pages : Pages) → Sees (D.tape disk.old) buffers.old.cache pages
         → IfOk result (λ r. IsSpelledIn buffers.old.cache.geometry pages r.0) }
 

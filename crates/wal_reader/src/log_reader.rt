@@ -33,7 +33,7 @@ impl Reader {
     ghost use Rattle.wal_reader.specs.Pages.{Pages};
     ghost use Rattle.wal_reader.specs.RecordRead.{IsRoomAfterStep};
     ghost use Rattle.wal_reader.specs.PageCursor.{IsLogOf};
-    ghost use Rattle.wal_reader.specs.LogReader.{HoldsNoPage, IsNext, Knows, LeavesReader, NeedsNoPage, OnEnd, StandsAfter, reader_state, reader_room};
+    ghost use Rattle.wal_reader.specs.LogReader.{HoldsNoPage, IsNext, Knows, LeavesReader, NeedsNoPage, OnEnd, StandsAfter, reader_page, reader_state, reader_room};
     ghost use Rattle.wal_reader.specs.Spelled.{GivesSpelled, GivesSpelledIn};
     ghost use Rattle.wal_reader.specs.Standings.{HasReadCause, IsToldAgain};
 
@@ -70,8 +70,8 @@ impl Reader {
         ensures behind { StandsAfter (reader_state self.old).size
             (reader_state self.new).standing result }
         ensures forgets { OnEnd result (HoldsNoPage self.new) }
-        ensures unread { NeedsNoPage (reader_state self.old) self.old.standing
-            → disk.new ≡ disk.old }
+        ensures unread { NeedsNoPage (reader_state self.old) (reader_page self.old)
+            self.old.standing → disk.new ≡ disk.old }
         ensures spelled { IfOk result GivesSpelled }
         ensures spelled_there { (pages : Pages) → IsLogOf (D.tape disk.old)
             (reader_state self.old).size pages → Knows self.old pages

@@ -1,6 +1,6 @@
 //! The page of the log that a reader holds.
 
-ghost use Rattle.std.specs.Prelude.{◌≡◌, ◌+◌, ◌*◌, ◌/◌, ◌%◌, ◌<◌, ◌≤◌, ◌^◌, Some, None, IfOk, OnErr, IfSome, IsTrue};
+ghost use Rattle.std.specs.Prelude.{◌≡◌, ◌+◌, ◌*◌, ◌/◌, ◌%◌, ◌<◌, ◌≤◌, ◌^◌, Some, None, Ok, false, IfOk, OnErr, IfSome, IsTrue};
 ghost use Rattle.segment_disk.specs.Cause.{HasCause};
 ghost use Rattle.segment_disk.specs.Tape.{IsUncalled};
 ghost use Rattle.wal_reader.specs.Cache.{Caches, IsLoaded, log_of};
@@ -42,6 +42,10 @@ impl PageCache {
         ensures geometry { self.new.geometry ≡ self.old.geometry }
         ensures held { IfOk result (λ there. IsTrue there → self.new.number ≡ Some page) }
         ensures reach { IfOk result (λ there. IsTrue there → page < 2 ^ 47) }
+        ensures beyond { 2 ^ 47 ≤ page → (result ≡ Ok false) × (disk.new ≡ disk.old)
+            × (self.new ≡ self.old) }
+        ensures unread { self.old.number ≡ Some page → (disk.new ≡ disk.old)
+            × (self.new ≡ self.old) }
         ensures nothing_held { OnErr result (self.new.number ≡ None) }
         ensures caches { IfSome (D.tape disk.old)
             (λ t. let pages = log_of t self.old.geometry in Caches self.old pages

@@ -1,6 +1,6 @@
 //! The checks of the pages that a record stands on.
 
-ghost use Rattle.std.specs.Prelude.{◌≡◌, ◌+◌, ◌-◌, ◌*◌, ◌/◌, ◌%◌, ◌<◌, ◌≤◌, ◌^◌, ◌==◌, Some, None, IfOk, MatchResult};
+ghost use Rattle.std.specs.Prelude.{◌≡◌, ◌+◌, ◌-◌, ◌*◌, ◌/◌, ◌%◌, ◌<◌, ◌≤◌, ◌^◌, ◌==◌, Some, None, IfOk, MatchResult, OnOk};
 ghost use Rattle.byte_position.specs.Geometry.{IsSegmentSize};
 ghost use Rattle.byte_position.specs.Position.{address_of};
 ghost use Rattle.wal_page.specs.Page.{first_fault, header_size, is_continued, is_overwritten, remaining_of, timeline_of};
@@ -63,6 +63,8 @@ pub(crate) fn turn_page<D: Disk>(
     ensures next { IfOk result (λ next. (next.page ≡ cursor.page + 1) × (next.offset
         ≡ header_size cache.old.geometry (cursor.page + 1)) × (next.page < 2 ^ 47)
         × IsOn cache.new next) }
+    ensures beyond { 2 ^ 47 ≤ cursor.page + 1 → (disk.new ≡ disk.old)
+        × (cache.new ≡ cache.old) × OnOk result ⊥ }
     ensures sees { SeesStill (D.tape disk.old) (D.tape disk.new) cache.old cache.new }
     ensures checks { (pages : Pages) → Sees (D.tape disk.old) cache.old pages
         → Settles (first_fault (continuation_rows_of cache.old.geometry

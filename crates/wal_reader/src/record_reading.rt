@@ -13,6 +13,7 @@ ghost use Rattle.std.specs.Prelude.{◌≡◌, ℕ, ◌+◌, ◌*◌, ◌/◌, �
 ghost use Rattle.byte_position.specs.Position.{address_of};
 ghost use Rattle.wal_page.specs.Page.{first_fault};
 ghost use Rattle.segment_disk.specs.Tape.{IsUncalled};
+ghost use Rattle.wal_reader.specs.Cache.{HoldsLastPage};
 ghost use Rattle.wal_reader.specs.PageCursor.{HasGathered, HoldsPassed, IsOn, Sees, SeesStill};
 ghost use Rattle.wal_reader.specs.Decodes.{rest_rows};
 ghost use Rattle.wal_reader.specs.ReadAt.{read_at};
@@ -55,6 +56,10 @@ pub(crate) fn read_record<D: Disk>(
     ensures behind { IfOk result (λ r. IsBehind cache.old.geometry r.0 r.1) }
     ensures unread { IsOutOfReach cache.old.geometry (option_map (λ end. end.0) end) at.position
         → (disk.new ≡ disk.old) × OnOk result ⊥ }
+    ensures last_page { HoldsLastPage cache.old.number (address_of cache.old.geometry at.position)
+        → (disk.new ≡ disk.old) × (cache.new ≡ cache.old) }
+    ensures rises { IfOk result (λ r. address_of cache.old.geometry at.position
+        ≤ address_of cache.old.geometry r.1.position) }
     ensures spelled { IfOk result (λ r. IsSpelled r.0) }
     ensures spelled_there { (pages : Pages) → Sees (D.tape disk.old) cache.old pages
         → IfOk result (λ r. IsSpelledIn cache.old.geometry pages r.0) }
@@ -135,6 +140,7 @@ fn read_over_pages<D: Disk>(
     requires gathered { HasGathered cache.old.geometry extent.at.position 0 cursor }
     requires page { cursor.page ≡ address_of cache.old.geometry extent.at.position / 8192 }
     ensures geometry { cache.new.geometry ≡ cache.old.geometry }
+    ensures beyond { 2 ^ 47 ≤ cursor.page + 1 → (disk.new ≡ disk.old) × (cache.new ≡ cache.old) }
     ensures goes_on { IfOk result (λ r. GoesOn extent.at r.1) }
     ensures behind { IfOk result (λ r. IsBehind cache.old.geometry r.0 r.1) }
     ensures spelled { IfOk result (λ r. IsSpelled r.0) }

@@ -1,7 +1,7 @@
 //! Where a record starts, and how long it claims to be (PostgreSQL's XLogDecodeNextRecord of
 //! xlogreader.c).
 
-ghost use Rattle.std.specs.Prelude.{◌≡◌, ℕ, ◌+◌, ◌*◌, ◌/◌, ◌%◌, ◌^◌, ◌<◌, ◌≤◌, ◌==◌, length, option_map, IfOk};
+ghost use Rattle.std.specs.Prelude.{◌≡◌, ℕ, ◌+◌, ◌*◌, ◌/◌, ◌%◌, ◌^◌, ◌<◌, ◌≤◌, ◌==◌, length, option_map, Some, IfOk};
 ghost use Rattle.std.specs.Int.{w32, w64};
 ghost use Rattle.byte_position.specs.Position.{address_of};
 ghost use Rattle.wal_page.specs.Page.{first_fault};
@@ -40,6 +40,8 @@ pub(crate) fn open_page<D: Disk>(
         × HasGathered cache.old.geometry at.position 0 cursor) }
     ensures place { IfOk result (λ cursor. (cursor.page
         ≡ address_of cache.old.geometry at.position / 8192) × (cursor.offset + 8 ≤ 8192)) }
+    ensures unread { cache.old.number ≡ Some (address_of cache.old.geometry at.position / 8192)
+        → (disk.new ≡ disk.old) × (cache.new ≡ cache.old) }
     ensures sees { SeesStill (D.tape disk.old) (D.tape disk.new) cache.old cache.new }
     ensures checks { (pages : Pages) → Sees (D.tape disk.old) cache.old pages
         → Settles (opening_of cache.old.geometry at

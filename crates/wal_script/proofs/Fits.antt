@@ -5,7 +5,8 @@ use Rattle.std.proofs.lemmas.Bool.{cases_Bool, and_parts}
 use Rattle.std.proofs.lemmas.List.Elements.{All-nil, All-cons, All-replicate}
 use Rattle.wal_script.specs.Text.{is_text}
 use Rattle.decimal_numbers.specs.Numbers.{is_decimal, decimal_value, number_of}
-use Rattle.wal_script.specs.Hexadecimal.{digit_of, pair_of, byte_spelled, onto, bytes_of, above_zero, copies, repeated_of, has_star, data_of}
+use Rattle.decimal_numbers.specs.Hexadecimal.{hexadecimal_value}
+use Rattle.wal_script.specs.Hexadecimal.{pair_of, byte_spelled, onto, bytes_of, above_zero, copies, repeated_of, has_star, data_of}
 
 abbrev IsByte : ℕ → Type 0
 IsByte b = b < 256
@@ -32,8 +33,8 @@ in_range-lt first last base c d others small others_lt is =
       | inr fails ↦ others_lt (rw fails at is)
     ]
 
-digit_of-lt : (c d : ℕ) → digit_of c ≡ Some d → d < 16
-digit_of-lt c d is =
+hexadecimal_value-lt : (c d : ℕ) → hexadecimal_value c ≡ Some d → d < 16
+hexadecimal_value-lt c d is =
     let upper = (if leb 65 c && leb c 70 then Some (c - 55) else (if leb 97 c && leb c 102 then Some (c - 87) else None)) in
     let lower = (if leb 97 c && leb c 102 then Some (c - 87) else None) in
     in_range-lt 48 57 48 c d upper (omega arith) (in_range-lt 65 70 55 c d lower (omega arith) (in_range-lt 97 102 87 c d None (omega arith) (λ e. absurd cc))) is
@@ -48,7 +49,7 @@ pair_of-lt (Some h) (Some l) b high_fits low_fits is =
 pub byte_of-lt : (field : List ℕ) (b : ℕ) → byte_spelled field ≡ Some b → b < 256
 byte_of-lt [] b is = absurd cc
 byte_of-lt (high ∷ []) b is = absurd cc
-byte_of-lt (high ∷ low ∷ []) b is = pair_of-lt (digit_of high) (digit_of low) b (digit_of-lt high) (digit_of-lt low) is
+byte_of-lt (high ∷ low ∷ []) b is = pair_of-lt (hexadecimal_value high) (hexadecimal_value low) b (hexadecimal_value-lt high) (hexadecimal_value-lt low) is
 byte_of-lt (high ∷ low ∷ c ∷ cs) b is = absurd cc
 
 onto_fits : (byte : Option ℕ) (rest : Option (List ℕ)) (bytes : List ℕ) → ((b : ℕ) → byte ≡ Some b → b < 256) → ((bs : List ℕ) → rest ≡ Some bs → All IsByte bs) → onto byte rest ≡ Some bytes → All IsByte bytes
@@ -64,7 +65,7 @@ bytes_of_fits [] bytes is =
     rw (← same) (All-nil IsByte)
 bytes_of_fits (digit ∷ []) bytes is = absurd cc
 bytes_of_fits (high ∷ low ∷ digits) bytes is =
-    onto_fits (pair_of (digit_of high) (digit_of low)) (bytes_of digits) bytes (λ b. pair_of-lt (digit_of high) (digit_of low) b (digit_of-lt high) (digit_of-lt low)) (bytes_of_fits digits) is
+    onto_fits (pair_of (hexadecimal_value high) (hexadecimal_value low)) (bytes_of digits) bytes (λ b. pair_of-lt (hexadecimal_value high) (hexadecimal_value low) b (hexadecimal_value-lt high) (hexadecimal_value-lt low)) (bytes_of_fits digits) is
 
 copies_fit : (count byte : Option ℕ) (bytes : List ℕ) → ((b : ℕ) → byte ≡ Some b → b < 256) → copies count byte ≡ Some bytes → All IsByte bytes
 copies_fit None byte bytes byte_fits is = absurd cc

@@ -1,14 +1,8 @@
 -- Bytes as scripts spell them.
 use Rattle.std.specs.Prelude.{ℕ, ◌+◌, ◌-◌, ◌*◌, Bool, ◌&&◌, List, [], ◌∷◌, length, take, drop, replicate, slice_index, Option, Some, None, codes, ◌==◌, nat_le, if◌then◌else◌}
+use Rattle.decimal_numbers.specs.Hexadecimal.{hexadecimal_value}
 use Rattle.decimal_numbers.specs.Numbers.{number_of}
 use Rattle.wal_script.specs.Text.{is_text}
-
--- the value of a hexadecimal digit: `0` is 48, `A` 65 and `a` 97
-abbrev pub digit_of : ℕ → Option ℕ
-digit_of c =
-    if nat_le 48 c && nat_le c 57 then Some (c - 48)
-    else (if nat_le 65 c && nat_le c 70 then Some (c - 55)
-    else (if nat_le 97 c && nat_le c 102 then Some (c - 87) else None))
 
 -- a byte by the values of its two digits
 abbrev pub pair_of : Option ℕ → Option ℕ → Option ℕ
@@ -18,7 +12,7 @@ pair_of (Some high) (Some low) = Some (high * 16 + low)
 
 -- the byte that a field of two digits spells
 abbrev pub byte_spelled : List ℕ → Option ℕ
-byte_spelled (high ∷ low ∷ []) = pair_of (digit_of high) (digit_of low)
+byte_spelled (high ∷ low ∷ []) = pair_of (hexadecimal_value high) (hexadecimal_value low)
 byte_spelled others = None
 
 abbrev pub onto : Option ℕ → Option (List ℕ) → Option (List ℕ)
@@ -30,7 +24,8 @@ onto (Some byte) (Some bytes) = Some (byte ∷ bytes)
 abbrev pub bytes_of : List ℕ → Option (List ℕ)
 bytes_of [] = Some []
 bytes_of (digit ∷ []) = None
-bytes_of (high ∷ low ∷ digits) = onto (pair_of (digit_of high) (digit_of low)) (bytes_of digits)
+bytes_of (high ∷ low ∷ digits) =
+    onto (pair_of (hexadecimal_value high) (hexadecimal_value low)) (bytes_of digits)
 
 abbrev pub above_zero : Option ℕ → Option ℕ
 above_zero None = None

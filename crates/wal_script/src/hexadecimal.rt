@@ -1,37 +1,26 @@
 //! Bytes as scripts spell them.
 
-ghost use Rattle.std.specs.Prelude.{◌≡◌, ◌<◌, IfSome};
+ghost use Rattle.std.specs.Prelude.{◌≡◌};
 ghost use Rattle.std.specs.Option.{ok_or};
-ghost use Rattle.wal_script.specs.Hexadecimal.{byte_spelled, bytes_of, data_of, digit_of, pair_of, repeated_of};
+ghost use Rattle.decimal_numbers.specs.Hexadecimal.{hexadecimal_value};
+ghost use Rattle.wal_script.specs.Hexadecimal.{byte_spelled, bytes_of, data_of, pair_of, repeated_of};
 ghost use Rattle.wal_script.specs.Reading.{Judges, JudgesAs};
 ghost use Rattle.wal_script.specs.declared.line.ScriptFault.TheVariants as faults;
 
 use crate::line::ScriptFault;
 use crate::line_error::LineError;
-use decimal_numbers::number;
+use decimal_numbers::{hexadecimal_digit, number};
 use std::alloc::Global;
 use wal_types::Bytes;
 
 // How many bytes `COUNT*hh` may spell.
 const MOST_COPIES: u64 = 1_048_576;
 
-fn digit(byte: u8) -> Option<u8>
-    ensures value { result ≡ digit_of byte }
-    ensures within { IfSome result (λ d. d < 16) }
-{
-    match byte {
-        b'0'..=b'9' => Some(byte - b'0'),
-        b'A'..=b'F' => Some(byte - b'A' + 10),
-        b'a'..=b'f' => Some(byte - b'a' + 10),
-        _ => None,
-    }
-}
-
 fn pair(high: u8, low: u8) -> Option<u8>
-    ensures { result ≡ pair_of (digit_of high) (digit_of low) }
+    ensures { result ≡ pair_of (hexadecimal_value high) (hexadecimal_value low) }
 {
-    let high = digit(high)?;
-    let low = digit(low)?;
+    let high = hexadecimal_digit(high)?;
+    let low = hexadecimal_digit(low)?;
     Some(high * 16 + low)
 }
 

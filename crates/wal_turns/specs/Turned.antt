@@ -124,7 +124,11 @@ module _ (v : View) where
 
   abbrev pub reserve_event : List ℕ → Ask → ℕ → Place → Event
   reserve_event words ask lock Free = lock_position (position_word words)
-  reserve_event words ask lock (Locked at) = if fits ask at then load_prev else give_position_back
+  reserve_event words Flushes lock (Locked at) = load_prev
+  reserve_event words (Inserts value) lock (Locked at) =
+      if fits (Inserts value) at then load_prev else give_position_back value
+  reserve_event words (Commits value) lock (Locked at) =
+      if fits (Commits value) at then load_prev else give_position_back value
   reserve_event words ask lock (Loaded at prev) = store_prev
   reserve_event words (Inserts value) lock (Stored at prev) = store_position (lock ∷ []) value
   reserve_event words (Commits value) lock (Stored at prev) = store_position (lock ∷ []) value

@@ -2,6 +2,7 @@
 #![tactic(auto)]
 
 mod block_refs;
+mod digits;
 mod dumping;
 mod laws;
 mod line_buffer;

@@ -4,6 +4,7 @@ ghost use Rattle.waldump_text.specs.Names.{hexadecimal};
 ghost use Rattle.waldump_text.specs.Listing.{IsListable, data_text, head_pieces, line_text};
 
 use crate::block_refs::{images_len, put_blocks};
+use crate::digits::push_digits;
 use crate::line_buffer::LineBuffer;
 use crate::names::{manager_name, record_word};
 use crate::putting::SinkFault;
@@ -83,20 +84,19 @@ fn put_hexadecimal<O: Sink>(
     ensures { PutsBut (O.taken out.old) (O.taken out.new) (O.faults out.old) (O.faults out.new)
         (buffer.old ++ hexadecimal bytes.now) buffer.new result }
 {
-    for part in bytes.chunks(64) {
+    for part in bytes.chunks(256) {
         put_digits(buffer, part, out)?;
     }
     Ok(())
 }
 
-// Puts up to 64 bytes in hexadecimal.
+// Puts up to 256 bytes in hexadecimal.
 fn put_digits<O: Sink>(buffer: &mut LineBuffer, bytes: &[u8], out: &mut O) -> Result<(), SinkFault>
-    requires { length bytes.now ≤ 64 }
+    requires { length bytes.now ≤ 256 }
     ensures { PutsBut (O.taken out.old) (O.taken out.new) (O.faults out.old) (O.faults out.new)
         (buffer.old ++ hexadecimal bytes.now) buffer.new result }
 {
-    let mut room = [0; 128];
-    let digits = &mut room[..2 * bytes.len()];
-    hex::encode_to_slice(bytes, digits).unwrap();
-    buffer.append(digits, out)
+    buffer.make_room(2 * bytes.len(), out)?;
+    push_digits(buffer, bytes);
+    Ok(())
 }

@@ -4,6 +4,7 @@ ghost use Rattle.segment_disk.specs.First.{first_state, page_at};
 ghost use Rattle.segment_disk.specs.Crash.{HasPages, IsSyncedUpto, numbers_of};
 ghost use Rattle.segment_disk.specs.Picks.{IsPicked, IsPickedSegment, choice_of, undecided_in};
 ghost use Rattle.segment_disk.specs.DiskImage.{image_as_read};
+ghost use Rattle.segment_disk.specs.Present.{HasSegments};
 ghost use Rattle.segment_disk.specs.Tape.{after_calls};
 
 use crate::disk::{Call, PageBytes};
@@ -79,9 +80,11 @@ pub fn image_left<'a>(
     requires { (number : ℕ)
         → IsTrue (is_some (after_calls (first_state first.now) calls.now number))
         → IsTrue (is_listed segments.now.numbers.items number) }
-    ensures { IfOk result (λ left. IsPicked (choice_of pick.now)
+    ensures picked { IfOk result (λ left. IsPicked (choice_of pick.now)
         (after_calls (first_state first.now) calls.now)
         (image_as_read (first_state left.items))) }
+    ensures count { IfOk result (λ left. HasSegments
+        (after_calls (first_state first.now) calls.now) (length left.items)) }
 {
     let mut left = Vec::new(alloc);
     let mut numbers = pick.numbers();

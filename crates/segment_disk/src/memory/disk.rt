@@ -62,15 +62,18 @@ impl MemDisk {
 }
 
 impl MemDisk {
-    ghost use Rattle.std.specs.Prelude.{List, [], Some, min};
+    ghost use Rattle.std.specs.Prelude.{All, List, [], Some, min};
     ghost use Rattle.segment_disk.specs.DiskImage.{DiskImage, LeftAt, MayLeave};
-    ghost use Rattle.segment_disk.specs.MemDisk.{failing_reads, faults_of, first_image, limits_of, moment_of, state_behind, tape_of};
+    ghost use Rattle.segment_disk.specs.MemDisk.{failing_reads, faults_of, first_image, limits_of, moment_of, segment_count, state_behind, tape_of};
     ghost use Rattle.segment_disk.specs.Picks.{IsPicked, by_list, choice_of};
+    ghost use Rattle.segment_disk.specs.Present.{HasSegments};
 
-    /// A law: every image that the state at a moment leaves is that of some list.
+    /// A law: every image that the state at a moment leaves is that of some list, whose numbers are
+    /// at most the count of calls. So a pick lists them where fewer than 2^32 calls were counted.
     pub fn images_left_are_those_of_lists(&self)
         ensures { (moment : ℕ) (image : DiskImage) → MayLeave (state_behind self.now moment) image
-            → (numbers : List ℕ) × IsPicked (by_list numbers) (state_behind self.now moment) image }
+            → (numbers : List ℕ) × All (λ n. n ≤ moment_of self.now) numbers
+            × IsPicked (by_list numbers) (state_behind self.now moment) image }
     {}
 
     /// The disk that a crash leaves behind this many counted calls (behind all where there are
@@ -86,6 +89,8 @@ impl MemDisk {
         ensures faults { IfOk result (λ disk. faults_of disk ≡ 0) }
         ensures limits { IfOk result (λ disk. limits_of disk
             ≡ record (limits_of self.now) { failing = [] }) }
+        ensures segments { IfOk result (λ disk. HasSegments
+            (state_behind self.now (min moment (moment_of self.now))) (segment_count disk)) }
         ensures failing_reads { IfOk result (λ disk. failing_reads disk
             ≡ record { numbers = []; made = 0 }) }
     {

@@ -19,6 +19,7 @@ use Rattle.backend_cli.specs.Steps.{Plays, events_of}
 use Rattle.backend_cli.specs.Moments.{MomentsRise}
 use Rattle.waldump_text.specs.Put.{Puts}
 use Rattle.backend_cli.proofs.LastFlush.{behind_flush}
+use Rattle.backend_cli.proofs.OwnEnds.{own_at_opening}
 use Rattle.backend_cli.proofs.PlayLaws.{length-AreLinesOf}
 use Rattle.backend_cli.proofs.MomentLaws.{tracked_at_opening}
 use Rattle.serial_log.proofs.StepLaws.{IsSameLog-trans}
@@ -44,7 +45,7 @@ returns-clause-holds g c = λ before after asked means ready.
     let made = c.in-Ok.ensures.shape in
     let size_is : opened.size ≡ size = made.0 ∙ ap (λ (r : Shape). r.geometry) ready.log in
     let capacity_is : opened.capacity ≡ capacity = made.1 ∙ ap (λ (r : Shape). capacity_of r.geometry r.cap_segments) ready.log in
-    let by_size = subst (λ (n : ℕ). Plays n opened.capacity (faults disk) (at_opening n) (events_of 0 asked told) played.0) size_is played.1 in
+    let by_size = subst (λ (n : ℕ). Plays n opened.capacity (faults disk) (at_opening n) (events_of 0 asked told) played.0) size_is (played.1 (own_at_opening opened.size 0)) in
     let plays = subst (λ (n : ℕ). Plays size n (faults disk) (at_opening size) (events_of 0 asked told) played.0) capacity_is by_size in
     let valid : IsSegmentSize c.args.shape.geometry = search rules in
     let small : capacity ≤ 2 ^ 42 = capacity_of-le size c.args.shape.cap_segments valid c.args.shape.cap_high in

@@ -1,4 +1,5 @@
 use Rattle.std.proofs.Common.{◌≤◌, arith}
+use Rattle.byte_position.proofs.SegmentSizes.{segment_size_in_pages}
 use Rattle.durable_laws.proofs.ViewSteps.{set_down_keeps, store_flushed_keeps, store_moment_keeps, store_written_keeps}
 use Rattle.durable_laws.proofs.stepping.stores_keep_durability.Goals as goal
 
@@ -14,14 +15,16 @@ returns-clause-moment c = λ o order flushed moment down home writer parts id me
 
 pub returns-clause-flushed : goal.returns-clause-flushed
 returns-clause-flushed c = λ o order flushed moment down home writer parts id met v turn writers
-    written flights writings h here has at positions may.
+    written flights writings h here setup has at positions may.
     let low : flushed ≤ writer.written = omega (
       arith,
       positions.flushed_low,
       positions.written_low,
     ) in
+    let whole = segment_size_in_pages (o.setup).segment_size setup.size in
+    let some_flushed : 1 ≤ flushed = omega (arith, positions.begun, whole.0, whole.1) in
     store_flushed_keeps o order flushed moment down home writer parts h id v here turn writers has
-    at met low may
+    at met some_flushed low may
 
 pub returns-clause-down : goal.returns-clause-down
 returns-clause-down c = λ o order flushed moment down home writer parts id met v turn writers h

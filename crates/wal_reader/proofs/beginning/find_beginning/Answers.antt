@@ -67,6 +67,8 @@ pages-preserved g c =
       moment = c.in_ok-load.ensures.uncalled.same_moment ∙ c.pages.invariant.moment;
       faults = c.in_ok-load.ensures.cause ∙ c.pages.invariant.faults;
       below = omega arith;
+      first = omega (arith, c.pages.invariant.first);
+      unread = λ far. absurd (omega (arith, c.pages.invariant.first, reach));
       near = omega arith;
       begins = λ pages sees. (sees_still g before pages sees, λ turns left. step g before pages sees turns left ∙ ap (goes_on (begin_at turns c.args.cache.now.geometry pages) c.pages.page) next);
     }

@@ -11,6 +11,8 @@ invariant-pages g l = record {
   moment : g.D.Disk.moment l.disk ≡ g.D.Disk.moment l.fn.disk;
   faults : g.D.Disk.faults l.disk ≡ g.D.Disk.faults l.fn.disk;
   below : l.page < 2 ^ 51;
+  first : l.fn.start.0 / 8192 ≤ l.page;
+  unread : 2 ^ 60 ≤ l.fn.start.0 → l.disk ≡ l.fn.disk;
   near : l.page ≤ 2 ^ 47 + l.fn.start.0 / 8192;
   begins : (pages : Pages) → Sees (g.D.Disk.tape l.fn.disk) l.fn.cache pages → Sees (g.D.Disk.tape l.disk) l.cache pages × ((turns : ℕ) → turns + l.page ≡ 2 ^ 47 + l.fn.start.0 / 8192 → beginning l.fn.cache.geometry pages l.fn.start.0 ≡ begin_at turns l.fn.cache.geometry pages l.page l.timeline);
 }

@@ -24,6 +24,10 @@ pages-preserved g c =
       geometry = same;
       len = took.len.1;
       on = took.cursor.0;
+      beyond = λ far.
+          (let before = inv.beyond far in
+          let now = turned.beyond (omega (arith, far, before.2)) in
+          (now.0 ∙ before.0, now.1 ∙ before.1, took.page ∙ now.2 ∙ before.2));
       gathered = rw same at took.cursor.1;
       sees = λ pages sees. turned.sees pages (inv.sees pages sees);
       bytes = λ pages sees had.
@@ -36,3 +40,17 @@ pages-preserved g c =
       moment = turned.uncalled.same_moment ∙ inv.moment;
       faults = turned.cause ∙ inv.faults;
     }
+
+pub returns-in_err-cursor-clause-beyond : goal.returns-in_err-cursor-clause-beyond
+returns-in_err-cursor-clause-beyond g c = λ far.
+    let stop = err_from_is_err_and c.from_residual.result c.from_residual.ensures.1 in
+    let before = c.pages.invariant.beyond far in
+    let now = c.in_err-cursor.ensures.beyond (omega (arith, far, before.2)) in
+    (now.0 ∙ before.0, now.1 ∙ before.1, rw stop.1 tt)
+
+pub returns-in_err-cursor-2-clause-beyond : goal.returns-in_err-cursor-2-clause-beyond
+returns-in_err-cursor-2-clause-beyond g c = λ far.
+    let stop = err_from_is_err_and c.from_residual-in_err-cursor-2.result c.from_residual-in_err-cursor-2.ensures.1 in
+    let before = c.pages.invariant.beyond far in
+    let now = c.in_ok-cursor.ensures.beyond (omega (arith, far, before.2)) in
+    (now.0 ∙ before.0, now.1 ∙ before.1, rw stop.1 tt)

@@ -1,4 +1,4 @@
-use Rattle.std.proofs.Common.{◌≡◌, ◌-◌, ◌≤◌, vec_len}
+use Rattle.std.proofs.Common.{◌≡◌, ◌+◌, ◌-◌, ◌^◌, ◌≤◌, vec_len}
 use Rattle.wal_reader.specs.PageCursor.{Crosses, HasGathered, IsOn, Sees}
 use Rattle.wal_reader.specs.Pages.{Pages, bytes_from}
 use Rattle.wal_reader.proofs.gathering.gather.Given as goal
@@ -8,6 +8,7 @@ invariant-pages g l = record {
   geometry : l.cache.geometry ≡ l.initial.cache.geometry;
   len : vec_len l.room ≤ l.upto;
   on : IsOn l.cache l.cursor;
+  beyond : 2 ^ 47 ≤ l.initial.cursor.page + 1 → (l.disk ≡ l.initial.disk) × (l.cache ≡ l.initial.cache) × (l.cursor.page ≡ l.initial.cursor.page);
   gathered : HasGathered l.initial.cache.geometry l.extent.at.position (vec_len l.room) l.cursor;
   sees : (pages : Pages) → Sees (g.D.Disk.tape l.initial.disk) l.initial.cache pages → Sees (g.D.Disk.tape l.disk) l.cache pages;
   bytes : (pages : Pages) → Sees (g.D.Disk.tape l.initial.disk) l.initial.cache pages → l.initial.room.items ≡ bytes_from l.initial.cache.geometry pages (vec_len l.initial.room) l.extent.at.position

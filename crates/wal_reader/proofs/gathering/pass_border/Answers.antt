@@ -1,4 +1,6 @@
-use Rattle.std.proofs.Common.{◌≡◌, ◌+◌, ◌^◌, ◌<◌, arith}
+use Rattle.std.proofs.Common.{◌≡◌, ℕ, ◌+◌, ◌^◌, ◌<◌, Result, Ok, Err, arith}
+use Rattle.std.specs.Prelude.{IfOk, OnOk}
+use Rattle.wal_reader.specs.declared.read_failure.ReadFailure.{ReadFailure}
 use Rattle.std.proofs.lemmas.Result.{IfOk-weaker}
 use Rattle.wal_page.specs.Page.{header_size}
 use Rattle.wal_reader.specs.declared.page_cursor.PageCursor.{PageCursor}
@@ -32,3 +34,13 @@ returns-clause-checks g c = λ pages sees.
     let same = IfOk-weaker c.turn_page.result said (λ next. next.page ≡ cursor.page + 1) (λ next h. h.0) c.turn_page.ensures.next in
     let checks = c.turn_page.ensures.checks pages sees in
     page_turned size pages c.args.extent.at c.args.extent.total c.args.gathered cursor _ stands full here c.requires.on.1 c.turn_page.result same (rw c.start-start.ensures at checks)
+
+-- it goes on to no page that is not read
+none_there : (said : Result PageCursor ReadFailure) (page : ℕ) → OnOk said ⊥ → IfOk said (λ now. now.page ≡ page)
+none_there (Ok now) page never = absurd never
+none_there (Err failure) page never = tt
+
+pub returns-clause-beyond : goal.returns-clause-beyond
+returns-clause-beyond g c = λ far.
+    let turned = c.turn_page.ensures.beyond far in
+    (turned.0, turned.1, none_there c.turn_page.result c.args.cursor.page turned.2)

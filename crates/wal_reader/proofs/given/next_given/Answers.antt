@@ -65,3 +65,10 @@ returns-clause-unread g c =
       | in-Some w ↦ rw w.in-Some.is (λ out. c.read_given.ensures.unread (rw (w.buffers-is, w.at-is) out) ∙ w.disk-is)
       | in-None+in_ok-at-in-None w ↦ rw w.in-None.is tt
     ]
+
+pub returns-clause-last_page : goal.returns-clause-last_page
+returns-clause-last_page g c =
+    elim c.match-from.branch [
+      | in-Some w ↦ rw w.in-Some.is (λ last. c.read_given.ensures.last_page (rw (w.buffers-is, w.at-is) last) ∙ w.disk-is)
+      | in-None+in_ok-at-in-None w ↦ rw w.in-None.is tt
+    ]

@@ -1,9 +1,13 @@
-use Rattle.std.proofs.Common.{◌≡◌, ℕ, ◌∷◌, Option, Result, Ok, Err, option_map, subst, ◌∙◌, arith}
+use Rattle.std.proofs.Common.{◌≡◌, ℕ, ◌/◌, ◌≤◌, ◌⊎◌, inl, inr, ◌∷◌, Option, Some, Result, Ok, Err, option_map, subst, sym, ap, ◌∙◌, arith}
+use Rattle.std.proofs.lemmas.Bool.{cases_lt}
 use Rattle.std.proofs.lemmas.Result.{err_from_is_err_and}
 use Rattle.wal_types.specs.declared.lsn.Lsn.{Lsn}
 use Rattle.wal_reader.specs.declared.found.FoundRecord.{FoundRecord}
 use Rattle.wal_reader.specs.declared.record_place.RecordPlace.{RecordPlace}
+use Rattle.wal_reader.specs.declared.page_cache.PageCache.{PageCache}
 use Rattle.wal_reader.specs.declared.read_failure.ReadFailure.{ReadFailure}
+use Rattle.byte_position.specs.Position.{address_of}
+use Rattle.wal_reader.specs.Cache.{HoldsLastPage}
 use Rattle.wal_reader.specs.ReadAt.{read_at}
 use Rattle.wal_reader.specs.Pages.{Pages}
 use Rattle.wal_reader.specs.RecordRead.{IsRead}
@@ -12,6 +16,13 @@ use Rattle.wal_reader.proofs.ReadAtLaws.{room_after_record}
 use Rattle.wal_reader.specs.RecordPlace.{IsOutOfReach}
 use Rattle.wal_reader.proofs.GivesLaws.{GivesFrom-given, GivesFrom-passed, ComesNext-stopped}
 use Rattle.wal_reader.proofs.given.read_given.Goals as goal
+
+-- a place behind one in the last page that is read, which is held, is in that page too, or out of reach
+last_or_out : (held : Option ℕ) (size : ℕ) (end : Option ℕ) (from at : ℕ) → HoldsLastPage held (address_of size from) → address_of size from ≤ address_of size at → HoldsLastPage held (address_of size at) ⊎ IsOutOfReach size end at
+last_or_out held size end from at last rises = elim (cases_lt (address_of size from / 8192) (address_of size at / 8192)) [
+  | inl above ↦ inr (inr (omega (arith, last.1)))
+  | inr same ↦ (let one : address_of size from / 8192 ≡ address_of size at / 8192 = omega (arith, rises) in inl (last.0 ∙ ap Some one, omega (arith, last.1, one)))
+]
 
 -- what was read, of the log that the buffers was for
 read_of : (size other : ℕ) (pages : Pages) (end : Option ℕ) (place : RecordPlace) (result : Result (FoundRecord × RecordPlace) ReadFailure) → size ≡ other → IsRead size pages place (read_at size pages end place) result → IsRead other pages place (read_at other pages end place) result
@@ -34,6 +45,30 @@ returns-then-found-start-clause-unread g c out =
     let first = c.records.invariant.unread out in
     let here = out_here c.records.buffers.cache.geometry c.args.buffers.now.cache.geometry end c.records.at c.args.from c.records.invariant.geometry first.0 out in
     absurd (c.in_ok-found.ensures.unread here).1
+
+-- in the last page that is read nothing more is read
+last_here : (size other : ℕ) (held number : Option ℕ) (at : ℕ) → size ≡ other → number ≡ held → HoldsLastPage held (address_of other at) → HoldsLastPage number (address_of size at)
+last_here size other held number at same is last = rw (same, is) last
+
+pub returns-in_err-found-clause-last_page : goal.returns-in_err-found-clause-last_page
+returns-in_err-found-clause-last_page g c last =
+    let end = option_map (λ (e : Lsn). e.0) c.args.end in
+    let size = c.args.buffers.now.cache.geometry in
+    let so_far = c.records.invariant.last_page last in
+    elim (last_or_out c.args.buffers.now.cache.number size end c.args.from.position c.records.at.position last so_far.2) [
+      | inl here ↦ (c.in_err-found.ensures.last_page (last_here c.records.buffers.cache.geometry size c.args.buffers.now.cache.number c.records.buffers.cache.number c.records.at.position c.records.invariant.geometry (ap (λ (cache : PageCache). cache.number) so_far.1) here)).0 ∙ so_far.0
+      | inr out ↦ (c.in_err-found.ensures.unread (subst (λ (n : ℕ). IsOutOfReach n end c.records.at.position) (sym c.records.invariant.geometry) out)).0 ∙ so_far.0
+    ]
+
+pub returns-then-found-start-clause-last_page : goal.returns-then-found-start-clause-last_page
+returns-then-found-start-clause-last_page g c last =
+    let end = option_map (λ (e : Lsn). e.0) c.args.end in
+    let size = c.args.buffers.now.cache.geometry in
+    let so_far = c.records.invariant.last_page last in
+    elim (last_or_out c.args.buffers.now.cache.number size end c.args.from.position c.records.at.position last so_far.2) [
+      | inl here ↦ (c.in_ok-found.ensures.last_page (last_here c.records.buffers.cache.geometry size c.args.buffers.now.cache.number c.records.buffers.cache.number c.records.at.position c.records.invariant.geometry (ap (λ (cache : PageCache). cache.number) so_far.1) here)).0 ∙ so_far.0
+      | inr out ↦ absurd (c.in_ok-found.ensures.unread (subst (λ (n : ℕ). IsOutOfReach n end c.records.at.position) (sym c.records.invariant.geometry) out)).1
+    ]
 
 pub returns-in_err-found-clause-next : goal.returns-in_err-found-clause-next
 returns-in_err-found-clause-next g c pages sees =
@@ -85,6 +120,16 @@ records-preserved g c = record {
       let end = option_map (λ (e : Lsn). e.0) c.args.end in
       let here = out_here c.records.buffers.cache.geometry c.args.buffers.now.cache.geometry end c.records.at c.args.from c.records.invariant.geometry first.0 out in
       absurd (c.in_ok-found.ensures.unread here).1);
+  last_page = λ last. (let end = option_map (λ (e : Lsn). e.0) c.args.end in
+      let size = c.args.buffers.now.cache.geometry in
+      let so_far = c.records.invariant.last_page last in
+      let rises = subst (λ (n : ℕ). address_of n c.records.at.position ≤ address_of n c.in_ok-found.behind.position) c.records.invariant.geometry c.in_ok-found.ensures.rises in
+      elim (last_or_out c.args.buffers.now.cache.number size end c.args.from.position c.records.at.position last so_far.2) [
+        | inl here ↦
+            (let now = c.in_ok-found.ensures.last_page (last_here c.records.buffers.cache.geometry size c.args.buffers.now.cache.number c.records.buffers.cache.number c.records.at.position c.records.invariant.geometry (ap (λ (cache : PageCache). cache.number) so_far.1) here) in
+            (now.0 ∙ so_far.0, now.1 ∙ so_far.1, omega (arith, rises, so_far.2)))
+        | inr out ↦ absurd (c.in_ok-found.ensures.unread (subst (λ (n : ℕ). IsOutOfReach n end c.records.at.position) (sym c.records.invariant.geometry) out)).1
+      ]);
   room = λ pages sees. room_after_record c.args.buffers.now.cache.geometry c.records.buffers.cache.geometry pages c.records.at _ _ _ c.records.invariant.geometry (c.records.invariant.room pages sees) (c.in_ok-found.ensures.room pages (c.records.invariant.comes pages sees).0);
   comes = λ pages sees. (let before = c.records.invariant.comes pages sees in
       let now = c.in_ok-found.ensures.sees pages before.0 in

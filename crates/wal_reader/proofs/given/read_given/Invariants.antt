@@ -1,4 +1,6 @@
 use Rattle.std.proofs.Common.{◌≡◌, ◌-◌, ◌^◌, ◌≤◌, List, option_map}
+use Rattle.byte_position.specs.Position.{address_of}
+use Rattle.wal_reader.specs.Cache.{HoldsLastPage}
 use Rattle.wal_reader.specs.PageCursor.{Sees}
 use Rattle.wal_reader.specs.declared.found.FoundRecord.{FoundRecord}
 use Rattle.wal_reader.specs.declared.found.Answer.{Answer}
@@ -18,6 +20,7 @@ invariant-records g l = record {
   reachable : IsReachable l.at;
   further : l.fn.from.position ≤ l.at.position;
   unread : IsOutOfReach l.fn.buffers.cache.geometry (option_map (λ (e : Lsn). e.0) l.fn.end) l.fn.from.position → (l.at ≡ l.fn.from) × (l.disk ≡ l.fn.disk);
+  last_page : HoldsLastPage l.fn.buffers.cache.number (address_of l.fn.buffers.cache.geometry l.fn.from.position) → (l.disk ≡ l.fn.disk) × (l.buffers.cache ≡ l.fn.buffers.cache) × (address_of l.fn.buffers.cache.geometry l.fn.from.position ≤ address_of l.fn.buffers.cache.geometry l.at.position);
   room : (pages : Pages) → Sees (g.D.Disk.tape l.fn.disk) l.fn.buffers.cache pages → IsRoomAfterStep l.fn.buffers.cache.geometry pages l.fn.buffers.room.items l.buffers.room.items;
   comes : (pages : Pages) → Sees (g.D.Disk.tape l.fn.disk) l.fn.buffers.cache pages → Sees (g.D.Disk.tape l.disk) l.buffers.cache pages
       × ((others : List FoundRecord) (answer : Answer) → GivesFrom l.fn.buffers.cache.geometry pages l.fn.start.0 (option_map (λ (e : Lsn). e.0) l.fn.end) l.at others answer → GivesFrom l.fn.buffers.cache.geometry pages l.fn.start.0 (option_map (λ (e : Lsn). e.0) l.fn.end) l.fn.from others answer);

@@ -1,9 +1,17 @@
-use Rattle.std.proofs.Common.{◌≡◌, Some, option_map, inr, sym, ap, ◌∙◌}
+use Rattle.std.proofs.Common.{◌≡◌, ℕ, ◌≤◌, Some, Result, option_map, inr, sym, ap, ◌∙◌, arith}
+use Rattle.std.specs.Prelude.{IfOk}
+use Rattle.byte_position.specs.Geometry.{IsSegmentSize}
+use Rattle.byte_position.specs.Position.{address_of}
+use Rattle.byte_position.proofs.Rising.{address_of-mono}
 use Rattle.std.specs.Int.{w32}
-use Rattle.std.proofs.lemmas.Result.{err_from_is_err_and}
+use Rattle.std.proofs.lemmas.Result.{IfOk-weaker, err_from_is_err_and}
 use Rattle.record_spelling.specs.Numbers.{number_at}
 use Rattle.wal_types.specs.declared.lsn.Lsn.{Lsn}
+use Rattle.wal_reader.specs.declared.found.FoundRecord.{FoundRecord}
+use Rattle.wal_reader.specs.declared.read_failure.ReadFailure.{ReadFailure}
 use Rattle.wal_reader.specs.declared.record_extent.RecordExtent.{RecordExtent}
+use Rattle.wal_reader.specs.declared.record_place.RecordPlace.{RecordPlace}
+use Rattle.wal_reader.specs.RecordRead.{GoesOn}
 use Rattle.wal_reader.specs.PageCursor.{Sees}
 use Rattle.wal_reader.specs.Pages.{Pages}
 use Rattle.wal_reader.proofs.CacheLaws.{held_page}
@@ -88,3 +96,17 @@ returns-else-extent-cursor-clause-room g c = λ pages sees.
     let extent = c.in_ok-extent.ensures.extent in
     let claimed = size_in_page size pages (option_map (λ (l : Lsn). l.0) c.args.end) c.args.at before _ there (opened.checks pages sees) c.in_ok-cursor.cursor opened.place.0 opened.cursor.1 c.in_ok-extent.ensures.whole opened.place.1 in
     inr (opened.checks pages sees, room_as size pages c.args.at c.in_ok-extent.extent _ _ (ap (λ (e : RecordExtent). e.at) extent.0) (ap (λ (e : RecordExtent). e.total) extent.0 ∙ sym claimed) (rw opened.geometry at (c.read_over_pages.ensures.room pages (opened.sees pages sees))))
+
+-- the address rises with the position
+rises_behind : (size : ℕ) → IsSegmentSize size → (from at : RecordPlace) (read : Result (FoundRecord × RecordPlace) ReadFailure) → from ≡ at → IfOk read (λ r. GoesOn from r.1) → IfOk read (λ r. address_of size at.position ≤ address_of size r.1.position)
+rises_behind size valid from at read same goes_on =
+    IfOk-weaker read (λ r. GoesOn from r.1) (λ r. address_of size at.position ≤ address_of size r.1.position)
+    (λ r goes. address_of-mono size valid at.position r.1.position (let position = ap (λ (place : RecordPlace). place.position) same in omega (arith, goes.0, position))) goes_on
+
+pub returns-then-extent-cursor-clause-rises : goal.returns-then-extent-cursor-clause-rises
+returns-then-extent-cursor-clause-rises g c =
+    rises_behind c.args.cache.now.geometry c.in_ok-cursor.ensures.cursor.1.stands.valid c.in_ok-extent.extent.at c.args.at c.read_in_page.result (ap (λ (e : RecordExtent). e.at) c.in_ok-extent.ensures.extent.0) c.read_in_page.ensures.goes_on
+
+pub returns-else-extent-cursor-clause-rises : goal.returns-else-extent-cursor-clause-rises
+returns-else-extent-cursor-clause-rises g c =
+    rises_behind c.args.cache.now.geometry c.in_ok-cursor.ensures.cursor.1.stands.valid c.in_ok-extent.extent.at c.args.at c.read_over_pages.result (ap (λ (e : RecordExtent). e.at) c.in_ok-extent.ensures.extent.0) c.read_over_pages.ensures.goes_on

@@ -5,5 +5,5 @@ use Rattle.waldump_text.proofs.lines.put_hexadecimal.Given as goal
 
 abbrev pub invariant-loop-part : goal.invariant-loop-part
 invariant-loop-part g l =
-    (l.part-iterator.size ≡ 64)
+    (l.part-iterator.size ≡ 256)
     × HasPut (g.O.Sink.taken l.initial.out) (g.O.Sink.taken l.out) (g.O.Sink.faults l.initial.out) (g.O.Sink.faults l.out) (l.initial.buffer ++ hexadecimal l.bytes) (l.buffer ++ hexadecimal l.part-iterator.rest.now)

@@ -5,7 +5,7 @@ use Rattle.segment_disk.specs.First.{first_state}
 use Rattle.segment_disk.specs.Crash.{first_behind}
 use Rattle.segment_disk.specs.Picks.{undecided_before}
 use Rattle.segment_disk.specs.Tape.{after_calls}
-use Rattle.segment_disk.proofs.ImageLeft.{ImageUpto-none, image_without, image_with, image_whole, numbers_here, state_gone}
+use Rattle.segment_disk.proofs.ImageLeft.{ImageUpto-none, image_without, image_with, image_whole, image_count, numbers_here, state_gone}
 use Rattle.segment_disk.proofs.memory.crash.image_left.Goals as goal
 
 pub loop-number-init : goal.loop-number-init
@@ -39,10 +39,18 @@ loop-number-smaller-in_ok-push c =
     let next = MatchOption-at_some _ _ c.in-Some.number c.in-Some.is c.next_after.ensures in
     omega (arith, next.0)
 
-pub returns : goal.returns
-returns c =
+pub returns-clause-picked : goal.returns-clause-picked
+returns-clause-picked c =
     let state = after_calls (first_state c.args.first.now) c.args.calls.now in
     let from = first_behind c.loop-number.last in
     let none = MatchOption-at_none _ _ c.in_default.is c.next_after.ensures in
     image_whole c.args.pick.now state c.loop-number.left.items c.loop-number.numbers.now from c.loop-number.invariant
+    (λ k behind. state_gone (state k) (is_listed c.args.segments.now.numbers.items k) (c.requires k) (none k behind))
+
+pub returns-clause-count : goal.returns-clause-count
+returns-clause-count c =
+    let state = after_calls (first_state c.args.first.now) c.args.calls.now in
+    let from = first_behind c.loop-number.last in
+    let none = MatchOption-at_none _ _ c.in_default.is c.next_after.ensures in
+    image_count c.args.pick.now state c.loop-number.left.items c.loop-number.numbers.now from c.loop-number.invariant
     (λ k behind. state_gone (state k) (is_listed c.args.segments.now.numbers.items k) (c.requires k) (none k behind))

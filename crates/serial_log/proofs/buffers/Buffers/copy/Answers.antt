@@ -1,6 +1,8 @@
 -- The words of a page come to lie in it.
-use Rattle.std.proofs.Common.{◌<◌, ◌+◌, ◌*◌, ◌/◌, ℕ, min, rules, ap, ◌∙◌}
+use Rattle.std.proofs.Common.{◌<◌, ◌+◌, ◌*◌, ◌/◌, ℕ, min, rules, ap, ◌∙◌, arith}
 use Rattle.std.proofs.lemmas.Result.{err_from_is_err_and}
+use Rattle.flush_core.specs.declared.writer.Writer.{Writer}
+use Rattle.flush_core.specs.Writer.{written_of}
 use Rattle.serial_log.specs.Buffers.{RingHas, RingTakes}
 use Rattle.serial_log.proofs.WritingLaws.{GoesDown-behind, GoesDown-given}
 use Rattle.serial_log.proofs.CallLaws.{BreaksWrites-behind}
@@ -27,6 +29,8 @@ loop-end-preserved g c =
       more_is = copied.placed;
       pages = copied.shape.0;
       mapped = copied.shape.1;
+      held_pages = held.pages;
+      spares = held.spares;
       copies = copied.words;
     })
 
@@ -49,6 +53,14 @@ returns-in_err-hold_page-clause-leaves g c =
       fails = GoesDown-behind D tape moment faults takes old.writer mid.writer new _ so_far.writes (GoesDown-given D tape moment faults held takes mid.writer new _ so_far.words failed.fails);
       calls = BreaksWrites-behind D tape moment old.writer mid.writer new so_far.calls failed.calls;
     })
+
+-- where the words so far and all that is not written fit in the ring, so does the next page
+pub returns-in_err-hold_page-clause-spares : goal.returns-in_err-hold_page-clause-spares
+returns-in_err-hold_page-clause-spares g c = λ place.
+    (let so_far = c.loop-end.invariant in
+    let left : c.loop-end.placed.next < c.args.end.0 = search rules in
+    let same = so_far.spares place in
+    c.in_err-hold_page.ensures.spares (omega (arith, left, place, c.next_lsn-next.ensures, so_far.pages_same, ap (λ (w : Writer g.row.D.Denot). written_of w) same)) ∙ same)
 
 pub loop-end-init : goal.loop-end-init
 loop-end-init g c = IsCopied-none g.row.D.Denot g.D.Disk.tape g.D.Disk.moment g.D.Disk.faults c.args.placed.now c.args.end.0 c.args.self.now.ring c.args.self.now.writer c.requires.up c.requires.spans c.requires.whole.0 c.requires.begins

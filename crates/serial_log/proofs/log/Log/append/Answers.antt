@@ -7,7 +7,8 @@ use Rattle.byte_position.proofs.Words.{end_address_of-mod_word}
 use Rattle.record_spelling.specs.Spelling.{assembled_room}
 use Rattle.segment_disk.specs.Tape.{Tape}
 use Rattle.flush_core.specs.Writer.{writer_fault}
-use Rattle.serial_log.specs.LogState.{LogState}
+use Rattle.serial_log.specs.Buffers.{HasPlaceFor}
+use Rattle.serial_log.specs.LogState.{LogState, end_behind}
 use Rattle.serial_log.proofs.LogLaws.{IsPlace, appended_ok, appended_err, inserts_at, keeps_appended, placed_next, unwritten}
 use Rattle.serial_log.proofs.CallLaws.{GoesOn-broken_writes, GoesOn-writes}
 use Rattle.serial_log.proofs.log.Log.append.Goals.{in-Ok, in-Err}
@@ -72,6 +73,7 @@ returns-clause-leaves g c =
     } in
     let some : 0 < c.from.result = omega (arith, c.from.ensures, c.room.ensures.bounds) in
     let more = l.bytes + c.from.result in
+    let ends : end.0 ≡ end_behind l.geometry more = c.to_end_lsn-end.ensures ∙ ap (λ (n : ℕ). end_address_of l.geometry (n + more)) c.self.invariant.0.position_is in
     rw (← c.self.view_is) (elim c.match-copy.branch [
       | in-Ok w ↦
           (let done = w.in-Ok.ensures in
@@ -84,8 +86,9 @@ returns-clause-leaves g c =
             left_by_refusal = tt;
             told_moment_same = refl;
             unflushed = record { written = at.0; flushed = at.1 };
-            end = c.to_end_lsn-end.ensures ∙ ap (λ (n : ℕ). end_address_of l.geometry (n + more)) c.self.invariant.0.position_is;
+            end = ends;
             moment_never_falls = done.leaves.writes.moment_never_falls;
+            spares = λ has_place. done.spares (subst (HasPlaceFor l.buffers.ring.pages l.buffers.writer) (sym ends) has_place);
           }))
       | in-Err w ↦
           (let failed = w.in-Err.ensures in
@@ -99,6 +102,7 @@ returns-clause-leaves g c =
             unflushed = tt;
             end = tt;
             moment_never_falls = failed.leaves.fails.moment_never_falls;
+            spares = λ has_place. failed.spares (subst (HasPlaceFor l.buffers.ring.pages l.buffers.writer) (sym ends) has_place);
           }))
     ])
 

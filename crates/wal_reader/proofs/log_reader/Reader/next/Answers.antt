@@ -1,10 +1,12 @@
-use Rattle.std.proofs.Common.{◌≡◌, ℕ, List, [], ◌∷◌, Option, Some, Result, Ok, Err, option_map, subst, sym, ap, ◌∙◌}
+use Rattle.std.proofs.Common.{◌≡◌, ◌⊎◌, inl, inr, ℕ, List, [], ◌∷◌, Option, Some, Result, Ok, Err, option_map, subst, sym, ap, ◌∙◌}
 use Rattle.wal_types.specs.declared.lsn.Lsn.{Lsn}
+use Rattle.byte_position.specs.Position.{address_of}
+use Rattle.wal_reader.specs.Cache.{HoldsLastPage}
 use Rattle.wal_reader.specs.PageCursor.{IsLogOf, Sees}
 use Rattle.wal_reader.specs.Pages.{Pages}
 use Rattle.std.specs.Prelude.{IfOk}
-use Rattle.wal_reader.specs.Buffers.{AreFor, HoldsPageOf, room_in}
-use Rattle.wal_reader.specs.LogReader.{Knows, NeedsNoPage, reader_state, reader_room}
+use Rattle.wal_reader.specs.Buffers.{AreFor, HoldsPageOf, page_in, room_in}
+use Rattle.wal_reader.specs.LogReader.{Knows, NeedsNoPage, reader_page, reader_state, reader_room}
 use Rattle.wal_reader.specs.RecordRead.{IsBehind, IsRoomAfterStep}
 use Rattle.wal_reader.specs.Spelled.{IsSpelledIn}
 use Rattle.wal_reader.specs.RecordPlace.{IsOutOfReach}
@@ -94,15 +96,23 @@ pub returns-in-Err-Told-clause-leaves : goal.returns-in-Err-Told-clause-leaves
 returns-in-Err-Told-clause-leaves g c =
     rw (c.after-self.ensures, c.told.ensures) (Leaves-told (reader_state c.args.self.now) c.in-Err-Told.answer)
 
+-- and the page is the one that the reader held
+page_before : (g : Over) (c : After-next_given g) → c.in-Some.buffers.cache.number ≡ reader_page c.args.self.now
+page_before g c = subst (λ (d : Option Buffers). page_in d ≡ reader_page c.args.self.now) c.in-Some.is c.set_up.ensures.held
+
 -- where nothing is read the disk is left alone
-left_alone : (g : Over) (c : After-next_given g) → NeedsNoPage (reader_state c.args.self.now) c.args.self.now.standing → c.next_given.new.disk ≡ c.args.disk.now
+left_alone : (g : Over) (c : After-next_given g) → NeedsNoPage (reader_state c.args.self.now) (reader_page c.args.self.now) c.args.self.now.standing → c.next_given.new.disk ≡ c.args.disk.now
 left_alone g c needs =
     elim c.match-self.branch [
-      | in-NotBegun w ↦ absurd (rw w.in-NotBegun.is at needs)
+      | in-NotBegun w ↦ c.next_given.ensures.unbegun w.from-is (rw w.in-NotBegun.is at needs)
       | in-At w ↦
-          (let out : IsOutOfReach c.args.self.now.geometry (option_map (λ (e : Lsn). e.0) c.args.self.now.end) w.in-At.at.position = rw w.in-At.is at needs in
+          (let needs_none : IsOutOfReach c.args.self.now.geometry (option_map (λ (e : Lsn). e.0) c.args.self.now.end) w.in-At.at.position ⊎ HoldsLastPage (reader_page c.args.self.now) (address_of c.args.self.now.geometry w.in-At.at.position) = rw w.in-At.is at needs in
           let unread = rw w.from-is at c.next_given.ensures.unread in
-          unread (rw (fit g c) out))
+          let last_page = rw w.from-is at c.next_given.ensures.last_page in
+          elim needs_none [
+            | inl out ↦ unread (rw (fit g c) out)
+            | inr last ↦ last_page (rw (fit g c, page_before g c) last)
+          ])
     ]
 
 pub returns-in-Ok-clause-unread : goal.returns-in-Ok-clause-unread

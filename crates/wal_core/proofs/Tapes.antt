@@ -1,0 +1,77 @@
+-- The writer's tape behind a call, however the call ended; and what a disk held when the log was
+-- opened, which no later call changes.
+use Rattle.std.proofs.Common.{◌≡◌, ◌≤◌, List, [], ◌∷◌, ◌++◌, length, Option, Some, None, IfSome, refl, subst}
+use mathlib.Core.Option.{none, some}
+use Rattle.segment_disk.specs.declared.disk.Call.{Call}
+use Rattle.segment_disk.specs.Tape.{Tape, after_call, after_calls, failed_call, state_now, with_call}
+use Rattle.segment_disk.proofs.Reading.{after_calls-push}
+use Rattle.flush_core.proofs.GrowingTapes.{take-before}
+use Rattle.wal_core.specs.Words.{Opening}
+use Rattle.wal_core.specs.Views.{Plain}
+use Rattle.wal_core.specs.Moves.{Outcome, Done, Failed, with_outcome}
+use Rattle.wal_core.specs.Suited.{BeganSuited, IfSuited, IsSuited}
+
+-- ---- tapes that are told
+
+pub told_as : {P : Tape → Type 0} (o : Option Tape) → ((t : Tape) → o ≡ Some t → P t)
+    → IfSome o P
+told_as None holds = tt
+told_as (Some t) holds = holds t refl
+
+pub at_told : (P : Tape → Type 0) (o : Option Tape) (t : Tape) → o ≡ Some t → IfSome o P → P t
+at_told P o t is holds = subst (λ (o : Option Tape). IfSome o P) is holds
+
+-- ---- the tape behind a call
+
+abbrev pub tape_behind : Outcome → Call → Tape → Tape
+tape_behind Done call t = record t { calls = t.calls ++ call ∷ [] }
+tape_behind (Failed faults none) call t = t
+tape_behind (Failed faults (some made)) call t =
+    record t { calls = t.calls ++ failed_call made call ∷ [] }
+
+called : (Q : Tape → Type 0) (o : Option Tape) (call : Call)
+    → ((t : Tape) → o ≡ Some t → Q (record t { calls = t.calls ++ call ∷ [] }))
+    → IfSome (with_call o call) Q
+called Q None call f = tt
+called Q (Some t) call f = f t refl
+
+-- what holds of the tape behind a call holds of the writer's
+pub on_tape : (Q : Tape → Type 0) (call : Call) (outcome : Outcome) (w : Plain)
+    → ((t : Tape) → w.tape ≡ Some t → Q (tape_behind outcome call t))
+    → IfSome (with_outcome call outcome w).tape Q
+on_tape Q call Done w f = called Q w.tape call f
+on_tape Q call (Failed faults none) w f = told_as w.tape f
+on_tape Q call (Failed faults (some made)) w f = called Q w.tape (failed_call made call) f
+
+-- the state behind a call that is done, or that failed and was counted
+pub state_behind : (t : Tape) (call : Call)
+    → state_now (record t { calls = t.calls ++ call ∷ [] }) ≡ after_call (state_now t) call
+state_behind t call = after_calls-push t.at_first t.calls call
+
+-- ---- what was there when the log was opened
+
+module _ (opening : Opening) where
+  pub told_suited : {P : Tape → Type 0} (writer : Plain)
+      → ((t : Tape) → writer.tape ≡ Some t → BeganSuited opening t → P t)
+      → IfSuited opening writer P
+  told_suited writer holds = told_as writer.tape holds
+
+  pub at_suited : (writer : Plain) (P : Tape → Type 0) (t : Tape) → writer.tape ≡ Some t
+      → BeganSuited opening t → IfSuited opening writer P → P t
+  at_suited writer P t is suited holds =
+      at_told (λ t. BeganSuited opening t → P t) writer.tape t is holds suited
+
+  -- no call changes it
+  pub began_before : (t : Tape) (call : Call) → opening.moment ≤ length t.calls
+      → BeganSuited opening (record t { calls = t.calls ++ call ∷ [] }) → BeganSuited opening t
+  began_before t call within suited =
+      subst (λ (calls : List Call). IsSuited (after_calls t.at_first calls))
+      (take-before t.calls (call ∷ []) opening.moment within) suited
+
+  pub began_behind : (call : Call) (outcome : Outcome) (t : Tape)
+      → opening.moment ≤ length t.calls → BeganSuited opening (tape_behind outcome call t)
+      → BeganSuited opening t
+  began_behind call Done t within suited = began_before t call within suited
+  began_behind call (Failed faults none) t within suited = suited
+  began_behind call (Failed faults (some made)) t within suited =
+      began_before t (failed_call made call) within suited
