@@ -19,7 +19,7 @@ use Rattle.wal_core.proofs.Lists.{part_at, view_from}
 use Rattle.durable_laws.proofs.Assured.{told, view_set}
 use Rattle.durable_laws.proofs.Growth.{IsUnwritten-new, below_grows, firm_stays, lawful_stays, staged_stays}
 use Rattle.durable_laws.proofs.Segments.{All-both, SegmentAssures-weaker}
-use Rattle.wal_core.proofs.Tapes.{at_told, told_as, told_suited, at_suited}
+use Rattle.wal_core.proofs.Tapes.{told_suited, at_suited}
 use Rattle.wal_core.specs.Suited.{BeganSuited}
 
 got_cases : (es : List Entry) (e f : Entry) (k : ℕ) → slice_get (es ++ e ∷ []) k ≡ Some f
