@@ -1,21 +1,18 @@
 -- What is said of one view, behind a step that changes it.
-use Rattle.std.proofs.Common.{◌≡◌, ◌≢◌, ℕ, ◌≤◌, inl, inr, All, List, [], ◌∷◌, ◌++◌, length, max, set, IfSome, refl, sym, ap, subst, ◌∙◌, arith}
+use Rattle.std.proofs.Common.{◌≡◌, ◌≢◌, ℕ, ◌≤◌, inl, inr, All, List, [], ◌∷◌, ◌++◌, length, max, set, refl, sym, ap, subst, ◌∙◌, arith}
 use Rattle.std.proofs.lemmas.Bool.{cases_lt}
 use Rattle.std.proofs.lemmas.List.Elements.{All-append, All-cons, All-nil, All-push, All-weaker}
-use Rattle.std.proofs.lemmas.Option.{IfSome_then, none-some, slice_get_past}
+use Rattle.std.proofs.lemmas.Option.{none-some, slice_get_past}
 use mathlib.Core.Option.{none, some}
 use Rattle.segment_disk.specs.Tape.{Tape}
-use Rattle.flush_core.specs.Left.{IsMadeUpto}
 use Rattle.wal_page.specs.Order.{Entry}
 use Rattle.wal_core.specs.Words.{Opening}
 use Rattle.wal_core.specs.Views.{HasAt, Hold, Idle, Turned, Out, Joined, Lent, Plain, Promise, Told, Writing}
 use Rattle.wal_core.specs.Moves.{no_writing, with_lent}
 use Rattle.wal_core.specs.Locked.{StandsTo}
-use Rattle.wal_core.specs.Durable.{AreKept, DurabilityHolds, IsAssured, IsFirm, IsInHand, IsKept, IsLogBelow, IsPromised}
+use Rattle.wal_core.specs.Durable.{AreKept, DurabilityHolds, IsAssured, IsFirm, IsInHand, IsKept, IsPromised}
 use Rattle.wal_core.proofs.Lists.{one_added, one_set}
-use Rattle.durable_laws.proofs.Growth.{IsFirm-lower}
-use Rattle.wal_core.proofs.Tapes.{at_told, told_as, told_suited, at_suited}
-use Rattle.durable_laws.proofs.Tapes.{TapeAssures-later}
+use Rattle.wal_core.proofs.Tapes.{told_suited, at_suited}
 use Rattle.wal_core.specs.Suited.{IfSuited}
 
 -- a pass's part, by its own parts

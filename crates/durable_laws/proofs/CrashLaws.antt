@@ -1,5 +1,5 @@
 -- Images that a crash leaves are lawful, and hold what was promised.
-use Rattle.std.proofs.Common.{◌≡◌, ◌≢◌, ℕ, ◌+◌, ◌-◌, ◌*◌, ◌/◌, ◌%◌, ◌<◌, ◌≤◌, ◌⊎◌, inl, inr, All, List, drop, Some, None, IfSome, IsSome, sym, ap, subst, ◌∙◌, arith}
+use Rattle.std.proofs.Common.{◌≡◌, ◌≢◌, ℕ, ◌+◌, ◌-◌, ◌*◌, ◌/◌, ◌%◌, ◌<◌, ◌≤◌, ◌⊎◌, inl, inr, All, List, drop, length, Some, None, IfSome, IsSome, sym, ap, subst, ◌∙◌, arith}
 use Rattle.std.specs.Int.{w64, to_le_bytes}
 use Rattle.std.proofs.lemmas.Bool.{cases_eq, cases_lt}
 use Rattle.std.proofs.lemmas.List.Elements.{All-weaker}
@@ -24,12 +24,12 @@ use Rattle.wal_core.specs.declared.setup.Setup.{Setup}
 use Rattle.wal_core.specs.Words.{Opening}
 use Rattle.wal_core.specs.Views.{HasAt, Hold, Out, Joined, Lent, Plain, Promise, Told, View, writer_of}
 use Rattle.wal_core.specs.Locked.{IsWriteTurn}
-use Rattle.wal_core.specs.Moves.{Outcome}
+use Rattle.wal_core.specs.Moves.{Outcome, with_outcome}
 use Rattle.wal_core.specs.Steps.{MayStep, create, fault_number, number_lent, set_down, sync, value_behind, write}
 use Rattle.wal_core.specs.Durable.{AreKept, DurabilityHolds, IsFirm, IsKept, IsLawfulAt, IsLogBelow}
 use Rattle.durable_laws.specs.Crashes.{CrashesLeave, DownTells, HoldsPromise, LeavesLawful, PutsOwned}
 use Rattle.durable_laws.proofs.Assured.{stands_out}
-use Rattle.wal_core.proofs.Tapes.{at_suited, told_suited}
+use Rattle.wal_core.proofs.Tapes.{at_suited, at_told, began_still, on_tape, told_suited}
 use Rattle.wal_core.specs.Suited.{BeganSuited, IfSuited}
 
 module _ (setup : Setup) (valid : IsSegmentSize setup.segment_size) (order : List Entry)
@@ -167,6 +167,19 @@ module _ (o : Opening) (order : List Entry) (flushed moment down : ℕ) (home : 
   pub crashes_leave_the_log : IfSuited o writer
       (λ t. CrashesLeave o order flushed moment t parts)
   crashes_leave_the_log = told_suited o writer left_behind
+
+-- a call leaves what the disk held when the log was opened
+pub stays_suited : (o : Opening) (order : List Entry) (flushed moment down : ℕ) (home : _)
+    (writer : Plain) (parts : List Told) (call : Call) (outcome : Outcome)
+    → DurabilityHolds o order flushed moment down home writer parts
+    → IfSome writer.tape (BeganSuited o)
+    → IfSome (with_outcome call outcome writer).tape (BeganSuited o)
+stays_suited o order flushed moment down home writer parts call outcome h suited =
+    on_tape (BeganSuited o) call outcome writer (λ t is.
+    let Counts : Tape → Type 0 = λ t. writer.moment ≡ length t.calls in
+    let counts = at_told Counts writer.tape t is h.counted in
+    began_still o call outcome t (omega (arith, h.begun, h.moment_low, counts))
+    (at_told (BeganSuited o) writer.tape t is suited))
 
 -- ---- the down value
 

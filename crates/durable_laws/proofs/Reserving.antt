@@ -19,7 +19,7 @@ use Rattle.wal_core.proofs.Lists.{part_at, view_from}
 use Rattle.durable_laws.proofs.Assured.{told, view_set}
 use Rattle.durable_laws.proofs.Growth.{IsUnwritten-new, below_grows, firm_stays, lawful_stays, staged_stays}
 use Rattle.durable_laws.proofs.Segments.{All-both, SegmentAssures-weaker}
-use Rattle.wal_core.proofs.Tapes.{at_told, told_as, told_suited, at_suited}
+use Rattle.wal_core.proofs.Tapes.{told_suited, at_suited}
 use Rattle.wal_core.specs.Suited.{BeganSuited}
 
 got_cases : (es : List Entry) (e f : Entry) (k : ℕ) → slice_get (es ++ e ∷ []) k ≡ Some f
@@ -50,12 +50,12 @@ at_end size end last prev locked holder id place at met is stands =
     stored.2
 
 -- what a pass has behind its reservation
-reserved_is : (v : View) (lock : ℕ) (value : Record) (at prev : ℕ)
+reserved_is : (v : View) (locks : List ℕ) (value : Record) (at prev : ℕ)
     → v.reserving.place ≡ Stored at prev
-    → told_of (after_store_position lock value v)
+    → told_of (after_store_position locks value v)
     ≡ told (v.reserving.entries ++ entry_at v.reserving.number at value ∷ [])
     v.reserving.joined v.writing
-reserved_is v lock value at prev is = rw is refl
+reserved_is v locks value at prev is = rw is refl
 
 module _ (o : Opening) (order : List Entry) (flushed moment down : ℕ) (home : _)
     (writer : Plain) (parts : List Told)
@@ -180,7 +180,7 @@ module _ (o : Opening) (order : List Entry) (flushed moment down : ℕ) (home : 
 
 -- the step, of all views
 pub store_position_keeps : (o : Opening) (order : List Entry) (flushed moment down : ℕ) (home : _)
-    (writer : Plain) (views : List View) (id lock met : ℕ) (value : Record) (v : View)
+    (writer : Plain) (views : List View) (id met : ℕ) (locks : List ℕ) (value : Record) (v : View)
     (at prev : ℕ) (last word locked holder written : ℕ) (flights : List Flight)
     → DurabilityHolds o order flushed moment down home writer (map told_of views)
     → HasAt views id v → IsSetup o.setup → IsChained (o.setup).segment_size order
@@ -190,14 +190,14 @@ pub store_position_keeps : (o : Opening) (order : List Entry) (flushed moment do
     → (v.reserving).place ≡ Stored at prev
     → DurabilityHolds o (order ++ entry_at (v.reserving).number at value ∷ []) flushed moment down
     home writer
-    (set (map told_of views) id (told_of (view_behind v (store_position lock value) met home)))
-store_position_keeps o order flushed moment down home writer views id lock met value v at prev
+    (set (map told_of views) id (told_of (view_behind v (store_position locks value) met home)))
+store_position_keeps o order flushed moment down home writer views id met locks value v at prev
     last word locked holder written flights h here setup chained stands positions is =
     let e = entry_at (v.reserving).number at value in
     let start = at_end (o.setup).segment_size (end_position (o.setup).segment_size order) last word
     locked holder id (v.reserving).place at prev is stands in
     subst (λ (x : Told). DurabilityHolds o (order ++ e ∷ []) flushed moment down home writer
-    (set (map told_of views) id x)) (sym (reserved_is v lock value at prev is))
+    (set (map told_of views) id x)) (sym (reserved_is v locks value at prev is))
     (reserve_keeps o order flushed moment down home writer (map told_of views) h setup.size e
     chained start positions.reserved
     (let low : flushed ≤ writer.written =

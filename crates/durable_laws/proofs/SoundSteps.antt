@@ -132,28 +132,28 @@ module _ (words : List ℕ) (home : Option Plain) (views : List View) (id : ℕ)
 
   -- ---- an entry, and calls of the device
 
-  pub durable-reserved : (v.reserving).live ≡ true → (lock : ℕ) (value : Record)
-      → MayStep v (store_position lock value)
-      → HasDurable words home views id v (store_position lock value)
+  pub durable-reserved : (v.reserving).live ≡ true → (locks : List ℕ) (value : Record)
+      → MayStep v (store_position locks value)
+      → HasDurable words home views id v (store_position locks value)
       (k.order ++ entry_at (v.reserving).number (place_at v (v.reserving).place) value ∷ [])
       k.writer
-  durable-reserved live lock value may =
+  durable-reserved live locks value may =
       let at = may.0 in
       let prev = may.1 in
       let is = may.2 in
       let met = slice_index words 0 in
       let size = ((v.opening).setup).segment_size in
-      let w = view_behind v (store_position lock value) met home in
+      let w = view_behind v (store_position locks value) met home in
       let entry = λ (p : ℕ). entry_at (v.reserving).number p value in
       let place : at ≡ place_at v (v.reserving).place = sym (ap (place_at v) is) in
       elsewhere_stored (k.order ++ entry (place_at v (v.reserving).place) ∷ []) k.writer home 0
-      (value_behind v (store_position lock value) met) w (λ e. omega arith) (λ e. omega arith)
+      (value_behind v (store_position locks value) met) w (λ e. omega arith) (λ e. omega arith)
       (λ e. omega arith)
       (subst (λ (p : ℕ). DurabilityHolds o (k.order ++ entry p ∷ []) (flushed_word words)
       (moment_word words) (down_word words) home k.writer
       (set (map told_of views) id (told_of w))) place
       (store_position_keeps o k.order (flushed_word words) (moment_word words) (down_word words)
-      home k.writer views id lock met value v at prev _ _ _ _ _ _ k.durable here k.setup_is
+      home k.writer views id met locks value v at prev _ _ _ _ _ _ k.durable here k.setup_is
       (k.reserved).chained
       ((k.reserved).places id v.reserving (part_at reserving_of views id v here) live)
       k.positions is))
@@ -241,10 +241,10 @@ module _ (words : List ℕ) (home : Option Plain) (views : List View) (id : ℕ)
       untouched 1 _ _ (rw may.1 refl) (λ e. omega arith) (λ e. omega arith) (λ e. omega arith)
   durable-inside store_prev may inside staged =
       untouched 1 _ _ (rw may.2 refl) (λ e. omega arith) (λ e. omega arith) (λ e. omega arith)
-  durable-inside (store_position lock value) may inside staged = absurd inside
+  durable-inside (store_position locks value) may inside staged = absurd inside
   durable-inside (give_position_back value) may inside staged =
       untouched 0 _ _ (rw may.1 refl) (λ e. omega arith) (λ e. omega arith) (λ e. omega arith)
-  durable-inside (load_lock lock asked) may inside staged =
+  durable-inside (load_lock lock limit) may inside staged =
       untouched (2 + lock) _ _ refl (λ e. omega arith) (λ e. omega arith) (λ e. omega arith)
   durable-inside (take_lock lock) may inside staged =
       untouched (2 + lock) _ _ (either_told (slice_index words (2 + lock) == 0)

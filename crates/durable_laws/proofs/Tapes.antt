@@ -1,10 +1,10 @@
 -- What a tape assures from a later moment on, and behind a call, however the call ended.
-use Rattle.std.proofs.Common.{◌≡◌, inl, ℕ, ◌+◌, ◌-◌, ◌≤◌, All, List, [], ◌∷◌, ◌++◌, length, take, drop, Option, Some, None, IfSome, refl, sym, ap, subst, ◌∙◌, arith, length-append}
+use Rattle.std.proofs.Common.{◌≡◌, inl, ℕ, ◌+◌, ◌-◌, ◌≤◌, All, List, [], ◌∷◌, ◌++◌, length, take, drop, Some, refl, sym, ap, ◌∙◌, arith, length-append}
 use Rattle.std.proofs.lemmas.List.{drop-drop}
 use Rattle.std.proofs.lemmas.List.Elements.{All-drop, All-same}
 use mathlib.Core.Option.{none, some}
 use Rattle.segment_disk.specs.declared.disk.Call.{Call}
-use Rattle.segment_disk.specs.Tape.{Tape, after_call, failed_call, state_now, with_call}
+use Rattle.segment_disk.specs.Tape.{Tape, failed_call, with_call}
 use Rattle.flush_core.specs.Left.{CallFits, TapeAssures}
 use Rattle.flush_core.proofs.GrowingTapes.{take-before}
 use Rattle.flush_core.proofs.LeftLaws.{TapeAssures-with_call, TapeAssures-failed}

@@ -1,6 +1,6 @@
 -- Steps that change one view, or add or take one, and of the words and the writer at most the
 -- moment, the flushed address, the down value, and where the writer is.
-use Rattle.std.proofs.Common.{◌≡◌, ◌≢◌, ℕ, ◌≤◌, inl, inr, Bool, true, false, List, [], ◌∷◌, ◌++◌, length, set, IfSome, refl, sym, ap, subst, ◌∙◌, ◌==◌, if◌then◌else◌, arith}
+use Rattle.std.proofs.Common.{◌≡◌, ◌≢◌, ℕ, ◌≤◌, inl, inr, Bool, true, false, List, [], ◌∷◌, ◌++◌, length, set, refl, sym, ap, subst, ◌∙◌, ◌==◌, if◌then◌else◌, arith}
 use Rattle.std.proofs.lemmas.List.Elements.{All-cons, All-nil}
 use Rattle.std.proofs.lemmas.Option.{IfSome_then}
 use mathlib.Core.Option.{Option, none, some, some-injective, some-ne-none}
@@ -16,7 +16,7 @@ use Rattle.wal_core.specs.Durable.{DurabilityHolds, IsAssured, IsFirm, IsInHand,
 use Rattle.wal_core.specs.Steps.{MayStep, fault_number, home_behind, number_lent, returned, value_behind, view_behind, with_slot, set_down, slot_in, slot_out, store_flushed, store_moment}
 use Rattle.durable_laws.proofs.Assured.{did_set_down, with_down, with_words, is_joined, is_new, is_promised, lent_cases, met_down, rebuilt, stands_out, stands_turned, told, view_added, view_set}
 use Rattle.durable_laws.proofs.Growth.{IsFirm-lower}
-use Rattle.wal_core.proofs.Tapes.{at_told, told_as, told_suited, at_suited}
+use Rattle.wal_core.proofs.Tapes.{at_told, told_suited, at_suited}
 use Rattle.durable_laws.proofs.Tapes.{TapeAssures-later}
 use Rattle.wal_core.specs.Suited.{IfSuited}
 

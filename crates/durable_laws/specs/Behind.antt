@@ -10,7 +10,7 @@ use Rattle.wal_core.specs.Steps.{Event, create, home_behind, load_word, store_po
 
 -- the step adds no entry and makes no call of the device
 abbrev pub IsInside : Event → Type 0
-IsInside (store_position lock value) = ⊥
+IsInside (store_position locks value) = ⊥
 IsInside (create segment outcome) = ⊥
 IsInside (write segment page upto bytes outcome) = ⊥
 IsInside (sync segment outcome) = ⊥

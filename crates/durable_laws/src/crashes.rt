@@ -1,15 +1,16 @@
 //! What holds of each image that a crash leaves, and of the down value: laws proved by functions
 //! that do nothing.
 
-ghost use Rattle.std.specs.Prelude.{◌≡◌, ◌≢◌, ℕ, List};
+ghost use Rattle.std.specs.Prelude.{◌≡◌, ◌≢◌, ℕ, List, IfSome};
+ghost use Rattle.segment_disk.specs.declared.disk.Call.{Call};
 ghost use mathlib.Core.Option.{Option};
 ghost use Rattle.wal_page.specs.Order.{Entry, IsChained};
 ghost use Rattle.wal_core.specs.Words.{Opening};
 ghost use Rattle.wal_core.specs.Views.{HasAt, Hold, Plain, Told, View, writer_of};
-ghost use Rattle.wal_core.specs.Suited.{IfSuited};
+ghost use Rattle.wal_core.specs.Suited.{BeganSuited, IfSuited};
 ghost use Rattle.wal_core.specs.Locked.{IsWriteTurn};
 ghost use Rattle.wal_core.specs.Durable.{DurabilityHolds};
-ghost use Rattle.wal_core.specs.Moves.{Outcome};
+ghost use Rattle.wal_core.specs.Moves.{Outcome, with_outcome};
 ghost use Rattle.wal_core.specs.Sound.{IsSetup};
 ghost use Rattle.wal_core.specs.Steps.{MayStep, create, set_down, sync, value_behind, write};
 ghost use Rattle.durable_laws.specs.Crashes.{CrashesLeave, DownTells};
@@ -23,6 +24,17 @@ pub fn crashes_leave_what_was_promised()
         → DurabilityHolds o order flushed moment down home writer parts → IsSetup o.setup
         → IsChained (o.setup).segment_size order
         → IfSuited o writer (λ t. CrashesLeave o order flushed moment t parts) }
+{}
+
+/// A call of the device, however it ends, leaves what the disk held when the log was opened: what
+/// was one on which a log may begin stays one of which all this is said.
+pub fn calls_leave_what_the_log_began_on()
+    ensures { (o : Opening) (order : List Entry) (flushed moment down : ℕ)
+        (home : Option Plain) (writer : Plain) (parts : List Told) (call : Call)
+        (outcome : Outcome)
+        → DurabilityHolds o order flushed moment down home writer parts
+        → IfSome writer.tape (BeganSuited o)
+        → IfSome (with_outcome call outcome writer).tape (BeganSuited o) }
 {}
 
 /// What the down value tells; once it is not 0 it stays, and no call of the device follows.

@@ -18,7 +18,7 @@ ghost use Rattle.wal_core.specs.Steps.{store_position, view_behind};
 pub fn reserving_keeps_durability()
     ensures store_position { (o : Opening) (order : List Entry) (flushed moment down : ℕ)
         (home : Option Plain) (writer : Plain) (views : List View)
-        (id lock met : ℕ) (value : Record) (v : View) (at prev : ℕ)
+        (id met : ℕ) (locks : List ℕ) (value : Record) (v : View) (at prev : ℕ)
         (last word locked holder written : ℕ) (flights : List Flight)
         → DurabilityHolds o order flushed moment down home writer (map told_of views)
         → HasAt views id v → IsSetup o.setup → IsChained (o.setup).segment_size order
@@ -30,5 +30,5 @@ pub fn reserving_keeps_durability()
         → DurabilityHolds o (order ++ entry_at (v.reserving).number at value ∷ []) flushed moment
         down home writer
         (set (map told_of views) id
-        (told_of (view_behind v (store_position lock value) met home))) }
+        (told_of (view_behind v (store_position locks value) met home))) }
 {}

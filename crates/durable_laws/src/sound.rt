@@ -24,9 +24,9 @@ pub fn steps_leave_a_sound_log_durable()
         → HasDurable words home views id v e s.order s.writer }
     ensures store_position { (words : List ℕ) (home : Option Plain) (views : List View) (id : ℕ)
         (v : View) (s : IsSound v.opening words home views) → HasAt views id v
-        → (v.reserving).live ≡ true → (lock : ℕ) (value : Record)
-        → MayStep v (store_position lock value)
-        → HasDurable words home views id v (store_position lock value)
+        → (v.reserving).live ≡ true → (locks : List ℕ) (value : Record)
+        → MayStep v (store_position locks value)
+        → HasDurable words home views id v (store_position locks value)
         (s.order ++ entry_at (v.reserving).number (place_at v (v.reserving).place) value ∷ [])
         s.writer }
 {}

@@ -1,40 +1,62 @@
 -- Who holds which insertion lock, through each kind of step that changes a lock's word, the locks
 -- that a view holds, or its entry in flight. `lock'` is the words of locks behind the step.
-use Rattle.std.proofs.Common.{arith, ◌≡◌, ◌≢◌, ℕ, ◌+◌, ◌<◌, Bool, true, not, cond, eqb, eq-eqb, ne_eqb, List, [], ◌∷◌, ◌++◌, length, set, Contains, filter, sym, refl, ap, ◌∙◌, subst, ⊎_elim}
+use Rattle.std.proofs.Common.{arith, ◌≡◌, ◌≢◌, ℕ, ◌+◌, ◌<◌, ◌≤◌, Bool, not, cond, eqb, eq-eqb, ne_eqb, List, [], ◌∷◌, ◌++◌, length, set, Contains, sym, refl, ap, ◌∙◌, subst, ⊎_elim}
 use Rattle.std.proofs.lemmas.List.Elements.{Contains-append_left, Contains-push, Contains-push_cases}
 use mathlib.Core.Logic.{dite}
 use native.Mathlib.Decide.{ℕ_discrete}
 use Rattle.atomic_table.proofs.Lists.{set_else, set_again, at_longer, at_last}
-use Rattle.wal_core.specs.Views.{HasAt, Copy, Flight, Landed, Copying, Working, View, working_of}
+use Rattle.wal_core.specs.Views.{HasAt, Copy, Flight, Landed, Copying, Working, AreSomeOf, View, working_of}
 use Rattle.wal_core.specs.Locked.{AreHeld}
-use Rattle.wal_core.specs.Moves.{landed, one_more, with_working, after_take_lock}
+use Rattle.wal_core.specs.Moves.{landed, without_lock, one_more, with_working, after_take_lock}
 use Rattle.wal_core.specs.Steps.{exchanged}
-use Rattle.lock_laws.specs.Locks.{ChangesAt, idle, other_than}
+use Rattle.lock_laws.specs.Locks.{ChangesAt, idle}
+use Rattle.wal_core.proofs.Landing.{landed_was, none_lands}
 use Rattle.wal_core.proofs.Lists.{one_set, one_added, at_same, at_place}
 use Rattle.lock_laws.proofs.Kept.{met_cases, kept, kept_was, none_in_nothing, two_set_again}
 
-pub is_other : (i j : ℕ) → j ≢ i → other_than i j ≡ true
-is_other i j ne = ap not (ne_eqb j i ne)
+-- the locks but one: what is left was there, and what was there is left
+pub was_there : (i : ℕ) (locks : List ℕ) (j : ℕ) → Contains (without_lock i locks) j
+    → Contains locks j × (j ≢ i)
+was_there i locks j has =
+    let was = kept_was (λ (one : ℕ). not (eqb one i)) locks j has in
+    (was.0, λ e. let same = ap not (eq-eqb j i e) in let other = was.1 in cc)
 
-pub other_is : (i j : ℕ) → other_than i j ≡ true → j ≢ i
-other_is i j is e = let same = ap not (eq-eqb j i e) in cc
-
-pub none_lands : (c : Copy) → Landed ≡ Copying c → ⊥
-none_lands c is = cc
+pub still_there : (i : ℕ) (locks : List ℕ) (j : ℕ) → Contains locks j → j ≢ i
+    → Contains (without_lock i locks) j
+still_there i locks j has ne =
+    kept (λ (one : ℕ). not (eqb one i)) locks j has (ap not (ne_eqb j i ne))
 
 pub copying_same : (x y : Copy) → Copying x ≡ Copying y → x ≡ y
 copying_same x y same = cc
 
--- a flight that a release leaves is the one that was, under another lock
-pub landed_is : (i : ℕ) (f : Flight) (c : Copy) → landed i f ≡ Copying c
-    → (f ≡ Copying c) × (c.lock ≢ i)
-landed_is i Landed c is = absurd (none_lands c is)
-landed_is i (Copying d) c is = met_cases
-    (λ (b : Bool). cond b Landed (Copying d) ≡ Copying c → (Copying d ≡ Copying c) × (c.lock ≢ i))
-    d.lock i
-    (λ e here. absurd (none_lands c here))
-    (λ ne here. (here, λ e. ne (ap (λ (x : Copy). x.lock) (copying_same d c here) ∙ e)))
-    is
+-- of the locks of an entry, those that a release leaves are still held
+module _ (i : ℕ) (few all : List ℕ) (some : AreSomeOf few all) where
+  holds_still : (Contains few i → ⊥) → AreSomeOf few (without_lock i all)
+  holds_still none = (
+    some.0,
+    λ j has. still_there i all j (some.1 j has)
+        (λ e. none (subst (λ (n : ℕ). Contains few n) e has)),
+  )
+
+  holds_rest : 1 ≤ length (without_lock i few)
+      → AreSomeOf (without_lock i few) (without_lock i all)
+  holds_rest left = (
+    left,
+    λ j has. let was = was_there i few j has in still_there i all j (some.1 j was.0) was.1,
+  )
+
+released_under : (i : ℕ) (w : Working) (c : Copy) → landed i w.flight ≡ Copying c
+    → ((d : Copy) → w.flight ≡ Copying d → AreSomeOf d.locks w.locks)
+    → AreSomeOf c.locks (without_lock i w.locks)
+released_under i w c is under =
+    let was = landed_was i w.flight c is in
+    let d : Copy = was.0 in
+    ⊎_elim
+    (λ t. subst (λ (x : Copy). AreSomeOf x.locks (without_lock i w.locks)) t.1
+    (holds_still i d.locks w.locks (under d was.1) t.0))
+    (λ t. subst (λ (x : Copy). AreSomeOf x.locks (without_lock i w.locks)) t.1
+    (holds_rest i d.locks w.locks (under d was.1) t.2))
+    was.2
 
 module _ (lock : ℕ → ℕ) (parts : List Working) (k : AreHeld lock parts) where
   -- what a view holds is no free lock's, and two views hold none together
@@ -77,7 +99,8 @@ module _ (lock : ℕ → ℕ) (parts : List Working) (k : AreHeld lock parts) wh
         (λ j u at. k.each j m u at) (λ has. absurd (none_in_nothing m has)) j u at;
     held = λ m low taken. let h = k.held m low taken in
         (h.0, at_longer parts (idle ∷ []) (k.holder m) h.0 h.1, h.2);
-    under = λ j u c at. one_added (λ j u. u.flight ≡ Copying c → Contains u.locks c.lock) parts idle
+    under = λ j u c at. one_added
+        (λ j u. u.flight ≡ Copying c → AreSomeOf c.locks u.locks) parts idle
         (λ j u at. k.under j u c at) (λ is. absurd (none_lands c is)) j u at;
   }
 
@@ -96,7 +119,7 @@ module _ (lock : ℕ → ℕ) (parts : List Working) (k : AreHeld lock parts) wh
         (λ ne. (u, set_else parts id n w' ne ∙ at, has))
 
     -- the entry in flight changes to one under a lock that the view holds
-    pub held_with_flight : (f : Flight) → ((c : Copy) → f ≡ Copying c → Contains w.locks c.lock)
+    pub held_with_flight : (f : Flight) → ((c : Copy) → f ≡ Copying c → AreSomeOf c.locks w.locks)
         → AreHeld lock (set parts id (record { locks = w.locks; flight = f }))
     held_with_flight f under =
         let new : Working = record { locks = w.locks; flight = f } in
@@ -107,7 +130,7 @@ module _ (lock : ℕ → ℕ) (parts : List Working) (k : AreHeld lock parts) wh
               (λ j u apart at. k.each j m u at) (k.each id m w here) j u at;
           held = λ m low taken. let h = k.held m low taken in
               still_held new m (k.holder m) (λ has. has) h.0 h.1 h.2;
-          under = λ j u c at. one_set (λ j u. u.flight ≡ Copying c → Contains u.locks c.lock)
+          under = λ j u c at. one_set (λ j u. u.flight ≡ Copying c → AreSomeOf c.locks u.locks)
               parts id new (λ j u apart at. k.under j u c at) (under c) j u at;
         }
 
@@ -117,12 +140,13 @@ module _ (lock : ℕ → ℕ) (parts : List Working) (k : AreHeld lock parts) wh
         (λ c is. before w.flight c is (λ d is. k.under id w d here is))
       where
         before : (f : Flight) (c : Copy) → one_more f ≡ Copying c
-            → ((d : Copy) → f ≡ Copying d → Contains w.locks d.lock) → Contains w.locks c.lock
+            → ((d : Copy) → f ≡ Copying d → AreSomeOf d.locks w.locks)
+            → AreSomeOf c.locks w.locks
         before Landed c is was = absurd (none_lands c is)
         before (Copying d) c is was =
-            let same : d.lock ≡ c.lock = ap (λ (x : Copy). x.lock)
+            let same : d.locks ≡ c.locks = ap (λ (x : Copy). x.locks)
             (copying_same (record d { copied = d.copied + 1 }) c is) in
-            subst (λ (n : ℕ). Contains w.locks n) same (was d refl)
+            subst (λ (few : List ℕ). AreSomeOf few w.locks) same (was d refl)
 
     -- a free lock is taken
     pub held_taken : (lock' : ℕ → ℕ) (i : ℕ) → i < 8 → lock i ≡ 0 → lock' i ≢ 0
@@ -168,21 +192,25 @@ module _ (lock : ℕ → ℕ) (parts : List Working) (k : AreHeld lock parts) wh
                 subst (λ (n : ℕ). HasAt (set parts id new) n s.0) (sym (holder_else m ne)) s.1,
                 s.2,
               ));
-          under = λ j u c at. one_set (λ j u. u.flight ≡ Copying c → Contains u.locks c.lock)
+          under = λ j u c at. one_set (λ j u. u.flight ≡ Copying c → AreSomeOf c.locks u.locks)
               parts id new (λ j u apart at. k.under j u c at)
-              (λ is. Contains-append_left w.locks (i ∷ []) c.lock (k.under id w c here is)) j u at;
+              (λ is. let some = k.under id w c here is in (
+                some.0,
+                λ n has.
+                    Contains-append_left w.locks (i ∷ []) n (some.1 n has),
+              )) j u at;
         }
 
     -- a lock is given back
     pub held_released : (lock' : ℕ → ℕ) (i : ℕ) → Contains w.locks i → lock' i ≡ 0
         → ChangesAt lock lock' i
         → AreHeld lock' (set parts id (record {
-          locks = filter (other_than i) w.locks;
+          locks = without_lock i w.locks;
           flight = landed i w.flight;
         }))
     held_released lock' i mine free same =
         let new : Working
-        = record { locks = filter (other_than i) w.locks; flight = landed i w.flight } in
+        = record { locks = without_lock i w.locks; flight = landed i w.flight } in
         let before : (j m : ℕ) (u : Working) → HasAt parts j u → Contains u.locks m → m ≢ i
         → (m < 8) × (k.holder m ≡ j) × (lock' m ≢ 0)
         = λ j m u at has ne. let t = k.each j m u at has in
@@ -193,17 +221,15 @@ module _ (lock : ℕ → ℕ) (parts : List Working) (k : AreHeld lock parts) wh
               (λ j u. Contains u.locks m → (m < 8) × (k.holder m ≡ j) × (lock' m ≢ 0)) parts id new
               (λ j u apart at has.
               before j m u at has (held_is_other id j i m w u here mine at has apart))
-              (λ has. let was = kept_was (other_than i) w.locks m has in
-              before id m w here was.0 (other_is i m was.1)) j u at;
+              (λ has. let was = was_there i w.locks m has in
+              before id m w here was.0 was.1) j u at;
           held = λ m below now. let ne : m ≢ i = λ e. now (ap lock' e ∙ free) in
               let h = k.held m below (λ z. now (same m below ne ∙ z)) in
               still_held new m (k.holder m)
-              (λ has. kept (other_than i) w.locks m has (is_other i m ne)) h.0 h.1 h.2;
-          under = λ j u c at. one_set (λ j u. u.flight ≡ Copying c → Contains u.locks c.lock)
+              (λ has. still_there i w.locks m has ne) h.0 h.1 h.2;
+          under = λ j u c at. one_set (λ j u. u.flight ≡ Copying c → AreSomeOf c.locks u.locks)
               parts id new (λ j u apart at. k.under j u c at)
-              (λ is. let was = landed_is i w.flight c is in
-              kept (other_than i) w.locks c.lock (k.under id w c here was.0)
-              (is_other i c.lock was.1)) j u at;
+              (λ is. released_under i w c is (λ d is. k.under id w d here is)) j u at;
         }
 
     -- what a view has in hand goes to a new one
@@ -243,8 +269,8 @@ module _ (lock : ℕ → ℕ) (parts : List Working) (k : AreHeld lock parts) wh
                 h.2,
               ));
           under = λ j u c at. one_added
-              (λ j u. u.flight ≡ Copying c → Contains u.locks c.lock) rest w (λ j u at. one_set
-              (λ j u. u.flight ≡ Copying c → Contains u.locks c.lock) parts id idle
+              (λ j u. u.flight ≡ Copying c → AreSomeOf c.locks u.locks) rest w (λ j u at. one_set
+              (λ j u. u.flight ≡ Copying c → AreSomeOf c.locks u.locks) parts id idle
               (λ j u apart at. k.under j u c at) (λ is. absurd (none_lands c is)) j u at)
               (k.under id w c here) j u at;
         }
@@ -267,10 +293,10 @@ module _ (lock : ℕ → ℕ) (parts : List Working) (k : AreHeld lock parts) wh
         (λ e z. (k.each id i w here mine).2 (ap lock (sym e) ∙ z))
         (λ ne z. now (same j low ne ∙ z)))
 
-    pub held_begun : (c : Copy) → Contains w.locks c.lock
+    pub held_begun : (c : Copy) → AreSomeOf c.locks w.locks
         → AreHeld lock (set parts id (record { locks = w.locks; flight = Copying c }))
     held_begun c mine = held_with_flight (Copying c) (λ d is.
-        subst (λ (x : Copy). Contains w.locks x.lock) (copying_same c d is) mine)
+        subst (λ (x : Copy). AreSomeOf x.locks w.locks) (copying_same c d is) mine)
 
     -- a lock is asked for: it is taken where it is free
     pub held_asked : (v : View) → v.working ≡ w → (lock' : ℕ → ℕ) (i : ℕ) → i < 8

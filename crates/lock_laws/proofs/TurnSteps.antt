@@ -57,12 +57,12 @@ turns_on_store_prev v (Locked at) = (refl, refl)
 turns_on_store_prev v (Loaded at prev) = (refl, refl)
 turns_on_store_prev v (Stored at prev) = (refl, refl)
 
-turns_on_store_position : (lock : ℕ) (value : Record) (v : View) (p : Place)
-    → TurnsAs v (after_store_position lock value (with_place p v))
-turns_on_store_position lock value v Free = (refl, refl)
-turns_on_store_position lock value v (Locked at) = (refl, refl)
-turns_on_store_position lock value v (Loaded at prev) = (refl, refl)
-turns_on_store_position lock value v (Stored at prev) = (refl, refl)
+turns_on_store_position : (locks : List ℕ) (value : Record) (v : View) (p : Place)
+    → TurnsAs v (after_store_position locks value (with_place p v))
+turns_on_store_position locks value v Free = (refl, refl)
+turns_on_store_position locks value v (Locked at) = (refl, refl)
+turns_on_store_position locks value v (Loaded at prev) = (refl, refl)
+turns_on_store_position locks value v (Stored at prev) = (refl, refl)
 
 turns_on_give_back : (v : View) (p : Place) → TurnsAs v (after_give_back (with_place p v))
 turns_on_give_back v Free = (refl, refl)
@@ -191,11 +191,12 @@ module _ (setup : Setup) (words : List ℕ) (home : Option Plain) (stage : Stage
       (turns_on_load_prev (slice_index words 1) v)).0
   mapping_behind store_prev may = mapping_stays 1 _ _ (λ e. omega arith)
       (turns_by_place after_store_prev v (turns_on_store_prev v)).0
-  mapping_behind (store_position lock value) may = mapping_stays 0 _ _ (λ e. omega arith)
-      (turns_by_place (after_store_position lock value) v (turns_on_store_position lock value v)).0
+  mapping_behind (store_position locks value) may = mapping_stays 0 _ _ (λ e. omega arith)
+      (turns_by_place (after_store_position locks value) v
+      (turns_on_store_position locks value v)).0
   mapping_behind (give_position_back value) may = mapping_stays 0 _ _ (λ e. omega arith)
       (turns_by_place after_give_back v (turns_on_give_back v)).0
-  mapping_behind (load_lock lock asked) may =
+  mapping_behind (load_lock lock limit) may =
       mapping_stays (2 + lock) _ _ (λ e. let low : lock < 8 = may in omega arith) refl
   mapping_behind (take_lock lock) may =
       mapping_stays (2 + lock) _ _ (λ e. let low : lock < 8 = may in omega arith)
@@ -347,11 +348,12 @@ module _ (setup : Setup) (words : List ℕ) (home : Option Plain) (stage : Stage
       (turns_on_load_prev (slice_index words 1) v)).1
   writing_behind store_prev may = writing_stays 1 _ _ (λ e. omega arith)
       (turns_by_place after_store_prev v (turns_on_store_prev v)).1
-  writing_behind (store_position lock value) may = writing_stays 0 _ _ (λ e. omega arith)
-      (turns_by_place (after_store_position lock value) v (turns_on_store_position lock value v)).1
+  writing_behind (store_position locks value) may = writing_stays 0 _ _ (λ e. omega arith)
+      (turns_by_place (after_store_position locks value) v
+      (turns_on_store_position locks value v)).1
   writing_behind (give_position_back value) may = writing_stays 0 _ _ (λ e. omega arith)
       (turns_by_place after_give_back v (turns_on_give_back v)).1
-  writing_behind (load_lock lock asked) may =
+  writing_behind (load_lock lock limit) may =
       writing_stays (2 + lock) _ _ (λ e. let low : lock < 8 = may in omega arith) refl
   writing_behind (take_lock lock) may =
       writing_stays (2 + lock) _ _ (λ e. let low : lock < 8 = may in omega arith)

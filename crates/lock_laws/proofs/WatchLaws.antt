@@ -1,7 +1,8 @@
 -- What watchers know of the copies under the locks that they visited, through each kind of step
 -- that changes a lock, an entry in flight, a watch, the order's end, or the views that there are.
-use Rattle.std.proofs.Common.{◌≡◌, ◌≢◌, ℕ, ◌+◌, ◌-◌, ◌<◌, ◌≤◌, Bool, not, ◌&&◌, cond, eqb, min, List, [], ◌∷◌, ◌++◌, set, map, Contains, sym, refl, ap, ◌∙◌, subst, inl, inr, arith}
-use Rattle.std.proofs.lemmas.Bool.{cases_lt}
+use Rattle.std.proofs.Common.{◌≡◌, ◌≢◌, ℕ, ◌+◌, ◌-◌, ◌<◌, ◌≤◌, Bool, true, false, eqb-true, not, ◌&&◌, cond, eqb, min, List, [], ◌∷◌, ◌++◌, set, map, Contains, ⊎_elim, sym, refl, ap, ◌∙◌, subst, inl, inr, arith}
+use Rattle.std.proofs.lemmas.Bool.{cases_lt, and_parts}
+use Rattle.std.proofs.lemmas.Map.Views.{Contains-from_any}
 use mathlib.Core.Logic.{dite}
 use native.Mathlib.Decide.{ℕ_discrete}
 use Rattle.atomic_table.proofs.Lists.{set_again, set_else}
@@ -12,25 +13,43 @@ use Rattle.wal_page.specs.EntryWords.{address_of_word}
 use Rattle.wal_page.proofs.OrderLaws.{rooms_of_push}
 use Rattle.wal_core.specs.declared.setup.Setup.{Setup}
 use Rattle.wal_core.specs.Words.{end_form}
-use Rattle.wal_core.specs.Views.{HasAt, Copy, Flight, Landed, Copying, Working, Watching, View, working_of, watching_of, flight_of}
+use Rattle.wal_core.specs.Views.{HasAt, Copy, Flight, Landed, Copying, Working, is_among, Watching, View, working_of, watching_of, flight_of}
 use Rattle.wal_core.specs.Locked.{AreHeld, ProgressHolds, most_told}
-use Rattle.wal_core.specs.Moves.{landed, one_more, begun, visited_on, copied_below, with_working, after_load_lock, after_take_lock}
+use Rattle.wal_core.specs.Moves.{landed, one_more, is_landed, is_own, begun, visited_on, copied_below, with_working, after_load_lock, after_take_lock}
 use Rattle.wal_core.specs.Positioned.{IsCopiedBelow}
 use Rattle.wal_core.specs.Watched.{IsBehind, WatchHolds}
+use Rattle.wal_core.proofs.Landing.{landed_was, lock_of, none_lands}
 use Rattle.wal_core.proofs.Lists.{one_set, one_added, part_at, view_from}
 use Rattle.lock_laws.specs.Locks.{idle, unwatching}
 use Rattle.lock_laws.proofs.Kept.{met_cases, two_set_again}
-use Rattle.lock_laws.proofs.HeldLaws.{none_lands, copying_same, landed_is}
+use Rattle.lock_laws.proofs.HeldLaws.{was_there, copying_same, held_by_one}
 use Rattle.lock_laws.proofs.ToldLaws.{told_of_copy}
 
 module _ (size : ℕ) where
   -- one that has visited no lock knows of no copy
   pub visits_none : (x : Watching) (w : Working) → x.visited ≡ 0 → IsBehind size x w
-  visits_none x w none c is low starts = absurd (omega arith)
+  visits_none x w none c lock is among low starts = absurd (omega arith)
 
   -- one that copies nothing breaks nothing that a watcher knows
   pub copies_none : (x : Watching) (w : Working) → w.flight ≡ Landed → IsBehind size x w
-  copies_none x w lands c is = absurd (none_lands c (sym lands ∙ is))
+  copies_none x w lands c lock is = absurd (none_lands c (sym lands ∙ is))
+
+  -- a lock that is released, and an entry that it lands, break nothing that a watcher knows
+  behind_released : (x : Watching) (i : ℕ) (f : Flight) (locks left : List ℕ)
+      → IsBehind size x (record { locks = locks; flight = f })
+      → IsBehind size x (record { locks = left; flight = landed i f })
+  behind_released x i f locks left sees c lock is among visited starts =
+      let was = landed_was i f c is in
+      let d : Copy = was.0 in
+      ⊎_elim
+      (λ t. subst (λ (y : Copy). Contains y.locks lock → address_of_word size y.entry 0 < x.end
+      → x.bound ≤ address_of_word size y.entry y.copied) t.1
+      (λ among starts. sees d lock was.1 among visited starts) among starts)
+      (λ t. subst (λ (y : Copy). Contains y.locks lock → address_of_word size y.entry 0 < x.end
+      → x.bound ≤ address_of_word size y.entry y.copied) t.1
+      (λ among starts. sees d lock was.1 (was_there i d.locks lock among).0 visited
+      starts) among starts)
+      was.2
 
   module _ (end : ℕ) (works : List Working) (watches : List Watching)
       (k : WatchHolds size end works watches) where
@@ -68,28 +87,30 @@ module _ (size : ℕ) where
           (set works id (record { locks = locks; flight = landed i w.flight })) watches
       watched_released i locks = works_on end id
           (record { locks = locks; flight = landed i w.flight }) (omega arith)
-          (λ x low was c is. was w here c (landed_is i w.flight c is).0)
+          (λ x low was. behind_released x i w.flight w.locks locks (was w here))
 
       pub watched_copied_on : WatchHolds size end
           (set works id (record { locks = w.locks; flight = one_more w.flight })) watches
       watched_copied_on = works_on end id
           (record { locks = w.locks; flight = one_more w.flight }) (omega arith)
-          (λ x low was. further x w.flight (λ c is. was w here c is))
+          (λ x low was. further x w.flight (λ c lock is. was w here c lock is))
         where
           further : (x : Watching) (f : Flight)
-              → ((c : Copy) → f ≡ Copying c → c.lock < x.visited
+              → ((c : Copy) (lock : ℕ) → f ≡ Copying c → Contains c.locks lock → lock < x.visited
               → address_of_word size c.entry 0 < x.end
               → x.bound ≤ address_of_word size c.entry c.copied)
-              → (c : Copy) → one_more f ≡ Copying c → c.lock < x.visited
+              → (c : Copy) (lock : ℕ) → one_more f ≡ Copying c → Contains c.locks lock
+              → lock < x.visited
               → address_of_word size c.entry 0 < x.end
               → x.bound ≤ address_of_word size c.entry c.copied
-          further x Landed was c is = absurd (none_lands c is)
-          further x (Copying d) was c is =
+          further x Landed was c lock is = absurd (none_lands c is)
+          further x (Copying d) was c lock is =
               let same : record d { copied = d.copied + 1 } ≡ c
               = copying_same (record d { copied = d.copied + 1 }) c is in
-              subst (λ (y : Copy). y.lock < x.visited → address_of_word size y.entry 0 < x.end
+              subst (λ (y : Copy). Contains y.locks lock → lock < x.visited
+              → address_of_word size y.entry 0 < x.end
               → x.bound ≤ address_of_word size y.entry y.copied) same
-              (λ low starts. let old = was d refl low starts in omega arith)
+              (λ among low starts. let old = was d lock refl among low starts in omega arith)
 
     -- an entry begins its flight, at the order's end or above
     pub watched_begun : (id end' : ℕ) (c : Copy) (locks : List ℕ) → end ≤ end'
@@ -98,10 +119,10 @@ module _ (size : ℕ) where
         watches
     watched_begun id end' c locks up high = works_on end' id
         (record { locks = locks; flight = Copying c }) up
-        (λ x low was d is. subst (λ (y : Copy). y.lock < x.visited
+        (λ x low was d lock is. subst (λ (y : Copy). Contains y.locks lock → lock < x.visited
         → address_of_word size y.entry 0 < x.end
         → x.bound ≤ address_of_word size y.entry y.copied) (copying_same c d is)
-        (λ visited starts. absurd (omega arith)))
+        (λ among visited starts. absurd (omega arith)))
 
     -- a view that is about nothing comes in
     pub watched_added : WatchHolds size end (works ++ idle ∷ []) (watches ++ unwatching ∷ [])
@@ -150,24 +171,45 @@ module _ (size : ℕ) where
 
 module _ (size : ℕ) (lock : ℕ → ℕ) (works : List Working) (held : AreHeld lock works)
     (told : ProgressHolds size lock works) where
-  -- the lock that is visited next: free, it guards no copy; held, it tells how far its copy is
+  -- what is in flight under a lock is copied up to there
+  abbrev Guards : ℕ → ℕ → Type 0
+  Guards i b = (j : ℕ) (u : Working) (c : Copy) → HasAt works j u → u.flight ≡ Copying c
+      → Contains c.locks i → b ≤ address_of_word size c.entry c.copied
+
+  -- a lock that is free guards nothing, and one that is held tells how far its copy is
+  word_tells : (i b : ℕ) → (lock i ≢ 0 → b + 1 ≤ lock i) → Guards i b
+  word_tells i b tells j u c there is among =
+      let has : Contains u.locks i = (held.under j u c there is).1 i among in
+      let most : lock i ≤ address_of_word size c.entry c.copied + 1
+      = subst (λ (n : ℕ). lock i ≤ n)
+      (ap (most_told size i) is ∙ told_of_copy size c i among)
+      (told j i u there has) in
+      let least : b + 1 ≤ lock i = tells (held.each j i u there has).2 in
+      omega arith
+
+  landed_copies : (f : Flight) (c : Copy) → is_landed f ≡ true → f ≡ Copying c → ⊥
+  landed_copies Landed c lands is = none_lands c is
+  landed_copies (Copying d) c lands is = absurd (cc)
+
+  -- nothing is in flight under a lock of a view that copies nothing
+  own_guards : (id i b : ℕ) (w : Working) → HasAt works id w → is_own i w ≡ true → Guards i b
+  own_guards id i b w here own j u c there is among =
+      let two = and_parts (is_among w.locks i) (is_landed w.flight) own in
+      let mine : Contains w.locks i
+      = Contains-from_any (λ x y same. eqb-true x y same) i w.locks two.0 in
+      let same : u ≡ w = held_by_one lock works held id j i w u here mine there
+      ((held.under j u c there is).1 i among) in
+      absurd (landed_copies w.flight c two.1 (sym (ap (λ (x : Working). x.flight) same) ∙ is))
+
+  -- the lock that is visited next
   visit : (x : Watching) (i b : ℕ)
       → ((j : ℕ) (u : Working) → HasAt works j u → IsBehind size x u) → i ≡ x.visited
-      → b ≤ x.bound → (lock i ≢ 0 → b + 1 ≤ lock i)
+      → b ≤ x.bound → Guards i b
       → (j : ℕ) (u : Working) → HasAt works j u
       → IsBehind size (record { end = x.end; visited = x.visited + 1; bound = b }) u
-  visit x i b sees next less tells j u there c is low starts = dite (ℕ_discrete c.lock i)
-      (λ e.
-      let has : Contains u.locks c.lock = held.under j u c there is in
-      let most : lock c.lock ≤ address_of_word size c.entry c.copied + 1
-      = subst (λ (n : ℕ). lock c.lock ≤ n)
-      (ap (most_told size c.lock) is ∙ told_of_copy size c c.lock refl)
-      (told j c.lock u there has) in
-      let same : lock c.lock ≡ lock i = ap lock e in
-      let least : b + 1 ≤ lock i
-      = tells (λ z. (held.each j c.lock u there has).2 (same ∙ z)) in
-      omega arith)
-      (λ other. let old = sees j u there c is (omega arith) starts in omega arith)
+  visit x i b sees next less guards j u there c n is among low starts = dite (ℕ_discrete n i)
+      (λ e. guards j u c there is (subst (λ (m : ℕ). Contains c.locks m) e among))
+      (λ other. let old = sees j u there c n is among (omega arith) starts in omega arith)
 
   -- what is known of a watch that stands in no list yet
   record Stands (end : ℕ) (x : Watching) : Type 0 where
@@ -175,47 +217,56 @@ module _ (size : ℕ) (lock : ℕ → ℕ) (works : List Working) (held : AreHel
     least : x.bound ≤ x.end
     sees : (j : ℕ) (u : Working) → HasAt works j u → IsBehind size x u
 
-  visits_on : (end i : ℕ) (x : Watching) → Stands end x → Stands end (visited_on i (lock i) x)
-  visits_on end i x stands =
-      let goes : i ≡ x.visited → (b : ℕ) → b ≤ x.bound → (lock i ≢ 0 → b + 1 ≤ lock i)
-      → Stands end (record { end = x.end; visited = x.visited + 1; bound = b })
-      = λ next b less tells. record {
-        low = stands.low;
-        least = (let least = stands.least in omega arith);
-        sees = visit x i b stands.sees next less tells;
-      } in
-      let on : ℕ → Watching
-      = λ b. record { end = x.end; visited = x.visited + 1; bound = b } in
-      let bound : Bool → ℕ = λ b. cond b x.bound (min x.bound (lock i - 1)) in
-      met_cases
-      (λ (b : Bool). Stands end
-      (cond (b && not (eqb (lock i) 1)) (on (bound (eqb (lock i) 0))) x))
-      i x.visited
-      (λ here. met_cases
-      (λ (b : Bool). Stands end (cond (not b) (on (bound (eqb (lock i) 0))) x)) (lock i) 1
-      (λ tells_none. stands)
-      (λ not_one. met_cases (λ (b : Bool). Stands end (on (bound b))) (lock i) 0
-      (λ free. goes here x.bound (omega arith) (λ taken. absurd (taken free)))
-      (λ taken. goes here (min x.bound (lock i - 1)) (omega arith) (λ some. omega arith))))
-      (λ other. stands)
+  module _ (end i : ℕ) (x : Watching) (stands : Stands end x) where
+    abbrev on : ℕ → Watching
+    on b = record { end = x.end; visited = x.visited + 1; bound = b }
+
+    goes : i ≡ x.visited → (b : ℕ) → b ≤ x.bound → Guards i b → Stands end (on b)
+    goes next b less guards = record {
+      low = stands.low;
+      least = (let least = stands.least in omega arith);
+      sees = visit x i b stands.sees next less guards;
+    }
+
+    visits_on : (own : Bool) → (own ≡ true → (b : ℕ) → Guards i b)
+        → Stands end (visited_on own i (lock i) x)
+    visits_on true guards = met_cases
+        (λ (b : Bool). Stands end (cond (b && true) (on x.bound) x))
+        i x.visited (λ here. goes here x.bound (omega arith) (guards refl x.bound))
+        (λ other. stands)
+    visits_on false guards =
+        let bound : Bool → ℕ = λ b. cond b x.bound (min x.bound (lock i - 1)) in
+        met_cases
+        (λ (b : Bool). Stands end
+        (cond (b && not (eqb (lock i) 1)) (on (bound (eqb (lock i) 0))) x))
+        i x.visited
+        (λ here. met_cases
+        (λ (b : Bool). Stands end (cond (not b) (on (bound (eqb (lock i) 0))) x)) (lock i) 1
+        (λ tells_none. stands)
+        (λ not_one. met_cases (λ (b : Bool). Stands end (on (bound b))) (lock i) 0
+        (λ free. goes here x.bound (omega arith)
+        (word_tells i x.bound (λ taken. absurd (taken free))))
+        (λ taken. goes here (min x.bound (lock i - 1)) (omega arith)
+        (word_tells i (min x.bound (lock i - 1)) (λ some. omega arith)))))
+        (λ other. stands)
 
   module _ (setup : Setup) (valid : IsSegmentSize setup.segment_size) (order : List Entry) where
-    pub watch_visits : (watches : List Watching) (id i asked : ℕ) (v : View)
+    pub watch_visits : (watches : List Watching) (id i limit : ℕ) (v : View)
         → (v.opening).setup ≡ setup
         → (v.reserving).seen ≤ end_position setup.segment_size order
         → WatchHolds size (end_form setup (end_position setup.segment_size order)) works watches
-        → HasAt watches id v.watching
+        → HasAt works id v.working → HasAt watches id v.watching
         → WatchHolds size (end_form setup (end_position setup.segment_size order)) works
-        (set watches id (watching_of (after_load_lock i asked (lock i) v)))
-    watch_visits watches id i asked v known seen k here =
+        (set watches id (watching_of (after_load_lock i limit (lock i) v)))
+    watch_visits watches id i limit v known seen k mine here =
         let end : ℕ = end_form setup (end_position setup.segment_size order) in
-        let e : ℕ = min asked (end_form (v.opening).setup (v.reserving).seen) in
+        let e : ℕ = min limit (end_form (v.opening).setup (v.reserving).seen) in
         let met : end_form (v.opening).setup (v.reserving).seen ≤ end
         = subst (λ (s : Setup). end_form s (v.reserving).seen ≤ end) (sym known)
         (end_address_of-mono setup.segment_size valid (v.reserving).seen
         (end_position setup.segment_size order) seen) in
         let first : Watching = record { end = e; visited = 0; bound = e } in
-        let before : Stands end (begun i asked v) = met_cases
+        let before : Stands end (begun i limit v) = met_cases
         (λ (b : Bool). Stands end (cond b first v.watching)) i 0
         (λ begins. record {
           low = omega arith;
@@ -227,8 +278,10 @@ module _ (size : ℕ) (lock : ℕ → ℕ) (works : List Working) (held : AreHel
           least = (k.reserved id v.watching here).1;
           sees = λ j u there. k.behind id j v.watching u here there;
         }) in
-        let behind = visits_on end i (begun i asked v) before in
-        watches_on size end works watches k id (visited_on i (lock i) (begun i asked v))
+        let own : Bool = is_own i v.working in
+        let behind = visits_on end i (begun i limit v) before own
+        (λ is b. own_guards id i b v.working mine is) in
+        watches_on size end works watches k id (visited_on own i (lock i) (begun i limit v))
         behind.low behind.least behind.sees
 
 -- ---- what one knows that has visited all locks
@@ -246,12 +299,13 @@ module _ (size end : ℕ) (lock : ℕ → ℕ) (views : List View)
         = part_at working_of views j u found.1 in
         let watch : HasAt (map watching_of views) id v.watching
         = part_at watching_of views id v here in
-        let has = held.under j u.working c there found.2 in
-        let low = (held.each j c.lock u.working there has).0 in
+        let under = lock_of c.locks u.working.locks (held.under j u.working c there found.2) in
+        let low = (held.each j under.0 u.working there under.2).0 in
         let least = (k.reserved id v.watching watch).1 in
         elim (cases_lt (address_of_word size c.entry 0) (v.watching).end) [
           | inl starts ↦
-              k.behind id j v.watching u.working watch there c found.2 (omega arith) starts
+              k.behind id j v.watching u.working watch there c under.0 found.2 under.1
+              (omega arith) starts
           | inr above ↦ omega arith
         ]
 

@@ -214,35 +214,35 @@ module _ (setup : Setup) (order : List Entry) (words : List ℕ) (home : Option 
       (watched_copied_on setup.segment_size end parts watches k.watched id v.working mine)
 
   -- the entry that is reserved, where the view's place is told
-  abbrev ReservedAt : ℕ → Record → Place → Type 0
-  ReservedAt lock value p = WorksHold setup
+  abbrev ReservedAt : List ℕ → Record → Place → Type 0
+  ReservedAt locks value p = WorksHold setup
       (order ++ entry_at (v.reserving).number (place_at v p) value ∷ [])
-      (set words 0 (value_behind (with_place p v) (store_position lock value) 0))
-      (set views id (after_store_position lock value (with_place p v)))
+      (set words 0 (value_behind (with_place p v) (store_position locks value) 0))
+      (set views id (after_store_position locks value (with_place p v)))
 
-  store_position_works : (lock : ℕ) (value : Record) → MayStep v (store_position lock value)
-      → WorksHold setup (order_behind v (store_position lock value) order)
-      (words_behind words v (store_position lock value))
-      (views_behind words home views id v (store_position lock value))
-  store_position_works lock value may =
+  store_position_works : (locks : List ℕ) (value : Record) → MayStep v (store_position locks value)
+      → WorksHold setup (order_behind v (store_position locks value) order)
+      (words_behind words v (store_position locks value))
+      (views_behind words home views id v (store_position locks value))
+  store_position_works locks value may =
       let at : ℕ = may.0 in
       let prev : ℕ = may.1 in
       let c : Copy = record {
         entry = entry_at (v.reserving).number at value;
         prev = prev;
-        lock = lock;
+        locks = locks;
         copied = 0;
       } in
-      let n : ℕ = value_behind (with_place (Stored at prev) v) (store_position lock value) 0 in
+      let n : ℕ = value_behind (with_place (Stored at prev) v) (store_position locks value) 0 in
       let others : (j : ℕ) → j < 8 → lock_word (set words 0 n) j ≡ lock_word words j
       = locks_else words 0 n (inl (omega arith)) in
       let after : List Working
       = set parts id (record { locks = (v.working).locks; flight = Copying c }) in
       let held : AreHeld (lock_word words) after
       = held_begun (lock_word words) parts k.held id v.working mine c may.5 in
-      subst (ReservedAt lock value) (sym may.2)
+      subst (ReservedAt locks value) (sym may.2)
       (works (order ++ c.entry ∷ []) (set words 0 n)
-      (after_store_position lock value (with_place (Stored at prev) v)) refl
+      (after_store_position locks value (with_place (Stored at prev) v)) refl
       (held_same (lock_word words) after held (lock_word (set words 0 n)) others)
       (told_same setup.segment_size (lock_word words) after
       (told_begun setup.segment_size (lock_word words) parts k.told id v.working mine c may.6)
@@ -250,11 +250,11 @@ module _ (setup : Setup) (order : List Entry) (words : List ℕ) (home : Option 
       (watched_reserved setup order parts watches id c (v.working).locks s.size k.watched
       (s.starts at prev may.2)))
 
-  load_lock_works : (lock asked : ℕ) → WorksHold setup order
-      (words_behind words v (load_lock lock asked))
-      (views_behind words home views id v (load_lock lock asked))
-  load_lock_works lock asked =
-      let w : View = after_load_lock lock asked (lock_word words lock) v in
+  load_lock_works : (lock limit : ℕ) → WorksHold setup order
+      (words_behind words v (load_lock lock limit))
+      (views_behind words home views id v (load_lock lock limit))
+  load_lock_works lock limit =
+      let w : View = after_load_lock lock limit (lock_word words lock) v in
       let same = part_same working_of views id v w s.here refl in
       let seen = part_set watching_of views id w in
       subst (λ (ws : List ℕ). WorksHold setup order ws (set views id w))
@@ -267,7 +267,7 @@ module _ (setup : Setup) (order : List Entry) (words : List ℕ) (home : Option 
             WatchHolds setup.segment_size end x.0 x.1)
             (λ j. (sym same j, sym seen j))
             (watch_visits setup.segment_size (lock_word words) parts k.held k.told setup s.size
-            order watches id lock asked v s.setup_is s.seen k.watched
+            order watches id lock limit v s.setup_is s.seen k.watched mine
             (part_at watching_of views id v s.here));
       })
 
@@ -289,10 +289,10 @@ module _ (setup : Setup) (order : List Entry) (words : List ℕ) (home : Option 
       (works_on_load_prev (slice_index words 1) v))
   works_behind store_prev may = stays 1 _ _ (inl (omega arith))
       (works_by_place after_store_prev v (works_on_store_prev v))
-  works_behind (store_position lock value) may = store_position_works lock value may
+  works_behind (store_position locks value) may = store_position_works locks value may
   works_behind (give_position_back value) may = stays 0 _ _ (inl (omega arith))
       (works_by_place after_give_back v (works_on_give_back v))
-  works_behind (load_lock lock asked) may = load_lock_works lock asked
+  works_behind (load_lock lock limit) may = load_lock_works lock limit
   works_behind (take_lock lock) may = take_lock_works lock may
   works_behind (advance lock upto) may = advance_works lock upto may
   works_behind (release lock) may = release_works lock may

@@ -27,7 +27,7 @@ views_behind words home views id v e = set views id (view_left words home v e)
 
 -- the order, which the store of the position behind a record makes longer by its entry
 abbrev pub order_behind : View → Event → List Entry → List Entry
-order_behind v (store_position lock value) order = order
+order_behind v (store_position locks value) order = order
     ++ entry_at (v.reserving).number (place_at v (v.reserving).place) value ∷ []
 order_behind v other order = order
 

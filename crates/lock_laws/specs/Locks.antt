@@ -1,5 +1,5 @@
 -- Words for the laws of insertion locks and of those who watch them.
-use Rattle.std.specs.Prelude.{◌≡◌, ◌≢◌, ℕ, ◌<◌, Bool, not, [], ◌==◌}
+use Rattle.std.specs.Prelude.{◌≡◌, ◌≢◌, ℕ, ◌<◌, []}
 use Rattle.wal_core.specs.Views.{Landed, Watching, Working}
 
 -- a view that holds no lock and copies nothing
@@ -9,10 +9,6 @@ idle = record { locks = []; flight = Landed }
 -- one that watches nothing
 abbrev pub unwatching : Watching
 unwatching = record { end = 0; visited = 0; bound = 0 }
-
--- whether a lock held is another one than this
-abbrev pub other_than : ℕ → ℕ → Bool
-other_than i held = not (held == i)
 
 -- of the locks' words none changes but this lock's
 abbrev pub ChangesAt : (ℕ → ℕ) → (ℕ → ℕ) → ℕ → Type 0

@@ -3,12 +3,11 @@
 //! words are behind a step.
 
 ghost use Rattle.std.specs.Prelude.{◌≡◌, ◌≢◌, ℕ, ◌<◌, Contains, List, [], ◌∷◌, ◌++◌, set};
-ghost use Rattle.std.specs.List.{filter};
-ghost use Rattle.wal_core.specs.Views.{HasAt, Copy, Copying, Flight, Landed, Working, View, working_of};
+ghost use Rattle.wal_core.specs.Views.{HasAt, Copy, Copying, Flight, Landed, Working, AreSomeOf, View, working_of};
 ghost use Rattle.wal_core.specs.Locked.{AreHeld};
-ghost use Rattle.wal_core.specs.Moves.{landed, one_more, after_take_lock};
+ghost use Rattle.wal_core.specs.Moves.{landed, without_lock, one_more, after_take_lock};
 ghost use Rattle.wal_core.specs.Steps.{exchanged};
-ghost use Rattle.lock_laws.specs.Locks.{ChangesAt, idle, other_than};
+ghost use Rattle.lock_laws.specs.Locks.{ChangesAt, idle};
 
 /// What is said of locks held stays true where no lock's word changes, and where one that is held
 /// comes to tell more.
@@ -29,15 +28,15 @@ pub fn locks_are_taken_and_given_back()
     ensures released { (lock later : ℕ → ℕ) (parts : List Working) (id i : ℕ) (w : Working)
         → AreHeld lock parts → HasAt parts id w → Contains w.locks i → ChangesAt lock later i
         → later i ≡ 0 → AreHeld later (set parts id (record {
-          locks = filter (other_than i) w.locks;
+          locks = without_lock i w.locks;
           flight = landed i w.flight;
         })) }
 {}
 
-/// An entry begins its flight under a lock that its view holds, and stays under it.
+/// An entry begins its flight under locks that its view holds, at least one, and stays under them.
 pub fn entries_are_copied_under_locks_held()
     ensures begun { (lock : ℕ → ℕ) (parts : List Working) (id : ℕ) (w : Working) (c : Copy)
-        → AreHeld lock parts → HasAt parts id w → Contains w.locks c.lock
+        → AreHeld lock parts → HasAt parts id w → AreSomeOf c.locks w.locks
         → AreHeld lock (set parts id (record { locks = w.locks; flight = Copying c })) }
     ensures copied_on { (lock : ℕ → ℕ) (parts : List Working) (id : ℕ) (w : Working)
         → AreHeld lock parts → HasAt parts id w → AreHeld lock

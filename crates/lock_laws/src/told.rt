@@ -3,13 +3,12 @@
 //! the locks' words are behind a step.
 
 ghost use Rattle.std.specs.Prelude.{◌≡◌, ℕ, ◌+◌, ◌<◌, ◌≤◌, Contains, List, [], ◌∷◌, ◌++◌, set};
-ghost use Rattle.std.specs.List.{filter};
 ghost use Rattle.wal_page.specs.EntryWords.{address_of_word};
 ghost use Rattle.wal_core.specs.Views.{HasAt, Copy, Copying, Landed, Working, View, working_of};
 ghost use Rattle.wal_core.specs.Locked.{AreHeld, ProgressHolds};
-ghost use Rattle.wal_core.specs.Moves.{landed, one_more, after_take_lock};
+ghost use Rattle.wal_core.specs.Moves.{landed, without_lock, one_more, after_take_lock};
 ghost use Rattle.wal_core.specs.Steps.{exchanged};
-ghost use Rattle.lock_laws.specs.Locks.{ChangesAt, idle, other_than};
+ghost use Rattle.lock_laws.specs.Locks.{ChangesAt, idle};
 
 /// No lock tells more than is copied: still where no lock's word changes, and where the holder of
 /// one tells how far it is.
@@ -19,7 +18,7 @@ pub fn locks_tell_no_more_than_is_copied()
         → ProgressHolds size later parts }
     ensures advanced { (size : ℕ) (lock later : ℕ → ℕ) (parts : List Working) (id i : ℕ)
         (w : Working) (c : Copy) → AreHeld lock parts → ProgressHolds size lock parts
-        → HasAt parts id w → Contains w.locks i → w.flight ≡ Copying c → c.lock ≡ i
+        → HasAt parts id w → Contains w.locks i → w.flight ≡ Copying c → Contains c.locks i
         → ChangesAt lock later i → later i ≤ address_of_word size c.entry c.copied + 1
         → ProgressHolds size later parts }
 {}
@@ -34,7 +33,7 @@ pub fn locks_tell_nothing_at_first()
         (w : Working) → AreHeld lock parts → ProgressHolds size lock parts → HasAt parts id w
         → Contains w.locks i → ChangesAt lock later i → later i ≡ 0
         → ProgressHolds size later (set parts id (record {
-          locks = filter (other_than i) w.locks;
+          locks = without_lock i w.locks;
           flight = landed i w.flight;
         })) }
 {}

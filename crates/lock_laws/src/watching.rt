@@ -14,18 +14,19 @@ ghost use Rattle.wal_core.specs.Moves.{landed, one_more, copied_below, after_loa
 ghost use Rattle.lock_laws.specs.Locks.{idle, unwatching};
 
 /// A watch begins with the first lock, at most for the end of what is reserved, and goes on lock by
-/// lock: one that is free guards no copy, and one that is held tells how far its copy is.
+/// lock: one that is free guards no copy, nor does the watcher's own where it copies nothing, and
+/// one that is held tells how far its copy is.
 pub fn watches_go_from_lock_to_lock()
     ensures { (setup : Setup) (order : List Entry) (lock : ℕ → ℕ) (works : List Working)
-        (watches : List Watching) (id i asked : ℕ) (v : View)
+        (watches : List Watching) (id i limit : ℕ) (v : View)
         → IsSegmentSize setup.segment_size → AreHeld lock works
         → ProgressHolds setup.segment_size lock works → v.opening.setup ≡ setup
         → v.reserving.seen ≤ end_position setup.segment_size order
         → WatchHolds setup.segment_size
         (end_form setup (end_position setup.segment_size order)) works watches
-        → HasAt watches id v.watching → WatchHolds setup.segment_size
+        → HasAt works id v.working → HasAt watches id v.watching → WatchHolds setup.segment_size
         (end_form setup (end_position setup.segment_size order)) works
-        (set watches id (watching_of (after_load_lock i asked (lock i) v))) }
+        (set watches id (watching_of (after_load_lock i limit (lock i) v))) }
 {}
 
 /// An entry that begins its flight lies where no watch reaches; one that is copied further or

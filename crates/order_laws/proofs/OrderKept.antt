@@ -107,19 +107,19 @@ module _ (order : List Entry) (position prev : ℕ) (parts : List Reserving) (id
 
   -- ---- an entry is reserved
 
-  abbrev AddedAt : ℕ → Record → Place → Type 0
-  AddedAt lock value p = HoldsWith
+  abbrev AddedAt : List ℕ → Record → Place → Type 0
+  AddedAt locks value p = HoldsWith
       (order ++ entry_at (v.reserving).number (place_at v p) value ∷ [])
-      (value_behind (with_place p v) (store_position lock value) position) prev parts id v
-      (view_behind (with_place p v) (store_position lock value) position none)
+      (value_behind (with_place p v) (store_position locks value) position) prev parts id v
+      (view_behind (with_place p v) (store_position locks value) position none)
 
-  pub store_position_keeps : (home : Option Plain) (lock : ℕ) (value : Record)
-      → TakesPart order position prev parts id v → MayStep v (store_position lock value)
+  pub store_position_keeps : (home : Option Plain) (locks : List ℕ) (value : Record)
+      → TakesPart order position prev parts id v → MayStep v (store_position locks value)
       → HoldsWith
       (order ++ entry_at (v.reserving).number (place_at v (v.reserving).place) value ∷ [])
-      (value_behind v (store_position lock value) position) prev parts id v
-      (view_behind v (store_position lock value) position home)
-  store_position_keeps home lock value t may = subst (AddedAt lock value) (sym may.2)
+      (value_behind v (store_position locks value) position) prev parts id v
+      (view_behind v (store_position locks value) position home)
+  store_position_keeps home locks value t may = subst (AddedAt locks value) (sym may.2)
       (reserves setup found order position prev parts t.holds id v.reserving t.here t.live
       value may.0 may.1 may.2 may.3 may.4)
 

@@ -45,12 +45,12 @@ pub fn positions_are_locked_and_given_back()
 /// where the log was full before, a front of the order still ends.
 pub fn orders_grow_by_one_entry()
     ensures store_position { (order : List Entry) (position prev : ℕ) (parts : List Reserving)
-        (id : ℕ) (v : View) (home : Option Plain) (lock : ℕ) (value : Record)
-        → TakesPart order position prev parts id v → MayStep v (store_position lock value)
+        (id : ℕ) (v : View) (home : Option Plain) (locks : List ℕ) (value : Record)
+        → TakesPart order position prev parts id v → MayStep v (store_position locks value)
         → HoldsWith
         (order ++ entry_at (v.reserving).number (place_at v (v.reserving).place) value ∷ [])
-        (value_behind v (store_position lock value) position) prev parts id v
-        (view_behind v (store_position lock value) position home) }
+        (value_behind v (store_position locks value) position) prev parts id v
+        (view_behind v (store_position locks value) position home) }
 {}
 
 /// What a pass has seen is reserved: the position without its lock bit, and the byte position of an

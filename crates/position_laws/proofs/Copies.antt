@@ -1,8 +1,8 @@
 -- How far all is copied, as flights change.
-use Rattle.std.proofs.Common.{◌≡◌, ℕ, ◌+◌, ◌<◌, ◌≤◌, Bool, true, false, cond, List, [], ◌∷◌, ◌++◌, set, refl, subst, arith, ◌==◌}
+use Rattle.std.proofs.Common.{◌≡◌, ℕ, ◌+◌, ◌<◌, ◌≤◌, Bool, true, false, cond, List, [], ◌∷◌, ◌++◌, set, refl, subst, arith}
 use Rattle.wal_page.specs.EntryWords.{address_of_word, words_owned}
-use Rattle.wal_core.specs.Views.{HasAt, Copy, Flight, Landed, Copying}
-use Rattle.wal_core.specs.Moves.{landed, one_more}
+use Rattle.wal_core.specs.Views.{HasAt, Copy, Flight, Landed, Copying, is_among}
+use Rattle.wal_core.specs.Moves.{landed, standing, without_lock, one_more}
 use Rattle.wal_core.specs.Positioned.{IsCopiedBelow}
 use Rattle.wal_core.proofs.Lists.{one_set, one_added}
 
@@ -40,10 +40,15 @@ module _ (size address : ℕ) where
   landing_clear : (lock : ℕ) (f : Flight) → IsClear size address f
       → IsClear size address (landed lock f)
   landing_clear lock Landed h = h
-  landing_clear lock (Copying c) h = chosen (c.lock == lock)
+  landing_clear lock (Copying c) h = chosen (is_among c.locks lock)
     where
-      chosen : (b : Bool) → IsClear size address (cond b Landed (Copying c))
-      chosen true = landed_clear
+      stands : (locks : List ℕ) → IsClear size address (standing c locks)
+      stands [] = landed_clear
+      stands (one ∷ locks) = copying_clear (record c { locks = one ∷ locks }) (h c refl)
+
+      chosen : (b : Bool)
+          → IsClear size address (cond b (standing c (without_lock lock c.locks)) (Copying c))
+      chosen true = stands (without_lock lock c.locks)
       chosen false = h
 
   each : (flights : List Flight) → IsCopiedBelow size flights address

@@ -16,6 +16,7 @@ use Rattle.wal_core.specs.Watched.{WatchHolds}
 use Rattle.wal_core.specs.Positioned.{IsCopiedBelow}
 use Rattle.wal_core.specs.Moves.{hardened, landed, one_more, with_place, with_hold, copied_below, lent, entry_at, left_of, right_of, both_of, spent, without_work, orphan_of, no_writing}
 use Rattle.wal_core.specs.Steps.{MayStep, number_lent, place_at, value_behind, view_behind, home_behind, take_write_turn, slot_out, slot_in, release_write_turn, store_position, release, store_word, load_word, load_written, load_flushed, load_moment, load_down, store_written, store_moment, store_flushed, set_down}
+use Rattle.wal_core.proofs.Landing.{lock_of}
 use Rattle.wal_core.proofs.Lists.{one_set, one_added, part_at, view_from}
 use Rattle.position_laws.specs.Parts.{Positions, HasPositions, HoldAmong, HoldBehind}
 use Rattle.position_laws.proofs.Copies.{CopiedStill, one_more_still, landed_still, added_still, joined_still, given_up_still}
@@ -38,10 +39,11 @@ module _ (size end : ℕ) (lock : ℕ → ℕ) (views : List View) (id : ℕ) (v
         λ j c at left.
             let u = view_from flight_of views j (Copying c) at in
             let work = part_at working_of views j u.0 u.1 in
-            let lock_held = held.each j c.lock (u.0).working work
+            let under = lock_of c.locks (u.0).working.locks
             (held.under j (u.0).working c work u.2) in
+            let lock_held = held.each j under.0 (u.0).working work under.2 in
             elim (cases_lt (address_of_word size c.entry 0) x.end) [
-              | inl below ↦ watch.behind id j x (u.0).working mine work c u.2
+              | inl below ↦ watch.behind id j x (u.0).working mine work c under.0 u.2 under.1
                   (omega (arith, lock_held.0, all)) below
               | inr above ↦ omega (arith, above, low.1)
             ],
@@ -228,29 +230,29 @@ module _ (p : Positions) (id : ℕ) (v : View) (t : HasPositions p id v) where
 
   -- ---- an entry is reserved
 
-  pub store_position_keeps : (position prev : ℕ) (reservings : List Reserving) (lock : ℕ)
-      (value : Record)
+  pub store_position_keeps : (position prev : ℕ) (reservings : List Reserving)
+      (locks : List ℕ) (value : Record)
       → OrderHolds setup (v.opening).found p.order position prev reservings
       → HasAt reservings id v.reserving → (v.reserving).live ≡ true
-      → MayStep v (store_position lock value)
+      → MayStep v (store_position locks value)
       → HoldBehind (record p {
         order = p.order
             ++ entry_at (v.reserving).number (place_at v (v.reserving).place) value ∷ [];
-      }) id v (view_behind v (store_position lock value) position p.home)
-  store_position_keeps position prev reservings lock value k there live may =
+      }) id v (view_behind v (store_position locks value) position p.home)
+  store_position_keeps position prev reservings locks value k there live may =
       let size : ℕ = setup.segment_size in
       let at = subst (λ (q : Place). AtPlace size (end_position size p.order)
       (prev_of size 0 p.order) prev k.locked k.holder id q) may.2
       (k.places id v.reserving there live) in
       subst (λ (q : Place). HoldBehind (record p {
         order = p.order ++ entry_at (v.reserving).number (place_at v q) value ∷ [];
-      }) id v (view_behind (with_place q v) (store_position lock value) position p.home))
+      }) id v (view_behind (with_place q v) (store_position locks value) position p.home))
       (sym may.2)
       (order_grows v.opening p t.holds t.size (entry_at (v.reserving).number may.0 value) at.2 id
       (record {
         entry = entry_at (v.reserving).number may.0 value;
         prev = may.1;
-        lock = lock;
+        locks = locks;
         copied = 0;
       }) refl refl v.writing t.here)
 

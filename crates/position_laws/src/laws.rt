@@ -49,14 +49,14 @@ pub fn copies_only_go_on()
     ensures release { (p : Positions) (id : ℕ) (v : View) → HasPositions p id v
         → (lock met : ℕ) → HoldBehind p id v (view_behind v (release lock) met p.home) }
     ensures store_position { (p : Positions) (id : ℕ) (v : View) → HasPositions p id v
-        → (position prev : ℕ) (reservings : List Reserving) (lock : ℕ) (value : Record)
+        → (position prev : ℕ) (reservings : List Reserving) (locks : List ℕ) (value : Record)
         → OrderHolds (v.opening).setup (v.opening).found p.order position prev reservings
         → HasAt reservings id v.reserving → (v.reserving).live ≡ true
-        → MayStep v (store_position lock value)
+        → MayStep v (store_position locks value)
         → HoldBehind (record p {
           order = p.order
               ++ entry_at (v.reserving).number (place_at v (v.reserving).place) value ∷ [];
-        }) id v (view_behind v (store_position lock value) position p.home) }
+        }) id v (view_behind v (store_position locks value) position p.home) }
 {}
 
 /// The words of the positions only rise, and not above the writer's own; the flushed one not above

@@ -52,12 +52,12 @@ module _ {W : Type 0} (f : View → W) (v : View)
   give_back_same (Stored at prev) = no_reserving _
 
 module _ (v : View) where
-  reserved_met : (lock : ℕ) (value : Record) (p : Place)
-      → confirmed_of (after_store_position lock value (with_place p v)) ≡ confirmed_of v
-  reserved_met lock value Free = refl
-  reserved_met lock value (Locked at) = refl
-  reserved_met lock value (Loaded at prev) = refl
-  reserved_met lock value (Stored at prev) = refl
+  reserved_met : (locks : List ℕ) (value : Record) (p : Place)
+      → confirmed_of (after_store_position locks value (with_place p v)) ≡ confirmed_of v
+  reserved_met locks value Free = refl
+  reserved_met locks value (Locked at) = refl
+  reserved_met locks value (Loaded at prev) = refl
+  reserved_met locks value (Stored at prev) = refl
 
   pub flight_left : (e : Event) (met : ℕ) (home : Option Plain) → LeavesCopies e
       → flight_of (view_behind v e met home) ≡ flight_of v
@@ -74,10 +74,10 @@ module _ (v : View) where
       load_prev_same flight_of v (λ x. refl) (λ x. refl) met (v.reserving).place
   flight_left store_prev met home leaves =
       store_prev_same flight_of v (λ x. refl) (λ x. refl) (v.reserving).place
-  flight_left (store_position lock value) met home leaves = absurd leaves
+  flight_left (store_position locks value) met home leaves = absurd leaves
   flight_left (give_position_back value) met home leaves =
       give_back_same flight_of v (λ x. refl) (λ x. refl) (v.reserving).place
-  flight_left (load_lock lock asked) met home leaves = refl
+  flight_left (load_lock lock limit) met home leaves = refl
   flight_left (take_lock lock) met home leaves =
       if_same flight_of v (λ x. refl) (λ x. refl)
       (met == 0) (with_working ((v.working).locks ++ lock ∷ []) (v.working).flight v) refl
@@ -124,11 +124,11 @@ module _ (v : View) where
       load_prev_same confirmed_of v (λ x. refl) (λ x. refl) met (v.reserving).place
   confirmed_left store_prev met home leaves =
       store_prev_same confirmed_of v (λ x. refl) (λ x. refl) (v.reserving).place
-  confirmed_left (store_position lock value) met home leaves =
-      reserved_met lock value (v.reserving).place
+  confirmed_left (store_position locks value) met home leaves =
+      reserved_met locks value (v.reserving).place
   confirmed_left (give_position_back value) met home leaves =
       give_back_same confirmed_of v (λ x. refl) (λ x. refl) (v.reserving).place
-  confirmed_left (load_lock lock asked) met home leaves = refl
+  confirmed_left (load_lock lock limit) met home leaves = refl
   confirmed_left (take_lock lock) met home leaves =
       if_same confirmed_of v (λ x. refl) (λ x. refl)
       (met == 0) (with_working ((v.working).locks ++ lock ∷ []) (v.working).flight v) refl
@@ -219,12 +219,12 @@ module _ (v : View) (words : List ℕ) (home : Option Plain) (views : List View)
       pages_by_word (lock_position expected) tt (inl (omega arith))
   pages_behind-left load_prev may leaves = pages_by_word load_prev tt (inl (omega arith))
   pages_behind-left store_prev may leaves = pages_by_word store_prev tt (inl (omega arith))
-  pages_behind-left (store_position lock value) may leaves =
-      pages_by_word (store_position lock value) tt (inl (omega arith))
+  pages_behind-left (store_position locks value) may leaves =
+      pages_by_word (store_position locks value) tt (inl (omega arith))
   pages_behind-left (give_position_back value) may leaves =
       pages_by_word (give_position_back value) tt (inl (omega arith))
-  pages_behind-left (load_lock lock asked) may leaves =
-      pages_by_word (load_lock lock asked) tt (inl (omega arith))
+  pages_behind-left (load_lock lock limit) may leaves =
+      pages_by_word (load_lock lock limit) tt (inl (omega arith))
   pages_behind-left (take_lock lock) may leaves =
       pages_by_word (take_lock lock) tt (inl (omega arith))
   pages_behind-left (advance lock upto) may leaves =

@@ -1,5 +1,5 @@
 -- The log's words in memory, through each kind of step that changes what is said of them.
-use Rattle.std.proofs.Common.{◌≡◌, ◌≢◌, ◌⊎◌, inl, inr, ℕ, ◌+◌, ◌*◌, ◌/◌, ◌%◌, ◌<◌, ◌≤◌, cond, Bool, eq-eqb, ne_eqb, List, [], ◌∷◌, ◌++◌, length, set, sym, refl, ap, ◌∙◌, subst, ⊎_elim, arith}
+use Rattle.std.proofs.Common.{◌≡◌, ◌≢◌, ◌⊎◌, inl, inr, ℕ, ◌+◌, ◌*◌, ◌/◌, ◌%◌, ◌<◌, ◌≤◌, List, [], ◌∷◌, ◌++◌, length, set, Contains, sym, refl, ap, ◌∙◌, subst, ⊎_elim, arith}
 use Rattle.std.proofs.lemmas.List.{append_assoc}
 use mathlib.Core.Option.{some}
 use mathlib.Core.Logic.{dite}
@@ -22,6 +22,7 @@ use Rattle.wal_core.specs.Views.{HasAt, Copy, Flight, Landed, Copying}
 use Rattle.wal_core.specs.Ringed.{log_word_of, StandsIn, IsAwaited, IsInFlightOnce, RingHolds}
 use Rattle.wal_core.specs.Moves.{landed}
 use Rattle.wal_core.specs.Steps.{next_number, next_word}
+use Rattle.wal_core.proofs.Landing.{landed_was, landed_stays}
 use Rattle.wal_core.proofs.Lists.{one_set, at_new, at_same, at_place}
 use Rattle.ring_laws.specs.Put.{IsPut}
 
@@ -102,18 +103,26 @@ module _ (setup : Setup) (order : List Entry) (reach : ℕ) (memory : ℕ → �
   abbrev size : ℕ
   size = setup.segment_size
 
+  -- the views change, each entry in flight is one of the order, and all that is awaited stays so
+  rearrange : (flights2 : List Flight) → IsInFlightOnce flights2
+      → ((id : ℕ) (c : Copy) → HasAt flights2 id (Copying c) → StandsIn size order c)
+      → ((address : ℕ) → IsAwaited size flights address → IsAwaited size flights2 address)
+      → RingHolds setup order reach memory flights2
+  rearrange flights2 once stand forth = record {
+    in_flight = stand;
+    alone = once;
+    words = λ n. ⊎_elim (λ t. inl t) (λ t. inr (t.0, forth (8 * n) t.1)) (k.words n);
+    ahead = λ n far from low. forth (8 * n) (k.ahead n far from low);
+  }
+
   -- the views change, but no copy comes, and all that is awaited stays so
   regroup : (flights2 : List Flight) → IsInFlightOnce flights2
       → ((id : ℕ) (c : Copy) → HasAt flights2 id (Copying c)
       → (j : ℕ) × HasAt flights j (Copying c))
       → ((address : ℕ) → IsAwaited size flights address → IsAwaited size flights2 address)
       → RingHolds setup order reach memory flights2
-  regroup flights2 once back forth = record {
-    in_flight = λ id c there. let h = back id c there in k.in_flight h.0 c h.1;
-    alone = once;
-    words = λ n. ⊎_elim (λ t. inl t) (λ t. inr (t.0, forth (8 * n) t.1)) (k.words n);
-    ahead = λ n far from low. forth (8 * n) (k.ahead n far from low);
-  }
+  regroup flights2 once back forth = rearrange flights2 once
+      (λ id c there. let h = back id c there in k.in_flight h.0 c h.1) forth
 
   -- the same, where each copy is where it was
   regroup_here : (flights2 : List Flight)
@@ -192,14 +201,33 @@ module _ (setup : Setup) (order : List Entry) (reach : ℕ) (memory : ℕ → �
         (at_longer rest (f ∷ []) w.id (Copying w.copy)
         (set_else flights id w.id Landed ne ∙ w.in_flight))))
 
--- a lock's release lands a copy, or leaves it
-landed_from : (lock : ℕ) (f : Flight) (c : Copy) → landed lock f ≡ Copying c → f ≡ Copying c
-landed_from lock Landed c e = e
-landed_from lock (Copying d) c e = dite (ℕ_discrete d.lock lock)
-    (λ same. let lands : landed lock (Copying d) ≡ Landed =
-    ap (λ (b : Bool). cond b Landed (Copying d)) (eq-eqb d.lock lock same) in absurd (cc))
-    (λ ne. let stays : landed lock (Copying d) ≡ Copying d =
-    ap (λ (b : Bool). cond b Landed (Copying d)) (ne_eqb d.lock lock ne) in cc)
+-- a copy is of the entry that another one is of, and stands in the order where it does
+abbrev StandsAs : ℕ → List Entry → Copy → Copy → Type 0
+StandsAs size order d c = ((d.entry).start ≡ (c.entry).start)
+    × (StandsIn size order d → StandsIn size order c)
+
+-- an entry that a release leaves in flight stands where it stood
+landed_stands : (size : ℕ) (order : List Entry) (lock : ℕ) (f : Flight) (c : Copy)
+    → landed lock f ≡ Copying c → (d : Copy) × (f ≡ Copying d) × StandsAs size order d c
+landed_stands size order lock f c is =
+    let was = landed_was lock f c is in
+    let d : Copy = was.0 in (
+      d,
+      was.1,
+      ⊎_elim
+          (λ t. subst (λ (x : Copy). StandsAs size order d x) t.1 (refl, λ s. s))
+          (λ t. subst (λ (x : Copy). StandsAs size order d x) t.1 (
+            refl,
+            λ s. record {
+              front = s.front;
+              back = s.back;
+              are = s.are;
+              prev_is = s.prev_is;
+              copied_within = s.copied_within;
+            },
+          ))
+          was.2,
+    )
 
 module _ (setup : Setup) (order : List Entry) (reach : ℕ) (memory : ℕ → ℕ) (flights : List Flight)
     (k : RingHolds setup order reach memory flights)
@@ -216,25 +244,34 @@ module _ (setup : Setup) (order : List Entry) (reach : ℕ) (memory : ℕ → �
 
   module _ (id : ℕ) (f : Flight) (here : HasAt flights id f) where
     -- a lock is released, under which the view has no copy, or a whole one
-    pub releases : (lock : ℕ) → ((c : Copy) → f ≡ Copying c → c.lock ≡ lock
+    pub releases : (lock : ℕ) → ((c : Copy) → f ≡ Copying c → Contains c.locks lock
         → c.copied ≡ words_owned segment c.entry)
         → RingHolds setup order reach memory (set flights id (landed lock f))
     releases lock whole =
         let after : List Flight = set flights id (landed lock f) in
-        regroup_here setup order reach memory flights k after
-        (λ j c there. ⊎_elim
-        (λ t. subst (λ (i : ℕ). HasAt flights i (Copying c)) (sym t.0)
-        (here ∙ ap (λ (x : Flight). some x) (landed_from lock f c t.1)))
-        (λ t. t.1)
-        (at_set flights id j (landed lock f) (Copying c) there))
+        let was : (j : ℕ) (c : Copy) → HasAt after j (Copying c) → (d : Copy)
+        × HasAt flights j (Copying d) × StandsAs segment order d c
+        = λ j c there. ⊎_elim
+        (λ t. let d = landed_stands segment order lock f c t.1 in (
+          d.0,
+          subst (λ (i : ℕ). HasAt flights i (Copying d.0)) (sym t.0)
+              (here ∙ ap (λ (x : Flight). some x) d.1),
+          d.2,
+        ))
+        (λ t. (c, t.1, (refl, λ s. s)))
+        (at_set flights id j (landed lock f) (Copying c) there) in
+        rearrange setup order reach memory flights k after
+        (once_as flights after k.alone (λ j c there. let d = was j c there in (d.0, d.1, d.2.0)))
+        (λ j c there. let d = was j c there in d.2.1 (k.in_flight j d.0 d.1))
         (λ address w. dite (ℕ_discrete w.id id)
         (λ mine.
         let own : f ≡ Copying w.copy = at_same flights f (Copying w.copy) id here
         (subst (λ (j : ℕ). HasAt flights j (Copying w.copy)) mine w.in_flight) in
         let left = awaited-left address w in
-        let other : (w.copy).lock ≢ lock = λ e. let h = whole w.copy own e in omega arith in
+        let other : Contains (w.copy).locks lock → ⊥ =
+        λ e. let h = whole w.copy own e in omega arith in
         let stays : landed lock f ≡ Copying w.copy = ap (landed lock) own
-        ∙ ap (λ (b : Bool). cond b Landed (Copying w.copy)) (ne_eqb (w.copy).lock lock other) in
+        ∙ landed_stays lock w.copy other in
         awaited_at segment flights after address id w
         (at_place flights id f (landed lock f) here ∙ ap (λ (x : Flight). some x) stays))
         (λ ne. awaited_at segment flights after address w.id w
@@ -261,12 +298,12 @@ module _ (setup : Setup) (order : List Entry) (reach : ℕ) (memory : ℕ → �
       (at_set flights id i (Copying new) (Copying c) one)
 
   -- the view's entry joins the order and is in flight
-  pub reserves : (id : ℕ) (e : Entry) (prev lock : ℕ) → HasAt flights id Landed
+  pub reserves : (id : ℕ) (e : Entry) (prev : ℕ) (locks : List ℕ) → HasAt flights id Landed
       → e.start ≡ end_position segment order → prev ≡ prev_of segment 0 order
       → RingHolds setup (order ++ e ∷ []) reach memory
-      (set flights id (Copying (record { entry = e; prev = prev; lock = lock; copied = 0 })))
-  reserves id e prev lock here at named =
-      let new : Copy = record { entry = e; prev = prev; lock = lock; copied = 0 } in
+      (set flights id (Copying (record { entry = e; prev = prev; locks = locks; copied = 0 })))
+  reserves id e prev locks here at named =
+      let new : Copy = record { entry = e; prev = prev; locks = locks; copied = 0 } in
       let after : List Flight = set flights id (Copying new) in
       let first : ℕ = end_address_of segment e.start in
       let first_is : first ≡ end_address_of segment (end_position segment order) =

@@ -40,22 +40,22 @@ module _ (v : View) (words : List ℕ) (home : Option Plain) (views : List View)
   flies : HasAt flights id (v.working).flight
   flies = part_at flight_of views id v here
 
-  pub ring_behind-reserved : (lock : ℕ) (value : Record) → (v.reserving).live ≡ true
-      → (may : MayStep v (store_position lock value))
-      → HasRing v words home views id (store_position lock value)
+  pub ring_behind-reserved : (locks : List ℕ) (value : Record) → (v.reserving).live ≡ true
+      → (may : MayStep v (store_position locks value))
+      → HasRing v words home views id (store_position locks value)
       (s.order ++ entry_at (v.reserving).number may.0 value ∷ []) s.reach s.memory
-  ring_behind-reserved lock value live may =
+  ring_behind-reserved locks value live may =
       let e : Entry = entry_at (v.reserving).number may.0 value in
       let place = subst
       (AtPlace setup.segment_size (end_position setup.segment_size s.order)
       (prev_of setup.segment_size 0 s.order) _ _ _ _) may.2
       ((s.reserved).places id v.reserving (part_at reserving_of views id v here) live) in
-      ring_by (store_position lock value) (s.order ++ e ∷ []) s.reach s.memory
-      (Copying (record { entry = e; prev = may.1; lock = lock; copied = 0 }))
-      (subst (λ (p : Place). flight_of (after_store_position lock value (with_place p v))
-      ≡ Copying (record { entry = e; prev = may.1; lock = lock; copied = 0 })) (sym may.2) refl)
+      ring_by (store_position locks value) (s.order ++ e ∷ []) s.reach s.memory
+      (Copying (record { entry = e; prev = may.1; locks = locks; copied = 0 }))
+      (subst (λ (p : Place). flight_of (after_store_position locks value (with_place p v))
+      ≡ Copying (record { entry = e; prev = may.1; locks = locks; copied = 0 })) (sym may.2) refl)
       (ring.reserves setup s.order s.reach s.memory flights s.ring (s.setup_is).size
-      (s.reserved).chained id e may.1 lock
+      (s.reserved).chained id e may.1 locks
       (subst (λ (f : Flight). HasAt flights id f) may.6 flies) place.2 place.4)
 
   pub ring_behind-released : (lock : ℕ) → MayStep v (release lock)

@@ -14,6 +14,7 @@ use Rattle.wal_core.specs.Paged.{AtStage, PagesHold}
 use Rattle.wal_core.specs.Steps.{page_mapped, words_zeroed, ring_place}
 use Rattle.wal_core.specs.Sound.{IsSound}
 use Rattle.wal_core.specs.Shown.{IsPresent, HasLooked, HasCleared, HasLogWord, IsPublished, EntriesAreCopied, WordsAreLogs, PagesArePresent, MappersAreNext}
+use Rattle.wal_core.proofs.Landing.{lock_of}
 use Rattle.wal_core.proofs.Lists.{part_at, view_from}
 use Rattle.ring_laws.proofs.CopiedWords.{copied-stored, landed-stored}
 use Rattle.ring_laws.proofs.RingLaws.{awaited-left}
@@ -164,13 +165,14 @@ module _ (opening : Opening) (words : List ℕ) (home : Option Plain) (views : L
       let u = view_from flight_of views w.id (Copying w.copy) w.in_flight in
       let at_work = part_at working_of views w.id u.0 u.1 in
       let locks = (s.locks).locks in
-      let held = locks.under w.id (u.0).working w.copy at_work u.2 in
-      let below = (locks.each w.id (w.copy).lock (u.0).working at_work held).0 in
+      let under = lock_of w.copy.locks (u.0).working.locks
+      (locks.under w.id (u.0).working w.copy at_work u.2) in
+      let below = (locks.each w.id under.0 (u.0).working at_work under.2).0 in
       let mine = part_at watching_of views id v here in
       let ends = ((s.watching).reserved id v.watching mine).1 in
       let from = w.from in
-      let behind = (s.watching).behind id w.id v.watching (u.0).working mine at_work w.copy u.2
-      (omega arith) (omega arith) in
+      let behind = (s.watching).behind id w.id v.watching (u.0).working mine at_work w.copy under.0
+      u.2 under.1 (omega arith) (omega arith) in
       omega arith
 
   pub words_are_logs : WordsAreLogs setup s.order words views

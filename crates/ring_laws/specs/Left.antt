@@ -3,7 +3,7 @@ use Rattle.wal_core.specs.Steps.{Event, store_position, release, load_end, store
 
 -- those that leave each copy as it is
 abbrev pub LeavesCopies : Event → Type 0
-LeavesCopies (store_position lock value) = ⊥
+LeavesCopies (store_position locks value) = ⊥
 LeavesCopies (release lock) = ⊥
 LeavesCopies store_word = ⊥
 LeavesCopies other = Unit {0}

@@ -1,7 +1,7 @@
 //! The log's words in memory, through each kind of step that changes what is said of them; and what
 //! a load of one of the ring's words meets.
 
-ghost use Rattle.std.specs.Prelude.{◌≡◌, ◌≢◌, ℕ, ◌+◌, ◌/◌, ◌<◌, ◌≤◌, List, [], ◌∷◌, ◌++◌, set};
+ghost use Rattle.std.specs.Prelude.{◌≡◌, ◌≢◌, ℕ, ◌+◌, ◌/◌, ◌<◌, ◌≤◌, Contains, List, [], ◌∷◌, ◌++◌, set};
 ghost use mathlib.Core.Option.{Option};
 ghost use Rattle.byte_position.specs.Geometry.{IsSegmentSize};
 ghost use Rattle.wal_page.specs.Order.{Entry, IsChained, end_position, prev_of};
@@ -17,17 +17,17 @@ ghost use Rattle.wal_core.specs.Positioned.{PositionsHold};
 ghost use Rattle.wal_core.specs.Durable.{IsStaged};
 ghost use Rattle.ring_laws.specs.Put.{IsPut};
 
-/// An entry is reserved, and its copy begins; each of its words is stored; its lock is released
+/// An entry is reserved, and its copy begins; each of its words is stored; its locks are released
 /// where all of them are copied.
 pub fn copies_keep_the_ring()
     ensures begun { (setup : Setup) (order : List Entry) (reach : ℕ) (memory : ℕ → ℕ)
-        (flights : List Flight) (id : ℕ) (e : Entry) (prev lock : ℕ)
+        (flights : List Flight) (id : ℕ) (e : Entry) (prev : ℕ) (locks : List ℕ)
         → IsSegmentSize setup.segment_size → IsChained setup.segment_size order
         → RingHolds setup order reach memory flights → HasAt flights id Landed
         → e.start ≡ end_position setup.segment_size order
         → prev ≡ prev_of setup.segment_size 0 order
         → RingHolds setup (order ++ e ∷ []) reach memory
-        (set flights id (Copying (record { entry = e; prev = prev; lock = lock; copied = 0 }))) }
+        (set flights id (Copying (record { entry = e; prev = prev; locks = locks; copied = 0 }))) }
     ensures stored { (setup : Setup) (order : List Entry) (reach : ℕ) (memory memory_behind : ℕ → ℕ)
         (flights : List Flight) (stage : Stage) (initialised written : ℕ) (ends ring : ℕ → ℕ)
         (confirmed : List ℕ) (id met : ℕ) (c : Copy)
@@ -41,7 +41,7 @@ pub fn copies_keep_the_ring()
         (flights : List Flight) (id lock : ℕ) (flight : Flight)
         → IsSegmentSize setup.segment_size → IsChained setup.segment_size order
         → RingHolds setup order reach memory flights → HasAt flights id flight
-        → ((c : Copy) → flight ≡ Copying c → c.lock ≡ lock
+        → ((c : Copy) → flight ≡ Copying c → Contains c.locks lock
         → c.copied ≡ words_owned setup.segment_size c.entry)
         → RingHolds setup order reach memory (set flights id (landed lock flight)) }
 {}

@@ -13,14 +13,14 @@ ghost use Rattle.wal_core.specs.Sound.{IsSound};
 ghost use Rattle.ring_laws.specs.Behind.{HasPages, HasPagesWith, HasRing, HasRingWith, memory_stored, met_by};
 ghost use Rattle.ring_laws.specs.Left.{LeavesCopies, LeavesPages};
 
-/// The log's words in memory: an entry is reserved, its next word is stored, its lock is released,
+/// The log's words in memory: an entry is reserved, its next word is stored, a lock is released,
 /// a page more is there.
 pub fn steps_keep_the_ring()
     ensures reserved { (v : View) (words : List ℕ) (home : Option Plain) (views : List View)
         (id : ℕ) (s : IsSound v.opening words home views) → HasAt views id v
-        → (lock : ℕ) (value : Record) → v.reserving.live ≡ true
-        → (may : MayStep v (store_position lock value))
-        → HasRing v words home views id (store_position lock value)
+        → (locks : List ℕ) (value : Record) → v.reserving.live ≡ true
+        → (may : MayStep v (store_position locks value))
+        → HasRing v words home views id (store_position locks value)
         (s.order ++ entry_at v.reserving.number may.0 value ∷ []) s.reach s.memory }
     ensures stored { (v : View) (words : List ℕ) (home : Option Plain) (views : List View)
         (id : ℕ) (s : IsSound v.opening words home views) → HasAt views id v

@@ -1,13 +1,13 @@
 -- What is fixed of a view behind a step of any kind: it stays live, and watches for no more than it
 -- has seen reserved; and the down word, once set, stays set.
-use Rattle.std.proofs.Common.{◌≡◌, ◌≢◌, ℕ, ◌+◌, ◌≤◌, Bool, cond, true, false, ◌&&◌, not, List, [], ◌∷◌, ◌++◌, slice_index, refl, sym, ap, ◌∙◌, subst, eqb, ⊎_elim, arith}
+use Rattle.std.proofs.Common.{◌≡◌, ◌≢◌, ℕ, ◌+◌, ◌≤◌, Bool, cond, true, false, ◌&&◌, ◌||◌, not, List, [], ◌∷◌, ◌++◌, slice_index, refl, sym, ap, ◌∙◌, subst, eqb, ⊎_elim, arith}
 use mathlib.Core.Option.{Option, none, some}
 use Rattle.wal_types.specs.declared.record.Record.{Record}
 use Rattle.wal_page.specs.Order.{Entry, end_position, position_behind, prev_of}
 use Rattle.wal_core.specs.Words.{Opening, down_word, end_form, write_turn}
 use Rattle.wal_core.specs.Views.{HasAt, Place, Locked, Stored, Plain, Hold, Idle, Turned, Out, Taken, Watching, View, reserving_of, writer_of}
 use Rattle.wal_core.specs.Ordered.{AtPlace}
-use Rattle.wal_core.specs.Moves.{after_store_position, begun, entry_at, visited_on, with_hold, with_place, with_stage, with_working}
+use Rattle.wal_core.specs.Moves.{after_store_position, begun, entry_at, is_own, visited_on, with_hold, with_place, with_stage, with_working}
 use Rattle.wal_core.specs.Steps.{Event, MayStep, fault_number, number_lent, value_behind, word_of_step, view_behind, load_position, take_write_turn, slot_out, slot_in, release_write_turn, lock_position, load_prev, store_prev, store_position, give_position_back, load_lock, take_lock, advance, release, load_end, store_word, load_word, load_written, load_flushed, load_moment, load_down, store_written, store_moment, store_flushed, set_down, take_mapping_turn, load_initialised, clear_end, zero_word, publish_end, publish_initialised, release_mapping_turn, create, write, sync, with_slot, with_call_on}
 use Rattle.wal_core.specs.Sound.{IsGrounded, IsSound}
 use Rattle.wal_core.proofs.Lists.{part_at}
@@ -41,8 +41,10 @@ end_either : (b : Bool) (x y : Watching) (n : ℕ) → x.end ≤ n → y.end ≤
 end_either true x y n low other = low
 end_either false x y n low other = other
 
-visited_low : (lock met n : ℕ) (x : Watching) → x.end ≤ n → (visited_on lock met x).end ≤ n
-visited_low lock met n x low = end_either (eqb lock x.visited && not (eqb met 1)) _ x n low low
+visited_low : (own : Bool) (lock met n : ℕ) (x : Watching) → x.end ≤ n
+    → (visited_on own lock met x).end ≤ n
+visited_low own lock met n x low =
+    end_either (eqb lock x.visited && (own || not (eqb met 1))) _ x n low low
 
 module _ (words : List ℕ) (home : Option Plain) (views : List View) (id : ℕ) (v : View)
     (k : IsSound v.opening words home views) (here : HasAt views id v)
@@ -58,9 +60,9 @@ module _ (words : List ℕ) (home : Option Plain) (views : List View) (id : ℕ)
   low_still seen more = watches_still (v.opening).setup (k.setup_is).size (v.watching).end
       (v.reserving).seen seen low more
 
-  begun_low : (lock asked : ℕ)
-      → (begun lock asked v).end ≤ end_form (v.opening).setup (v.reserving).seen
-  begun_low lock asked = end_either (eqb lock 0) _ v.watching
+  begun_low : (lock limit : ℕ)
+      → (begun lock limit v).end ≤ end_form (v.opening).setup (v.reserving).seen
+  begun_low lock limit = end_either (eqb lock 0) _ v.watching
       (end_form (v.opening).setup (v.reserving).seen) (omega arith) low
 
   module _ (down : ℕ) where
@@ -77,9 +79,9 @@ module _ (words : List ℕ) (home : Option Plain) (views : List View) (id : ℕ)
         (lives ∙ live) (subst (λ (n : ℕ). n ≤ end_form (v.opening).setup
         ((behind e).reserving).seen) (sym ends) (low_still ((behind e).reserving).seen more))
 
-    reserved : (lock : ℕ) (value : Record) → MayStep v (store_position lock value)
-        → IsGrounded v.opening down (behind (store_position lock value))
-    reserved lock value may =
+    reserved : (locks : List ℕ) (value : Record) → MayStep v (store_position locks value)
+        → IsGrounded v.opening down (behind (store_position locks value))
+    reserved locks value may =
         let size : ℕ = ((v.opening).setup).segment_size in
         let mine = part_at reserving_of views id v here in
         let seen = ((k.reserved).views id v.reserving mine live).seen in
@@ -89,9 +91,9 @@ module _ (words : List ℕ) (home : Option Plain) (views : List View) (id : ℕ)
         let at : may.0 ≡ end_position size k.order = place.2 in
         let e : Entry = entry_at (v.reserving).number may.0 value in
         subst (λ (p : Place).
-        IsGrounded v.opening down (after_store_position lock value (with_place p v)))
+        IsGrounded v.opening down (after_store_position locks value (with_place p v)))
         (sym may.2) (grounded_live v.opening down
-        (after_store_position lock value (with_place (Stored may.0 may.1) v)) refl live
+        (after_store_position locks value (with_place (Stored may.0 may.1) v)) refl live
         (low_still (position_behind size e) (omega arith)))
 
     pub grounded_behind : (e : Event) → MayStep v e → IsGrounded v.opening down (behind e)
@@ -105,11 +107,12 @@ module _ (words : List ℕ) (home : Option Plain) (views : List View) (id : ℕ)
         (ground_either (eqb (slice_index words 0) expected) (with_place (Locked expected) v) v refl)
     grounded_behind load_prev may = same load_prev (rw may.1 refl)
     grounded_behind store_prev may = same store_prev (rw may.2 refl)
-    grounded_behind (store_position lock value) may = reserved lock value may
+    grounded_behind (store_position locks value) may = reserved locks value may
     grounded_behind (give_position_back value) may = same (give_position_back value) (rw may.1 refl)
-    grounded_behind (load_lock lock asked) may = grounded_live v.opening down
-        (behind (load_lock lock asked)) refl live (visited_low lock (slice_index words (2 + lock))
-        (end_form (v.opening).setup (v.reserving).seen) (begun lock asked v) (begun_low lock asked))
+    grounded_behind (load_lock lock limit) may = grounded_live v.opening down
+        (behind (load_lock lock limit)) refl live
+        (visited_low (is_own lock v.working) lock (slice_index words (2 + lock))
+        (end_form (v.opening).setup (v.reserving).seen) (begun lock limit v) (begun_low lock limit))
     grounded_behind (take_lock lock) may = same (take_lock lock)
         (ground_either (eqb (slice_index words (2 + lock)) 0)
         (with_working ((v.working).locks ++ lock ∷ []) (v.working).flight v) v refl)
@@ -175,10 +178,10 @@ module _ (words : List ℕ) (home : Option Plain) (views : List View) (id : ℕ)
   down_stays (lock_position expected) may = not_stored (lock_position expected) (λ e. omega arith)
   down_stays load_prev may = not_stored load_prev (λ e. omega arith)
   down_stays store_prev may = not_stored store_prev (λ e. omega arith)
-  down_stays (store_position lock value) may =
-      not_stored (store_position lock value) (λ e. omega arith)
+  down_stays (store_position locks value) may =
+      not_stored (store_position locks value) (λ e. omega arith)
   down_stays (give_position_back value) may = not_stored (give_position_back value) (λ e. omega arith)
-  down_stays (load_lock lock asked) may = not_stored (load_lock lock asked) (λ e. omega arith)
+  down_stays (load_lock lock limit) may = not_stored (load_lock lock limit) (λ e. omega arith)
   down_stays (take_lock lock) may = not_stored (take_lock lock) (λ e. omega arith)
   down_stays (advance lock upto) may =
       let low = lock_low words home views id v k here live lock may.0 in

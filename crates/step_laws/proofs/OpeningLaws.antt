@@ -16,7 +16,7 @@ use Rattle.wal_page.proofs.WordPositions.{end_address_of-first_position}
 use Rattle.wal_page.proofs.LogWordLaws.{log_word-unowned}
 use Rattle.wal_core.specs.declared.setup.Setup.{Setup}
 use Rattle.wal_core.specs.Words.{Opening, position_word, prev_word, lock_word, mapping_turn, write_turn, initialised_word, written_word, flushed_word, moment_word, down_word, end_word, end_form, ring_word}
-use Rattle.wal_core.specs.Views.{HasAt, Plain, Away, Landed, Copying, View, mapper_of, told_of, writer_of}
+use Rattle.wal_core.specs.Views.{HasAt, Plain, Away, Landed, Copying, AreSomeOf, View, mapper_of, told_of, writer_of}
 use Rattle.wal_core.specs.Opened.{AreFirstWords, IsFirstWriter, IsNew, first_view}
 use Rattle.wal_core.specs.Ordered.{HasLive, IsUnused, OrderHolds, Role, active, spare, ended, unborn}
 use Rattle.wal_core.specs.Locked.{LocksHold, ProgressHolds, most_told}
@@ -28,7 +28,7 @@ use Rattle.ring_laws.proofs.Buffers.{one_page}
 use Rattle.wal_core.specs.Durable.{DurabilityHolds, IsAssured, IsLawfulAt, IsLogBelow}
 use Rattle.segment_disk.specs.DiskImage.{image_as_read}
 use Rattle.segment_disk.specs.declared.disk.Call.{Call}
-use Rattle.segment_disk.specs.Tape.{Segment, Tape, after_calls, state_at, state_now}
+use Rattle.segment_disk.specs.Tape.{Segment, Tape, after_calls, state_now}
 use Rattle.std.proofs.Math.Seq.{take-length}
 use Rattle.flush_core.specs.Pages.{HoldsNothing}
 use Rattle.wal_core.specs.Suited.{BeganSuited}
@@ -147,7 +147,7 @@ module _ (opening : Opening) (words : List ℕ) (writer : Plain) (new : IsNew op
       holder = λ i. 0;
       each = λ id i w at. only_one view.working (λ j u. Contains u.locks i → (i < 8) × (0 ≡ j) × (lock_word words i ≢ 0)) (λ has. let none = has.1 in absurd (omega arith)) id w at;
       held = λ i below taken. absurd (taken (lock_zero i below));
-      under = λ id w c at. only_one view.working (λ j u. u.flight ≡ Copying c → Contains u.locks c.lock) (λ is. absurd (cc)) id w at;
+      under = λ id w c at. only_one view.working (λ j u. u.flight ≡ Copying c → AreSomeOf c.locks u.locks) (λ is. absurd (cc)) id w at;
     };
     mapping = record {
       holder = 0;

@@ -109,15 +109,15 @@ module _ (words : List ℕ) (home : Option Plain) (views : List View) (id : ℕ)
   order_holds store_prev may = prev_stored store_prev refl
       (order.store_prev_keeps k.order (position_word words) (prev_word words)
       (map reserving_of views) id v home takes_part may)
-  order_holds (store_position lock value) may = position_stored (store_position lock value)
-      (order_behind v (store_position lock value) k.order) refl
+  order_holds (store_position locks value) may = position_stored (store_position locks value)
+      (order_behind v (store_position locks value) k.order) refl
       (order.store_position_keeps k.order (position_word words) (prev_word words)
-      (map reserving_of views) id v home lock value takes_part may)
+      (map reserving_of views) id v home locks value takes_part may)
   order_holds (give_position_back value) may =
       position_stored (give_position_back value) k.order refl
       (order.give_position_back_keeps k.order (position_word words) (prev_word words)
       (map reserving_of views) id v home value takes_part may)
-  order_holds (load_lock lock asked) may = stays (load_lock lock asked) refl (omega arith)
+  order_holds (load_lock lock limit) may = stays (load_lock lock limit) refl (omega arith)
   order_holds (take_lock lock) may = stays (take_lock lock)
       (same_either reserving_of (eqb (slice_index words (2 + lock)) 0)
       (with_working ((v.working).locks ++ lock ∷ []) (v.working).flight v) v refl) (omega arith)

@@ -113,15 +113,15 @@ module _ (words : List ℕ) (home : Option Plain) (views : List View) (id : ℕ)
       (λ e. omega arith) (λ e. omega arith) (λ e. omega arith)
   positions_hold store_prev may = positions_stay (step store_prev) (rw may.2 refl) (rw may.2 refl)
       (λ e. omega arith) (λ e. omega arith) (λ e. omega arith)
-  positions_hold (store_position lock value) may = by_law (store_position lock value)
-      (order_behind v (store_position lock value) k.order) k.writer
+  positions_hold (store_position locks value) may = by_law (store_position locks value)
+      (order_behind v (store_position locks value) k.order) k.writer
       (λ e. omega arith) (λ e. omega arith) (λ e. omega arith)
       (kept.store_position_keeps (now words home views id v k) id v (has_now words home views id v k here)
-      (position_word words) (prev_word words) (map reserving_of views) lock value k.reserved
+      (position_word words) (prev_word words) (map reserving_of views) locks value k.reserved
       (part_at reserving_of views id v here) live may)
   positions_hold (give_position_back value) may = positions_stay (step (give_position_back value))
       (rw may.1 refl) (rw may.1 refl) (λ e. omega arith) (λ e. omega arith) (λ e. omega arith)
-  positions_hold (load_lock lock asked) may = positions_stay (step (load_lock lock asked)) refl
+  positions_hold (load_lock lock limit) may = positions_stay (step (load_lock lock limit)) refl
       refl (λ e. omega arith) (λ e. omega arith) (λ e. omega arith)
   positions_hold (take_lock lock) may =
       let free = eqb (slice_index words (2 + lock)) 0 in

@@ -62,16 +62,16 @@ module _ (words : List ℕ) (home : Option Plain) (views : List View) (id : ℕ)
       left.ring_behind-left v words home views id k here load_prev tt
   ring_holds store_prev may =
       left.ring_behind-left v words home views id k here store_prev tt
-  ring_holds (store_position lock value) may =
+  ring_holds (store_position locks value) may =
       let number = (v.reserving).number in
-      subst (λ (at : ℕ). HasRing v words home views id (store_position lock value)
+      subst (λ (at : ℕ). HasRing v words home views id (store_position locks value)
       (k.order ++ entry_at number at value ∷ []) k.reach k.memory)
       (sym (ap (place_at v) may.2))
-      (ring.ring_behind-reserved v words home views id k here lock value live may)
+      (ring.ring_behind-reserved v words home views id k here locks value live may)
   ring_holds (give_position_back value) may =
       left.ring_behind-left v words home views id k here (give_position_back value) tt
-  ring_holds (load_lock lock asked) may =
-      left.ring_behind-left v words home views id k here (load_lock lock asked) tt
+  ring_holds (load_lock lock limit) may =
+      left.ring_behind-left v words home views id k here (load_lock lock limit) tt
   ring_holds (take_lock lock) may =
       left.ring_behind-left v words home views id k here (take_lock lock) tt
   ring_holds (advance lock upto) may =
@@ -142,12 +142,12 @@ module _ (words : List ℕ) (home : Option Plain) (views : List View) (id : ℕ)
       left.pages_behind-left v words home views id k here load_prev may tt
   pages_hold store_prev may =
       left.pages_behind-left v words home views id k here store_prev may tt
-  pages_hold (store_position lock value) may =
-      left.pages_behind-left v words home views id k here (store_position lock value) may tt
+  pages_hold (store_position locks value) may =
+      left.pages_behind-left v words home views id k here (store_position locks value) may tt
   pages_hold (give_position_back value) may =
       left.pages_behind-left v words home views id k here (give_position_back value) may tt
-  pages_hold (load_lock lock asked) may =
-      left.pages_behind-left v words home views id k here (load_lock lock asked) may tt
+  pages_hold (load_lock lock limit) may =
+      left.pages_behind-left v words home views id k here (load_lock lock limit) may tt
   pages_hold (take_lock lock) may =
       left.pages_behind-left v words home views id k here (take_lock lock) may tt
   pages_hold (advance lock upto) may =
@@ -208,9 +208,9 @@ module _ (words : List ℕ) (home : Option Plain) (views : List View) (id : ℕ)
   durable_holds (lock_position expected) may = durable.durable-inside words home views id v k here (lock_position expected) may tt tt
   durable_holds load_prev may = durable.durable-inside words home views id v k here load_prev may tt tt
   durable_holds store_prev may = durable.durable-inside words home views id v k here store_prev may tt tt
-  durable_holds (store_position lock value) may = durable.durable-reserved words home views id v k here live lock value may
+  durable_holds (store_position locks value) may = durable.durable-reserved words home views id v k here live locks value may
   durable_holds (give_position_back value) may = durable.durable-inside words home views id v k here (give_position_back value) may tt tt
-  durable_holds (load_lock lock asked) may = durable.durable-inside words home views id v k here (load_lock lock asked) may tt tt
+  durable_holds (load_lock lock limit) may = durable.durable-inside words home views id v k here (load_lock lock limit) may tt tt
   durable_holds (take_lock lock) may = durable.durable-inside words home views id v k here (take_lock lock) may tt tt
   durable_holds (advance lock upto) may = durable.durable-inside words home views id v k here (advance lock upto) may tt tt
   durable_holds (release lock) may = durable.durable-inside words home views id v k here (release lock) may tt tt

@@ -1,4 +1,5 @@
 pub mod Lists
 pub mod WordLists
 pub mod Stages
+pub mod Landing
 pub mod Tapes

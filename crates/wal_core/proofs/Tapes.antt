@@ -1,6 +1,6 @@
 -- The writer's tape behind a call, however the call ended; and what a disk held when the log was
 -- opened, which no later call changes.
-use Rattle.std.proofs.Common.{◌≡◌, ◌≤◌, List, [], ◌∷◌, ◌++◌, length, Option, Some, None, IfSome, refl, subst}
+use Rattle.std.proofs.Common.{◌≡◌, ◌≤◌, List, [], ◌∷◌, ◌++◌, length, Option, Some, None, IfSome, refl, sym, subst}
 use mathlib.Core.Option.{none, some}
 use Rattle.segment_disk.specs.declared.disk.Call.{Call}
 use Rattle.segment_disk.specs.Tape.{Tape, after_call, after_calls, failed_call, state_now, with_call}
@@ -75,3 +75,18 @@ module _ (opening : Opening) where
   began_behind call (Failed faults none) t within suited = suited
   began_behind call (Failed faults (some made)) t within suited =
       began_before t (failed_call made call) within suited
+
+  -- nor does it cease to be suited
+  began_stays : (t : Tape) (call : Call) → opening.moment ≤ length t.calls → BeganSuited opening t
+      → BeganSuited opening (record t { calls = t.calls ++ call ∷ [] })
+  began_stays t call within suited =
+      subst (λ (calls : List Call). IsSuited (after_calls t.at_first calls))
+      (sym (take-before t.calls (call ∷ []) opening.moment within)) suited
+
+  pub began_still : (call : Call) (outcome : Outcome) (t : Tape)
+      → opening.moment ≤ length t.calls → BeganSuited opening t
+      → BeganSuited opening (tape_behind outcome call t)
+  began_still call Done t within suited = began_stays t call within suited
+  began_still call (Failed faults none) t within suited = suited
+  began_still call (Failed faults (some made)) t within suited =
+      began_stays t (failed_call made call) within suited

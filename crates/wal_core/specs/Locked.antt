@@ -1,14 +1,14 @@
 -- The insertion locks, the two turns, and what a lock's word tells of its holder's copy
 -- (PostgreSQL's xlog.c, WALInsertLockAcquire and WALInsertLockUpdateInsertingAt).
-use Rattle.std.specs.Prelude.{◌≡◌, ◌≢◌, ℕ, ◌+◌, ◌<◌, ◌≤◌, List, Contains, ◌==◌, if◌then◌else◌}
+use Rattle.std.specs.Prelude.{◌≡◌, ◌≢◌, ℕ, ◌+◌, ◌<◌, ◌≤◌, List, Contains, if◌then◌else◌}
 use mathlib.Core.Option.{Option, none, some}
 use Rattle.wal_page.specs.EntryWords.{address_of_word}
-use Rattle.wal_core.specs.Views.{HasAt, Copy, Flight, Landed, Copying, Working, Stage, Away, Taken, Looked, Ready, Zeroing, Published, Plain, Hold, Idle, Turned, Out}
+use Rattle.wal_core.specs.Views.{HasAt, Copy, Flight, Landed, Copying, Working, is_among, AreSomeOf, Stage, Away, Taken, Looked, Ready, Zeroing, Published, Plain, Hold, Idle, Turned, Out}
 
 -- ---- the insertion locks
 
 -- A lock's word is not 0 exactly where one view holds the lock, and no two hold it: `holder` says
--- which. An entry in flight stands under a lock that its view holds
+-- which. An entry in flight stands under locks that its view holds, at least one
 pub record AreHeld (lock : ℕ → ℕ) (parts : List Working) : Type 0 where
   pub holder : ℕ → ℕ
   pub each : (id i : ℕ) (w : Working) → HasAt parts id w → Contains w.locks i
@@ -16,14 +16,15 @@ pub record AreHeld (lock : ℕ → ℕ) (parts : List Working) : Type 0 where
   pub held : (i : ℕ) → i < 8 → lock i ≢ 0
       → (w : Working) × HasAt parts (holder i) w × Contains w.locks i
   pub under : (id : ℕ) (w : Working) (c : Copy) → HasAt parts id w → w.flight ≡ Copying c
-      → Contains w.locks c.lock
+      → AreSomeOf c.locks w.locks
 
 -- the most that a lock's word may be: one more than the address of the next word to copy, behind
--- the last one where none is left; 1 where nothing is being copied under it
+-- the last one where none is left; 1 where nothing is being copied under it. Each of the locks
+-- under which an entry stands may tell so
 abbrev pub most_told : ℕ → ℕ → Flight → ℕ
 most_told size lock Landed = 1
 most_told size lock (Copying c) =
-    if c.lock == lock then address_of_word size c.entry c.copied + 1 else 1
+    if is_among c.locks lock then address_of_word size c.entry c.copied + 1 else 1
 
 -- no lock's word tells more than is copied
 abbrev pub ProgressHolds : ℕ → (ℕ → ℕ) → List Working → Type 0

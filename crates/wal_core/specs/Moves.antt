@@ -1,6 +1,6 @@
 -- What a pass knows behind each kind of step: a function of what it knew before, of the step's
 -- operands, and of the number that it met.
-use Rattle.std.specs.Prelude.{ℕ, ◌+◌, ◌-◌, ◌%◌, Bool, true, false, ◌&&◌, not, List, [], ◌∷◌, ◌++◌, length, max, min, ◌==◌, nat_lt, if◌then◌else◌, Some}
+use Rattle.std.specs.Prelude.{ℕ, ◌+◌, ◌-◌, ◌%◌, Bool, true, false, ◌&&◌, ◌||◌, not, List, [], ◌∷◌, ◌++◌, length, max, min, ◌==◌, nat_lt, if◌then◌else◌, Some}
 use Rattle.std.specs.List.{filter}
 use Rattle.byte_position.specs.Position.{position_of}
 use Rattle.segment_disk.specs.declared.disk.Call.{Call}
@@ -9,7 +9,7 @@ use mathlib.Core.Option.{Option, none, some}
 use Rattle.wal_types.specs.declared.record.Record.{Record}
 use Rattle.wal_page.specs.Order.{Entry, position_behind}
 use Rattle.wal_core.specs.Words.{end_form}
-use Rattle.wal_core.specs.Views.{Place, Free, Locked, Loaded, Stored, Joined, Reserving, Flight, Landed, Copying, Watching, Stage, Away, Taken, Looked, Ready, Zeroing, Published, Plain, Lent, Hold, Idle, Turned, Out, Writing, View}
+use Rattle.wal_core.specs.Views.{Place, Free, Locked, Loaded, Stored, Joined, Reserving, Copy, Flight, Landed, Copying, Working, is_among, Watching, Stage, Away, Taken, Looked, Ready, Zeroing, Published, Plain, Lent, Hold, Idle, Turned, Out, Writing, View}
 
 -- ---- a view with one part changed
 
@@ -181,25 +181,25 @@ after_store_prev v = stored (v.reserving).place
 abbrev pub entry_at : ℕ → ℕ → Record → Entry
 entry_at number at value = record { pass = Some number; value = value; start = at }
 
--- the entry joins the log, and is in flight under this lock
-abbrev pub with_entry : ℕ → Entry → ℕ → ℕ → View → View
-with_entry size e prev lock v = record v {
+-- the entry joins the log, and is in flight under these locks
+abbrev pub with_entry : ℕ → Entry → ℕ → List ℕ → View → View
+with_entry size e prev locks v = record v {
   reserving = record v.reserving {
     entries = (v.reserving).entries ++ e ∷ [];
     seen = position_behind size e;
     place = Free;
   };
   working = record v.working {
-    flight = Copying (record { entry = e; prev = prev; lock = lock; copied = 0 });
+    flight = Copying (record { entry = e; prev = prev; locks = locks; copied = 0 });
   };
 }
 
-abbrev pub after_store_position : ℕ → Record → View → View
-after_store_position lock value v = reserved (v.reserving).place
+abbrev pub after_store_position : List ℕ → Record → View → View
+after_store_position locks value v = reserved (v.reserving).place
   where
     reserved : Place → View
     reserved (Stored at prev) = with_entry ((v.opening).setup).segment_size
-        (entry_at (v.reserving).number at value) prev lock v
+        (entry_at (v.reserving).number at value) prev locks v
     reserved Free = v
     reserved (Locked at) = v
     reserved (Loaded at prev) = v
@@ -220,40 +220,60 @@ after_give_back v = given (v.reserving).place
 
 -- ---- insertion locks
 
--- with the first lock a watch begins: for the address asked for, at most what was seen reserved
+-- with the first lock a watch begins, for what was seen reserved and at most up to a limit. The
+-- limit bounds what is learnt; which address the caller needs, and so whether a lock holds it back,
+-- is the caller's matter. An insert's vain try of a lock is such a load too, with the limit 0: of
+-- lock 0 it ends the view's watch, since the new one is for nothing
 abbrev pub begun : ℕ → ℕ → View → Watching
-begun lock asked v =
-    let end = min asked (end_form (v.opening).setup (v.reserving).seen) in
+begun lock limit v =
+    let end = min limit (end_form (v.opening).setup (v.reserving).seen) in
     if lock == 0 then record { end = end; visited = 0; bound = end } else v.watching
 
--- a lock that is visited next: free, it holds nothing back; held, it tells how far its copy is, or
--- nothing, and then the watcher stays
-abbrev pub visited_on : ℕ → ℕ → Watching → Watching
-visited_on lock met x =
-    if (lock == x.visited) && not (met == 1)
+abbrev pub is_landed : Flight → Bool
+is_landed Landed = true
+is_landed (Copying c) = false
+
+-- the view itself holds the lock and copies nothing, so that nothing is in flight under it
+abbrev pub is_own : ℕ → Working → Bool
+is_own lock w = is_among w.locks lock && is_landed w.flight
+
+-- a lock that is visited next: free, or the watcher's own, it holds nothing back; held by another
+-- one, it tells how far its copy is, or nothing, and then the watcher stays
+abbrev pub visited_on : Bool → ℕ → ℕ → Watching → Watching
+visited_on own lock met x =
+    if (lock == x.visited) && (own || not (met == 1))
     then record {
       end = x.end;
       visited = x.visited + 1;
-      bound = (if met == 0 then x.bound else min x.bound (met - 1));
+      bound = (if own || (met == 0) then x.bound else min x.bound (met - 1));
     }
     else x
 
 abbrev pub after_load_lock : ℕ → ℕ → ℕ → View → View
-after_load_lock lock asked met v =
-    record v { watching = visited_on lock met (begun lock asked v) }
+after_load_lock lock limit met v =
+    record v { watching = visited_on (is_own lock v.working) lock met (begun lock limit v) }
 
 abbrev pub after_take_lock : ℕ → ℕ → View → View
 after_take_lock lock met v =
     if met == 0 then with_working ((v.working).locks ++ lock ∷ []) (v.working).flight v else v
 
+abbrev pub without_lock : ℕ → List ℕ → List ℕ
+without_lock lock locks = filter (λ one. not (one == lock)) locks
+
+-- an entry under these locks: without any it has landed
+abbrev pub standing : Copy → List ℕ → Flight
+standing c [] = Landed
+standing c (lock ∷ locks) = Copying (record c { locks = lock ∷ locks })
+
+-- with the last lock under which it stands an entry lands
 abbrev pub landed : ℕ → Flight → Flight
 landed lock Landed = Landed
-landed lock (Copying c) = if c.lock == lock then Landed else Copying c
+landed lock (Copying c) =
+    if is_among c.locks lock then standing c (without_lock lock c.locks) else Copying c
 
 abbrev pub after_release : ℕ → View → View
 after_release lock v =
-    with_working (filter (λ held. not (held == lock)) (v.working).locks)
-    (landed lock (v.working).flight) v
+    with_working (without_lock lock (v.working).locks) (landed lock (v.working).flight) v
 
 -- ---- words of the ring
 

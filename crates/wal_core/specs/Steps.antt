@@ -16,7 +16,7 @@ use Rattle.wal_page.specs.Order.{room_at}
 use Rattle.wal_page.specs.Placed.{entry_word}
 use Rattle.wal_core.specs.declared.setup.Setup.{Setup}
 use Rattle.wal_core.specs.Words.{log_limit}
-use Rattle.wal_core.specs.Views.{HasAt, Place, Free, Locked, Loaded, Stored, Copy, Flight, Landed, Copying, Stage, Taken, Looked, Ready, Zeroing, Published, Plain, Lent, Hold, Idle, Turned, Out, Away, View}
+use Rattle.wal_core.specs.Views.{HasAt, Place, Free, Locked, Loaded, Stored, Copy, Flight, Landed, Copying, AreSomeOf, Stage, Taken, Looked, Ready, Zeroing, Published, Plain, Lent, Hold, Idle, Turned, Out, Away, View}
 use Rattle.wal_core.specs.Paged.{IsOpen}
 use Rattle.wal_core.specs.Moves.{Outcome, Done, Failed, left_of, right_of, both_of, spent, without_work, orphan_of, with_stage, with_hold, with_confirmed, with_writer, after_load_position, after_take_write_turn, after_slot_out, after_lock_position, after_load_prev, after_store_prev, after_store_position, after_give_back, after_load_lock, after_take_lock, after_release, after_store_word, after_load_word, after_load_written, after_load_flushed, after_load_moment, after_load_down, after_store_written, after_store_moment, after_store_flushed, after_set_down, after_take_mapping_turn, after_load_initialised, after_create, after_write, after_sync}
 
@@ -85,10 +85,12 @@ pub data Event : Type 0 where
   lock_position : ℕ → Event
   load_prev : Event
   store_prev : Event
-  store_position : ℕ → Record → Event
+  -- the entry is to stand under these locks
+  store_position : List ℕ → Record → Event
   give_position_back : Record → Event
   -- insertion locks
-  load_lock : ℕ → ℕ → Event
+  -- a watcher's visit, which learns up to the limit at most; an insert's vain try has the limit 0
+  load_lock : (lock limit : ℕ) → Event
   take_lock : ℕ → Event
   advance : ℕ → ℕ → Event
   release : ℕ → Event
@@ -170,9 +172,9 @@ module _ (v : View) where
   word_of_step (lock_position expected) = 0
   word_of_step load_prev = 1
   word_of_step store_prev = 1
-  word_of_step (store_position lock value) = 0
+  word_of_step (store_position locks value) = 0
   word_of_step (give_position_back value) = 0
-  word_of_step (load_lock lock asked) = 2 + lock
+  word_of_step (load_lock lock limit) = 2 + lock
   word_of_step (take_lock lock) = 2 + lock
   word_of_step (advance lock upto) = 2 + lock
   word_of_step (release lock) = 2 + lock
@@ -234,11 +236,11 @@ module _ (v : View) where
   value_behind (lock_position expected) met = exchanged expected (expected + 1) met
   value_behind load_prev met = met
   value_behind store_prev met = address_of (setup_of).segment_size (place_at (v.reserving).place)
-  value_behind (store_position lock value) met =
+  value_behind (store_position locks value) met =
       place_at (v.reserving).place
       + room_at (setup_of).segment_size (place_at (v.reserving).place) value
   value_behind (give_position_back value) met = place_at (v.reserving).place
-  value_behind (load_lock lock asked) met = met
+  value_behind (load_lock lock limit) met = met
   value_behind (take_lock lock) met = exchanged 0 1 met
   value_behind (advance lock upto) met = upto + 1
   value_behind (release lock) met = 0
@@ -288,18 +290,18 @@ module _ (v : View) where
   MayStep (lock_position expected) = ((v.reserving).place ≡ Free) × (expected % 2 ≡ 0)
   MayStep load_prev = (at : ℕ) × ((v.reserving).place ≡ Locked at)
   MayStep store_prev = (at prev : ℕ) × ((v.reserving).place ≡ Loaded at prev)
-  MayStep (store_position lock value) = (at prev : ℕ) × ((v.reserving).place ≡ Stored at prev)
+  MayStep (store_position locks value) = (at prev : ℕ) × ((v.reserving).place ≡ Stored at prev)
       × IsWritable value × (at + room_at (setup_of).segment_size at value ≤ log_limit setup_of)
-      × Contains (v.working).locks lock × ((v.working).flight ≡ Landed)
+      × AreSomeOf locks (v.working).locks × ((v.working).flight ≡ Landed)
   MayStep (give_position_back value) = (at : ℕ) × ((v.reserving).place ≡ Locked at)
       × (log_limit setup_of < at + room_at (setup_of).segment_size at value)
-  MayStep (load_lock lock asked) = lock < 8
+  MayStep (load_lock lock limit) = lock < 8
   MayStep (take_lock lock) = lock < 8
   MayStep (advance lock upto) = Contains (v.working).locks lock
-      × IsCopying (λ c. (c.lock ≡ lock)
+      × IsCopying (λ c. Contains c.locks lock
       × (upto ≤ address_of_word (setup_of).segment_size c.entry c.copied))
   MayStep (release lock) = Contains (v.working).locks lock
-      × ((c : Copy) → (v.working).flight ≡ Copying c → c.lock ≡ lock
+      × ((c : Copy) → (v.working).flight ≡ Copying c → Contains c.locks lock
       → c.copied ≡ words_owned (setup_of).segment_size c.entry)
   MayStep (load_end buffer) = buffer < (setup_of).ring_pages
   MayStep store_word = IsCopying (CopiesOn setup_of (v.mapping).confirmed)
@@ -347,9 +349,9 @@ module _ (v : View) where
   view_behind (lock_position expected) met home = after_lock_position expected met v
   view_behind load_prev met home = after_load_prev met v
   view_behind store_prev met home = after_store_prev v
-  view_behind (store_position lock value) met home = after_store_position lock value v
+  view_behind (store_position locks value) met home = after_store_position locks value v
   view_behind (give_position_back value) met home = after_give_back v
-  view_behind (load_lock lock asked) met home = after_load_lock lock asked met v
+  view_behind (load_lock lock limit) met home = after_load_lock lock limit met v
   view_behind (take_lock lock) met home = after_take_lock lock met v
   view_behind (advance lock upto) met home = v
   view_behind (release lock) met home = after_release lock v

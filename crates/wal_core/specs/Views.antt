@@ -1,5 +1,6 @@
 -- What a pass knows and is about, in parts, one for each concern.
-use Rattle.std.specs.Prelude.{◌≡◌, ℕ, ◌+◌, Bool, List, []}
+use Rattle.std.specs.Prelude.{◌≡◌, ℕ, ◌+◌, ◌≤◌, Bool, List, [], length, Contains, ◌==◌}
+use Rattle.std.specs.List.{list_any}
 use mathlib.Core.Option.{Option, some}
 use lib.ListN.{get_elem?}
 use Rattle.segment_disk.specs.Tape.{Tape}
@@ -55,17 +56,25 @@ pub record Reserving : Type 0 where
 
 -- ---- copying
 
--- a reserved entry that is being copied: the start of the one before, the insertion lock under
+-- a reserved entry that is being copied: the start of the one before, the insertion locks under
 -- which it stands, and how many of its words are copied
 pub record Copy : Type 0 where
   pub entry : Entry
   pub prev : ℕ
-  pub lock : ℕ
+  pub locks : List ℕ
   pub copied : ℕ
 
 pub data Flight : Type 0 where
   Landed : Flight
   Copying : Copy → Flight
+
+-- whether a lock is one of these
+abbrev pub is_among : List ℕ → ℕ → Bool
+is_among locks lock = list_any (λ one. lock == one) locks
+
+-- at least one lock, and each of them is one of those
+abbrev pub AreSomeOf : List ℕ → List ℕ → Type 0
+AreSomeOf few all = (1 ≤ length few) × ((lock : ℕ) → Contains few lock → Contains all lock)
 
 -- the insertion locks held, and the entry in flight
 pub record Working : Type 0 where

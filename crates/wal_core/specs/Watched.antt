@@ -1,14 +1,15 @@
 -- What a watcher knows of the copies under the insertion locks that it has visited (PostgreSQL's
 -- xlog.c, WaitXLogInsertionsToFinish).
-use Rattle.std.specs.Prelude.{◌≡◌, ℕ, ◌<◌, ◌≤◌, List}
+use Rattle.std.specs.Prelude.{◌≡◌, ℕ, ◌<◌, ◌≤◌, List, Contains}
 use Rattle.wal_page.specs.EntryWords.{address_of_word}
 use Rattle.wal_core.specs.Views.{HasAt, Copy, Copying, Working, Watching}
 
--- an entry in flight under a visited lock, of which a word lies below the end watched for, has all
--- its words below the bound copied
+-- an entry in flight of which any lock was visited, and of which a word lies below the end watched
+-- for, has all its words below the bound copied
 abbrev pub IsBehind : ℕ → Watching → Working → Type 0
-IsBehind size watch work = (c : Copy) → work.flight ≡ Copying c → c.lock < watch.visited
-    → address_of_word size c.entry 0 < watch.end → watch.bound ≤ address_of_word size c.entry c.copied
+IsBehind size watch work = (c : Copy) (lock : ℕ) → work.flight ≡ Copying c → Contains c.locks lock
+    → lock < watch.visited → address_of_word size c.entry 0 < watch.end
+    → watch.bound ≤ address_of_word size c.entry c.copied
 
 -- `end` is the order's end, as an address
 pub record WatchHolds (size end : ℕ) (works : List Working) (watches : List Watching) : Type 0

@@ -130,8 +130,8 @@ module _ (v : View) where
   reserve_event words (Commits value) lock (Locked at) =
       if fits (Commits value) at then load_prev else give_position_back value
   reserve_event words ask lock (Loaded at prev) = store_prev
-  reserve_event words (Inserts value) lock (Stored at prev) = store_position lock value
-  reserve_event words (Commits value) lock (Stored at prev) = store_position lock value
+  reserve_event words (Inserts value) lock (Stored at prev) = store_position (lock ∷ []) value
+  reserve_event words (Commits value) lock (Stored at prev) = store_position (lock ∷ []) value
   reserve_event words Flushes lock (Stored at prev) = load_down
 
   abbrev pub map_event : Stage → Event

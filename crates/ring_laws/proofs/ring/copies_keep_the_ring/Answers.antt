@@ -3,8 +3,8 @@ use Rattle.ring_laws.proofs.StoredWords.{is_mapped}
 use Rattle.ring_laws.proofs.ring.copies_keep_the_ring.Goals as goal
 
 pub returns-clause-begun : goal.returns-clause-begun
-returns-clause-begun c = λ setup order reach memory flights id e prev lock valid chain k.
-    law.reserves setup order reach memory flights k valid chain id e prev lock
+returns-clause-begun c = λ setup order reach memory flights id e prev locks valid chain k.
+    law.reserves setup order reach memory flights k valid chain id e prev locks
 
 pub returns-clause-stored : goal.returns-clause-stored
 returns-clause-stored c =
