@@ -170,25 +170,25 @@ module _ (m : Machine) (ask : Ask) where
 
     reserves_now : (value : Record) → IsWritable value
         → at + room_at ((v.opening).setup).segment_size at value ≤ log_limit (v.opening).setup
-        → MayStep here (store_position lock value)
+        → MayStep here (store_position (lock ∷ []) value)
         × ((c : Copy) × IsPosed Free (lock ∷ []) (Copying c) Away Idle
-        (view_behind here (store_position lock value) (position_word words) (m.state).home)
+        (view_behind here (store_position (lock ∷ []) value) (position_word words) (m.state).home)
         × IsUnder lock c × IsLeft ((v.opening).setup).segment_size c)
     reserves_now value writable within =
         let size = ((v.opening).setup).segment_size in
         let e : Entry = entry_at (v.reserving).number at value in
-        let c : Copy = record { entry = e; prev = prev; lock = lock; copied = 0 } in
+        let c : Copy = record { entry = e; prev = prev; locks = lock ∷ []; copied = 0 } in
         let rises = end_address_of-mono_lt size valid at (position_behind size e) (omega arith) in
         let first = end_address_of-mod_word size valid at whole in
         let last = end_address_of-mod_word size valid (position_behind size e) (omega arith) in
         let left : 0 < words_owned size e = omega arith in
-        ((at, prev, refl, writable, within, (0, omega arith, refl), refl), (c, record {
+        ((at, prev, refl, writable, within, ((omega arith, λ i held. held)), refl), (c, record {
           place_is = refl;
           locks_are = refl;
           flight_is = refl;
           stage_is = refl;
           hold_is = refl;
-        }, record { lock_is = refl; whole = whole }, left))
+        }, record { locks_are = refl; whole = whole }, left))
 
   stores_position_at : (lock at prev : ℕ) (v : View)
       → IsSegmentSize ((v.opening).setup).segment_size → at % 8 ≡ 0 → IsRecord ask
@@ -278,7 +278,7 @@ module _ (m : Machine) (ask : Ask) where
       let d : Copy = record c { copied = c.copied + 1 } in
       let w = at_copy lock d Away v in
       let pose = is_posed Free (lock ∷ []) (Copying d) Away Idle v in
-      let under_still : IsUnder lock d = record { lock_is = under.lock_is; whole = under.whole } in
+      let under_still : IsUnder lock d = record { locks_are = under.locks_are; whole = under.whole } in
       ((c, refl, record { left = left; met = omega arith }), bool_cases
       (λ (b : Bool). StandsNext (cond b (goes_on (Releases lock false))
       (cond (eqb (address_of_word size c.entry (c.copied + 1) % 8192) 0) (goes_on (Looks lock))

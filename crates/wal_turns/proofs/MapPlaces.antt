@@ -1,13 +1,13 @@
 -- At the places of mapping, and where an insert tells its progress and releases its lock: the step
 -- that the order names may be made, and the view behind it stands at the next place.
-use Rattle.std.proofs.Common.{◌≡◌, ◌≢◌, ◌⊎◌, inl, inr, ⊎_elim, ℕ, ◌+◌, ◌-◌, ◌*◌, ◌/◌, ◌%◌, ◌<◌, ◌≤◌, Bool, true, false, cond, eqb, eqb-true, eq-eqb, not, List, [], ◌∷◌, Contains, filter, slice_index, refl, sym, ap, ◌∙◌, subst, arith}
+use Rattle.std.proofs.Common.{◌≡◌, ◌≢◌, ◌⊎◌, inl, inr, ⊎_elim, ℕ, ◌+◌, ◌-◌, ◌*◌, ◌/◌, ◌%◌, ◌<◌, ◌≤◌, Bool, true, false, cond, eqb, eqb-true, eq-eqb, not, ◌||◌, List, [], ◌∷◌, Contains, filter, slice_index, refl, sym, ap, ◌∙◌, subst, arith}
 use Rattle.std.proofs.Math.Dec.{ltb, leb}
 use Rattle.std.proofs.lemmas.Bool.{leb-true, leb-false, ltb-true}
 use mathlib.Core.Option.{Option, none, some}
 use Rattle.wal_page.specs.EntryWords.{address_of_word, words_owned}
 use Rattle.wal_core.specs.Words.{mapping_turn}
-use Rattle.wal_core.specs.Views.{Place, Free, Copy, Flight, Landed, Copying, Stage, Away, Taken, Looked, Ready, Zeroing, Published, Hold, Idle, View}
-use Rattle.wal_core.specs.Moves.{landed}
+use Rattle.wal_core.specs.Views.{Place, Free, Copy, Flight, Landed, Copying, Stage, Away, Taken, Looked, Ready, Zeroing, Published, Hold, Idle, View, is_among}
+use Rattle.wal_core.specs.Moves.{landed, standing, without_lock}
 use Rattle.wal_core.specs.Paged.{IsOpen}
 use Rattle.wal_core.specs.Steps.{MayStep, IsResting, Event, load_written, take_mapping_turn, zero_word, publish_end, release, word_of_step, view_behind}
 use Rattle.wal_turns.specs.Doing.{Ask, Inserts, Commits, Flushes, Doing, Looks, Maps, GivesTurn, Tells, Releases, Machine}
@@ -111,7 +111,8 @@ module _ (m : Machine) (ask : Ask) where
         (may, ((c, is_posed Free (lock ∷ []) (Copying c) Away Idle v, under, left), insert))
 
     tells_at : (end : ℕ) → Goes m ask (Tells lock end) (at_map lock c Away v)
-    tells_at end = (((0, omega arith, refl), (c, refl, (under.lock_is, omega arith))),
+    tells_at end = (((0, omega arith, refl), (c, refl, (subst
+        (λ (ls : List ℕ). Contains ls lock) (sym under.locks_are) (0, omega arith, refl), omega arith))),
         (((c, is_posed Free (lock ∷ []) (Copying c) Away Idle v, under, left), insert),
         omega arith))
 
@@ -175,8 +176,11 @@ module _ (m : Machine) (ask : Ask) where
       → Goes m ask (Releases lock false) (at_map lock c Away v)
   releases_at lock c v under whole insert =
       let lands : landed lock (Copying c) ≡ Landed =
-      ap (λ (b : Bool). cond b Landed (Copying c)) (eq-eqb c.lock lock under.lock_is) in
-      (((0, omega arith, refl), λ (d : Copy) (is : Copying c ≡ Copying d) (same : d.lock ≡ lock).
+      subst (λ (ls : List ℕ). cond (is_among ls lock) (standing c (without_lock lock ls)) (Copying c)
+      ≡ Landed) (sym under.locks_are)
+      (ap (λ (b : Bool). cond (b || false) (standing c (cond (not b) (lock ∷ []) [])) (Copying c))
+      (eq-eqb lock lock refl)) in
+      (((0, omega arith, refl), λ (d : Copy) (is : Copying c ≡ Copying d) (same : Contains d.locks lock).
       let copy : c ≡ d = cc in
       subst (IsWhole ((v.opening).setup).segment_size) copy whole),
       answered ask insert

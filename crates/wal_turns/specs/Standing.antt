@@ -83,7 +83,7 @@ pub record IsPosed (place : Place) (locks : List ℕ) (flight : Flight) (stage :
 
 -- an entry, which starts at a whole word, is copied under this one lock
 pub record IsUnder (lock : ℕ) (c : Copy) : Type 0 where
-  pub lock_is : c.lock ≡ lock
+  pub locks_are : c.locks ≡ lock ∷ []
   pub whole : (c.entry).start % 8 ≡ 0
 
 -- one that is copied on, on a page whose end was met
