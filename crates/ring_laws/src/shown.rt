@@ -8,9 +8,9 @@ ghost use Rattle.wal_core.specs.Sound.{IsSound};
 ghost use Rattle.wal_core.specs.Shown.{EntriesAreCopied, MappersAreNext, PagesArePresent, WordsAreLogs};
 
 /// In each state that keeps the invariant, the ring's words are the log's, or 0 while a pass is
-/// still to copy them; an entry is in flight in one view at most, and what counts as copied of it is
-/// the log's; the mapped pages that are not written whole are present; and the pass that maps works
-/// on the page behind them.
+/// still to copy them; an entry is in flight in one view at most, and what counts as copied of it
+/// is the log's; the mapped pages that are not written whole are present; and the pass that maps
+/// works on the page behind them.
 pub fn rings_hold_the_log()
     ensures words { (opening : Opening) (words : List ℕ) (home : Option Plain) (views : List View)
         (s : IsSound opening words home views)

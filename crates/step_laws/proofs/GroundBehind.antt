@@ -108,7 +108,8 @@ module _ (words : List ℕ) (home : Option Plain) (views : List View) (id : ℕ)
     grounded_behind load_prev may = same load_prev (rw may.1 refl)
     grounded_behind store_prev may = same store_prev (rw may.2 refl)
     grounded_behind (store_position locks value) may = reserved locks value may
-    grounded_behind (give_position_back value) may = same (give_position_back value) (rw may.1 refl)
+    grounded_behind (give_position_back value) may =
+        same (give_position_back value) (rw may.1 refl)
     grounded_behind (load_lock lock limit) may = grounded_live v.opening down
         (behind (load_lock lock limit)) refl live
         (visited_low (is_own lock v.working) lock (slice_index words (2 + lock))
@@ -180,7 +181,8 @@ module _ (words : List ℕ) (home : Option Plain) (views : List View) (id : ℕ)
   down_stays store_prev may = not_stored store_prev (λ e. omega arith)
   down_stays (store_position locks value) may =
       not_stored (store_position locks value) (λ e. omega arith)
-  down_stays (give_position_back value) may = not_stored (give_position_back value) (λ e. omega arith)
+  down_stays (give_position_back value) may =
+      not_stored (give_position_back value) (λ e. omega arith)
   down_stays (load_lock lock limit) may = not_stored (load_lock lock limit) (λ e. omega arith)
   down_stays (take_lock lock) may = not_stored (take_lock lock) (λ e. omega arith)
   down_stays (advance lock upto) may =

@@ -28,7 +28,7 @@ use Rattle.ring_laws.proofs.Buffers.{one_page}
 use Rattle.wal_core.specs.Durable.{DurabilityHolds, IsAssured, IsLawfulAt, IsLogBelow}
 use Rattle.segment_disk.specs.DiskImage.{image_as_read}
 use Rattle.segment_disk.specs.declared.disk.Call.{Call}
-use Rattle.segment_disk.specs.Tape.{Segment, Tape, after_calls, state_at, state_now}
+use Rattle.segment_disk.specs.Tape.{Segment, Tape, after_calls, state_now}
 use Rattle.std.proofs.Math.Seq.{take-length}
 use Rattle.flush_core.specs.Pages.{HoldsNothing}
 use Rattle.wal_core.specs.Suited.{BeganSuited}
