@@ -7,10 +7,10 @@ use mathlib.Core.Option.{none, some}
 use Rattle.segment_disk.specs.Tape.{Tape}
 use Rattle.wal_page.specs.Order.{Entry}
 use Rattle.wal_core.specs.Words.{Opening}
-use Rattle.wal_core.specs.Views.{HasAt, Hold, Idle, Turned, Out, Joined, Lent, Plain, Promise, Told, Writing}
+use Rattle.wal_core.specs.Views.{HasAt, Hold, Idle, Turned, Out, Joined, Lent, Plain, FlushPromise, Told, Writing}
 use Rattle.wal_core.specs.Moves.{no_writing, with_lent}
 use Rattle.wal_core.specs.Locked.{StandsTo}
-use Rattle.wal_core.specs.Durable.{AreKept, DurabilityHolds, IsAssured, IsFirm, IsInHand, IsKept, IsPromised}
+use Rattle.wal_core.specs.Durable.{AreKept, DurabilityHolds, IsToldRightly, IsFirm, IsInHand, IsPromiseKept, IsPromised}
 use Rattle.wal_core.proofs.Lists.{one_added, one_set}
 use Rattle.wal_core.proofs.Tapes.{told_suited, at_suited}
 use Rattle.wal_core.specs.Suited.{IfSuited}
@@ -44,7 +44,7 @@ lent_cases f P (Out m) g l is = let same : f m ≡ l = cc in subst P same (g m r
 
 module _ (opening : Opening) (order : List Entry) (flushed moment down : ℕ) (writer : Plain) where
   abbrev Is : Told → Type 0
-  Is x = IsAssured opening order flushed moment down writer x
+  Is x = IsToldRightly opening order flushed moment down writer x
 
   abbrev IsHeld : Lent → Type 0
   IsHeld l = IsInHand opening order moment writer l
@@ -54,10 +54,10 @@ module _ (opening : Opening) (order : List Entry) (flushed moment down : ℕ) (w
       → y.down_met ≡ x.down_met → y.down_set ≡ x.down_set → Is (told es js x)
       → ((l : Lent) → y.hold ≡ Out l → IsHeld l) → Is (told es js y)
   rebuilt es js x y promises met set_to a held = record {
-    own_promised = subst (λ (ps : List Promise). All (IsPromised flushed moment) ps)
+    own_promised = subst (λ (ps : List FlushPromise). All (IsPromised flushed moment) ps)
         (sym promises) a.own_promised;
     joined_promised = a.joined_promised;
-    own = subst (λ (ps : List Promise). IfSuited opening writer (λ t. AreKept opening order t es ps))
+    own = subst (λ (ps : List FlushPromise). IfSuited opening writer (λ t. AreKept opening order t es ps))
         (sym promises) a.own;
     joined = a.joined;
     in_hand = held;
@@ -91,11 +91,11 @@ module _ (opening : Opening) (order : List Entry) (flushed moment down : ℕ) (w
   }
 
   -- a promise more
-  abbrev promise : ℕ → ℕ → List Entry → Promise
+  abbrev promise : ℕ → ℕ → List Entry → FlushPromise
   promise upto from es = record { upto = upto; moment = from; entries = length es }
 
   is_kept : (upto from : ℕ) (es : List Entry) (t : Tape) → opening.moment ≤ from
-      → IsFirm opening.setup order upto from t → IsKept opening order t es (promise upto from es)
+      → IsFirm opening.setup order upto from t → IsPromiseKept opening order t es (promise upto from es)
   is_kept upto from es t begun firm = record {
     since = begun;
     firm = firm;
@@ -111,7 +111,7 @@ module _ (opening : Opening) (order : List Entry) (flushed moment down : ℕ) (w
     own_promised = All-push (IsPromised flushed moment) x.promises (promise upto from es)
         a.own_promised (record { upto_low = low; moment_low = past });
     joined_promised = a.joined_promised;
-    own = told_suited opening writer (λ t is suited. All-push (IsKept opening order t es) x.promises
+    own = told_suited opening writer (λ t is suited. All-push (IsPromiseKept opening order t es) x.promises
         (promise upto from es)
         (at_suited opening writer (λ t. AreKept opening order t es x.promises) t is suited a.own)
         (is_kept upto from es t begun
@@ -127,7 +127,7 @@ module _ (opening : Opening) (order : List Entry) (flushed moment down : ℕ) (w
   is_new = record {
     own_promised = All-nil (IsPromised flushed moment);
     joined_promised = All-nil (λ (j : Joined). All (IsPromised flushed moment) j.promises);
-    own = told_suited opening writer (λ t is suited. All-nil (IsKept opening order t []));
+    own = told_suited opening writer (λ t is suited. All-nil (IsPromiseKept opening order t []));
     joined = told_suited opening writer (λ t is suited.
         All-nil (λ (j : Joined). AreKept opening order t j.entries j.promises));
     in_hand = λ l is. absurd (cc);
@@ -215,7 +215,7 @@ module _ (opening : Opening) (order : List Entry) (flushed moment down : ℕ) (w
   -- ---- with other words
 
   pub with_down : (other : ℕ) (x : Told) → (down ≢ 0 → down ≡ other) → Is x
-      → IsAssured opening order flushed moment other writer x
+      → IsToldRightly opening order flushed moment other writer x
   with_down other x same a = record {
     own_promised = a.own_promised;
     joined_promised = a.joined_promised;
@@ -228,7 +228,7 @@ module _ (opening : Opening) (order : List Entry) (flushed moment down : ℕ) (w
         is ∙ same (λ zero. some_set (is ∙ zero));
   }
 
-  promised_later : (higher later : ℕ) → flushed ≤ higher → moment ≤ later → (ps : List Promise)
+  promised_later : (higher later : ℕ) → flushed ≤ higher → moment ≤ later → (ps : List FlushPromise)
       → All (IsPromised flushed moment) ps → All (IsPromised higher later) ps
   promised_later higher later up low ps all =
       All-weaker (IsPromised flushed moment) (IsPromised higher later)
@@ -238,7 +238,7 @@ module _ (opening : Opening) (order : List Entry) (flushed moment down : ℕ) (w
       }) ps all
 
   pub with_words : (higher later : ℕ) (x : Told) → flushed ≤ higher → moment ≤ later → Is x
-      → IsAssured opening order higher later down writer x
+      → IsToldRightly opening order higher later down writer x
   with_words higher later x up low a = record {
     own_promised = promised_later higher later up low (x.writing).promises a.own_promised;
     joined_promised = All-weaker (λ (j : Joined). All (IsPromised flushed moment) j.promises)

@@ -7,10 +7,10 @@ use Rattle.segment_disk.specs.Tape.{Tape}
 use Rattle.flush_core.specs.Left.{CallFits, IsMadeUpto, IsNowhere, TapeAssures}
 use Rattle.wal_page.specs.Order.{Entry}
 use Rattle.wal_core.specs.Words.{Opening}
-use Rattle.wal_core.specs.Views.{HasAt, Hold, Out, Joined, Lent, Plain, Promise, Told, View, told_of}
+use Rattle.wal_core.specs.Views.{HasAt, Hold, Out, Joined, Lent, Plain, FlushPromise, Told, View, told_of}
 use Rattle.wal_core.specs.Moves.{Outcome, Done, Failed, with_lent, with_outcome}
-use Rattle.wal_core.specs.Durable.{AreKept, DurabilityHolds, IsAssured, IsFirm, IsInHand, IsKept, IsLawfulAt, IsLogBelow, IsOnDisk, IsPromised}
-use Rattle.wal_core.specs.Steps.{IsFault, with_call_on}
+use Rattle.wal_core.specs.Durable.{AreKept, DurabilityHolds, IsToldRightly, IsFirm, IsInHand, IsPromiseKept, IsLawfulAt, IsLogBelow, IsOnDisk, IsPromised}
+use Rattle.wal_core.specs.Steps.{IsCallFault, with_call_on}
 use Rattle.durable_laws.proofs.Assured.{lent_cases, rebuilt, told, view_set}
 use Rattle.durable_laws.proofs.Segments.{All-both}
 use Rattle.wal_core.proofs.Tapes.{at_told, on_tape, tape_behind, began_behind, at_suited}
@@ -26,7 +26,7 @@ same_written call (Failed faults (some made)) w = refl
 
 -- a fault that is told is one of this call
 pub fault_rose : (v : View) (call : Call) (outcome : Outcome) (w : Plain) → w.fault ≡ none
-    → IsFault v outcome → (f : ℕ) → (with_outcome call outcome w).fault ≡ some f
+    → IsCallFault v outcome → (f : ℕ) → (with_outcome call outcome w).fault ≡ some f
     → Rose (v.opening).faults f
 fault_rose v call Done w up rose f is = absurd (some-ne-none f (sym is ∙ up))
 fault_rose v call (Failed faults none) w up rose f is =
@@ -75,9 +75,9 @@ module _ (o : Opening) (order : List Entry) (flushed moment down : ℕ) (home : 
       from t (fits upto under)
       (at_suited o w (IsFirm o.setup order upto from) t there suited firm))
 
-  kept_behind : (t : Tape) → w.tape ≡ Some t → (es : List Entry) (p : Promise)
-      → IsKept o order t es p → IsPromised flushed moment p
-      → IsKept o order (tape_behind outcome call t) es p
+  kept_behind : (t : Tape) → w.tape ≡ Some t → (es : List Entry) (p : FlushPromise)
+      → IsPromiseKept o order t es p → IsPromised flushed moment p
+      → IsPromiseKept o order (tape_behind outcome call t) es p
   kept_behind t there es p kept promised = record {
     since = kept.since;
     firm = TapeAssures-behind size (IsMadeUpto size p.upto) (IsLogBelow o.setup order p.upto) call
@@ -96,15 +96,15 @@ module _ (o : Opening) (order : List Entry) (flushed moment down : ℕ) (home : 
     firm = λ some_hard. firm_behind l.hard l.hard_moment i.hard_low (i.firm some_hard);
   }
 
-  assured_behind : (x : Told) → IsAssured o order flushed moment down w x
-      → IsAssured o order flushed moment down n x
+  assured_behind : (x : Told) → IsToldRightly o order flushed moment down w x
+      → IsToldRightly o order flushed moment down n x
   assured_behind x a = record {
     own_promised = a.own_promised;
     joined_promised = a.joined_promised;
     own = suited_behind (λ t. AreKept o order t x.entries (x.writing).promises)
         (λ t there suited.
-        All-both (IsKept o order t x.entries) (IsPromised flushed moment)
-        (IsKept o order (tape_behind outcome call t) x.entries)
+        All-both (IsPromiseKept o order t x.entries) (IsPromised flushed moment)
+        (IsPromiseKept o order (tape_behind outcome call t) x.entries)
         (kept_behind t there x.entries) (x.writing).promises
         (at_suited o w (λ t. AreKept o order t x.entries (x.writing).promises) t there suited a.own)
         a.own_promised);
@@ -113,8 +113,8 @@ module _ (o : Opening) (order : List Entry) (flushed moment down : ℕ) (home : 
         (λ t there suited. All-both (λ (j : Joined). AreKept o order t j.entries j.promises)
         (λ (j : Joined). All (IsPromised flushed moment) j.promises)
         (λ (j : Joined). AreKept o order (tape_behind outcome call t) j.entries j.promises)
-        (λ j kept promised. All-both (IsKept o order t j.entries) (IsPromised flushed moment)
-        (IsKept o order (tape_behind outcome call t) j.entries)
+        (λ j kept promised. All-both (IsPromiseKept o order t j.entries) (IsPromised flushed moment)
+        (IsPromiseKept o order (tape_behind outcome call t) j.entries)
         (kept_behind t there j.entries) j.promises kept promised) x.joined
         (at_suited o w
         (λ t. All (λ (j : Joined). AreKept o order t j.entries j.promises) x.joined) t there suited

@@ -22,11 +22,11 @@ use Rattle.lawful_image.specs.Lawful.{IsLawful, IsLawfulWord, log_word_bytes}
 use Rattle.serial_log.proofs.LawfulLaws.{no_owner_before, no_word_before, word_fits, word_stands_at}
 use Rattle.wal_core.specs.declared.setup.Setup.{Setup}
 use Rattle.wal_core.specs.Words.{Opening}
-use Rattle.wal_core.specs.Views.{HasAt, Hold, Out, Joined, Lent, Plain, Promise, Told, View, writer_of}
+use Rattle.wal_core.specs.Views.{HasAt, Hold, Out, Joined, Lent, Plain, FlushPromise, Told, View, writer_of}
 use Rattle.wal_core.specs.Locked.{IsWriteTurn}
 use Rattle.wal_core.specs.Moves.{Outcome, with_outcome}
 use Rattle.wal_core.specs.Steps.{MayStep, create, fault_number, number_lent, set_down, sync, value_behind, write}
-use Rattle.wal_core.specs.Durable.{AreKept, DurabilityHolds, IsFirm, IsKept, IsLawfulAt, IsLogBelow}
+use Rattle.wal_core.specs.Durable.{AreKept, DurabilityHolds, IsFirm, IsPromiseKept, IsLawfulAt, IsLogBelow}
 use Rattle.durable_laws.specs.Crashes.{CrashesLeave, DownTells, HoldsPromise, LeavesLawful, PutsOwned}
 use Rattle.durable_laws.proofs.Assured.{stands_out}
 use Rattle.wal_core.proofs.Tapes.{at_suited, at_told, began_still, on_tape, told_suited}
@@ -110,9 +110,9 @@ module _ (o : Opening) (order : List Entry) (flushed moment down : ℕ) (home : 
         IsLawful-left o.setup valid order chained image upto (firm.left at later image leaves)
         (only_log.left at (omega arith) image leaves)
 
-    keeps_promises : (es : List Entry) (ps : List Promise) → AreKept o order t es ps
+    keeps_promises : (es : List Entry) (ps : List FlushPromise) → AreKept o order t es ps
         → All (HoldsPromise o order t es) ps
-    keeps_promises es ps kept = All-weaker (IsKept o order t es) (HoldsPromise o order t es)
+    keeps_promises es ps kept = All-weaker (IsPromiseKept o order t es) (HoldsPromise o order t es)
         (λ p k. record {
           kept = firm_lawful p.upto p.moment k.since k.firm;
           later = k.later;

@@ -8,11 +8,11 @@ use Rattle.flush_core.specs.Left.{IsMadeUpto, IsNowhere, TapeAssures}
 use Rattle.wal_types.specs.declared.record.Record.{Record}
 use Rattle.wal_page.specs.Order.{Entry, IsChained, end_position}
 use Rattle.wal_core.specs.Words.{Opening, end_form}
-use Rattle.wal_core.specs.Views.{HasAt, Flight, Out, Joined, Lent, Place, Stored, Plain, Promise, Told, View, told_of, writing_of}
+use Rattle.wal_core.specs.Views.{HasAt, Flight, Out, Joined, Lent, Place, Stored, Plain, FlushPromise, Told, View, told_of, writing_of}
 use Rattle.wal_core.specs.Ordered.{AtPlace}
-use Rattle.wal_core.specs.Moves.{after_store_position, entry_at}
+use Rattle.wal_core.specs.Moves.{after_store_position, entry_reserved}
 use Rattle.wal_core.specs.Positioned.{PositionsHold}
-use Rattle.wal_core.specs.Durable.{AreKept, DurabilityHolds, IsAssured, IsKept, IsLawfulAt, IsLogBelow, IsOnDisk, IsPromised, IsStaged, IsUnwritten}
+use Rattle.wal_core.specs.Durable.{AreKept, DurabilityHolds, IsToldRightly, IsPromiseKept, IsLawfulAt, IsLogBelow, IsOnDisk, IsPromised, IsStaged, IsUnwritten}
 use Rattle.wal_core.specs.Steps.{store_position, view_behind}
 use Rattle.wal_core.specs.Sound.{IsSetup}
 use Rattle.wal_core.proofs.Lists.{part_at, view_from}
@@ -53,7 +53,7 @@ at_end size end last prev locked holder id place at met is stands =
 reserved_is : (v : View) (locks : List ℕ) (value : Record) (at prev : ℕ)
     → v.reserving.place ≡ Stored at prev
     → told_of (after_store_position locks value v)
-    ≡ told (v.reserving.entries ++ entry_at v.reserving.number at value ∷ [])
+    ≡ told (v.reserving.entries ++ entry_reserved v.reserving.number at value ∷ [])
     v.reserving.joined v.writing
 reserved_is v locks value at prev is = rw is refl
 
@@ -75,8 +75,8 @@ module _ (o : Opening) (order : List Entry) (flushed moment down : ℕ) (home : 
   module _ (reserved : writer.written ≤ end) (low : flushed ≤ writer.written)
       (known : (id : ℕ) (x : Told) → HasAt parts id x → (l : Lent) → (x.writing).hold ≡ Out l
       → l.known ≤ end) where
-    kept_longer : (t : Tape) (es : List Entry) (p : Promise) → IsKept o order t es p
-        → IsPromised flushed moment p → IsKept o longer t es p
+    kept_longer : (t : Tape) (es : List Entry) (p : FlushPromise) → IsPromiseKept o order t es p
+        → IsPromised flushed moment p → IsPromiseKept o longer t es p
     kept_longer t es p kept promised = record {
       since = kept.since;
       firm = firm_stays o.setup valid order e chained start p.upto p.moment t
@@ -84,9 +84,9 @@ module _ (o : Opening) (order : List Entry) (flushed moment down : ℕ) (home : 
       later = kept.later;
     }
 
-    kept_more : (t : Tape) (es : List Entry) (p : Promise)
+    kept_more : (t : Tape) (es : List Entry) (p : FlushPromise)
         → TapeAssures (o.setup).segment_size IsNowhere (IsLawfulAt o.setup order) opened t
-        → IsKept o order t es p → IsPromised flushed moment p → IsKept o longer t (es ++ e ∷ []) p
+        → IsPromiseKept o order t es p → IsPromised flushed moment p → IsPromiseKept o longer t (es ++ e ∷ []) p
     kept_more t es p lawful kept promised = record {
       since = kept.since;
       firm = (kept_longer t es p kept promised).firm;
@@ -100,15 +100,15 @@ module _ (o : Opening) (order : List Entry) (flushed moment down : ℕ) (home : 
     -- of each view, whose entries may be one more
     longer_assured : (x : Told) (es : List Entry)
         → ((l : Lent) → (x.writing).hold ≡ Out l → l.known ≤ end)
-        → ((t : Tape) → writer.tape ≡ Some t → BeganSuited o t → (p : Promise) → IsKept o order t x.entries p
-        → IsPromised flushed moment p → IsKept o longer t es p)
-        → IsAssured o order flushed moment down writer x
-        → IsAssured o longer flushed moment down writer (told es x.joined x.writing)
+        → ((t : Tape) → writer.tape ≡ Some t → BeganSuited o t → (p : FlushPromise) → IsPromiseKept o order t x.entries p
+        → IsPromised flushed moment p → IsPromiseKept o longer t es p)
+        → IsToldRightly o order flushed moment down writer x
+        → IsToldRightly o longer flushed moment down writer (told es x.joined x.writing)
     longer_assured x es within keeps a = record {
       own_promised = a.own_promised;
       joined_promised = a.joined_promised;
-      own = told_suited o writer (λ t is suited. All-both (IsKept o order t x.entries)
-          (IsPromised flushed moment) (IsKept o longer t es) (keeps t is suited)
+      own = told_suited o writer (λ t is suited. All-both (IsPromiseKept o order t x.entries)
+          (IsPromised flushed moment) (IsPromiseKept o longer t es) (keeps t is suited)
           (x.writing).promises
           (at_suited o writer (λ t. AreKept o order t x.entries (x.writing).promises) t is suited a.own)
           a.own_promised);
@@ -116,8 +116,8 @@ module _ (o : Opening) (order : List Entry) (flushed moment down : ℕ) (home : 
           All-both (λ (j : Joined). AreKept o order t j.entries j.promises)
           (λ (j : Joined). All (IsPromised flushed moment) j.promises)
           (λ (j : Joined). AreKept o longer t j.entries j.promises)
-          (λ j kept promised. All-both (IsKept o order t j.entries) (IsPromised flushed moment)
-          (IsKept o longer t j.entries) (kept_longer t j.entries) j.promises kept promised)
+          (λ j kept promised. All-both (IsPromiseKept o order t j.entries) (IsPromised flushed moment)
+          (IsPromiseKept o longer t j.entries) (kept_longer t j.entries) j.promises kept promised)
           x.joined
           (at_suited o writer (λ t. All (λ (j : Joined). AreKept o order t j.entries j.promises) x.joined)
           t is suited a.joined) a.joined_promised);
@@ -188,12 +188,12 @@ pub store_position_keeps : (o : Opening) (order : List Entry) (flushed moment do
     holder id (v.reserving).place
     → PositionsHold o order written flushed down home writer flights (map writing_of views)
     → (v.reserving).place ≡ Stored at prev
-    → DurabilityHolds o (order ++ entry_at (v.reserving).number at value ∷ []) flushed moment down
+    → DurabilityHolds o (order ++ entry_reserved (v.reserving).number at value ∷ []) flushed moment down
     home writer
     (set (map told_of views) id (told_of (view_behind v (store_position locks value) met home)))
 store_position_keeps o order flushed moment down home writer views id met locks value v at prev
     last word locked holder written flights h here setup chained stands positions is =
-    let e = entry_at (v.reserving).number at value in
+    let e = entry_reserved (v.reserving).number at value in
     let start = at_end (o.setup).segment_size (end_position (o.setup).segment_size order) last word
     locked holder id (v.reserving).place at prev is stands in
     subst (λ (x : Told). DurabilityHolds o (order ++ e ∷ []) flushed moment down home writer

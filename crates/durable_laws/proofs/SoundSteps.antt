@@ -7,10 +7,10 @@ use Rattle.wal_types.specs.declared.record.Record.{Record}
 use Rattle.wal_page.specs.Order.{Entry}
 use Rattle.wal_core.specs.Words.{Opening, flushed_word, moment_word, down_word, written_word, write_turn}
 use Rattle.wal_core.specs.Views.{HasAt, Plain, Told, View, reserving_of, told_of, working_of, writer_of, writing_of, flight_of, Taken, Locked}
-use Rattle.wal_core.specs.Moves.{Outcome, after_create, after_sync, after_write, both_of, entry_at, left_of, orphan_of, right_of, spent, without_work, with_place, with_stage, with_working}
+use Rattle.wal_core.specs.Moves.{Outcome, after_create, after_sync, after_write, after_join, entry_reserved, after_split, orphan_of, split_off, spent, without_work, with_place, with_stage, with_working}
 use Rattle.wal_core.specs.Durable.{DurabilityHolds}
 use Rattle.wal_core.specs.Sound.{IsSound}
-use Rattle.wal_core.specs.Steps.{Event, MayStep, home_behind, place_at, value_behind, view_behind, word_of_step, load_position, take_write_turn, slot_out, slot_in, release_write_turn, lock_position, load_prev, store_prev, store_position, give_position_back, load_lock, take_lock, advance, release, load_end, store_word, load_word, load_written, load_flushed, load_moment, load_down, store_written, store_moment, store_flushed, set_down, take_mapping_turn, load_initialised, clear_end, zero_word, publish_end, publish_initialised, release_mapping_turn, create, write, sync}
+use Rattle.wal_core.specs.Steps.{StepKind, MayStep, home_behind, place_at, value_behind, view_behind, word_of_step, load_position, take_write_turn, slot_out, slot_in, release_write_turn, lock_position, load_prev, store_prev, store_position, give_position_back, load_lock, take_lock, advance, release, load_buffer_end, store_ring_word, load_ring_word, load_written, load_flushed, load_moment, load_down, store_written, store_moment, store_flushed, set_down, take_mapping_turn, load_initialised_end, clear_end, zero_ring_word, publish_end, publish_initialised_end, release_mapping_turn, create, write, sync}
 use Rattle.wal_core.proofs.Lists.{part_added, part_at, part_set}
 use Rattle.wal_core.proofs.WordLists.{single_set, word_again, word_else}
 use Rattle.durable_laws.specs.Behind.{HasDurable, HasDurableWith, IsInside, LoadsStaged}
@@ -100,12 +100,12 @@ module _ (words : List ℕ) (home : Option Plain) (views : List View) (id : ℕ)
   -- ---- passes
 
   pub durable-split : HasDurableWith o words home views k
-      (set views id (left_of v) ++ right_of v ∷ [])
+      (set views id (after_split v) ++ split_off v ∷ [])
   durable-split = subst (λ (parts : List Told). DurabilityHolds o k.order (flushed_word words)
       (moment_word words) (down_word words) home k.writer parts)
-      (sym (part_added told_of (set views id (left_of v)) (right_of v)
-      ∙ ap (λ (xs : List Told). xs ++ told_of (right_of v) ∷ [])
-      (part_set told_of views id (left_of v))))
+      (sym (part_added told_of (set views id (after_split v)) (split_off v)
+      ∙ ap (λ (xs : List Told). xs ++ told_of (split_off v) ∷ [])
+      (part_set told_of views id (after_split v))))
       (one.split_keeps o k.order (flushed_word words) (moment_word words) (down_word words) home
       k.writer (map told_of views) k.durable id v mine)
 
@@ -120,11 +120,11 @@ module _ (words : List ℕ) (home : Option Plain) (views : List View) (id : ℕ)
       k.writer (map told_of views) k.durable id v mine)
 
   pub durable-taken_in : (other : ℕ) (u : View) → HasAt views other u
-      → HasDurableWith o words home views k (set (set views other (spent u)) id (both_of v u))
+      → HasDurableWith o words home views k (set (set views other (spent u)) id (after_join v u))
   durable-taken_in other u there = subst (λ (parts : List Told). DurabilityHolds o k.order
       (flushed_word words) (moment_word words) (down_word words) home k.writer parts)
-      (sym (part_set told_of (set views other (spent u)) id (both_of v u)
-      ∙ ap (λ (xs : List Told). set xs id (told_of (both_of v u)))
+      (sym (part_set told_of (set views other (spent u)) id (after_join v u)
+      ∙ ap (λ (xs : List Told). set xs id (told_of (after_join v u)))
       (part_set told_of views other (spent u))))
       (one.join_keeps o k.order (flushed_word words) (moment_word words) (down_word words) home
       k.writer (map told_of views) k.durable id v mine other u
@@ -135,7 +135,7 @@ module _ (words : List ℕ) (home : Option Plain) (views : List View) (id : ℕ)
   pub durable-reserved : (v.reserving).live ≡ true → (locks : List ℕ) (value : Record)
       → MayStep v (store_position locks value)
       → HasDurable words home views id v (store_position locks value)
-      (k.order ++ entry_at (v.reserving).number (place_at v (v.reserving).place) value ∷ [])
+      (k.order ++ entry_reserved (v.reserving).number (place_at v (v.reserving).place) value ∷ [])
       k.writer
   durable-reserved live locks value may =
       let at = may.0 in
@@ -144,7 +144,7 @@ module _ (words : List ℕ) (home : Option Plain) (views : List View) (id : ℕ)
       let met = slice_index words 0 in
       let size = ((v.opening).setup).segment_size in
       let w = view_behind v (store_position locks value) met home in
-      let entry = λ (p : ℕ). entry_at (v.reserving).number p value in
+      let entry = λ (p : ℕ). entry_reserved (v.reserving).number p value in
       let place : at ≡ place_at v (v.reserving).place = sym (ap (place_at v) is) in
       elsewhere_stored (k.order ++ entry (place_at v (v.reserving).place) ∷ []) k.writer home 0
       (value_behind v (store_position locks value) met) w (λ e. omega arith) (λ e. omega arith)
@@ -206,7 +206,7 @@ module _ (words : List ℕ) (home : Option Plain) (views : List View) (id : ℕ)
   away : (i n j : ℕ) → j ≢ i → slice_index words j ≡ slice_index (set words i n) j
   away i n j apart = sym (word_else words i n j apart)
 
-  pub durable-inside : (e : Event) → MayStep v e → IsInside e
+  pub durable-inside : (e : StepKind) → MayStep v e → IsInside e
       → LoadsStaged v k.order e (slice_index words (word_of_step v e))
       → HasDurable words home views id v e k.order k.writer
   durable-inside load_position may inside staged =
@@ -256,18 +256,18 @@ module _ (words : List ℕ) (home : Option Plain) (views : List View) (id : ℕ)
   durable-inside (release lock) may inside staged =
       let below = lock_below lock may.0 in
       untouched (2 + lock) _ _ refl (λ e. omega arith) (λ e. omega arith) (λ e. omega arith)
-  durable-inside (load_end buffer) may inside staged =
-      untouched (word_of_step v (load_end buffer)) _ _ refl (λ e. omega arith) (λ e. omega arith)
+  durable-inside (load_buffer_end buffer) may inside staged =
+      untouched (word_of_step v (load_buffer_end buffer)) _ _ refl (λ e. omega arith) (λ e. omega arith)
       (λ e. omega arith)
-  durable-inside store_word may inside staged =
-      untouched (word_of_step v store_word) _ _ refl (λ e. omega arith) (λ e. omega arith)
+  durable-inside store_ring_word may inside staged =
+      untouched (word_of_step v store_ring_word) _ _ refl (λ e. omega arith) (λ e. omega arith)
       (λ e. omega arith)
-  durable-inside (load_word i) may inside staged =
-      elsewhere_stored k.order k.writer home (word_of_step v (load_word i)) _ _
+  durable-inside (load_ring_word i) may inside staged =
+      elsewhere_stored k.order k.writer home (word_of_step v (load_ring_word i)) _ _
       (λ e. omega arith) (λ e. omega arith) (λ e. omega arith)
       (one.load_word_keeps o k.order (flushed_word words) (moment_word words) (down_word words)
       home k.writer (map told_of views) k.durable id v mine i
-      (slice_index words (word_of_step v (load_word i))) staged)
+      (slice_index words (word_of_step v (load_ring_word i))) staged)
   durable-inside load_written may inside staged =
       loaded 13 _ (one.load_written_keeps o k.order (flushed_word words) (moment_word words)
       (down_word words) home k.writer (map told_of views) k.durable id v mine
@@ -315,18 +315,18 @@ module _ (words : List ℕ) (home : Option Plain) (views : List View) (id : ℕ)
   durable-inside take_mapping_turn may inside staged =
       untouched 10 _ _ (either_told (slice_index words 10 == 0) (with_stage Taken v) v refl)
       (λ e. omega arith) (λ e. omega arith) (λ e. omega arith)
-  durable-inside load_initialised may inside staged =
+  durable-inside load_initialised_end may inside staged =
       untouched 12 _ _ refl (λ e. omega arith) (λ e. omega arith) (λ e. omega arith)
   durable-inside clear_end may inside staged =
       untouched (word_of_step v clear_end) _ _ refl (λ e. omega arith) (λ e. omega arith)
       (λ e. omega arith)
-  durable-inside zero_word may inside staged =
-      untouched (word_of_step v zero_word) _ _ refl (λ e. omega arith) (λ e. omega arith)
+  durable-inside zero_ring_word may inside staged =
+      untouched (word_of_step v zero_ring_word) _ _ refl (λ e. omega arith) (λ e. omega arith)
       (λ e. omega arith)
   durable-inside publish_end may inside staged =
       untouched (word_of_step v publish_end) _ _ refl (λ e. omega arith) (λ e. omega arith)
       (λ e. omega arith)
-  durable-inside publish_initialised may inside staged =
+  durable-inside publish_initialised_end may inside staged =
       untouched 12 _ _ refl (λ e. omega arith) (λ e. omega arith) (λ e. omega arith)
   durable-inside release_mapping_turn may inside staged =
       untouched 10 _ _ refl (λ e. omega arith) (λ e. omega arith) (λ e. omega arith)

@@ -10,9 +10,9 @@ use Rattle.flush_core.proofs.LeftLaws.{TapeAssures-now}
 use Rattle.wal_page.specs.Order.{Entry}
 use Rattle.wal_core.specs.Words.{Opening}
 use Rattle.wal_core.specs.Views.{HasAt, Hold, Idle, Turned, Out, Joined, Lent, Plain, Told, View, told_of, writer_of}
-use Rattle.wal_core.specs.Moves.{lent, both_of, left_of, no_writing, orphan_of, right_of, spent, with_hold, with_lent, without_work, after_load_down, after_load_flushed, after_load_moment, after_load_word, after_load_written, after_set_down, after_slot_out, after_store_flushed, after_store_moment, after_store_written, after_take_write_turn, hardened}
+use Rattle.wal_core.specs.Moves.{lent, after_join, after_split, no_writing, orphan_of, split_off, spent, with_hold, with_lent, without_work, after_load_down, after_load_flushed, after_load_moment, after_load_word, after_load_written, after_set_down, after_slot_out, after_store_flushed, after_store_moment, after_store_written, after_take_write_turn, hardened}
 use Rattle.wal_core.specs.Locked.{IsWriteTurn}
-use Rattle.wal_core.specs.Durable.{DurabilityHolds, IsAssured, IsFirm, IsInHand, IsLogBelow, IsOnDisk, IsStaged}
+use Rattle.wal_core.specs.Durable.{DurabilityHolds, IsToldRightly, IsFirm, IsInHand, IsLogBelow, IsOnDisk, IsStaged}
 use Rattle.wal_core.specs.Steps.{MayStep, fault_number, home_behind, number_lent, returned, value_behind, view_behind, with_slot, set_down, slot_in, slot_out, store_flushed, store_moment}
 use Rattle.durable_laws.proofs.Assured.{did_set_down, with_down, with_words, is_joined, is_new, is_promised, lent_cases, met_down, rebuilt, stands_out, stands_turned, told, view_added, view_set}
 use Rattle.durable_laws.proofs.Growth.{IsFirm-lower}
@@ -27,7 +27,7 @@ module _ (o : Opening) (order : List Entry) (flushed moment down : ℕ) (home : 
   Holds views = DurabilityHolds o order flushed moment down home writer views
 
   abbrev Is : Told → Type 0
-  Is x = IsAssured o order flushed moment down writer x
+  Is x = IsToldRightly o order flushed moment down writer x
 
   module _ (id : ℕ) (v : View) (here : HasAt parts id (told_of v)) where
     was : Is (told_of v)
@@ -328,7 +328,7 @@ module _ (o : Opening) (order : List Entry) (flushed moment down : ℕ) (home : 
 
     -- ---- passes that begin and end
 
-    pub split_keeps : Holds (set parts id (told_of (left_of v)) ++ told_of (right_of v) ∷ [])
+    pub split_keeps : Holds (set parts id (told_of (after_split v)) ++ told_of (split_off v) ∷ [])
     split_keeps = view_added o order flushed moment down writer home
         (set parts id (told_of v)) (told [] [] no_writing) same
         (is_new o order flushed moment down writer)
@@ -340,11 +340,11 @@ module _ (o : Opening) (order : List Entry) (flushed moment down : ℕ) (home : 
         (is_new o order flushed moment down writer)
 
     pub join_keeps : (other : ℕ) (w : View) → HasAt parts other (told_of w)
-        → Holds (set (set parts other (told_of (spent w))) id (told_of (both_of v w)))
+        → Holds (set (set parts other (told_of (spent w))) id (told_of (after_join v w)))
     join_keeps other w there =
         let began = is_new o order flushed moment down writer in
         view_set o order flushed moment down writer home
-        (set parts other (told [] [] no_writing)) id (told_of (both_of v w))
+        (set parts other (told [] [] no_writing)) id (told_of (after_join v w))
         (view_set o order flushed moment down writer home parts other (told [] [] no_writing) h
         began)
         (is_joined o order flushed moment down writer es w.reserving.entries js

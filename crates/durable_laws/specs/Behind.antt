@@ -6,10 +6,10 @@ use Rattle.wal_core.specs.Words.{Opening, flushed_word, moment_word, down_word}
 use Rattle.wal_core.specs.Views.{Lent, Out, Plain, View, told_of}
 use Rattle.wal_core.specs.Durable.{DurabilityHolds, IsStaged}
 use Rattle.wal_core.specs.Sound.{IsSound}
-use Rattle.wal_core.specs.Steps.{Event, create, home_behind, load_word, store_position, sync, value_behind, view_behind, word_of_step, write}
+use Rattle.wal_core.specs.Steps.{StepKind, create, home_behind, load_ring_word, store_position, sync, value_behind, view_behind, word_of_step, write}
 
 -- the step adds no entry and makes no call of the device
-abbrev pub IsInside : Event → Type 0
+abbrev pub IsInside : StepKind → Type 0
 IsInside (store_position locks value) = ⊥
 IsInside (create segment outcome) = ⊥
 IsInside (write segment page upto bytes outcome) = ⊥
@@ -18,12 +18,12 @@ IsInside other = Unit {0}
 
 -- a word that is loaded for a write is 0 or the log's, and the log's below what is known to be
 -- copied
-abbrev pub LoadsStaged : View → List Entry → Event → ℕ → Type 0
-LoadsStaged v order (load_word k) met = (l : Lent) → (v.writing).hold ≡ Out l
+abbrev pub LoadsStaged : View → List Entry → StepKind → ℕ → Type 0
+LoadsStaged v order (load_ring_word k) met = (l : Lent) → (v.writing).hold ≡ Out l
     → IsStaged (v.opening).setup order l.known (k, met)
 LoadsStaged v order other met = Unit {0}
 
-module _ (words : List ℕ) (home : Option Plain) (views : List View) (id : ℕ) (v : View) (e : Event)
+module _ (words : List ℕ) (home : Option Plain) (views : List View) (id : ℕ) (v : View) (e : StepKind)
   where
     -- the number that the step meets, and the words behind it
     abbrev pub met_then : ℕ

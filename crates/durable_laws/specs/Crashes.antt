@@ -13,7 +13,7 @@ use Rattle.lawful_image.specs.ImageWords.{zero_word}
 use Rattle.lawful_image.specs.Lawful.{IsLawful}
 use Rattle.wal_core.specs.declared.setup.Setup.{Setup}
 use Rattle.wal_core.specs.Words.{Opening}
-use Rattle.wal_core.specs.Views.{HasAt, Joined, Plain, Promise, Told}
+use Rattle.wal_core.specs.Views.{HasAt, Joined, Plain, FlushPromise, Told}
 use Rattle.wal_core.specs.Durable.{IsUnwritten}
 
 -- each image that a crash leaves from a moment on holds nothing but words of the log, and all of
@@ -34,7 +34,7 @@ PutsOwned size order segment Sync = Unit {0}
 -- a promise made to a log: each crash from its moment on leaves all below the address that it
 -- names, and no call before that moment wrote a word of an entry that came later
 pub record HoldsPromise (opening : Opening) (order : List Entry) (tape : Tape)
-    (entries : List Entry) (p : Promise) : Type 0 where
+    (entries : List Entry) (p : FlushPromise) : Type 0 where
   pub kept : LeavesLawful opening.setup order p.upto p.moment tape
   pub later : (k : ℕ) (e : Entry) → p.entries ≤ k → slice_get entries k ≡ Some e
       → IsUnwritten (opening.setup).segment_size opening.moment tape p.moment e

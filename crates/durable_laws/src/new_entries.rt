@@ -9,7 +9,7 @@ ghost use Rattle.wal_core.specs.Views.{HasAt, Flight, Plain, Stored, Told, View,
 ghost use Rattle.wal_core.specs.Ordered.{AtPlace};
 ghost use Rattle.wal_core.specs.Positioned.{PositionsHold};
 ghost use Rattle.wal_core.specs.Durable.{DurabilityHolds};
-ghost use Rattle.wal_core.specs.Moves.{entry_at};
+ghost use Rattle.wal_core.specs.Moves.{entry_reserved};
 ghost use Rattle.wal_core.specs.Sound.{IsSetup};
 ghost use Rattle.wal_core.specs.Steps.{store_position, view_behind};
 
@@ -27,7 +27,7 @@ pub fn reserving_keeps_durability()
         → PositionsHold o order written flushed down home writer flights
         (map writing_of views)
         → (v.reserving).place ≡ Stored at prev
-        → DurabilityHolds o (order ++ entry_at (v.reserving).number at value ∷ []) flushed moment
+        → DurabilityHolds o (order ++ entry_reserved (v.reserving).number at value ∷ []) flushed moment
         down home writer
         (set (map told_of views) id
         (told_of (view_behind v (store_position locks value) met home))) }

@@ -8,9 +8,9 @@ ghost use Rattle.wal_types.specs.declared.record.Record.{Record};
 ghost use Rattle.wal_core.specs.Words.{Opening, down_word, flushed_word, moment_word};
 ghost use Rattle.wal_core.specs.Views.{HasAt, Plain, View, told_of};
 ghost use Rattle.wal_core.specs.Suited.{IfSuited};
-ghost use Rattle.wal_core.specs.Moves.{Outcome, after_create, after_sync, after_write, both_of, entry_at, left_of, orphan_of, right_of, spent, without_work};
+ghost use Rattle.wal_core.specs.Moves.{Outcome, after_create, after_sync, after_write, after_join, entry_reserved, after_split, orphan_of, split_off, spent, without_work};
 ghost use Rattle.wal_core.specs.Sound.{IsSound};
-ghost use Rattle.wal_core.specs.Steps.{Event, MayStep, create, place_at, store_position, sync, word_of_step, write};
+ghost use Rattle.wal_core.specs.Steps.{StepKind, MayStep, create, place_at, store_position, sync, word_of_step, write};
 ghost use Rattle.durable_laws.specs.Crashes.{CrashesLeave, DownTells};
 ghost use Rattle.durable_laws.specs.Behind.{HasDurable, HasDurableWith, IsInside, LoadsStaged};
 
@@ -19,7 +19,7 @@ ghost use Rattle.durable_laws.specs.Behind.{HasDurable, HasDurableWith, IsInside
 pub fn steps_leave_a_sound_log_durable()
     ensures inside { (words : List ℕ) (home : Option Plain) (views : List View) (id : ℕ) (v : View)
         (s : IsSound v.opening words home views) → HasAt views id v
-        → (e : Event) → MayStep v e → IsInside e
+        → (e : StepKind) → MayStep v e → IsInside e
         → LoadsStaged v s.order e (slice_index words (word_of_step v e))
         → HasDurable words home views id v e s.order s.writer }
     ensures store_position { (words : List ℕ) (home : Option Plain) (views : List View) (id : ℕ)
@@ -27,7 +27,7 @@ pub fn steps_leave_a_sound_log_durable()
         → (v.reserving).live ≡ true → (locks : List ℕ) (value : Record)
         → MayStep v (store_position locks value)
         → HasDurable words home views id v (store_position locks value)
-        (s.order ++ entry_at (v.reserving).number (place_at v (v.reserving).place) value ∷ [])
+        (s.order ++ entry_reserved (v.reserving).number (place_at v (v.reserving).place) value ∷ [])
         s.writer }
 {}
 
@@ -58,12 +58,12 @@ pub fn passes_leave_a_sound_log_durable()
     ensures split { (words : List ℕ) (home : Option Plain) (views : List View) (id : ℕ) (v : View)
         (s : IsSound v.opening words home views) → HasAt views id v
         → HasDurableWith v.opening words home views s
-        (set views id (left_of v) ++ right_of v ∷ []) }
+        (set views id (after_split v) ++ split_off v ∷ []) }
     ensures join { (words : List ℕ) (home : Option Plain) (views : List View) (id : ℕ) (v : View)
         (s : IsSound v.opening words home views) → HasAt views id v
         → (other : ℕ) (u : View) → HasAt views other u
         → HasDurableWith v.opening words home views s
-        (set (set views other (spent u)) id (both_of v u)) }
+        (set (set views other (spent u)) id (after_join v u)) }
     ensures give_up { (words : List ℕ) (home : Option Plain) (views : List View) (id : ℕ) (v : View)
         (s : IsSound v.opening words home views) → HasAt views id v
         → HasDurableWith v.opening words home views s

@@ -9,8 +9,8 @@ ghost use Rattle.wal_core.specs.Locked.{IsWriteTurn};
 ghost use Rattle.wal_core.specs.Positioned.{PositionsHold};
 ghost use Rattle.wal_core.specs.Durable.{DurabilityHolds, IsStaged};
 ghost use Rattle.wal_core.specs.Sound.{IsSetup};
-ghost use Rattle.wal_core.specs.Moves.{both_of, left_of, orphan_of, right_of, spent, without_work};
-ghost use Rattle.wal_core.specs.Steps.{MayStep, home_behind, value_behind, view_behind, load_down, load_flushed, load_moment, load_word, load_written, release_write_turn, set_down, slot_in, slot_out, store_flushed, store_moment, store_written, take_write_turn};
+ghost use Rattle.wal_core.specs.Moves.{after_join, after_split, orphan_of, split_off, spent, without_work};
+ghost use Rattle.wal_core.specs.Steps.{MayStep, home_behind, value_behind, view_behind, load_down, load_flushed, load_moment, load_ring_word, load_written, release_write_turn, set_down, slot_in, slot_out, store_flushed, store_moment, store_written, take_write_turn};
 
 /// What a pass loads: the positions, a promise of the moment met, the down value, a word of the
 /// ring, which is the log's as far as all is copied. What else leaves its entries and its writing,
@@ -53,14 +53,14 @@ pub fn loads_keep_durability()
         → HasAt parts id (told_of v)
         → DurabilityHolds o order flushed moment down home writer
         (set parts id (told_of (view_behind v load_down down home))) }
-    ensures load_word { (o : Opening) (order : List Entry) (flushed moment down : ℕ)
+    ensures load_ring_word { (o : Opening) (order : List Entry) (flushed moment down : ℕ)
         (home : Option Plain) (writer : Plain) (parts : List Told)
         (id k met : ℕ) (v : View)
         → DurabilityHolds o order flushed moment down home writer parts
         → HasAt parts id (told_of v)
         → ((l : Lent) → (v.writing).hold ≡ Out l → IsStaged o.setup order l.known (k, met))
         → DurabilityHolds o order flushed moment down home writer
-        (set parts id (told_of (view_behind v (load_word k) met home))) }
+        (set parts id (told_of (view_behind v (load_ring_word k) met home))) }
 {}
 
 /// The turn to write is taken and let go, the writer taken in hand and put back.
@@ -149,7 +149,7 @@ pub fn passes_keep_durability()
         → DurabilityHolds o order flushed moment down home writer parts
         → HasAt parts id (told_of v)
         → DurabilityHolds o order flushed moment down home writer
-        (set parts id (told_of (left_of v)) ++ told_of (right_of v) ∷ []) }
+        (set parts id (told_of (after_split v)) ++ told_of (split_off v) ∷ []) }
     ensures join { (o : Opening) (order : List Entry) (flushed moment down : ℕ)
         (home : Option Plain) (writer : Plain) (parts : List Told)
         (id other : ℕ) (v w : View)
@@ -157,7 +157,7 @@ pub fn passes_keep_durability()
         → HasAt parts id (told_of v)
         → HasAt parts other (told_of w)
         → DurabilityHolds o order flushed moment down home writer
-        (set (set parts other (told_of (spent w))) id (told_of (both_of v w))) }
+        (set (set parts other (told_of (spent w))) id (told_of (after_join v w))) }
     ensures give_up { (o : Opening) (order : List Entry) (flushed moment down : ℕ)
         (home : Option Plain) (writer : Plain) (parts : List Told)
         (id : ℕ) (v : View)

@@ -8,7 +8,7 @@ use Rattle.wal_core.specs.Words.{lock_word, mapping_turn, write_turn, end_form}
 use Rattle.wal_core.specs.Views.{HasAt, Stage, Away, Hold, Idle, Plain, Working, Watching, View, working_of, watching_of, mapper_of, writer_of}
 use Rattle.wal_core.specs.Locked.{AreHeld, ProgressHolds, IsMappingTurn, IsWriteTurn}
 use Rattle.wal_core.specs.Watched.{WatchHolds}
-use Rattle.wal_core.specs.Moves.{left_of, right_of, both_of, spent, without_work, orphan_of}
+use Rattle.wal_core.specs.Moves.{after_split, split_off, after_join, spent, without_work, orphan_of}
 use Rattle.wal_core.specs.Steps.{IsResting}
 use Rattle.wal_core.proofs.Lists.{part_same, part_set, part_at, part_added}
 use Rattle.lock_laws.specs.Locks.{idle, unwatching}
@@ -65,11 +65,11 @@ module _ (setup : Setup) (order : List Entry) (words : List ℕ) (views : List V
         WatchHolds setup.segment_size end x.0 x.1) (λ j. (sym same j, sym seen j)) watched;
   }
 
-  pub works_split : WorksHold setup order words (set views id (left_of v) ++ right_of v ∷ [])
-  works_split = held_as (set views id (left_of v) ++ right_of v ∷ []) (works ++ idle ∷ [])
+  pub works_split : WorksHold setup order words (set views id (after_split v) ++ split_off v ∷ [])
+  works_split = held_as (set views id (after_split v) ++ split_off v ∷ []) (works ++ idle ∷ [])
       (watches ++ unwatching ∷ [])
-      (one_comes working_of views id v here (left_of v) (right_of v) refl)
-      (one_comes watching_of views id v here (left_of v) (right_of v) refl)
+      (one_comes working_of views id v here (after_split v) (split_off v) refl)
+      (one_comes watching_of views id v here (after_split v) (split_off v) refl)
       (held_added (lock_word words) works k.held)
       (told_added setup.segment_size (lock_word words) works k.told)
       (watched_added setup.segment_size end works watches k.watched)
@@ -87,14 +87,14 @@ module _ (setup : Setup) (order : List Entry) (words : List ℕ) (views : List V
       (watched_given_up setup.segment_size end works watches k.watched id v.working mine)
 
   pub works_join : (other : ℕ) (w : View) → HasAt views other w → id ≢ other → IsResting w
-      → WorksHold setup order words (set (set views other (spent w)) id (both_of v w))
+      → WorksHold setup order words (set (set views other (spent w)) id (after_join v w))
   works_join other w there apart rests =
       let mine : HasAt works id v.working = part_at working_of views id v here in
       let its : HasAt works other w.working = part_at working_of views other w there in
-      held_as (set (set views other (spent w)) id (both_of v w))
+      held_as (set (set views other (spent w)) id (after_join v w))
       (set (set works other idle) id v.working) (set (set watches other unwatching) id v.watching)
-      (two_change working_of views id v here other (both_of v w) (spent w))
-      (two_change watching_of views id v here other (both_of v w) (spent w))
+      (two_change working_of views id v here other (after_join v w) (spent w))
+      (two_change watching_of views id v here other (after_join v w) (spent w))
       (held_taken_in (lock_word words) works k.held id v.working mine other w.working its
       rests.locks rests.flight)
       (told_taken_in setup.segment_size (lock_word words) works k.told id v.working mine other
@@ -130,8 +130,8 @@ module _ (words : List ℕ) (home : Option Plain) (stage : Stage) (writer : Plai
   }
 
   pub turns_split : TurnsHold words home stage writer
-      (set views id (left_of v) ++ right_of v ∷ [])
-  turns_split = turned_with (left_of v) (right_of v) (v.reserving).spare refl refl refl refl
+      (set views id (after_split v) ++ split_off v ∷ [])
+  turns_split = turned_with (after_split v) (split_off v) (v.reserving).spare refl refl refl refl
 
   pub turns_give_up : TurnsHold words home stage writer
       (set views id (without_work v) ++ orphan_of v ∷ [])
@@ -139,15 +139,15 @@ module _ (words : List ℕ) (home : Option Plain) (stage : Stage) (writer : Plai
       turned_with (without_work v) (orphan_of v) (v.reserving).number refl refl refl refl
 
   pub turns_join : (other : ℕ) (w : View) → HasAt views other w → IsResting w
-      → TurnsHold words home stage writer (set (set views other (spent w)) id (both_of v w))
+      → TurnsHold words home stage writer (set (set views other (spent w)) id (after_join v w))
   turns_join other w there rests = record {
     mapping = subst (λ (xs : List (ℕ × Stage)). IsMappingTurn (mapping_turn words) stage xs)
-        (sym (two_change mapper_of views id v here other (both_of v w) (spent w)))
+        (sym (two_change mapper_of views id v here other (after_join v w) (spent w)))
         (mapping_taken_in (mapping_turn words) stage mappers k.mapping id (mapper_of v)
         (part_at mapper_of views id v here) other (mapper_of w)
         (part_at mapper_of views other w there) rests.stage);
     writing = subst (λ (xs : List (ℕ × Hold)). IsWriteTurn (write_turn words) home writer xs)
-        (sym (two_change writer_of views id v here other (both_of v w) (spent w)))
+        (sym (two_change writer_of views id v here other (after_join v w) (spent w)))
         (writing_taken_in (write_turn words) home writer writers k.writing id (writer_of v)
         (part_at writer_of views id v here) other (writer_of w)
         (part_at writer_of views other w there) rests.hold);

@@ -5,7 +5,7 @@ use Rattle.wal_page.specs.Order.{end_position, prev_of}
 use Rattle.wal_core.specs.Words.{Opening, prev_word}
 use Rattle.wal_core.specs.Views.{HasAt, Place, Plain, Reserving, View, reserving_of}
 use Rattle.wal_core.specs.Ordered.{AtPlace}
-use Rattle.wal_core.specs.Steps.{Event, MayStep, word_of_step, home_behind}
+use Rattle.wal_core.specs.Steps.{StepKind, MayStep, word_of_step, home_behind}
 use Rattle.wal_core.specs.Sound.{IsSound}
 use Rattle.wal_core.proofs.Lists.{part_at}
 use Rattle.lock_laws.specs.Behind.{words_behind, views_behind, order_behind, stage_behind, writer_behind, StepsFrom, WorksHold, TurnsHold}
@@ -43,7 +43,7 @@ module _ (opening : Opening) (words : List ℕ) (home : Option Plain) (views : L
               (k.reserved).holder id p) is ((k.reserved).places id r part live)).2;
         }
 
-    pub locks_behind : (e : Event) → MayStep v e
+    pub locks_behind : (e : StepKind) → MayStep v e
         → WorksHold opening.setup (order_behind v e k.order) (words_behind words v e)
         (views_behind words home views id v e)
         × TurnsHold (words_behind words v e) (home_behind v e home)

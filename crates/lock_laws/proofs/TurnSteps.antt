@@ -8,7 +8,7 @@ use Rattle.wal_core.specs.Words.{lock_word, mapping_turn, write_turn, word_count
 use Rattle.wal_core.specs.Views.{HasAt, Place, Free, Locked, Loaded, Stored, Stage, Away, Taken, Looked, Ready, Zeroing, Published, Hold, Idle, Turned, Out, Lent, Plain, View, working_of, mapper_of, writer_of}
 use Rattle.wal_core.specs.Locked.{AreHeld, HasTurn, IsMappingTurn, IsWriteTurn}
 use Rattle.wal_core.specs.Moves.{with_place, with_working, with_hold, with_lent, with_stage, hardened, looked, ready, lent, after_load_prev, after_store_prev, after_store_position, after_give_back, after_take_lock, after_take_mapping_turn, after_take_write_turn, after_create, after_write, after_sync}
-use Rattle.wal_core.specs.Steps.{MayStep, Event, word_of_step, value_behind, home_behind, returned, with_slot, with_call_on, page_mapped, words_zeroed, load_position, take_write_turn, slot_out, slot_in, release_write_turn, lock_position, load_prev, store_prev, store_position, give_position_back, load_lock, take_lock, advance, release, load_end, store_word, load_word, load_written, load_flushed, load_moment, load_down, store_written, store_moment, store_flushed, set_down, take_mapping_turn, load_initialised, clear_end, zero_word, publish_end, publish_initialised, release_mapping_turn, create, write, sync}
+use Rattle.wal_core.specs.Steps.{MayStep, StepKind, word_of_step, value_behind, home_behind, returned, with_slot, with_call_on, page_mapped, words_zeroed, load_position, take_write_turn, slot_out, slot_in, release_write_turn, lock_position, load_prev, store_prev, store_position, give_position_back, load_lock, take_lock, advance, release, load_buffer_end, store_ring_word, load_ring_word, load_written, load_flushed, load_moment, load_down, store_written, store_moment, store_flushed, set_down, take_mapping_turn, load_initialised_end, clear_end, zero_ring_word, publish_end, publish_initialised_end, release_mapping_turn, create, write, sync}
 use Rattle.wal_core.proofs.Lists.{part_same, part_set, part_at}
 use Rattle.wal_core.proofs.WordLists.{word_again, word_else, single_set}
 use Rattle.lock_laws.specs.Behind.{words_behind, views_behind, moved, stage_behind, writer_behind, TurnsHold}
@@ -174,7 +174,7 @@ module _ (setup : Setup) (words : List ℕ) (home : Option Plain) (stage : Stage
       (sym is) (mapping_goes_on (mapping_turn words) stage mappers k.mapping id (mapper_of v) mapper
       (subst (λ (x : Stage). HasTurn x) (sym same) has) next turned))
 
-  pub mapping_behind : (e : Event) → MayStep v e
+  pub mapping_behind : (e : StepKind) → MayStep v e
       → IsMappingTurn (mapping_turn (words_behind words v e))
       (stage_behind v e (slice_index words (word_of_step v e)) stage)
       (map mapper_of (views_behind words home views id v e))
@@ -205,9 +205,9 @@ module _ (setup : Setup) (words : List ℕ) (home : Option Plain) (stage : Stage
       mapping_stays (2 + lock) _ _ (λ e. let low = held_low lock may.0 in omega arith) refl
   mapping_behind (release lock) may =
       mapping_stays (2 + lock) _ _ (λ e. let low = held_low lock may.0 in omega arith) refl
-  mapping_behind (load_end buffer) may = mapping_stays _ _ _ (λ e. omega arith) refl
-  mapping_behind store_word may = mapping_stays _ _ _ (single 10 _ _ (omega arith)) refl
-  mapping_behind (load_word n) may = mapping_stays _ _ _ (single 10 _ _ (omega arith)) refl
+  mapping_behind (load_buffer_end buffer) may = mapping_stays _ _ _ (λ e. omega arith) refl
+  mapping_behind store_ring_word may = mapping_stays _ _ _ (single 10 _ _ (omega arith)) refl
+  mapping_behind (load_ring_word n) may = mapping_stays _ _ _ (single 10 _ _ (omega arith)) refl
   mapping_behind load_written may = mapping_loads 13 _ _ (ready (slice_index words 13))
       (λ e. omega arith) refl (ready_keeps (slice_index words 13)) refl
   mapping_behind load_flushed may = mapping_stays 14 _ _ (λ e. omega arith) refl
@@ -223,16 +223,16 @@ module _ (setup : Setup) (words : List ℕ) (home : Option Plain) (stage : Stage
       (stage_behind v take_mapping_turn (slice_index words 10) stage)
       (single_set words setup wide 10 n (omega arith))
       (mapping_asked (mapping_turn words) stage mappers id v k.mapping mapper)
-  mapping_behind load_initialised may = mapping_loads 12 _ _ (looked (slice_index words 12))
+  mapping_behind load_initialised_end may = mapping_loads 12 _ _ (looked (slice_index words 12))
       (λ e. omega arith) refl (looked_keeps (slice_index words 12)) refl
   mapping_behind clear_end may = mapping_moves _ _ _ (Ready may.0 may.1)
       (Zeroing (page_mapped (v.mapping).stage) 0) (λ e. omega arith) may.2 tt tt refl
-  mapping_behind zero_word may = mapping_moves _ _ _ (Zeroing may.0 may.1)
+  mapping_behind zero_ring_word may = mapping_moves _ _ _ (Zeroing may.0 may.1)
       (Zeroing (page_mapped (v.mapping).stage) (words_zeroed (v.mapping).stage + 1))
       (single 10 _ _ (omega arith)) may.2 tt tt refl
   mapping_behind publish_end may = mapping_moves _ _ _ (Zeroing may.0 1024)
       (Published (page_mapped (v.mapping).stage)) (λ e. omega arith) may.1 tt tt refl
-  mapping_behind publish_initialised may = mapping_moves 12 _ _ (Published may.0) Taken
+  mapping_behind publish_initialised_end may = mapping_moves 12 _ _ (Published may.0) Taken
       (λ e. omega arith) may.1 tt tt refl
   mapping_behind release_mapping_turn may = mapping_becomes 10 0 0 (with_stage Away v) Away
       (single_set words setup wide 10 0 (omega arith))
@@ -310,7 +310,7 @@ module _ (setup : Setup) (words : List ℕ) (home : Option Plain) (stage : Stage
       (ap (λ (h : Hold). writer_of (with_call_on (with_hold h v) f h)) held_out)
       (ap f (lent_is l held_out))
 
-  pub writing_behind : (e : Event) → MayStep v e
+  pub writing_behind : (e : StepKind) → MayStep v e
       → IsWriteTurn (write_turn (words_behind words v e)) (home_behind v e home)
       (writer_behind v e writer) (map writer_of (views_behind words home views id v e))
   writing_behind load_position may = writing_stays 0 _ _ (λ e. omega arith) refl
@@ -362,11 +362,11 @@ module _ (setup : Setup) (words : List ℕ) (home : Option Plain) (stage : Stage
       writing_stays (2 + lock) _ _ (λ e. let low = held_low lock may.0 in omega arith) refl
   writing_behind (release lock) may =
       writing_stays (2 + lock) _ _ (λ e. let low = held_low lock may.0 in omega arith) refl
-  writing_behind (load_end buffer) may = writing_stays _ _ _ (λ e. omega arith) refl
-  writing_behind store_word may = writing_stays _ _ _ (single 11 _ _ (omega arith)) refl
-  writing_behind (load_word n) may = writing_notes _ _
+  writing_behind (load_buffer_end buffer) may = writing_stays _ _ _ (λ e. omega arith) refl
+  writing_behind store_ring_word may = writing_stays _ _ _ (single 11 _ _ (omega arith)) refl
+  writing_behind (load_ring_word n) may = writing_notes _ _
       (λ (l : Lent). record l {
-        staged = (n, slice_index words (word_of_step v (load_word n))) ∷ l.staged;
+        staged = (n, slice_index words (word_of_step v (load_ring_word n))) ∷ l.staged;
       }) may.0 (single 11 _ _ (omega arith)) may.1 refl
   writing_behind load_written may = writing_stays 13 _ _ (λ e. omega arith) refl
   writing_behind load_flushed may = writing_stays 14 _ _ (λ e. omega arith) refl
@@ -380,11 +380,11 @@ module _ (setup : Setup) (words : List ℕ) (home : Option Plain) (stage : Stage
   writing_behind set_down may = writing_stays 16 _ _ (λ e. omega arith) refl
   writing_behind take_mapping_turn may = writing_stays 10 _ _ (λ e. omega arith)
       (writer_met v (with_stage Taken v) refl (slice_index words 10) 0)
-  writing_behind load_initialised may = writing_stays 12 _ _ (λ e. omega arith) refl
+  writing_behind load_initialised_end may = writing_stays 12 _ _ (λ e. omega arith) refl
   writing_behind clear_end may = writing_stays _ _ _ (λ e. omega arith) refl
-  writing_behind zero_word may = writing_stays _ _ _ (single 11 _ _ (omega arith)) refl
+  writing_behind zero_ring_word may = writing_stays _ _ _ (single 11 _ _ (omega arith)) refl
   writing_behind publish_end may = writing_stays _ _ _ (λ e. omega arith) refl
-  writing_behind publish_initialised may = writing_stays 12 _ _ (λ e. omega arith) refl
+  writing_behind publish_initialised_end may = writing_stays 12 _ _ (λ e. omega arith) refl
   writing_behind release_mapping_turn may = writing_stays 10 _ _ (λ e. omega arith) refl
   writing_behind (create segment outcome) may = writing_calls
       (after_create segment (create_call ((v.opening).setup).segment_size segment) outcome)
@@ -395,7 +395,7 @@ module _ (setup : Setup) (words : List ℕ) (home : Option Plain) (stage : Stage
   writing_behind (sync segment outcome) may = writing_calls
       (after_sync (sync_call ((v.opening).setup).segment_size segment) outcome) may.0.0 may.0.1
 
-  pub turns_behind : (e : Event) → MayStep v e
+  pub turns_behind : (e : StepKind) → MayStep v e
       → TurnsHold (words_behind words v e) (home_behind v e home)
       (stage_behind v e (slice_index words (word_of_step v e)) stage) (writer_behind v e writer)
       (views_behind words home views id v e)

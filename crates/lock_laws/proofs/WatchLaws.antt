@@ -17,7 +17,7 @@ use Rattle.wal_core.specs.Views.{HasAt, Copy, Flight, Landed, Copying, Working, 
 use Rattle.wal_core.specs.Locked.{AreHeld, ProgressHolds, most_told}
 use Rattle.wal_core.specs.Moves.{landed, one_more, is_landed, is_own, begun, visited_on, copied_below, with_working, after_load_lock, after_take_lock}
 use Rattle.wal_core.specs.Positioned.{IsCopiedBelow}
-use Rattle.wal_core.specs.Watched.{IsBehind, WatchHolds}
+use Rattle.wal_core.specs.Watched.{IsCopiedToBound, WatchHolds}
 use Rattle.wal_core.proofs.Landing.{landed_was, lock_of, none_lands}
 use Rattle.wal_core.proofs.Lists.{one_set, one_added, part_at, view_from}
 use Rattle.lock_laws.specs.Locks.{idle, unwatching}
@@ -27,17 +27,17 @@ use Rattle.lock_laws.proofs.ToldLaws.{told_of_copy}
 
 module _ (size : ℕ) where
   -- one that has visited no lock knows of no copy
-  pub visits_none : (x : Watching) (w : Working) → x.visited ≡ 0 → IsBehind size x w
+  pub visits_none : (x : Watching) (w : Working) → x.visited ≡ 0 → IsCopiedToBound size x w
   visits_none x w none c lock is among low starts = absurd (omega arith)
 
   -- one that copies nothing breaks nothing that a watcher knows
-  pub copies_none : (x : Watching) (w : Working) → w.flight ≡ Landed → IsBehind size x w
+  pub copies_none : (x : Watching) (w : Working) → w.flight ≡ Landed → IsCopiedToBound size x w
   copies_none x w lands c lock is = absurd (none_lands c (sym lands ∙ is))
 
   -- a lock that is released, and an entry that it lands, break nothing that a watcher knows
   behind_released : (x : Watching) (i : ℕ) (f : Flight) (locks left : List ℕ)
-      → IsBehind size x (record { locks = locks; flight = f })
-      → IsBehind size x (record { locks = left; flight = landed i f })
+      → IsCopiedToBound size x (record { locks = locks; flight = f })
+      → IsCopiedToBound size x (record { locks = left; flight = landed i f })
   behind_released x i f locks left sees c lock is among visited starts =
       let was = landed_was i f c is in
       let d : Copy = was.0 in
@@ -56,23 +56,23 @@ module _ (size : ℕ) where
     -- a view's work changes to one that no watcher has to fear more, and the order grows
     pub works_on : (end' id : ℕ) (w : Working) → end ≤ end'
         → ((x : Watching) → x.end ≤ end
-        → ((u : Working) → HasAt works id u → IsBehind size x u) → IsBehind size x w)
+        → ((u : Working) → HasAt works id u → IsCopiedToBound size x u) → IsCopiedToBound size x w)
         → WatchHolds size end' (set works id w) watches
     works_on end' id w up safe = record {
       reserved = λ j x at. let h = k.reserved j x at in ((let low = h.0 in omega arith), h.1);
-      behind = λ i j x u at there. one_set (λ j u. IsBehind size x u) works id w
+      behind = λ i j x u at there. one_set (λ j u. IsCopiedToBound size x u) works id w
           (λ j u apart was. k.behind i j x u at was)
           (safe x (k.reserved i x at).0 (λ u was. k.behind i id x u at was)) j u there;
     }
 
     -- a watcher goes on
     pub watches_on : (id : ℕ) (x : Watching) → x.end ≤ end → x.bound ≤ x.end
-        → ((j : ℕ) (u : Working) → HasAt works j u → IsBehind size x u)
+        → ((j : ℕ) (u : Working) → HasAt works j u → IsCopiedToBound size x u)
         → WatchHolds size end works (set watches id x)
     watches_on id x low least sees = record {
       reserved = λ j y at. one_set (λ j y. (y.end ≤ end) × (y.bound ≤ y.end)) watches id x
           (λ j y apart was. k.reserved j y was) (low, least) j y at;
-      behind = λ i j y u at there. one_set (λ i y. IsBehind size y u) watches id x
+      behind = λ i j y u at there. one_set (λ i y. IsCopiedToBound size y u) watches id x
           (λ i y apart was. k.behind i j y u was there) (sees j u there) i y at;
     }
 
@@ -129,8 +129,8 @@ module _ (size : ℕ) where
     watched_added = record {
       reserved = λ j y at. one_added (λ j y. (y.end ≤ end) × (y.bound ≤ y.end)) watches unwatching
           (λ j y was. k.reserved j y was) (omega arith, omega arith) j y at;
-      behind = λ i j y u at there. one_added (λ i y. IsBehind size y u) watches unwatching
-          (λ i y was. one_added (λ j u. IsBehind size y u) works idle
+      behind = λ i j y u at there. one_added (λ i y. IsCopiedToBound size y u) watches unwatching
+          (λ i y was. one_added (λ j u. IsCopiedToBound size y u) works idle
           (λ j u there. k.behind i j y u was there) (copies_none y idle refl) j u there)
           (visits_none unwatching u refl) i y at;
     }
@@ -142,9 +142,9 @@ module _ (size : ℕ) where
       watched_given_up = record {
         reserved = λ j y at. one_added (λ j y. (y.end ≤ end) × (y.bound ≤ y.end)) watches
             unwatching (λ j y was. k.reserved j y was) (omega arith, omega arith) j y at;
-        behind = λ i j y u at there. one_added (λ i y. IsBehind size y u) watches unwatching
-            (λ i y was. one_added (λ j u. IsBehind size y u) (set works id idle) w
-            (λ j u there. one_set (λ j u. IsBehind size y u) works id idle
+        behind = λ i j y u at there. one_added (λ i y. IsCopiedToBound size y u) watches unwatching
+            (λ i y was. one_added (λ j u. IsCopiedToBound size y u) (set works id idle) w
+            (λ j u there. one_set (λ j u. IsCopiedToBound size y u) works id idle
             (λ j u apart there. k.behind i j y u was there) (copies_none y idle refl) j u there)
             (k.behind i id y w was here) j u there)
             (visits_none unwatching u refl) i y at;
@@ -203,10 +203,10 @@ module _ (size : ℕ) (lock : ℕ → ℕ) (works : List Working) (held : AreHel
 
   -- the lock that is visited next
   visit : (x : Watching) (i b : ℕ)
-      → ((j : ℕ) (u : Working) → HasAt works j u → IsBehind size x u) → i ≡ x.visited
+      → ((j : ℕ) (u : Working) → HasAt works j u → IsCopiedToBound size x u) → i ≡ x.visited
       → b ≤ x.bound → Guards i b
       → (j : ℕ) (u : Working) → HasAt works j u
-      → IsBehind size (record { end = x.end; visited = x.visited + 1; bound = b }) u
+      → IsCopiedToBound size (record { end = x.end; visited = x.visited + 1; bound = b }) u
   visit x i b sees next less guards j u there c n is among low starts = dite (ℕ_discrete n i)
       (λ e. guards j u c there is (subst (λ (m : ℕ). Contains c.locks m) e among))
       (λ other. let old = sees j u there c n is among (omega arith) starts in omega arith)
@@ -215,7 +215,7 @@ module _ (size : ℕ) (lock : ℕ → ℕ) (works : List Working) (held : AreHel
   record Stands (end : ℕ) (x : Watching) : Type 0 where
     low : x.end ≤ end
     least : x.bound ≤ x.end
-    sees : (j : ℕ) (u : Working) → HasAt works j u → IsBehind size x u
+    sees : (j : ℕ) (u : Working) → HasAt works j u → IsCopiedToBound size x u
 
   module _ (end i : ℕ) (x : Watching) (stands : Stands end x) where
     abbrev on : ℕ → Watching

@@ -10,8 +10,8 @@ use Rattle.wal_core.specs.Words.{lock_word, end_form}
 use Rattle.wal_core.specs.Views.{HasAt, Taken, Place, Free, Locked, Loaded, Stored, Copy, Copying, Hold, Idle, Turned, Out, Plain, Working, Watching, View, working_of, watching_of}
 use Rattle.wal_core.specs.Locked.{AreHeld, ProgressHolds}
 use Rattle.wal_core.specs.Watched.{WatchHolds}
-use Rattle.wal_core.specs.Moves.{with_working, with_place, with_hold, with_stage, entry_at, after_load_prev, after_store_prev, after_store_position, after_give_back, after_take_lock, after_load_lock, after_release, after_store_word}
-use Rattle.wal_core.specs.Steps.{MayStep, Event, word_of_step, value_behind, place_at, with_slot, with_call_on, load_position, take_write_turn, slot_out, slot_in, release_write_turn, lock_position, load_prev, store_prev, store_position, give_position_back, load_lock, take_lock, advance, release, load_end, store_word, load_word, load_written, load_flushed, load_moment, load_down, store_written, store_moment, store_flushed, set_down, take_mapping_turn, load_initialised, clear_end, zero_word, publish_end, publish_initialised, release_mapping_turn, create, write, sync}
+use Rattle.wal_core.specs.Moves.{with_working, with_place, with_hold, with_stage, entry_reserved, after_load_prev, after_store_prev, after_store_position, after_give_back, after_take_lock, after_load_lock, after_release, after_store_word}
+use Rattle.wal_core.specs.Steps.{MayStep, StepKind, word_of_step, value_behind, place_at, with_slot, with_call_on, load_position, take_write_turn, slot_out, slot_in, release_write_turn, lock_position, load_prev, store_prev, store_position, give_position_back, load_lock, take_lock, advance, release, load_buffer_end, store_ring_word, load_ring_word, load_written, load_flushed, load_moment, load_down, store_written, store_moment, store_flushed, set_down, take_mapping_turn, load_initialised_end, clear_end, zero_ring_word, publish_end, publish_initialised_end, release_mapping_turn, create, write, sync}
 use Rattle.wal_core.proofs.Lists.{part_same, part_set, part_at}
 use Rattle.wal_core.proofs.WordLists.{lock_set, lock_else, locks_else, word_again}
 use Rattle.lock_laws.specs.Behind.{words_behind, views_behind, order_behind, WorksHold, StepsFrom}
@@ -149,7 +149,7 @@ module _ (setup : Setup) (order : List Entry) (words : List ℕ) (home : Option 
       → WorksHold setup order (words_behind words v (take_lock lock))
       (views_behind words home views id v (take_lock lock))
   take_lock_works lock low =
-      let e : Event = take_lock lock in
+      let e : StepKind = take_lock lock in
       let n : ℕ = value_behind v e (lock_word words lock) in
       let later : ℕ → ℕ = lock_word (set words (2 + lock) n) in
       let is : later lock ≡ n = lock_set words setup s.wide lock n low in
@@ -196,11 +196,11 @@ module _ (setup : Setup) (order : List Entry) (words : List ℕ) (home : Option 
       (watched_released setup.segment_size end parts watches k.watched id v.working mine lock
       (after_release lock v).working.locks)
 
-  store_word_works : WorksHold setup order (words_behind words v store_word)
-      (views_behind words home views id v store_word)
+  store_word_works : WorksHold setup order (words_behind words v store_ring_word)
+      (views_behind words home views id v store_ring_word)
   store_word_works =
-      let i : ℕ = word_of_step v store_word in
-      let n : ℕ = value_behind v store_word (slice_index words i) in
+      let i : ℕ = word_of_step v store_ring_word in
+      let n : ℕ = value_behind v store_ring_word (slice_index words i) in
       let others : (j : ℕ) → j < 8 → lock_word (set words i n) j ≡ lock_word words j
       = locks_else words i n (inr (far ((v.opening).setup).ring_pages _)) in
       let after : List Working = set parts id (working_of (after_store_word v)) in
@@ -216,7 +216,7 @@ module _ (setup : Setup) (order : List Entry) (words : List ℕ) (home : Option 
   -- the entry that is reserved, where the view's place is told
   abbrev ReservedAt : List ℕ → Record → Place → Type 0
   ReservedAt locks value p = WorksHold setup
-      (order ++ entry_at (v.reserving).number (place_at v p) value ∷ [])
+      (order ++ entry_reserved (v.reserving).number (place_at v p) value ∷ [])
       (set words 0 (value_behind (with_place p v) (store_position locks value) 0))
       (set views id (after_store_position locks value (with_place p v)))
 
@@ -228,7 +228,7 @@ module _ (setup : Setup) (order : List Entry) (words : List ℕ) (home : Option 
       let at : ℕ = may.0 in
       let prev : ℕ = may.1 in
       let c : Copy = record {
-        entry = entry_at (v.reserving).number at value;
+        entry = entry_reserved (v.reserving).number at value;
         prev = prev;
         locks = locks;
         copied = 0;
@@ -273,7 +273,7 @@ module _ (setup : Setup) (order : List Entry) (words : List ℕ) (home : Option 
 
   -- ---- every step
 
-  pub works_behind : (e : Event) → MayStep v e
+  pub works_behind : (e : StepKind) → MayStep v e
       → WorksHold setup (order_behind v e order) (words_behind words v e)
       (views_behind words home views id v e)
   works_behind load_position may = stays 0 _ _ (inl (omega arith)) (refl, refl)
@@ -296,9 +296,9 @@ module _ (setup : Setup) (order : List Entry) (words : List ℕ) (home : Option 
   works_behind (take_lock lock) may = take_lock_works lock may
   works_behind (advance lock upto) may = advance_works lock upto may
   works_behind (release lock) may = release_works lock may
-  works_behind (load_end buffer) may = stays _ _ _ (inr (omega arith)) (refl, refl)
-  works_behind store_word may = store_word_works
-  works_behind (load_word n) may =
+  works_behind (load_buffer_end buffer) may = stays _ _ _ (inr (omega arith)) (refl, refl)
+  works_behind store_ring_word may = store_word_works
+  works_behind (load_ring_word n) may =
       stays _ _ _ (inr (far ((v.opening).setup).ring_pages _)) (refl, refl)
   works_behind load_written may = stays 13 _ _ (inr (omega arith)) (refl, refl)
   works_behind load_flushed may = stays 14 _ _ (inr (omega arith)) (refl, refl)
@@ -310,12 +310,12 @@ module _ (setup : Setup) (order : List Entry) (words : List ℕ) (home : Option 
   works_behind set_down may = stays 16 _ _ (inr (omega arith)) (refl, refl)
   works_behind take_mapping_turn may = stays 10 _ _ (inr (omega arith))
       (works_met v (with_stage Taken v) (refl, refl) (slice_index words 10) 0)
-  works_behind load_initialised may = stays 12 _ _ (inr (omega arith)) (refl, refl)
+  works_behind load_initialised_end may = stays 12 _ _ (inr (omega arith)) (refl, refl)
   works_behind clear_end may = stays _ _ _ (inr (omega arith)) (refl, refl)
-  works_behind zero_word may =
+  works_behind zero_ring_word may =
       stays _ _ _ (inr (far ((v.opening).setup).ring_pages _)) (refl, refl)
   works_behind publish_end may = stays _ _ _ (inr (omega arith)) (refl, refl)
-  works_behind publish_initialised may = stays 12 _ _ (inr (omega arith)) (refl, refl)
+  works_behind publish_initialised_end may = stays 12 _ _ (inr (omega arith)) (refl, refl)
   works_behind release_mapping_turn may = stays 10 _ _ (inr (omega arith)) (refl, refl)
   works_behind (create segment outcome) may = stays 11 _ _ (inr (omega arith))
       (works_on_call v _ (v.writing).hold)

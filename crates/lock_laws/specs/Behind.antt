@@ -10,25 +10,25 @@ use Rattle.wal_core.specs.Words.{lock_word, mapping_turn, write_turn, word_count
 use Rattle.wal_core.specs.Views.{HasAt, Stored, Stage, Away, Taken, Looked, Ready, Zeroing, Published, Plain, View, working_of, watching_of, mapper_of, writer_of}
 use Rattle.wal_core.specs.Locked.{AreHeld, ProgressHolds, IsMappingTurn, IsWriteTurn}
 use Rattle.wal_core.specs.Watched.{WatchHolds}
-use Rattle.wal_core.specs.Moves.{entry_at, looked, ready, after_create, after_write, after_sync}
-use Rattle.wal_core.specs.Steps.{Event, store_position, take_mapping_turn, load_initialised, load_written, clear_end, zero_word, publish_end, publish_initialised, release_mapping_turn, create, write, sync, word_of_step, value_behind, view_behind, place_at, page_mapped, words_zeroed}
+use Rattle.wal_core.specs.Moves.{entry_reserved, looked, ready, after_create, after_write, after_sync}
+use Rattle.wal_core.specs.Steps.{StepKind, store_position, take_mapping_turn, load_initialised_end, load_written, clear_end, zero_ring_word, publish_end, publish_initialised_end, release_mapping_turn, create, write, sync, word_of_step, value_behind, view_behind, place_at, page_mapped, words_zeroed}
 
 -- ---- the state behind a step of a view
 
-abbrev pub words_behind : List ℕ → View → Event → List ℕ
+abbrev pub words_behind : List ℕ → View → StepKind → List ℕ
 words_behind words v e = set words (word_of_step v e)
     (value_behind v e (slice_index words (word_of_step v e)))
 
-abbrev pub view_left : List ℕ → Option Plain → View → Event → View
+abbrev pub view_left : List ℕ → Option Plain → View → StepKind → View
 view_left words home v e = view_behind v e (slice_index words (word_of_step v e)) home
 
-abbrev pub views_behind : List ℕ → Option Plain → List View → ℕ → View → Event → List View
+abbrev pub views_behind : List ℕ → Option Plain → List View → ℕ → View → StepKind → List View
 views_behind words home views id v e = set views id (view_left words home v e)
 
 -- the order, which the store of the position behind a record makes longer by its entry
-abbrev pub order_behind : View → Event → List Entry → List Entry
+abbrev pub order_behind : View → StepKind → List Entry → List Entry
 order_behind v (store_position locks value) order = order
-    ++ entry_at (v.reserving).number (place_at v (v.reserving).place) value ∷ []
+    ++ entry_reserved (v.reserving).number (place_at v (v.reserving).place) value ∷ []
 order_behind v other order = order
 
 -- ---- what is said of locks, of what they tell, and of those who watch them
@@ -66,20 +66,20 @@ moved (Published at) stage next = next
 
 module _ (v : View) where
   -- how far the mapper is behind a step of this view, where the number met is `met`
-  abbrev pub stage_behind : Event → ℕ → Stage → Stage
+  abbrev pub stage_behind : StepKind → ℕ → Stage → Stage
   stage_behind take_mapping_turn met stage = if met == 0 then Taken else stage
-  stage_behind load_initialised met stage = moved (v.mapping).stage stage (looked met stage)
+  stage_behind load_initialised_end met stage = moved (v.mapping).stage stage (looked met stage)
   stage_behind load_written met stage = moved (v.mapping).stage stage (ready met stage)
   stage_behind clear_end met stage = Zeroing (page_mapped (v.mapping).stage) 0
-  stage_behind zero_word met stage =
+  stage_behind zero_ring_word met stage =
       Zeroing (page_mapped (v.mapping).stage) (words_zeroed (v.mapping).stage + 1)
   stage_behind publish_end met stage = Published (page_mapped (v.mapping).stage)
-  stage_behind publish_initialised met stage = Taken
+  stage_behind publish_initialised_end met stage = Taken
   stage_behind release_mapping_turn met stage = Away
   stage_behind other met stage = stage
 
   -- the writer, which the calls of the device change
-  abbrev pub writer_behind : Event → Plain → Plain
+  abbrev pub writer_behind : StepKind → Plain → Plain
   writer_behind (create segment outcome) writer = after_create segment
       (create_call ((v.opening).setup).segment_size segment) outcome writer
   writer_behind (write segment page upto bytes outcome) writer = after_write segment upto

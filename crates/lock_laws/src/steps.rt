@@ -8,8 +8,8 @@ ghost use Rattle.wal_core.specs.declared.setup.Setup.{Setup};
 ghost use Rattle.wal_core.specs.Words.{Opening, word_count, lock_word};
 ghost use Rattle.wal_core.specs.Views.{HasAt, Stage, Plain, View, working_of};
 ghost use Rattle.wal_core.specs.Locked.{AreHeld};
-ghost use Rattle.wal_core.specs.Moves.{left_of, right_of, both_of, spent, without_work, orphan_of};
-ghost use Rattle.wal_core.specs.Steps.{Event, MayStep, IsResting, word_of_step, home_behind};
+ghost use Rattle.wal_core.specs.Moves.{after_split, split_off, after_join, spent, without_work, orphan_of};
+ghost use Rattle.wal_core.specs.Steps.{StepKind, MayStep, IsResting, word_of_step, home_behind};
 ghost use Rattle.wal_core.specs.Sound.{IsSound};
 ghost use Rattle.lock_laws.specs.Behind.{words_behind, views_behind, order_behind, stage_behind, writer_behind, StepsFrom, WorksHold, TurnsHold};
 
@@ -17,7 +17,7 @@ ghost use Rattle.lock_laws.specs.Behind.{words_behind, views_behind, order_behin
 /// is copied, and what watchers know stays true.
 pub fn every_step_keeps_locks_and_watches()
     ensures { (setup : Setup) (order : List Entry) (words : List ℕ) (home : Option Plain)
-        (views : List View) (id : ℕ) (v : View) (e : Event)
+        (views : List View) (id : ℕ) (v : View) (e : StepKind)
         → StepsFrom setup order words views id v → MayStep v e
         → WorksHold setup order words views
         → WorksHold setup (order_behind v e order) (words_behind words v e)
@@ -28,7 +28,7 @@ pub fn every_step_keeps_locks_and_watches()
 /// its holder, and the writer is at home or in hand, as it was or as a call of the device left it.
 pub fn every_step_keeps_the_turns()
     ensures { (setup : Setup) (words : List ℕ) (home : Option Plain) (stage : Stage)
-        (writer : Plain) (views : List View) (id : ℕ) (v : View) (e : Event)
+        (writer : Plain) (views : List View) (id : ℕ) (v : View) (e : StepKind)
         → HasAt views id v → length words ≡ word_count setup
         → AreHeld (lock_word words) (map working_of views) → MayStep v e
         → TurnsHold words home stage writer views
@@ -42,22 +42,22 @@ pub fn every_step_keeps_the_turns()
 pub fn passes_come_and_go_with_what_they_hold()
     ensures split { (setup : Setup) (order : List Entry) (words : List ℕ) (views : List View)
         (id : ℕ) (v : View) → HasAt views id v → WorksHold setup order words views
-        → WorksHold setup order words (set views id (left_of v) ++ right_of v ∷ []) }
+        → WorksHold setup order words (set views id (after_split v) ++ split_off v ∷ []) }
     ensures joined { (setup : Setup) (order : List Entry) (words : List ℕ) (views : List View)
         (id other : ℕ) (v w : View) → HasAt views id v → HasAt views other w → id ≢ other
         → IsResting w → WorksHold setup order words views
-        → WorksHold setup order words (set (set views other (spent w)) id (both_of v w)) }
+        → WorksHold setup order words (set (set views other (spent w)) id (after_join v w)) }
     ensures given_up { (setup : Setup) (order : List Entry) (words : List ℕ) (views : List View)
         (id : ℕ) (v : View) → HasAt views id v → WorksHold setup order words views
         → WorksHold setup order words (set views id (without_work v) ++ orphan_of v ∷ []) }
     ensures split_turns { (words : List ℕ) (home : Option Plain) (stage : Stage)
         (writer : Plain) (views : List View) (id : ℕ) (v : View) → HasAt views id v
         → TurnsHold words home stage writer views
-        → TurnsHold words home stage writer (set views id (left_of v) ++ right_of v ∷ []) }
+        → TurnsHold words home stage writer (set views id (after_split v) ++ split_off v ∷ []) }
     ensures joined_turns { (words : List ℕ) (home : Option Plain) (stage : Stage)
         (writer : Plain) (views : List View) (id other : ℕ) (v w : View) → HasAt views id v
         → HasAt views other w → IsResting w → TurnsHold words home stage writer views
-        → TurnsHold words home stage writer (set (set views other (spent w)) id (both_of v w)) }
+        → TurnsHold words home stage writer (set (set views other (spent w)) id (after_join v w)) }
     ensures given_up_turns { (words : List ℕ) (home : Option Plain) (stage : Stage)
         (writer : Plain) (views : List View) (id : ℕ) (v : View) → HasAt views id v
         → TurnsHold words home stage writer views
@@ -68,7 +68,7 @@ pub fn passes_come_and_go_with_what_they_hold()
 /// locks, watches and turns.
 pub fn sound_states_keep_locks_and_turns()
     ensures { (opening : Opening) (words : List ℕ) (home : Option Plain) (views : List View)
-        (id : ℕ) (v : View) (e : Event) (k : IsSound opening words home views)
+        (id : ℕ) (v : View) (e : StepKind) (k : IsSound opening words home views)
         → HasAt views id v → v.reserving.live ≡ true → MayStep v e
         → WorksHold opening.setup (order_behind v e k.order) (words_behind words v e)
         (views_behind words home views id v e)

@@ -12,7 +12,7 @@ use Rattle.wal_core.specs.declared.setup.Setup.{Setup}
 use Rattle.wal_core.specs.Words.{end_form}
 use Rattle.wal_core.specs.Views.{HasAt, Place, Free, Locked, Plain, Reserving, View}
 use Rattle.wal_core.specs.Ordered.{OrderHolds}
-use Rattle.wal_core.specs.Moves.{with_place, entry_at, left_of, right_of, both_of, spent, without_work, orphan_of}
+use Rattle.wal_core.specs.Moves.{with_place, entry_reserved, after_split, split_off, after_join, spent, without_work, orphan_of}
 use Rattle.wal_core.specs.Steps.{MayStep, place_at, load_position, load_flushed, store_position, value_behind, view_behind, lock_position, load_prev, store_prev, give_position_back}
 use Rattle.order_laws.specs.Parts.{TakesPart, HoldsWith}
 use Rattle.order_laws.proofs.OrderSteps.{unlocked-is, sees, locks, loads_prev, stores_prev, gives_back, reserves, gives_up}
@@ -109,14 +109,14 @@ module _ (order : List Entry) (position prev : ℕ) (parts : List Reserving) (id
 
   abbrev AddedAt : List ℕ → Record → Place → Type 0
   AddedAt locks value p = HoldsWith
-      (order ++ entry_at (v.reserving).number (place_at v p) value ∷ [])
+      (order ++ entry_reserved (v.reserving).number (place_at v p) value ∷ [])
       (value_behind (with_place p v) (store_position locks value) position) prev parts id v
       (view_behind (with_place p v) (store_position locks value) position none)
 
   pub store_position_keeps : (home : Option Plain) (locks : List ℕ) (value : Record)
       → TakesPart order position prev parts id v → MayStep v (store_position locks value)
       → HoldsWith
-      (order ++ entry_at (v.reserving).number (place_at v (v.reserving).place) value ∷ [])
+      (order ++ entry_reserved (v.reserving).number (place_at v (v.reserving).place) value ∷ [])
       (value_behind v (store_position locks value) position) prev parts id v
       (view_behind v (store_position locks value) position home)
   store_position_keeps home locks value t may = subst (AddedAt locks value) (sym may.2)
@@ -128,7 +128,7 @@ module _ (order : List Entry) (position prev : ℕ) (parts : List Reserving) (id
   pub split_keeps : TakesPart order position prev parts id v
       → (v.reserving).spare < (v.reserving).spare_end
       → OrderHolds setup found order position prev
-      (set parts id (left_of v).reserving ++ (right_of v).reserving ∷ [])
+      (set parts id (after_split v).reserving ++ (split_off v).reserving ∷ [])
   split_keeps t some_left = splits setup found order position prev parts t.holds id
       v.reserving t.here t.live some_left
 
@@ -136,7 +136,7 @@ module _ (order : List Entry) (position prev : ℕ) (parts : List Reserving) (id
       → HasAt parts other w.reserving → (w.reserving).live ≡ true → id ≢ other
       → (w.reserving).place ≡ Free
       → OrderHolds setup found order position prev
-      (set (set parts other (spent w).reserving) id (both_of v w).reserving)
+      (set (set parts other (spent w).reserving) id (after_join v w).reserving)
   join_keeps other w t there alive apart rests = joins setup found order position prev parts
       t.holds id v.reserving t.here t.live other w.reserving there alive apart rests
       (w.writing).promises (spent w).reserving refl

@@ -14,7 +14,7 @@ use Rattle.wal_core.specs.declared.setup.Setup.{Setup}
 use Rattle.wal_core.specs.Words.{log_limit}
 use Rattle.wal_core.specs.Views.{HasAt, Place, Free, Locked, Loaded, Stored, Filled, Joined, Reserving}
 use Rattle.wal_core.specs.Ordered.{is_pass, Role, active, ended, IsUnused, FrontEndsAt, IsEnded, IsPartOf, HasLive, TookIn, AtPlace, OrderHolds}
-use Rattle.wal_core.specs.Moves.{entry_at}
+use Rattle.wal_core.specs.Moves.{entry_reserved}
 use Rattle.wal_core.proofs.Lists.{one_set, one_added, at_place}
 use Rattle.order_laws.proofs.Going.{GoesOn, StaysPlaced, goes_as, placed_as, Each, each_set, each_added, each_goes_on, goes_by_still, took_in_still, held_still}
 use Rattle.order_laws.proofs.Orders.{is_pass_own, is_pass_other, entries_of-hit, entries_of-miss, end_position_push, FrontEndsAt-longer, FrontEndsAt-more}
@@ -381,7 +381,7 @@ module _ (setup : Setup) (found order : List Entry) (position prev : ℕ) (parts
         (writable : IsWritable value)
         (fits : expected + room_at setup.segment_size expected value ≤ log_limit setup) where
       abbrev e : Entry
-      e = entry_at r.number expected value
+      e = entry_reserved r.number expected value
 
       abbrev longer : List Entry
       longer = order ++ e ∷ []

@@ -4,7 +4,7 @@ use Rattle.std.proofs.lemmas.List.{take-append-le, length-append}
 use Rattle.wal_page.specs.Order.{Entry, end_position, room_at}
 use Rattle.wal_page.proofs.OrderLaws.{rooms_of_push}
 use Rattle.wal_core.specs.Views.{Filled}
-use Rattle.wal_core.specs.Ordered.{is_pass, entries_of, FrontEndsAt}
+use Rattle.wal_core.specs.Ordered.{is_pass, entries_under, FrontEndsAt}
 
 pub is_pass_own : (n : ℕ) → is_pass n (Some n) ≡ true
 is_pass_own n = eq-eqb n n refl
@@ -18,14 +18,14 @@ put_behind true x e l = refl
 put_behind false x e l = refl
 
 pub entries_of-hit : (n : ℕ) (es : List Entry) (e : Entry) → is_pass n e.pass ≡ true
-    → entries_of n (es ++ e ∷ []) ≡ entries_of n es ++ e ∷ []
+    → entries_under n (es ++ e ∷ []) ≡ entries_under n es ++ e ∷ []
 entries_of-hit n [] e h = ap (λ (b : Bool). cond b (e ∷ []) []) h
 entries_of-hit n (x ∷ xs) e h =
     ap (λ (l : List Entry). cond (is_pass n x.pass) (x ∷ l) l) (entries_of-hit n xs e h)
-    ∙ put_behind (is_pass n x.pass) x e (entries_of n xs)
+    ∙ put_behind (is_pass n x.pass) x e (entries_under n xs)
 
 pub entries_of-miss : (n : ℕ) (es : List Entry) (e : Entry) → is_pass n e.pass ≡ false
-    → entries_of n (es ++ e ∷ []) ≡ entries_of n es
+    → entries_under n (es ++ e ∷ []) ≡ entries_under n es
 entries_of-miss n [] e h = ap (λ (b : Bool). cond b (e ∷ []) []) h
 entries_of-miss n (x ∷ xs) e h =
     ap (λ (l : List Entry). cond (is_pass n x.pass) (x ∷ l) l) (entries_of-miss n xs e h)

@@ -6,8 +6,8 @@ use mathlib.Core.Logic.{dite}
 use native.Mathlib.Decide.{ℕ_discrete}
 use Rattle.wal_page.specs.Order.{Entry}
 use Rattle.wal_core.specs.declared.setup.Setup.{Setup}
-use Rattle.wal_core.specs.Views.{HasAt, Free, Joined, Promise, Reserving}
-use Rattle.wal_core.specs.Ordered.{entries_of, Role, active, spare, ended, unborn, IsUnused, FrontEndsAt, IsEnded, AreApart, HasLive, TookIn, OrderHolds}
+use Rattle.wal_core.specs.Views.{HasAt, Free, Joined, FlushPromise, Reserving}
+use Rattle.wal_core.specs.Ordered.{entries_under, Role, active, spare, ended, unborn, IsUnused, FrontEndsAt, IsEnded, AreApart, HasLive, TookIn, OrderHolds}
 use Rattle.wal_core.specs.Moves.{has_spares}
 use Rattle.wal_core.proofs.Lists.{one_set, one_added, at_same, at_place, at_else, at_end}
 use Rattle.order_laws.proofs.Going.{GoesOn, StaysPlaced, placed_as, Each, each_set, each_added, each_goes_on, number_still, goes_by_still, took_in_still, held_still}
@@ -104,7 +104,7 @@ module _ (setup : Setup) (found order : List Entry) (position prev : ℕ) (parts
 
   -- where words and order stay, and roles change
   with_roles : (role : ℕ → Role) (keeper : ℕ) (parts' : List Reserving)
-      → ((n : ℕ) → IsUnused (role n) → entries_of n order ≡ [])
+      → ((n : ℕ) → IsUnused (role n) → entries_under n order ≡ [])
       → ((n : ℕ) → setup.passes ≤ n → role n ≡ unborn)
       → ((j : ℕ) (u : Reserving) → HasAt parts' j u → PlacedWith role keeper j u)
       → ((n j : ℕ) → role n ≡ active j → HasLive parts' j (λ u. u.number ≡ n))
@@ -274,7 +274,7 @@ module _ (setup : Setup) (found order : List Entry) (position prev : ℕ) (parts
   -- ---- another pass is taken in, which has no place
 
   module _ (other : ℕ) (s : Reserving) (there_s : HasAt parts other s) (alive_s : s.live ≡ true)
-      (apart_s : id ≢ other) (rests : s.place ≡ Free) (promises : List Promise)
+      (apart_s : id ≢ other) (rests : s.place ≡ Free) (promises : List FlushPromise)
       (gone : Reserving) (dead : gone.live ≡ false) where
     abbrev log : Joined
     log = record {

@@ -6,7 +6,7 @@ use mathlib.Core.Option.{Option}
 use Rattle.wal_page.specs.Order.{Entry, end_position, prev_of}
 use Rattle.wal_core.specs.Words.{Opening, position_word, prev_word}
 use Rattle.wal_core.specs.Views.{HasAt, Place, Free, Locked, Loaded, Stored, Joined, Plain, Reserving, View, reserving_of}
-use Rattle.wal_core.specs.Ordered.{is_pass, entries_of, Role, active, spare, ended, unborn, IsUnused, IsEnded, IsPartOf, HasLive, TookIn, FrontEndsAt, AtPlace, OrderHolds}
+use Rattle.wal_core.specs.Ordered.{is_pass, entries_under, Role, active, spare, ended, unborn, IsUnused, IsEnded, IsPartOf, HasLive, TookIn, FrontEndsAt, AtPlace, OrderHolds}
 use Rattle.wal_core.specs.Sound.{IsSound}
 use Rattle.wal_core.proofs.Lists.{part_at, view_from}
 use Rattle.order_laws.specs.Shared.{IsSpare, HasNumber, TellsLastStart, HasItsPart, OrderIsShared, SomeLive}
@@ -29,7 +29,7 @@ names_one id j unborn h g = absurd h
 
 -- an entry of a pass is among the pass's entries of the order
 among : (n : ℕ) (e : Entry) → e.pass ≡ Some n → (es : List Entry) → Contains es e
-    → Contains (entries_of n es) e
+    → Contains (entries_under n es) e
 among n e is [] has = absurd (let none = has.1 in omega (arith, none))
 among n e is (x ∷ xs) has = ⊎_elim
     (λ (one : Contains (x ∷ []) e). ⊎_elim
@@ -40,15 +40,15 @@ among n e is (x ∷ xs) has = ⊎_elim
     (λ (rest : Contains xs e). further (is_pass n x.pass) (among n e is xs rest))
     (Contains-append_cases (x ∷ []) xs e has)
   where
-    further : (b : Bool) → Contains (entries_of n xs) e
-        → Contains (cond b (x ∷ entries_of n xs) (entries_of n xs)) e
-    further true t = Contains-append_right (x ∷ []) (entries_of n xs) e t
+    further : (b : Bool) → Contains (entries_under n xs) e
+        → Contains (cond b (x ∷ entries_under n xs) (entries_under n xs)) e
+    further true t = Contains-append_right (x ∷ []) (entries_under n xs) e t
     further false t = t
 
     kept : is_pass n x.pass ≡ true → x ≡ e
-        → Contains (cond (is_pass n x.pass) (x ∷ entries_of n xs) (entries_of n xs)) e
+        → Contains (cond (is_pass n x.pass) (x ∷ entries_under n xs) (entries_under n xs)) e
     kept own same = subst
-        (λ (b : Bool). Contains (cond b (x ∷ entries_of n xs) (entries_of n xs)) e) (sym own)
+        (λ (b : Bool). Contains (cond b (x ∷ entries_under n xs) (entries_under n xs)) e) (sym own)
         (0, omega arith, same)
 
 -- a view that has the position locked: its bit is set, the holder is this view, and it tells how
@@ -122,7 +122,7 @@ module _ (opening : Opening) (words : List ℕ) (home : Option Plain) (views : L
       seen = part.seen;
       entries = part.entries_are;
       joined = All-weaker (IsEnded size opening.found s.order k.role id)
-          (λ j. j.entries ≡ entries_of j.number s.order) (λ j h. h.entries_are)
+          (λ j. j.entries ≡ entries_under j.number s.order) (λ j h. h.entries_are)
           (v.reserving).joined part.joined;
       filled = part.filled;
       joined_filled = All-weaker (IsEnded size opening.found s.order k.role id)
@@ -145,7 +145,7 @@ module _ (opening : Opening) (words : List ℕ) (home : Option Plain) (views : L
       )
 
   module _ (e : Entry) (n : ℕ) (is : e.pass ≡ Some n) (has : Contains s.order e) where
-    mine : Contains (entries_of n s.order) e
+    mine : Contains (entries_under n s.order) e
     mine = among n e is s.order has
 
     abbrev IsOfSome : Type 0
@@ -159,8 +159,8 @@ module _ (opening : Opening) (words : List ℕ) (home : Option Plain) (views : L
     of_active id was =
         let h = k.goes_by n id was in
         let p = k.views id h.0 h.1 h.2 in
-        let are : entries_of n s.order ≡ (h.0).entries =
-        ap (λ (m : ℕ). entries_of m s.order) (sym h.3) ∙ sym p.entries_are in
+        let are : entries_under n s.order ≡ (h.0).entries =
+        ap (λ (m : ℕ). entries_under m s.order) (sym h.3) ∙ sym p.entries_are in
         (h.0, h.1, h.2, subst (λ (es : List Entry). Contains es e) are mine)
 
     of_ended : (id : ℕ) → k.role n ≡ ended id → HasLive (map reserving_of views) id
@@ -171,8 +171,8 @@ module _ (opening : Opening) (words : List ℕ) (home : Option Plain) (views : L
         let t = h.3 in
         let x = All-contains (IsEnded size opening.found s.order k.role id) (h.0).joined t.0
         p.joined t.1 in
-        let are : entries_of n s.order ≡ (t.0).entries =
-        ap (λ (m : ℕ). entries_of m s.order) (sym t.2) ∙ sym x.entries_are in
+        let are : entries_under n s.order ≡ (t.0).entries =
+        ap (λ (m : ℕ). entries_under m s.order) (sym t.2) ∙ sym x.entries_are in
         (h.0, h.1, h.2, (t.0, t.1, subst (λ (es : List Entry). Contains es e) are mine))
 
     of_nobody : IsUnused (k.role n) → IsOfSome

@@ -5,7 +5,7 @@ use Rattle.byte_position.specs.Position.{address_of}
 use Rattle.wal_page.specs.Order.{Entry, IsChained, end_position, prev_of}
 use Rattle.wal_core.specs.Words.{Opening, log_limit, position_word, prev_word}
 use Rattle.wal_core.specs.Views.{HasAt, Place, Free, Locked, Loaded, Stored, Joined, Reserving, View}
-use Rattle.wal_core.specs.Ordered.{entries_of, AreApart, BeginsWith, FrontEndsAt, TookIn}
+use Rattle.wal_core.specs.Ordered.{entries_under, AreApart, BeginsWith, FrontEndsAt, TookIn}
 
 -- a number that a pass may give to another one; and one that is its own, to give, or of a pass that
 -- it took in
@@ -48,8 +48,8 @@ module _ (opening : Opening) (order : List Entry) (words : List ℕ) (views : Li
     pub numbers : NumbersDiffer r
     pub seen : r.seen ≤ end_position size order
     -- its log, and the logs that it took in
-    pub entries : r.entries ≡ entries_of r.number order
-    pub joined : All (λ j. j.entries ≡ entries_of j.number order) r.joined
+    pub entries : r.entries ≡ entries_under r.number order
+    pub joined : All (λ j. j.entries ≡ entries_under j.number order) r.joined
     -- each position at which one of them met a full log
     pub filled : All (FrontEndsAt size r.number opening.found order r.entries) r.filled
     pub joined_filled : All

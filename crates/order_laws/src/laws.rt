@@ -8,9 +8,9 @@ ghost use Rattle.wal_types.specs.declared.record.Record.{Record};
 ghost use Rattle.wal_page.specs.Order.{Entry, IsChained, end_position};
 ghost use Rattle.wal_core.specs.Views.{HasAt, Free, Plain, Reserving, View};
 ghost use Rattle.wal_core.specs.Words.{Opening, end_form};
-ghost use Rattle.wal_core.specs.Steps.{Event, MayStep, value_behind, view_behind};
-ghost use Rattle.wal_core.specs.Ordered.{BeginsWith, OrderHolds, entries_of};
-ghost use Rattle.wal_core.specs.Moves.{entry_at, left_of, right_of, both_of, spent, without_work, orphan_of};
+ghost use Rattle.wal_core.specs.Steps.{StepKind, MayStep, value_behind, view_behind};
+ghost use Rattle.wal_core.specs.Ordered.{BeginsWith, OrderHolds, entries_under};
+ghost use Rattle.wal_core.specs.Moves.{entry_reserved, after_split, split_off, after_join, spent, without_work, orphan_of};
 ghost use Rattle.wal_core.specs.Steps.{place_at, load_position, load_flushed, store_position};
 ghost use Rattle.wal_core.specs.Steps.{lock_position, load_prev, store_prev, give_position_back};
 ghost use Rattle.order_laws.specs.Parts.{TakesPart, HoldsWith};
@@ -48,7 +48,7 @@ pub fn orders_grow_by_one_entry()
         (id : ℕ) (v : View) (home : Option Plain) (locks : List ℕ) (value : Record)
         → TakesPart order position prev parts id v → MayStep v (store_position locks value)
         → HoldsWith
-        (order ++ entry_at (v.reserving).number (place_at v (v.reserving).place) value ∷ [])
+        (order ++ entry_reserved (v.reserving).number (place_at v (v.reserving).place) value ∷ [])
         (value_behind v (store_position locks value) position) prev parts id v
         (view_behind v (store_position locks value) position home) }
 {}
@@ -76,13 +76,13 @@ pub fn passes_share_one_order()
         (v : View) → TakesPart order position prev parts id v
         → (v.reserving).spare < (v.reserving).spare_end
         → OrderHolds (v.opening).setup (v.opening).found order position prev
-        (set parts id (left_of v).reserving ++ (right_of v).reserving ∷ []) }
+        (set parts id (after_split v).reserving ++ (split_off v).reserving ∷ []) }
     ensures join { (order : List Entry) (position prev : ℕ) (parts : List Reserving) (id : ℕ)
         (v : View) (other : ℕ) (w : View) → TakesPart order position prev parts id v
         → HasAt parts other w.reserving → (w.reserving).live ≡ true → id ≢ other
         → (w.reserving).place ≡ Free
         → OrderHolds (v.opening).setup (v.opening).found order position prev
-        (set (set parts other (spent w).reserving) id (both_of v w).reserving) }
+        (set (set parts other (spent w).reserving) id (after_join v w).reserving) }
     ensures give_up { (order : List Entry) (position prev : ℕ) (parts : List Reserving) (id : ℕ)
         (v : View) → TakesPart order position prev parts id v
         → OrderHolds (v.opening).setup (v.opening).found order position prev
@@ -94,7 +94,7 @@ pub fn passes_share_one_order()
 pub fn passes_fix_the_order()
     ensures one_order { (size : ℕ) (found es fs : List Entry) → IsChained size es
         → IsChained size fs → BeginsWith found es → BeginsWith found fs
-        → ((n : ℕ) → entries_of n es ≡ entries_of n fs) → es ≡ fs }
+        → ((n : ℕ) → entries_under n es ≡ entries_under n fs) → es ≡ fs }
 {}
 
 /// A sound state shows the reserved order as its users know it: the numbers of the passes (a pass's

@@ -12,7 +12,7 @@ use Rattle.lawful_image.specs.Lawful.{log_word_bytes}
 use Rattle.wal_core.specs.declared.setup.Setup.{Setup}
 use Rattle.wal_core.specs.Views.{Plain}
 use Rattle.wal_core.specs.Moves.{Outcome, Done, Failed, is_done}
-use Rattle.wal_core.specs.Steps.{IsLoaded}
+use Rattle.wal_core.specs.Steps.{IsPageLoaded}
 use Rattle.wal_core.specs.Positioned.{ReadsBelow}
 use Rattle.wal_core.specs.Durable.{IsStaged}
 use Rattle.wal_core.proofs.Tapes.{state_behind, tape_behind}
@@ -20,7 +20,7 @@ use Rattle.position_laws.proofs.Reading.{ReadsBelow-create, ReadsBelow-sync, Rea
 
 -- the words of a page that were loaded are the log's, where all is copied below an address
 pub loaded_words : (setup : Setup) (order : List Entry) (known number : ℕ) (bytes : List ℕ)
-    (staged : List (ℕ × ℕ)) → IsLoaded number bytes staged
+    (staged : List (ℕ × ℕ)) → IsPageLoaded number bytes staged
     → All (IsStaged setup order known) staged → (n : ℕ) → n < 1024
     → number * 8192 + 8 * n < known → word_of bytes n
     ≡ log_word_bytes setup.segment_size setup.sysid order (number * 8192 + 8 * n)

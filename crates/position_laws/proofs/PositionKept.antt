@@ -14,8 +14,8 @@ use Rattle.wal_core.specs.Ordered.{OrderHolds, AtPlace}
 use Rattle.wal_core.specs.Locked.{AreHeld, StandsTo}
 use Rattle.wal_core.specs.Watched.{WatchHolds}
 use Rattle.wal_core.specs.Positioned.{IsCopiedBelow}
-use Rattle.wal_core.specs.Moves.{hardened, landed, one_more, with_place, with_hold, copied_below, lent, entry_at, left_of, right_of, both_of, spent, without_work, orphan_of, no_writing}
-use Rattle.wal_core.specs.Steps.{MayStep, number_lent, place_at, value_behind, view_behind, home_behind, take_write_turn, slot_out, slot_in, release_write_turn, store_position, release, store_word, load_word, load_written, load_flushed, load_moment, load_down, store_written, store_moment, store_flushed, set_down}
+use Rattle.wal_core.specs.Moves.{hardened, landed, one_more, with_place, with_hold, copied_below, lent, entry_reserved, after_split, split_off, after_join, spent, without_work, orphan_of, no_writing}
+use Rattle.wal_core.specs.Steps.{MayStep, number_lent, place_at, value_behind, view_behind, home_behind, take_write_turn, slot_out, slot_in, release_write_turn, store_position, release, store_ring_word, load_ring_word, load_written, load_flushed, load_moment, load_down, store_written, store_moment, store_flushed, set_down}
 use Rattle.wal_core.proofs.Landing.{lock_of}
 use Rattle.wal_core.proofs.Lists.{one_set, one_added, part_at, view_from}
 use Rattle.position_laws.specs.Parts.{Positions, HasPositions, HoldAmong, HoldBehind}
@@ -107,7 +107,7 @@ module _ (p : Positions) (id : ℕ) (v : View) (t : HasPositions p id v) where
   pub release_write_turn_keeps : Still (view_behind v release_write_turn p.turn p.home)
   release_write_turn_keeps = rehold Idle (KeepsKnown-idle (v.writing).hold)
 
-  pub load_word_keeps : (k met : ℕ) → Still (view_behind v (load_word k) met p.home)
+  pub load_word_keeps : (k met : ℕ) → Still (view_behind v (load_ring_word k) met p.home)
   load_word_keeps k met = rehold _ (KeepsKnown-lent
       (λ l. record l { staged = (k, met) ∷ l.staged }) (λ _. refl) (λ _. refl) (v.writing).hold)
 
@@ -140,7 +140,7 @@ module _ (p : Positions) (id : ℕ) (v : View) (t : HasPositions p id v) where
   release_keeps lock met = copied_still (landed lock (flight_of v))
       (landed_still setup.segment_size p.flights id (flight_of v) t.flight_here lock)
 
-  pub store_word_keeps : (met : ℕ) → Still (view_behind v store_word met p.home)
+  pub store_word_keeps : (met : ℕ) → Still (view_behind v store_ring_word met p.home)
   store_word_keeps met = copied_still (one_more (flight_of v))
       (one_more_still setup.segment_size p.flights id (flight_of v) t.flight_here)
 
@@ -237,7 +237,7 @@ module _ (p : Positions) (id : ℕ) (v : View) (t : HasPositions p id v) where
       → MayStep v (store_position locks value)
       → HoldBehind (record p {
         order = p.order
-            ++ entry_at (v.reserving).number (place_at v (v.reserving).place) value ∷ [];
+            ++ entry_reserved (v.reserving).number (place_at v (v.reserving).place) value ∷ [];
       }) id v (view_behind v (store_position locks value) position p.home)
   store_position_keeps position prev reservings locks value k there live may =
       let size : ℕ = setup.segment_size in
@@ -245,12 +245,12 @@ module _ (p : Positions) (id : ℕ) (v : View) (t : HasPositions p id v) where
       (prev_of size 0 p.order) prev k.locked k.holder id q) may.2
       (k.places id v.reserving there live) in
       subst (λ (q : Place). HoldBehind (record p {
-        order = p.order ++ entry_at (v.reserving).number (place_at v q) value ∷ [];
+        order = p.order ++ entry_reserved (v.reserving).number (place_at v q) value ∷ [];
       }) id v (view_behind (with_place q v) (store_position locks value) position p.home))
       (sym may.2)
-      (order_grows v.opening p t.holds t.size (entry_at (v.reserving).number may.0 value) at.2 id
+      (order_grows v.opening p t.holds t.size (entry_reserved (v.reserving).number may.0 value) at.2 id
       (record {
-        entry = entry_at (v.reserving).number may.0 value;
+        entry = entry_reserved (v.reserving).number may.0 value;
         prev = may.1;
         locks = locks;
         copied = 0;
@@ -266,8 +266,8 @@ module _ (p : Positions) (id : ℕ) (v : View) (t : HasPositions p id v) where
       (λ j u _ there. others j u there) mine) (none_within v.opening p t.holds)
 
   pub split_keeps : HoldAmong p v
-      (set p.flights id (flight_of (left_of v)) ++ flight_of (right_of v) ∷ [])
-      (set p.parts id (writing_of (left_of v)) ++ writing_of (right_of v) ∷ [])
+      (set p.flights id (flight_of (after_split v)) ++ flight_of (split_off v) ∷ [])
+      (set p.parts id (writing_of (after_split v)) ++ writing_of (split_off v) ∷ [])
   split_keeps = both_change v.opening p t.holds _ _
       (added_still setup.segment_size p.flights id (flight_of v) t.flight_here) within_added
 
@@ -278,12 +278,12 @@ module _ (p : Positions) (id : ℕ) (v : View) (t : HasPositions p id v) where
       (given_up_still setup.segment_size p.flights id (flight_of v) t.flight_here) within_added
 
   pub join_keeps : (other : ℕ) (w : View) → HoldAmong p v
-      (set (set p.flights other (flight_of (spent w))) id (flight_of (both_of v w)))
-      (set (set p.parts other (writing_of (spent w))) id (writing_of (both_of v w)))
+      (set (set p.flights other (flight_of (spent w))) id (flight_of (after_join v w)))
+      (set (set p.parts other (writing_of (spent w))) id (writing_of (after_join v w)))
   join_keeps other w = both_change v.opening p t.holds _ _
       (joined_still setup.segment_size p.flights id (flight_of v) t.flight_here other)
       (one_set (λ (j : ℕ) (u : Writing). Within v.opening p t.holds u)
-      (set p.parts other no_writing) id (writing_of (both_of v w))
+      (set p.parts other no_writing) id (writing_of (after_join v w))
       (λ j u _ there. one_set (λ (j : ℕ) (u : Writing). Within v.opening p t.holds u) p.parts other
       no_writing (λ j u _ there. others j u there) (none_within v.opening p t.holds) j u there)
       (record {

@@ -14,11 +14,11 @@ ghost use Rattle.wal_core.specs.Locked.{AreHeld};
 ghost use Rattle.wal_core.specs.Watched.{WatchHolds};
 ghost use Rattle.wal_core.specs.Durable.{DurabilityHolds};
 ghost use Rattle.wal_core.specs.Sound.{IsSound};
-ghost use Rattle.wal_core.specs.Moves.{Outcome, entry_at, left_of, right_of, both_of, spent, without_work, orphan_of, after_create, after_write, after_sync};
+ghost use Rattle.wal_core.specs.Moves.{Outcome, entry_reserved, after_split, split_off, after_join, spent, without_work, orphan_of, after_create, after_write, after_sync};
 ghost use Rattle.wal_core.specs.Steps.{MayStep, place_at, value_behind, view_behind, home_behind};
 ghost use Rattle.wal_core.specs.Steps.{take_write_turn, release_write_turn, slot_out, slot_in};
-ghost use Rattle.wal_core.specs.Steps.{load_word, load_written, load_flushed, load_moment, load_down};
-ghost use Rattle.wal_core.specs.Steps.{store_position, store_word, release, store_written, store_moment};
+ghost use Rattle.wal_core.specs.Steps.{load_ring_word, load_written, load_flushed, load_moment, load_down};
+ghost use Rattle.wal_core.specs.Steps.{store_position, store_ring_word, release, store_written, store_moment};
 ghost use Rattle.wal_core.specs.Steps.{store_flushed, set_down, create, write, sync};
 ghost use Rattle.position_laws.specs.Parts.{Positions, positions_in, HasPositions, HoldAmong, HoldBehind};
 
@@ -29,8 +29,8 @@ pub fn what_is_met_is_not_above_the_words()
         → HoldBehind p id v (view_behind v take_write_turn p.turn p.home) }
     ensures release_write_turn { (p : Positions) (id : ℕ) (v : View) → HasPositions p id v
         → HoldBehind p id v (view_behind v release_write_turn p.turn p.home) }
-    ensures load_word { (p : Positions) (id : ℕ) (v : View) → HasPositions p id v
-        → (k met : ℕ) → HoldBehind p id v (view_behind v (load_word k) met p.home) }
+    ensures load_ring_word { (p : Positions) (id : ℕ) (v : View) → HasPositions p id v
+        → (k met : ℕ) → HoldBehind p id v (view_behind v (load_ring_word k) met p.home) }
     ensures load_written { (p : Positions) (id : ℕ) (v : View) → HasPositions p id v
         → HoldBehind p id v (view_behind v load_written p.written p.home) }
     ensures load_flushed { (p : Positions) (id : ℕ) (v : View) → HasPositions p id v
@@ -44,8 +44,8 @@ pub fn what_is_met_is_not_above_the_words()
 /// What is copied below an address stays copied, as copies go on and end; and a new entry begins
 /// above all that is written or known to be copied.
 pub fn copies_only_go_on()
-    ensures store_word { (p : Positions) (id : ℕ) (v : View) → HasPositions p id v
-        → (met : ℕ) → HoldBehind p id v (view_behind v store_word met p.home) }
+    ensures store_ring_word { (p : Positions) (id : ℕ) (v : View) → HasPositions p id v
+        → (met : ℕ) → HoldBehind p id v (view_behind v store_ring_word met p.home) }
     ensures release { (p : Positions) (id : ℕ) (v : View) → HasPositions p id v
         → (lock met : ℕ) → HoldBehind p id v (view_behind v (release lock) met p.home) }
     ensures store_position { (p : Positions) (id : ℕ) (v : View) → HasPositions p id v
@@ -55,7 +55,7 @@ pub fn copies_only_go_on()
         → MayStep v (store_position locks value)
         → HoldBehind (record p {
           order = p.order
-              ++ entry_at (v.reserving).number (place_at v (v.reserving).place) value ∷ [];
+              ++ entry_reserved (v.reserving).number (place_at v (v.reserving).place) value ∷ [];
         }) id v (view_behind v (store_position locks value) position p.home) }
 {}
 
@@ -134,12 +134,12 @@ pub fn calls_leave_the_log_readable()
 /// view of its own.
 pub fn passes_leave_the_positions()
     ensures split { (p : Positions) (id : ℕ) (v : View) → HasPositions p id v
-        → HoldAmong p v (set p.flights id (flight_of (left_of v)) ++ flight_of (right_of v) ∷ [])
-        (set p.parts id (writing_of (left_of v)) ++ writing_of (right_of v) ∷ []) }
+        → HoldAmong p v (set p.flights id (flight_of (after_split v)) ++ flight_of (split_off v) ∷ [])
+        (set p.parts id (writing_of (after_split v)) ++ writing_of (split_off v) ∷ []) }
     ensures join { (p : Positions) (id : ℕ) (v : View) → HasPositions p id v
         → (other : ℕ) (w : View) → HoldAmong p v
-        (set (set p.flights other (flight_of (spent w))) id (flight_of (both_of v w)))
-        (set (set p.parts other (writing_of (spent w))) id (writing_of (both_of v w))) }
+        (set (set p.flights other (flight_of (spent w))) id (flight_of (after_join v w)))
+        (set (set p.parts other (writing_of (spent w))) id (writing_of (after_join v w))) }
     ensures give_up { (p : Positions) (id : ℕ) (v : View) → HasPositions p id v → HoldAmong p v
         (set p.flights id (flight_of (without_work v)) ++ flight_of (orphan_of v) ∷ [])
         (set p.parts id (writing_of (without_work v)) ++ writing_of (orphan_of v) ∷ []) }

@@ -3,12 +3,12 @@ use Rattle.std.proofs.Common.{◌≡◌, ◌⊎◌, inl, inr, ℕ, ◌+◌, ◌<
 use Rattle.std.specs.Prelude.{Contains, ◌==◌}
 use mathlib.Core.Option.{Option, none, some}
 use Rattle.wal_types.specs.declared.record.Record.{Record}
-use Rattle.wal_core.specs.Words.{initialised_word, written_word, end_word, ring_word}
+use Rattle.wal_core.specs.Words.{initialised_word, written_word, end_word, word_of_ring}
 use Rattle.wal_core.specs.Views.{HasAt, Place, Free, Locked, Loaded, Stored, Flight, Taken, Reserving, Plain, Hold, Idle, Turned, Out, Writing, View, working_of, flight_of, confirmed_of}
 use Rattle.wal_core.specs.Ringed.{RingHolds}
 use Rattle.wal_core.specs.Paged.{PagesHold}
 use Rattle.wal_core.specs.Moves.{with_reserving, with_place, with_writing, with_working, with_hold, with_stage, after_load_prev, after_store_prev, after_store_position, after_give_back}
-use Rattle.wal_core.specs.Steps.{Event, MayStep, word_of_step, value_behind, view_behind, with_slot, with_call_on, load_position, take_write_turn, slot_out, slot_in, release_write_turn, lock_position, load_prev, store_prev, store_position, give_position_back, load_lock, take_lock, advance, release, load_end, store_word, load_word, load_written, load_flushed, load_moment, load_down, store_written, store_moment, store_flushed, set_down, take_mapping_turn, load_initialised, clear_end, zero_word, publish_end, publish_initialised, release_mapping_turn, create, write, sync, ring_place}
+use Rattle.wal_core.specs.Steps.{StepKind, MayStep, word_of_step, value_behind, view_behind, with_slot, with_call_on, load_position, take_write_turn, slot_out, slot_in, release_write_turn, lock_position, load_prev, store_prev, store_position, give_position_back, load_lock, take_lock, advance, release, load_buffer_end, store_ring_word, load_ring_word, load_written, load_flushed, load_moment, load_down, store_written, store_moment, store_flushed, set_down, take_mapping_turn, load_initialised_end, clear_end, zero_ring_word, publish_end, publish_initialised_end, release_mapping_turn, create, write, sync, ring_place}
 use Rattle.wal_core.specs.Sound.{IsSound}
 use Rattle.wal_core.proofs.Lists.{part_at, part_same}
 use Rattle.wal_core.proofs.WordLists.{word_again, word_else, ends_before, ring_before}
@@ -59,7 +59,7 @@ module _ (v : View) where
   reserved_met locks value (Loaded at prev) = refl
   reserved_met locks value (Stored at prev) = refl
 
-  pub flight_left : (e : Event) (met : ℕ) (home : Option Plain) → LeavesCopies e
+  pub flight_left : (e : StepKind) (met : ℕ) (home : Option Plain) → LeavesCopies e
       → flight_of (view_behind v e met home) ≡ flight_of v
   flight_left load_position met home leaves = refl
   flight_left take_write_turn met home leaves =
@@ -83,9 +83,9 @@ module _ (v : View) where
       (met == 0) (with_working ((v.working).locks ++ lock ∷ []) (v.working).flight v) refl
   flight_left (advance lock upto) met home leaves = refl
   flight_left (release lock) met home leaves = absurd leaves
-  flight_left (load_end buffer) met home leaves = refl
-  flight_left store_word met home leaves = absurd leaves
-  flight_left (load_word n) met home leaves = refl
+  flight_left (load_buffer_end buffer) met home leaves = refl
+  flight_left store_ring_word met home leaves = absurd leaves
+  flight_left (load_ring_word n) met home leaves = refl
   flight_left load_written met home leaves = refl
   flight_left load_flushed met home leaves = refl
   flight_left load_moment met home leaves = refl
@@ -96,11 +96,11 @@ module _ (v : View) where
   flight_left set_down met home leaves = refl
   flight_left take_mapping_turn met home leaves =
       if_same flight_of v (λ x. refl) (λ x. refl) (met == 0) (with_stage Taken v) refl
-  flight_left load_initialised met home leaves = refl
+  flight_left load_initialised_end met home leaves = refl
   flight_left clear_end met home leaves = refl
-  flight_left zero_word met home leaves = refl
+  flight_left zero_ring_word met home leaves = refl
   flight_left publish_end met home leaves = refl
-  flight_left publish_initialised met home leaves = refl
+  flight_left publish_initialised_end met home leaves = refl
   flight_left release_mapping_turn met home leaves = refl
   flight_left (create segment outcome) met home leaves =
       call_same flight_of v (λ x. refl) (λ x. refl) _ (v.writing).hold
@@ -109,7 +109,7 @@ module _ (v : View) where
   flight_left (sync segment outcome) met home leaves =
       call_same flight_of v (λ x. refl) (λ x. refl) _ (v.writing).hold
 
-  pub confirmed_left : (e : Event) (met : ℕ) (home : Option Plain) → LeavesPages e
+  pub confirmed_left : (e : StepKind) (met : ℕ) (home : Option Plain) → LeavesPages e
       → confirmed_of (view_behind v e met home) ≡ confirmed_of v
   confirmed_left load_position met home leaves = refl
   confirmed_left take_write_turn met home leaves =
@@ -134,9 +134,9 @@ module _ (v : View) where
       (met == 0) (with_working ((v.working).locks ++ lock ∷ []) (v.working).flight v) refl
   confirmed_left (advance lock upto) met home leaves = refl
   confirmed_left (release lock) met home leaves = refl
-  confirmed_left (load_end buffer) met home leaves = absurd leaves
-  confirmed_left store_word met home leaves = absurd leaves
-  confirmed_left (load_word n) met home leaves = refl
+  confirmed_left (load_buffer_end buffer) met home leaves = absurd leaves
+  confirmed_left store_ring_word met home leaves = absurd leaves
+  confirmed_left (load_ring_word n) met home leaves = refl
   confirmed_left load_written met home leaves = absurd leaves
   confirmed_left load_flushed met home leaves = refl
   confirmed_left load_moment met home leaves = refl
@@ -146,11 +146,11 @@ module _ (v : View) where
   confirmed_left store_flushed met home leaves = refl
   confirmed_left set_down met home leaves = refl
   confirmed_left take_mapping_turn met home leaves = absurd leaves
-  confirmed_left load_initialised met home leaves = absurd leaves
+  confirmed_left load_initialised_end met home leaves = absurd leaves
   confirmed_left clear_end met home leaves = absurd leaves
-  confirmed_left zero_word met home leaves = absurd leaves
+  confirmed_left zero_ring_word met home leaves = absurd leaves
   confirmed_left publish_end met home leaves = absurd leaves
-  confirmed_left publish_initialised met home leaves = absurd leaves
+  confirmed_left publish_initialised_end met home leaves = absurd leaves
   confirmed_left release_mapping_turn met home leaves = absurd leaves
   confirmed_left (create segment outcome) met home leaves =
       call_same confirmed_of v (λ x. refl) (λ x. refl) _ (v.writing).hold
@@ -168,7 +168,7 @@ module _ (v : View) (words : List ℕ) (home : Option Plain) (views : List View)
   held-low lock held = (((s.locks).locks).each id lock v.working
       (part_at working_of views id v here) held).0
 
-  pub ring_behind-left : (e : Event) → LeavesCopies e
+  pub ring_behind-left : (e : StepKind) → LeavesCopies e
       → HasRing v words home views id e s.order s.reach s.memory
   ring_behind-left e leaves =
       let met : ℕ = met_by v words home views id e in
@@ -177,13 +177,13 @@ module _ (v : View) (words : List ℕ) (home : Option Plain) (views : List View)
       (flight_left v e met home leaves))) s.ring
 
   -- a step that sets a word that is not said of pages, or none
-  pages_left : (e : Event)
+  pages_left : (e : StepKind)
       → confirmed_of (view_behind v e (met_by v words home views id e) home) ≡ confirmed_of v
       → (_ : initialised_word (words_behind v words home views id e) ≡ initialised_word words)
       (_ : written_word (words_behind v words home views id e) ≡ written_word words)
       (_ : end_word (words_behind v words home views id e) ≡ end_word words)
-      (_ : ring_word (v.opening).setup (words_behind v words home views id e)
-      ≡ ring_word (v.opening).setup words)
+      (_ : word_of_ring (v.opening).setup (words_behind v words home views id e)
+      ≡ word_of_ring (v.opening).setup words)
       → HasPages v words home views id e s.reach s.stage s.memory
   pages_left e same i w es r =
       let parts = part_same confirmed_of views id v
@@ -192,7 +192,7 @@ module _ (v : View) (words : List ℕ) (home : Option Plain) (views : List View)
       PagesHold ((v.opening).setup).ring_pages s.reach s.stage x.0 x.1 x.2 x.3 s.memory x.4)
       (λ j. (sym i j, sym w j, sym es j, sym r j, sym parts j)) s.pages
 
-  pages_by_word : (e : Event) → LeavesPages e → (word_of_step v e < 12)
+  pages_by_word : (e : StepKind) → LeavesPages e → (word_of_step v e < 12)
       ⊎ ((14 ≤ word_of_step v e) × (word_of_step v e < 17))
       → HasPages v words home views id e s.reach s.stage s.memory
   pages_by_word e leaves away =
@@ -206,7 +206,7 @@ module _ (v : View) (words : List ℕ) (home : Option Plain) (views : List View)
       (λ a. let b = a.0 in omega arith) away))
       (ends_before words i n before) (ring_before words (v.opening).setup i n (omega arith))
 
-  pub pages_behind-left : (e : Event) → MayStep v e → LeavesPages e
+  pub pages_behind-left : (e : StepKind) → MayStep v e → LeavesPages e
       → HasPages v words home views id e s.reach s.stage s.memory
   pages_behind-left load_position may leaves = pages_by_word load_position tt (inl (omega arith))
   pages_behind-left take_write_turn may leaves =
@@ -231,13 +231,13 @@ module _ (v : View) (words : List ℕ) (home : Option Plain) (views : List View)
       pages_by_word (advance lock upto) tt (inl (let low = held-low lock may.0 in omega arith))
   pages_behind-left (release lock) may leaves =
       pages_by_word (release lock) tt (inl (let low = held-low lock may.0 in omega arith))
-  pages_behind-left (load_end buffer) may leaves = absurd leaves
-  pages_behind-left store_word may leaves = absurd leaves
-  pages_behind-left (load_word n) may leaves =
+  pages_behind-left (load_buffer_end buffer) may leaves = absurd leaves
+  pages_behind-left store_ring_word may leaves = absurd leaves
+  pages_behind-left (load_ring_word n) may leaves =
       let place : ℕ = 17 + ((v.opening).setup).ring_pages + ring_place (v.opening).setup n in
       let same = word_again words place in
-      pages_left (load_word n) refl (ap initialised_word same) (ap written_word same)
-      (ap end_word same) (ap (ring_word (v.opening).setup) same)
+      pages_left (load_ring_word n) refl (ap initialised_word same) (ap written_word same)
+      (ap end_word same) (ap (word_of_ring (v.opening).setup) same)
   pages_behind-left load_written may leaves = absurd leaves
   pages_behind-left load_flushed may leaves =
       pages_by_word load_flushed tt (inr (omega arith, omega arith))
@@ -253,11 +253,11 @@ module _ (v : View) (words : List ℕ) (home : Option Plain) (views : List View)
   pages_behind-left set_down may leaves =
       pages_by_word set_down tt (inr (omega arith, omega arith))
   pages_behind-left take_mapping_turn may leaves = absurd leaves
-  pages_behind-left load_initialised may leaves = absurd leaves
+  pages_behind-left load_initialised_end may leaves = absurd leaves
   pages_behind-left clear_end may leaves = absurd leaves
-  pages_behind-left zero_word may leaves = absurd leaves
+  pages_behind-left zero_ring_word may leaves = absurd leaves
   pages_behind-left publish_end may leaves = absurd leaves
-  pages_behind-left publish_initialised may leaves = absurd leaves
+  pages_behind-left publish_initialised_end may leaves = absurd leaves
   pages_behind-left release_mapping_turn may leaves = absurd leaves
   pages_behind-left (create segment outcome) may leaves =
       pages_by_word (create segment outcome) tt (inl (omega arith))

@@ -2,7 +2,7 @@
 use Rattle.std.proofs.Common.{◌≡◌, ℕ, ◌+◌, ◌*◌, ◌/◌, ◌%◌, ◌<◌, Bool, cond, eq-eqb, ne_eqb, List, length, set, refl, ap, arith}
 use Rattle.std.proofs.Math.Nat.{mod-lt}
 use Rattle.wal_core.specs.declared.setup.Setup.{Setup}
-use Rattle.wal_core.specs.Words.{end_word, ring_word, word_count}
+use Rattle.wal_core.specs.Words.{end_word, word_of_ring, word_count}
 use Rattle.wal_core.specs.Steps.{buffer_of, ring_place}
 use Rattle.wal_core.proofs.WordLists.{end_else, end_set, ring_else, ring_set}
 use Rattle.ring_laws.specs.Put.{IsPut, put}
@@ -36,8 +36,8 @@ module _ (setup : Setup) where
     }
 
     pub ring_put : (place value : ℕ) → place < setup.ring_pages * 1024
-        → IsPut (ring_word setup words) place value
-        (ring_word setup (set words (17 + setup.ring_pages + place) value))
+        → IsPut (word_of_ring setup words) place value
+        (word_of_ring setup (set words (17 + setup.ring_pages + place) value))
     ring_put place value below = record {
       here = ring_set words setup wide place value below;
       elsewhere = λ p ne. ring_else words setup place value p ne;

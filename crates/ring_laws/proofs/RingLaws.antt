@@ -19,9 +19,9 @@ use Rattle.wal_page.proofs.EntryWordLaws.{numbered_word-owned}
 use Rattle.wal_page.proofs.LogWordLaws.{log_word-entry, log_word_push, log_word-behind}
 use Rattle.wal_core.specs.declared.setup.Setup.{Setup}
 use Rattle.wal_core.specs.Views.{HasAt, Copy, Flight, Landed, Copying}
-use Rattle.wal_core.specs.Ringed.{log_word_of, StandsIn, IsAwaited, IsInFlightOnce, RingHolds}
+use Rattle.wal_core.specs.Ringed.{log_word_of, IsOfOrder, IsAwaited, IsInFlightOnce, RingHolds}
 use Rattle.wal_core.specs.Moves.{landed}
-use Rattle.wal_core.specs.Steps.{next_number, next_word}
+use Rattle.wal_core.specs.Steps.{number_of_next, next_word}
 use Rattle.wal_core.proofs.Landing.{landed_was, landed_stays}
 use Rattle.wal_core.proofs.Lists.{one_set, at_new, at_same, at_place}
 use Rattle.ring_laws.specs.Put.{IsPut}
@@ -49,13 +49,13 @@ module _ (size : ℕ) (valid : IsSegmentSize size) (e : Entry) (whole : e.start 
 
 -- an entry in flight starts at a whole word
 pub copy-whole : (size : ℕ) → IsSegmentSize size → (order : List Entry) → IsChained size order
-    → (c : Copy) → StandsIn size order c → (c.entry).start % 8 ≡ 0
+    → (c : Copy) → IsOfOrder size order c → (c.entry).start % 8 ≡ 0
 copy-whole size valid order chain c s =
     start-whole size valid s.front s.back c.entry (subst (IsChained size) s.are chain)
 
 -- and before the order's end
 start-before_end : (size : ℕ) (order : List Entry) → IsChained size order → (c : Copy)
-    → StandsIn size order c → (c.entry).start < end_position size order
+    → IsOfOrder size order c → (c.entry).start < end_position size order
 start-before_end size order chain c s =
     let parts = FollowsFrom-parts size (first_position size) s.front (c.entry ∷ s.back)
     (subst (IsChained size) s.are chain) in
@@ -68,8 +68,8 @@ start-before_end size order chain c s =
     omega arith
 
 -- an entry in flight goes on to stand in an order that grows
-still_stands : (size : ℕ) (order : List Entry) (e : Entry) (c : Copy) → StandsIn size order c
-    → StandsIn size (order ++ e ∷ []) c
+still_stands : (size : ℕ) (order : List Entry) (e : Entry) (c : Copy) → IsOfOrder size order c
+    → IsOfOrder size (order ++ e ∷ []) c
 still_stands size order e c s = record {
   front = s.front;
   back = s.back ++ e ∷ [];
@@ -105,7 +105,7 @@ module _ (setup : Setup) (order : List Entry) (reach : ℕ) (memory : ℕ → �
 
   -- the views change, each entry in flight is one of the order, and all that is awaited stays so
   rearrange : (flights2 : List Flight) → IsInFlightOnce flights2
-      → ((id : ℕ) (c : Copy) → HasAt flights2 id (Copying c) → StandsIn size order c)
+      → ((id : ℕ) (c : Copy) → HasAt flights2 id (Copying c) → IsOfOrder size order c)
       → ((address : ℕ) → IsAwaited size flights address → IsAwaited size flights2 address)
       → RingHolds setup order reach memory flights2
   rearrange flights2 once stand forth = record {
@@ -204,7 +204,7 @@ module _ (setup : Setup) (order : List Entry) (reach : ℕ) (memory : ℕ → �
 -- a copy is of the entry that another one is of, and stands in the order where it does
 abbrev StandsAs : ℕ → List Entry → Copy → Copy → Type 0
 StandsAs size order d c = ((d.entry).start ≡ (c.entry).start)
-    × (StandsIn size order d → StandsIn size order c)
+    × (IsOfOrder size order d → IsOfOrder size order c)
 
 -- an entry that a release leaves in flight stands where it stood
 landed_stands : (size : ℕ) (order : List Entry) (lock : ℕ) (f : Flight) (c : Copy)
@@ -327,10 +327,10 @@ module _ (setup : Setup) (order : List Entry) (reach : ℕ) (memory : ℕ → �
       } in
       record {
         in_flight = λ j c there. one_set
-            (λ i u. u ≡ Copying c → StandsIn segment (order ++ e ∷ []) c) flights id (Copying new)
+            (λ i u. u ≡ Copying c → IsOfOrder segment (order ++ e ∷ []) c) flights id (Copying new)
             (λ i u ne was is. still_stands segment order e c
             (k.in_flight i c (was ∙ ap (λ (x : Flight). some x) is)))
-            (λ is. subst (λ (d : Copy). StandsIn segment (order ++ e ∷ []) d)
+            (λ is. subst (λ (d : Copy). IsOfOrder segment (order ++ e ∷ []) d)
             (let same : new ≡ c = cc in same) record {
               front = order;
               back = [];
@@ -367,7 +367,7 @@ module _ (setup : Setup) (order : List Entry) (reach : ℕ) (memory : ℕ → �
   pub copies : (id : ℕ) (c : Copy) (memory2 : ℕ → ℕ) → HasAt flights id (Copying c)
       → c.copied < words_owned segment c.entry
       → address_of_word segment c.entry c.copied < reach * 8192
-      → IsPut memory (next_number setup (Copying c)) (next_word setup c) memory2
+      → IsPut memory (number_of_next setup (Copying c)) (next_word setup c) memory2
       → RingHolds setup order reach memory2
       (set flights id (Copying (record c { copied = c.copied + 1 })))
   copies id c memory2 here left mapped put =
@@ -404,9 +404,9 @@ module _ (setup : Setup) (order : List Entry) (reach : ℕ) (memory : ℕ → �
       (c.entry).start p a) (sym s.prev_is) in
       record {
         in_flight = λ j d there. one_set
-            (λ i u. u ≡ Copying d → StandsIn segment order d) flights id (Copying new)
+            (λ i u. u ≡ Copying d → IsOfOrder segment order d) flights id (Copying new)
             (λ i u ne was is. k.in_flight i d (was ∙ ap (λ (x : Flight). some x) is))
-            (λ is. subst (λ (x : Copy). StandsIn segment order x)
+            (λ is. subst (λ (x : Copy). IsOfOrder segment order x)
             (let same : new ≡ d = cc in same) record {
               front = s.front;
               back = s.back;

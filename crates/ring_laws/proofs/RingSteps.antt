@@ -5,12 +5,12 @@ use mathlib.Core.Option.{Option}
 use Rattle.wal_types.specs.declared.record.Record.{Record}
 use Rattle.wal_page.specs.Order.{Entry, end_position, prev_of}
 use Rattle.wal_core.specs.declared.setup.Setup.{Setup}
-use Rattle.wal_core.specs.Words.{initialised_word, written_word, end_word, ring_word}
+use Rattle.wal_core.specs.Words.{initialised_word, written_word, end_word, word_of_ring}
 use Rattle.wal_core.specs.Views.{HasAt, Place, Flight, Copying, Plain, View, reserving_of, flight_of, confirmed_of}
 use Rattle.wal_core.specs.Ordered.{AtPlace}
 use Rattle.wal_core.specs.Ringed.{RingHolds}
-use Rattle.wal_core.specs.Moves.{with_place, entry_at, after_store_position, landed, one_more}
-use Rattle.wal_core.specs.Steps.{Event, MayStep, view_behind, store_position, release, store_word, publish_end, next_number, next_value}
+use Rattle.wal_core.specs.Moves.{with_place, entry_reserved, after_store_position, landed, one_more}
+use Rattle.wal_core.specs.Steps.{StepKind, MayStep, view_behind, store_position, release, store_ring_word, publish_end, number_of_next, next_value}
 use Rattle.wal_core.specs.Sound.{IsSound}
 use Rattle.wal_core.proofs.Lists.{part_at, part_set}
 use Rattle.ring_laws.specs.Put.{IsPut}
@@ -28,7 +28,7 @@ module _ (v : View) (words : List ℕ) (home : Option Plain) (views : List View)
   flights = map flight_of views
 
   -- the ring behind a step, by the flight that its view has then
-  ring_by : (e : Event) (order : List Entry) (reach : ℕ) (memory : ℕ → ℕ) (f : Flight)
+  ring_by : (e : StepKind) (order : List Entry) (reach : ℕ) (memory : ℕ → ℕ) (f : Flight)
       → flight_of (view_behind v e (met_by v words home views id e) home) ≡ f
       → RingHolds setup order reach memory (set flights id f)
       → HasRing v words home views id e order reach memory
@@ -43,9 +43,9 @@ module _ (v : View) (words : List ℕ) (home : Option Plain) (views : List View)
   pub ring_behind-reserved : (locks : List ℕ) (value : Record) → (v.reserving).live ≡ true
       → (may : MayStep v (store_position locks value))
       → HasRing v words home views id (store_position locks value)
-      (s.order ++ entry_at (v.reserving).number may.0 value ∷ []) s.reach s.memory
+      (s.order ++ entry_reserved (v.reserving).number may.0 value ∷ []) s.reach s.memory
   ring_behind-reserved locks value live may =
-      let e : Entry = entry_at (v.reserving).number may.0 value in
+      let e : Entry = entry_reserved (v.reserving).number may.0 value in
       let place = subst
       (AtPlace setup.segment_size (end_position setup.segment_size s.order)
       (prev_of setup.segment_size 0 s.order) _ _ _ _) may.2
@@ -65,20 +65,20 @@ module _ (v : View) (words : List ℕ) (home : Option Plain) (views : List View)
       (ring.releases setup s.order s.reach s.memory flights s.ring (s.setup_is).size
       (s.reserved).chained id (v.working).flight flies lock may.1)
 
-  pub ring_behind-stored : MayStep v store_word
-      → HasRing v words home views id store_word s.order s.reach (memory_stored v s.memory)
+  pub ring_behind-stored : MayStep v store_ring_word
+      → HasRing v words home views id store_ring_word s.order s.reach (memory_stored v s.memory)
   ring_behind-stored may =
-      ring_by store_word s.order s.reach (memory_stored v s.memory) (one_more (Copying may.0))
+      ring_by store_ring_word s.order s.reach (memory_stored v s.memory) (one_more (Copying may.0))
       (ap one_more may.1)
       (ring.copies setup s.order s.reach s.memory flights s.ring (s.setup_is).size
       (s.reserved).chained id may.0 (memory_stored v s.memory)
       (subst (λ (f : Flight). HasAt flights id f) may.1 flies) (may.2).left
       (is_mapped setup s.reach s.stage (initialised_word words) (written_word words)
-      (end_word words) (ring_word setup words) s.memory (map confirmed_of views) s.pages may.0 id
+      (end_word words) (word_of_ring setup words) s.memory (map confirmed_of views) s.pages may.0 id
       (v.mapping).confirmed (part_at confirmed_of views id v here) may.2)
-      (subst (λ (f : Flight). IsPut s.memory (next_number setup f) (next_value v f)
+      (subst (λ (f : Flight). IsPut s.memory (number_of_next setup f) (next_value v f)
       (memory_stored v s.memory))
-      may.1 (put_is s.memory (next_number setup (v.working).flight)
+      may.1 (put_is s.memory (number_of_next setup (v.working).flight)
       (next_value v (v.working).flight))))
 
   pub ring_behind-published : HasRing v words home views id publish_end s.order (s.reach + 1)

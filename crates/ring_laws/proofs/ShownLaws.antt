@@ -6,7 +6,7 @@ use mathlib.Core.Logic.{dite}
 use native.Mathlib.Decide.{dec_le}
 use Rattle.wal_page.specs.EntryWords.{address_of_word}
 use Rattle.wal_core.specs.declared.setup.Setup.{Setup}
-use Rattle.wal_core.specs.Words.{Opening, initialised_word, written_word, mapping_turn, end_word, ring_word}
+use Rattle.wal_core.specs.Words.{Opening, initialised_word, written_word, mapping_turn, end_word, word_of_ring}
 use Rattle.wal_core.specs.Views.{HasAt, Stage, Away, Taken, Looked, Ready, Zeroing, Published, Plain, View, Copy, Flight, Copying, working_of, flight_of, watching_of, mapper_of, confirmed_of, told_of}
 use Rattle.wal_core.specs.Locked.{HasTurn}
 use Rattle.wal_core.specs.Ringed.{IsAwaited, log_word_of}
@@ -107,11 +107,11 @@ module _ (opening : Opening) (words : List ℕ) (home : Option Plain) (views : L
   written = written_word words
 
   abbrev k : PagesHold pages s.reach s.stage (initialised_word words) (written_word words)
-      (end_word words) (ring_word opening.setup words) s.memory (map confirmed_of views)
+      (end_word words) (word_of_ring opening.setup words) s.memory (map confirmed_of views)
   k = s.pages
 
   abbrev Now : Stage → Type 0
-  Now stage = AtStage pages k.low s.reach initialised written (ring_word setup words) stage
+  Now stage = AtStage pages k.low s.reach initialised written (word_of_ring setup words) stage
 
   -- a page that is present lies in the window
   window : (page : ℕ) → IsPresent setup words page → (k.low ≤ page) × (page < s.reach)
@@ -123,10 +123,10 @@ module _ (opening : Opening) (words : List ℕ) (home : Option Plain) (views : L
   in_window : (page : ℕ) → written < (page + 1) * 8192 → page < s.reach
       → IsPresent setup words page
   in_window page past low = k.present page (not_given_up pages s.reach s.stage initialised written
-      (end_word words) (ring_word setup words) s.memory (map confirmed_of views) k page past) low
+      (end_word words) (word_of_ring setup words) s.memory (map confirmed_of views) k page past) low
 
   word_is : (n : ℕ) → IsPresent setup words (n / 1024)
-      → ring_word setup words (ring_place setup n) ≡ s.memory n
+      → word_of_ring setup words (ring_place setup n) ≡ s.memory n
   word_is n here =
       let w = window (n / 1024) here in
       let number : n / 1024 * 1024 + n % 1024 ≡ n = omega arith in
@@ -134,7 +134,7 @@ module _ (opening : Opening) (words : List ℕ) (home : Option Plain) (views : L
 
   upto : (s.reach * 8192 ≡ initialised)
       ⊎ ((s.reach * 8192 ≡ initialised + 8192) × (s.stage ≡ Published initialised))
-  upto = mapped_upto pages k.low s.reach initialised written (ring_word setup words) s.stage
+  upto = mapped_upto pages k.low s.reach initialised written (word_of_ring setup words) s.stage
       k.mapping
 
   -- the stage of whoever has the turn is the one that the pages know
@@ -247,7 +247,7 @@ module _ (opening : Opening) (words : List ℕ) (home : Option Plain) (views : L
         k.present (at / 8192) (omega arith) (omega arith);
     no_other = λ page here past.
         let low = end_low pages s.reach s.stage initialised written (end_word words)
-        (ring_word setup words) s.memory (map confirmed_of views) k (page % pages)
+        (word_of_ring setup words) s.memory (map confirmed_of views) k (page % pages)
         (mod-lt page k.some_page) in
         ⊎_elim (λ e. absurd (omega arith))
         (λ t. let e = t.0 in let at : page * 8192 ≡ initialised = omega arith in
@@ -264,14 +264,14 @@ module _ (opening : Opening) (words : List ℕ) (home : Option Plain) (views : L
   pub mappers_are_next : MappersAreNext setup s.order words views
   mappers_are_next = record {
     page = λ id v here looked.
-        page_is pages k.low s.reach initialised written (ring_word setup words)
+        page_is pages k.low s.reach initialised written (word_of_ring setup words)
         (v.mapping).stage looked (own id v here (looked_has (v.mapping).stage looked));
     given_up = λ id v here cleared.
-        old_page_written pages k.low s.reach initialised written (ring_word setup words)
+        old_page_written pages k.low s.reach initialised written (word_of_ring setup words)
         (v.mapping).stage cleared (own id v here (looked_has (v.mapping).stage
         (cleared_looked (v.mapping).stage cleared))) k.given_up;
     zeroed = λ id v n here low.
-        zeros pages k.low s.reach initialised written (ring_word setup words)
+        zeros pages k.low s.reach initialised written (word_of_ring setup words)
         (v.mapping).stage n low (own id v here (looked_has (v.mapping).stage
         (zeroed_looked (v.mapping).stage n low)));
   }

@@ -5,7 +5,7 @@ use Rattle.wal_core.specs.declared.setup.Setup.{Setup}
 use Rattle.wal_core.specs.Views.{HasAt, Copy, Flight, Copying, Stage}
 use Rattle.wal_core.specs.Paged.{PagesHold}
 use Rattle.wal_core.specs.Positioned.{IsCopiedBelow}
-use Rattle.wal_core.specs.Steps.{CopiesOn, ring_place, next_number}
+use Rattle.wal_core.specs.Steps.{CopiesOn, ring_place, number_of_next}
 use Rattle.ring_laws.specs.Put.{IsPut}
 use Rattle.ring_laws.proofs.PageLaws.{stores}
 
@@ -25,8 +25,8 @@ module _ (setup : Setup) (reach : ℕ) (stage : Stage) (initialised written : �
       → HasAt confirmed id met → HasAt flights id (Copying c) → CopiesOn setup met c
       → IsCopiedBelow setup.segment_size flights below → written ≤ below
       → ((b : ℕ) → b < setup.ring_pages → ends2 b ≡ ends b)
-      → IsPut ring (ring_place setup (next_number setup (Copying c))) value ring2
-      → IsPut memory (next_number setup (Copying c)) value memory2
+      → IsPut ring (ring_place setup (number_of_next setup (Copying c))) value ring2
+      → IsPut memory (number_of_next setup (Copying c)) value memory2
       → PagesHold setup.ring_pages reach stage initialised written ends2 ring2 memory2 confirmed
   stores_word flights id met below value ends2 ring2 memory2 here flies on copied low same put new =
       let a : ℕ = address in

@@ -6,7 +6,7 @@ ghost use Rattle.wal_core.specs.Views.{HasAt, Copy, Flight, Copying, Stage, Away
 ghost use Rattle.wal_core.specs.Moves.{looked, ready};
 ghost use Rattle.wal_core.specs.Paged.{IsOpen, PagesHold};
 ghost use Rattle.wal_core.specs.Positioned.{IsCopiedBelow};
-ghost use Rattle.wal_core.specs.Steps.{CopiesOn, next_number, ring_place};
+ghost use Rattle.wal_core.specs.Steps.{CopiesOn, number_of_next, ring_place};
 ghost use Rattle.ring_laws.specs.Put.{IsPut};
 
 /// A pass meets the end of a buffer, or the initialised end, as it loads it; a mapper goes on with
@@ -89,8 +89,8 @@ pub fn stores_keep_pages()
         → HasAt confirmed id met → HasAt flights id (Copying c) → CopiesOn setup met c
         → IsCopiedBelow setup.segment_size flights below → written ≤ below
         → ((b : ℕ) → b < setup.ring_pages → ends_behind b ≡ ends b)
-        → IsPut ring (ring_place setup (next_number setup (Copying c))) value ring_behind
-        → IsPut memory (next_number setup (Copying c)) value memory_behind
+        → IsPut ring (ring_place setup (number_of_next setup (Copying c))) value ring_behind
+        → IsPut memory (number_of_next setup (Copying c)) value memory_behind
         → PagesHold setup.ring_pages reach stage initialised written ends_behind ring_behind
         memory_behind confirmed }
     ensures written { (pages reach : ℕ) (stage : Stage) (initialised written written_behind : ℕ)

@@ -10,7 +10,7 @@ ghost use Rattle.wal_core.specs.declared.setup.Setup.{Setup};
 ghost use Rattle.wal_core.specs.Words.{Opening};
 ghost use Rattle.wal_core.specs.Views.{HasAt, Copy, Flight, Landed, Copying, Stage, Plain, Lent, Out, Writing};
 ghost use Rattle.wal_core.specs.Moves.{landed, one_more};
-ghost use Rattle.wal_core.specs.Steps.{CopiesOn, IsToBeWritten, next_number, next_word, ring_place};
+ghost use Rattle.wal_core.specs.Steps.{CopiesOn, IsToBeWritten, number_of_next, next_word, ring_place};
 ghost use Rattle.wal_core.specs.Ringed.{RingHolds, log_word_of};
 ghost use Rattle.wal_core.specs.Paged.{PagesHold};
 ghost use Rattle.wal_core.specs.Positioned.{PositionsHold};
@@ -35,7 +35,7 @@ pub fn copies_keep_the_ring()
         → RingHolds setup order reach memory flights
         → PagesHold setup.ring_pages reach stage initialised written ends ring memory confirmed
         → HasAt flights id (Copying c) → HasAt confirmed id met → CopiesOn setup met c
-        → IsPut memory (next_number setup (Copying c)) (next_word setup c) memory_behind
+        → IsPut memory (number_of_next setup (Copying c)) (next_word setup c) memory_behind
         → RingHolds setup order reach memory_behind (set flights id (one_more (Copying c))) }
     ensures released { (setup : Setup) (order : List Entry) (reach : ℕ) (memory : ℕ → ℕ)
         (flights : List Flight) (id lock : ℕ) (flight : Flight)

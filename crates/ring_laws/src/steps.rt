@@ -7,8 +7,8 @@ ghost use Rattle.wal_types.specs.declared.record.Record.{Record};
 ghost use Rattle.wal_core.specs.Words.{Opening, initialised_word, written_word, mapping_turn};
 ghost use Rattle.wal_core.specs.Views.{HasAt, Away, Taken, Zeroing, Published, Lent, Out, Plain, View};
 ghost use Rattle.wal_core.specs.Durable.{IsStaged};
-ghost use Rattle.wal_core.specs.Moves.{both_of, entry_at, left_of, looked, orphan_of, ready, right_of, spent, without_work};
-ghost use Rattle.wal_core.specs.Steps.{Event, IsResting, MayStep, clear_end, load_end, load_initialised, load_word, load_written, page_mapped, publish_end, publish_initialised, release, release_mapping_turn, store_position, store_word, store_written, take_mapping_turn, words_zeroed, zero_word};
+ghost use Rattle.wal_core.specs.Moves.{after_join, entry_reserved, after_split, looked, orphan_of, ready, split_off, spent, without_work};
+ghost use Rattle.wal_core.specs.Steps.{StepKind, IsResting, MayStep, clear_end, load_buffer_end, load_initialised_end, load_ring_word, load_written, page_mapped, publish_end, publish_initialised_end, release, release_mapping_turn, store_position, store_ring_word, store_written, take_mapping_turn, words_zeroed, zero_ring_word};
 ghost use Rattle.wal_core.specs.Sound.{IsSound};
 ghost use Rattle.ring_laws.specs.Behind.{HasPages, HasPagesWith, HasRing, HasRingWith, memory_stored, met_by};
 ghost use Rattle.ring_laws.specs.Left.{LeavesCopies, LeavesPages};
@@ -21,11 +21,11 @@ pub fn steps_keep_the_ring()
         → (locks : List ℕ) (value : Record) → v.reserving.live ≡ true
         → (may : MayStep v (store_position locks value))
         → HasRing v words home views id (store_position locks value)
-        (s.order ++ entry_at v.reserving.number may.0 value ∷ []) s.reach s.memory }
+        (s.order ++ entry_reserved v.reserving.number may.0 value ∷ []) s.reach s.memory }
     ensures stored { (v : View) (words : List ℕ) (home : Option Plain) (views : List View)
         (id : ℕ) (s : IsSound v.opening words home views) → HasAt views id v
-        → MayStep v store_word
-        → HasRing v words home views id store_word s.order s.reach (memory_stored v s.memory) }
+        → MayStep v store_ring_word
+        → HasRing v words home views id store_ring_word s.order s.reach (memory_stored v s.memory) }
     ensures released { (v : View) (words : List ℕ) (home : Option Plain) (views : List View)
         (id : ℕ) (s : IsSound v.opening words home views) → HasAt views id v
         → (lock : ℕ) → MayStep v (release lock)
@@ -40,15 +40,15 @@ pub fn steps_keep_the_ring()
 pub fn loads_leave_pages_in_order()
     ensures end { (v : View) (words : List ℕ) (home : Option Plain) (views : List View)
         (id : ℕ) (s : IsSound v.opening words home views) → HasAt views id v
-        → (buffer : ℕ) → MayStep v (load_end buffer)
-        → HasPages v words home views id (load_end buffer) s.reach s.stage s.memory }
+        → (buffer : ℕ) → MayStep v (load_buffer_end buffer)
+        → HasPages v words home views id (load_buffer_end buffer) s.reach s.stage s.memory }
     ensures initialised { (v : View) (words : List ℕ) (home : Option Plain) (views : List View)
         (id : ℕ) (s : IsSound v.opening words home views) → HasAt views id v
-        → HasPages v words home views id load_initialised s.reach s.stage s.memory }
+        → HasPages v words home views id load_initialised_end s.reach s.stage s.memory }
     ensures looked { (v : View) (words : List ℕ) (home : Option Plain) (views : List View)
         (id : ℕ) (s : IsSound v.opening words home views) → HasAt views id v
         → s.stage ≡ v.mapping.stage
-        → HasPages v words home views id load_initialised s.reach
+        → HasPages v words home views id load_initialised_end s.reach
         (looked (initialised_word words) v.mapping.stage) s.memory }
     ensures written { (v : View) (words : List ℕ) (home : Option Plain) (views : List View)
         (id : ℕ) (s : IsSound v.opening words home views) → HasAt views id v
@@ -60,9 +60,9 @@ pub fn loads_leave_pages_in_order()
         (ready (written_word words) v.mapping.stage) s.memory }
     ensures word { (v : View) (words : List ℕ) (home : Option Plain) (views : List View)
         (id : ℕ) (s : IsSound v.opening words home views) → HasAt views id v
-        → (n : ℕ) (l : Lent) → v.writing.hold ≡ Out l → MayStep v (load_word n)
+        → (n : ℕ) (l : Lent) → v.writing.hold ≡ Out l → MayStep v (load_ring_word n)
         → IsStaged v.opening.setup s.order l.known
-        (n, met_by v words home views id (load_word n)) }
+        (n, met_by v words home views id (load_ring_word n)) }
 {}
 
 /// The pages, as one is given up for the next one.
@@ -81,7 +81,7 @@ pub fn mappers_leave_pages_in_order()
         (Zeroing (page_mapped v.mapping.stage) 0) s.memory }
     ensures zeroed { (v : View) (words : List ℕ) (home : Option Plain) (views : List View)
         (id : ℕ) (s : IsSound v.opening words home views) → HasAt views id v
-        → MayStep v zero_word → HasPages v words home views id zero_word s.reach
+        → MayStep v zero_ring_word → HasPages v words home views id zero_ring_word s.reach
         (Zeroing (page_mapped v.mapping.stage) (words_zeroed v.mapping.stage + 1)) s.memory }
     ensures published { (v : View) (words : List ℕ) (home : Option Plain) (views : List View)
         (id : ℕ) (s : IsSound v.opening words home views) → HasAt views id v
@@ -89,16 +89,16 @@ pub fn mappers_leave_pages_in_order()
         (Published (page_mapped v.mapping.stage)) s.memory }
     ensures advanced { (v : View) (words : List ℕ) (home : Option Plain) (views : List View)
         (id : ℕ) (s : IsSound v.opening words home views) → HasAt views id v
-        → MayStep v publish_initialised
-        → HasPages v words home views id publish_initialised s.reach Taken s.memory }
+        → MayStep v publish_initialised_end
+        → HasPages v words home views id publish_initialised_end s.reach Taken s.memory }
 {}
 
 /// The pages, as a word is stored, and as the log is written further.
 pub fn stores_leave_pages_in_order()
     ensures word { (v : View) (words : List ℕ) (home : Option Plain) (views : List View)
         (id : ℕ) (s : IsSound v.opening words home views) → HasAt views id v
-        → MayStep v store_word
-        → HasPages v words home views id store_word s.reach s.stage (memory_stored v s.memory) }
+        → MayStep v store_ring_word
+        → HasPages v words home views id store_ring_word s.reach s.stage (memory_stored v s.memory) }
     ensures written { (v : View) (words : List ℕ) (home : Option Plain) (views : List View)
         (id : ℕ) (s : IsSound v.opening words home views) → HasAt views id v
         → MayStep v store_written
@@ -110,12 +110,12 @@ pub fn passes_leave_ring_and_pages_in_order()
     ensures ring_split { (opening : Opening) (words : List ℕ) (home : Option Plain)
         (views : List View) (s : IsSound opening words home views) (id : ℕ) (v : View)
         → HasAt views id v → HasRingWith opening words home views s
-        (set views id (left_of v) ++ right_of v ∷ []) }
+        (set views id (after_split v) ++ split_off v ∷ []) }
     ensures ring_taken_in { (opening : Opening) (words : List ℕ) (home : Option Plain)
         (views : List View) (s : IsSound opening words home views) (id : ℕ) (v : View)
         → HasAt views id v → (other : ℕ) (u : View) → HasAt views other u → IsResting u
         → HasRingWith opening words home views s
-        (set (set views other (spent u)) id (both_of v u)) }
+        (set (set views other (spent u)) id (after_join v u)) }
     ensures ring_given_up { (opening : Opening) (words : List ℕ) (home : Option Plain)
         (views : List View) (s : IsSound opening words home views) (id : ℕ) (v : View)
         → HasAt views id v → HasRingWith opening words home views s
@@ -123,12 +123,12 @@ pub fn passes_leave_ring_and_pages_in_order()
     ensures pages_split { (opening : Opening) (words : List ℕ) (home : Option Plain)
         (views : List View) (s : IsSound opening words home views) (id : ℕ) (v : View)
         → HasAt views id v → HasPagesWith opening words home views s
-        (set views id (left_of v) ++ right_of v ∷ []) }
+        (set views id (after_split v) ++ split_off v ∷ []) }
     ensures pages_taken_in { (opening : Opening) (words : List ℕ) (home : Option Plain)
         (views : List View) (s : IsSound opening words home views) (id : ℕ) (v : View)
         → HasAt views id v → (other : ℕ) (u : View) → HasAt views other u → IsResting u
         → HasPagesWith opening words home views s
-        (set (set views other (spent u)) id (both_of v u)) }
+        (set (set views other (spent u)) id (after_join v u)) }
     ensures pages_given_up { (opening : Opening) (words : List ℕ) (home : Option Plain)
         (views : List View) (s : IsSound opening words home views) (id : ℕ) (v : View)
         → HasAt views id v → HasPagesWith opening words home views s
@@ -139,10 +139,10 @@ pub fn passes_leave_ring_and_pages_in_order()
 pub fn other_steps_leave_ring_and_pages()
     ensures ring { (v : View) (words : List ℕ) (home : Option Plain) (views : List View)
         (id : ℕ) (s : IsSound v.opening words home views) → HasAt views id v
-        → (e : Event) → LeavesCopies e
+        → (e : StepKind) → LeavesCopies e
         → HasRing v words home views id e s.order s.reach s.memory }
     ensures pages { (v : View) (words : List ℕ) (home : Option Plain) (views : List View)
         (id : ℕ) (s : IsSound v.opening words home views) → HasAt views id v
-        → (e : Event) → MayStep v e → LeavesPages e
+        → (e : StepKind) → MayStep v e → LeavesPages e
         → HasPages v words home views id e s.reach s.stage s.memory }
 {}

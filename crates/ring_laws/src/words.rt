@@ -2,7 +2,7 @@
 
 ghost use Rattle.std.specs.Prelude.{◌≡◌, ℕ, ◌+◌, ◌*◌, ◌<◌, List, length, set};
 ghost use Rattle.wal_core.specs.declared.setup.Setup.{Setup};
-ghost use Rattle.wal_core.specs.Words.{end_word, ring_word, word_count};
+ghost use Rattle.wal_core.specs.Words.{end_word, word_of_ring, word_count};
 ghost use Rattle.wal_core.specs.Steps.{ring_place};
 ghost use Rattle.ring_laws.specs.Put.{IsPut, put};
 
@@ -15,8 +15,8 @@ pub fn stores_change_one_value()
         → IsPut (end_word words) buffer value (end_word (set words (17 + buffer) value)) }
     ensures ring { (setup : Setup) (words : List ℕ) (place value : ℕ)
         → length words ≡ word_count setup → place < setup.ring_pages * 1024
-        → IsPut (ring_word setup words) place value
-        (ring_word setup (set words (17 + setup.ring_pages + place) value)) }
+        → IsPut (word_of_ring setup words) place value
+        (word_of_ring setup (set words (17 + setup.ring_pages + place) value)) }
     ensures place { (setup : Setup) (k : ℕ) → 0 < setup.ring_pages
         → ring_place setup k < setup.ring_pages * 1024 }
     ensures memory { (memory : ℕ → ℕ) (index value : ℕ)

@@ -3,7 +3,7 @@ use Rattle.std.proofs.Common.{◌≡◌, ℕ, zero, suc, List, set, sym, ap, ◌
 use mathlib.Core.Option.{Option}
 use Rattle.wal_core.specs.Words.{Opening}
 use Rattle.wal_core.specs.Views.{Plain, View}
-use Rattle.wal_core.specs.Steps.{Event, State, Step, Makes, Moves, SplitsOff, TakesIn, Abandons, word_of_step, value_behind, view_behind}
+use Rattle.wal_core.specs.Steps.{StepKind, State, Step, Makes, Moves, SplitsOff, TakesIn, Abandons, word_of_step, value_behind, view_behind}
 use Rattle.wal_core.specs.Sound.{IsSound}
 use Rattle.step_laws.specs.Kept.{KeepsSound, number_met}
 use Rattle.step_laws.specs.Runs.{Runs}
@@ -14,7 +14,7 @@ module _ (opening : Opening) where
   abbrev Sound : State → Type 0
   Sound s = IsSound opening s.words s.home s.views
 
-  makes_keeps : (id : ℕ) (e : Event) (met : ℕ) (s t : State) → Sound s → Makes id e met s t
+  makes_keeps : (id : ℕ) (e : StepKind) (met : ℕ) (s t : State) → Sound s → Makes id e met s t
       → Sound t
   makes_keeps id e met s t k m =
       let v = m.view in

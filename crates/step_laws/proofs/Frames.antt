@@ -9,7 +9,7 @@ use Rattle.wal_core.specs.Words.{Opening, position_word, prev_word, written_word
 use Rattle.wal_core.specs.Views.{HasAt, Plain, View, reserving_of, flight_of, writing_of}
 use Rattle.wal_core.specs.Ordered.{OrderHolds}
 use Rattle.wal_core.specs.Positioned.{PositionsHold}
-use Rattle.wal_core.specs.Steps.{Event, word_of_step, value_behind, view_behind}
+use Rattle.wal_core.specs.Steps.{StepKind, word_of_step, value_behind, view_behind}
 use Rattle.step_laws.specs.Kept.{number_met}
 use Rattle.wal_core.specs.Sound.{IsGrounded, IsSound}
 use Rattle.wal_core.proofs.Lists.{one_set, part_same}
@@ -30,7 +30,7 @@ pub record Moved : Type 0 where
   pub w : View
 
 module _ (words : List ℕ) (home : Option Plain) (views : List View) (id : ℕ) (v : View)
-    (k : IsSound v.opening words home views) (here : HasAt views id v) (e : Event) where
+    (k : IsSound v.opening words home views) (here : HasAt views id v) (e : StepKind) where
   -- the step of this kind
   abbrev pub moved : Moved
   moved = record {

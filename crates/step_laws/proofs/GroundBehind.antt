@@ -7,8 +7,8 @@ use Rattle.wal_page.specs.Order.{Entry, end_position, position_behind, prev_of}
 use Rattle.wal_core.specs.Words.{Opening, down_word, end_form, write_turn}
 use Rattle.wal_core.specs.Views.{HasAt, Place, Locked, Stored, Plain, Hold, Idle, Turned, Out, Taken, Watching, View, reserving_of, writer_of}
 use Rattle.wal_core.specs.Ordered.{AtPlace}
-use Rattle.wal_core.specs.Moves.{after_store_position, begun, entry_at, is_own, visited_on, with_hold, with_place, with_stage, with_working}
-use Rattle.wal_core.specs.Steps.{Event, MayStep, fault_number, number_lent, value_behind, word_of_step, view_behind, load_position, take_write_turn, slot_out, slot_in, release_write_turn, lock_position, load_prev, store_prev, store_position, give_position_back, load_lock, take_lock, advance, release, load_end, store_word, load_word, load_written, load_flushed, load_moment, load_down, store_written, store_moment, store_flushed, set_down, take_mapping_turn, load_initialised, clear_end, zero_word, publish_end, publish_initialised, release_mapping_turn, create, write, sync, with_slot, with_call_on}
+use Rattle.wal_core.specs.Moves.{after_store_position, begun, entry_reserved, is_own, visited_on, with_hold, with_place, with_stage, with_working}
+use Rattle.wal_core.specs.Steps.{StepKind, MayStep, fault_number, number_lent, value_behind, word_of_step, view_behind, load_position, take_write_turn, slot_out, slot_in, release_write_turn, lock_position, load_prev, store_prev, store_position, give_position_back, load_lock, take_lock, advance, release, load_buffer_end, store_ring_word, load_ring_word, load_written, load_flushed, load_moment, load_down, store_written, store_moment, store_flushed, set_down, take_mapping_turn, load_initialised_end, clear_end, zero_ring_word, publish_end, publish_initialised_end, release_mapping_turn, create, write, sync, with_slot, with_call_on}
 use Rattle.wal_core.specs.Sound.{IsGrounded, IsSound}
 use Rattle.wal_core.proofs.Lists.{part_at}
 use Rattle.wal_core.proofs.WordLists.{single_set, word_again, word_else}
@@ -49,7 +49,7 @@ visited_low own lock met n x low =
 module _ (words : List ℕ) (home : Option Plain) (views : List View) (id : ℕ) (v : View)
     (k : IsSound v.opening words home views) (here : HasAt views id v)
     (live : (v.reserving).live ≡ true) where
-  abbrev behind : Event → View
+  abbrev behind : StepKind → View
   behind e = view_behind v e (slice_index words (word_of_step v e)) home
 
   low : (v.watching).end ≤ end_form (v.opening).setup (v.reserving).seen
@@ -66,12 +66,12 @@ module _ (words : List ℕ) (home : Option Plain) (views : List View) (id : ℕ)
       (end_form (v.opening).setup (v.reserving).seen) (omega arith) low
 
   module _ (down : ℕ) where
-    same : (e : Event) → ground_of (behind e) ≡ ground_of v → IsGrounded v.opening down (behind e)
+    same : (e : StepKind) → ground_of (behind e) ≡ ground_of v → IsGrounded v.opening down (behind e)
     same e is = grounded_live v.opening down (behind e) (ap (λ g. g.0) is)
         (ap (λ g. g.1) is ∙ live)
         (subst (λ (g : Opening × Bool × ℕ × ℕ). g.2 ≤ end_form (v.opening).setup g.3) (sym is) low)
 
-    sees_more : (e : Event) → (behind e).opening ≡ v.opening
+    sees_more : (e : StepKind) → (behind e).opening ≡ v.opening
         → ((behind e).reserving).live ≡ (v.reserving).live
         → ((behind e).watching).end ≡ (v.watching).end
         → (v.reserving).seen ≤ ((behind e).reserving).seen → IsGrounded v.opening down (behind e)
@@ -89,14 +89,14 @@ module _ (words : List ℕ) (home : Option Plain) (views : List View) (id : ℕ)
         (AtPlace size (end_position size k.order) (prev_of size 0 k.order) _ _ _ _) may.2
         ((k.reserved).places id v.reserving mine live) in
         let at : may.0 ≡ end_position size k.order = place.2 in
-        let e : Entry = entry_at (v.reserving).number may.0 value in
+        let e : Entry = entry_reserved (v.reserving).number may.0 value in
         subst (λ (p : Place).
         IsGrounded v.opening down (after_store_position locks value (with_place p v)))
         (sym may.2) (grounded_live v.opening down
         (after_store_position locks value (with_place (Stored may.0 may.1) v)) refl live
         (low_still (position_behind size e) (omega arith)))
 
-    pub grounded_behind : (e : Event) → MayStep v e → IsGrounded v.opening down (behind e)
+    pub grounded_behind : (e : StepKind) → MayStep v e → IsGrounded v.opening down (behind e)
     grounded_behind load_position may = sees_more load_position refl refl refl (omega arith)
     grounded_behind take_write_turn may = same take_write_turn
         (ground_either (eqb (slice_index words 11) 0) (with_hold Turned v) v refl)
@@ -118,9 +118,9 @@ module _ (words : List ℕ) (home : Option Plain) (views : List View) (id : ℕ)
         (with_working ((v.working).locks ++ lock ∷ []) (v.working).flight v) v refl)
     grounded_behind (advance lock upto) may = same (advance lock upto) refl
     grounded_behind (release lock) may = same (release lock) refl
-    grounded_behind (load_end buffer) may = same (load_end buffer) refl
-    grounded_behind store_word may = same store_word refl
-    grounded_behind (load_word number) may = same (load_word number) refl
+    grounded_behind (load_buffer_end buffer) may = same (load_buffer_end buffer) refl
+    grounded_behind store_ring_word may = same store_ring_word refl
+    grounded_behind (load_ring_word number) may = same (load_ring_word number) refl
     grounded_behind load_written may = same load_written refl
     grounded_behind load_flushed may = sees_more load_flushed refl refl refl (omega arith)
     grounded_behind load_moment may = same load_moment refl
@@ -131,11 +131,11 @@ module _ (words : List ℕ) (home : Option Plain) (views : List View) (id : ℕ)
     grounded_behind set_down may = same set_down refl
     grounded_behind take_mapping_turn may = same take_mapping_turn
         (ground_either (eqb (slice_index words 10) 0) (with_stage Taken v) v refl)
-    grounded_behind load_initialised may = same load_initialised refl
+    grounded_behind load_initialised_end may = same load_initialised_end refl
     grounded_behind clear_end may = same clear_end refl
-    grounded_behind zero_word may = same zero_word refl
+    grounded_behind zero_ring_word may = same zero_ring_word refl
     grounded_behind publish_end may = same publish_end refl
-    grounded_behind publish_initialised may = same publish_initialised refl
+    grounded_behind publish_initialised_end may = same publish_initialised_end refl
     grounded_behind release_mapping_turn may = same release_mapping_turn refl
     grounded_behind (create segment outcome) may = same (create segment outcome)
         (ground_call v _ (v.writing).hold)
@@ -147,10 +147,10 @@ module _ (words : List ℕ) (home : Option Plain) (views : List View) (id : ℕ)
 
   -- ---- the down word
 
-  abbrev step : Event → Moved
+  abbrev step : StepKind → Moved
   step e = moved words home views id v k here e
 
-  not_stored : (e : Event) → 16 ≢ word_of_step v e → down_word words ≢ 0
+  not_stored : (e : StepKind) → 16 ≢ word_of_step v e → down_word words ≢ 0
       → down_word (later (step e)) ≢ 0
   not_stored e apart down zero_now =
       down (sym (word_else words (step e).i (step e).n 16 apart) ∙ zero_now)
@@ -168,7 +168,7 @@ module _ (words : List ℕ) (home : Option Plain) (views : List View) (id : ℕ)
       ⊎_elim (λ up. omega arith) (λ top. omega arith)
       ((k.durable).fault_rose (may.2).0 (ap (λ (w : Plain). w.fault) (sym writer) ∙ (may.2).1))
 
-  pub down_stays : (e : Event) → MayStep v e → down_word words ≢ 0
+  pub down_stays : (e : StepKind) → MayStep v e → down_word words ≢ 0
       → down_word (later (step e)) ≢ 0
   down_stays load_position may = not_stored load_position (λ e. omega arith)
   down_stays take_write_turn may = not_stored take_write_turn (λ e. omega arith)
@@ -180,7 +180,8 @@ module _ (words : List ℕ) (home : Option Plain) (views : List View) (id : ℕ)
   down_stays store_prev may = not_stored store_prev (λ e. omega arith)
   down_stays (store_position locks value) may =
       not_stored (store_position locks value) (λ e. omega arith)
-  down_stays (give_position_back value) may = not_stored (give_position_back value) (λ e. omega arith)
+  down_stays (give_position_back value) may =
+      not_stored (give_position_back value) (λ e. omega arith)
   down_stays (load_lock lock limit) may = not_stored (load_lock lock limit) (λ e. omega arith)
   down_stays (take_lock lock) may = not_stored (take_lock lock) (λ e. omega arith)
   down_stays (advance lock upto) may =
@@ -189,9 +190,9 @@ module _ (words : List ℕ) (home : Option Plain) (views : List View) (id : ℕ)
   down_stays (release lock) may =
       let low = lock_low words home views id v k here live lock may.0 in
       not_stored (release lock) (λ e. omega arith)
-  down_stays (load_end buffer) may = not_stored (load_end buffer) (λ e. omega arith)
-  down_stays store_word may = not_stored store_word (λ e. omega arith)
-  down_stays (load_word number) may = not_stored (load_word number) (λ e. omega arith)
+  down_stays (load_buffer_end buffer) may = not_stored (load_buffer_end buffer) (λ e. omega arith)
+  down_stays store_ring_word may = not_stored store_ring_word (λ e. omega arith)
+  down_stays (load_ring_word number) may = not_stored (load_ring_word number) (λ e. omega arith)
   down_stays load_written may = not_stored load_written (λ e. omega arith)
   down_stays load_flushed may = not_stored load_flushed (λ e. omega arith)
   down_stays load_moment may = not_stored load_moment (λ e. omega arith)
@@ -204,11 +205,11 @@ module _ (words : List ℕ) (home : Option Plain) (views : List View) (id : ℕ)
       (sym (single_set words (v.opening).setup k.wide 16 (step set_down).n (omega arith))
       ∙ zero_now)
   down_stays take_mapping_turn may = not_stored take_mapping_turn (λ e. omega arith)
-  down_stays load_initialised may = not_stored load_initialised (λ e. omega arith)
+  down_stays load_initialised_end may = not_stored load_initialised_end (λ e. omega arith)
   down_stays clear_end may = not_stored clear_end (λ e. omega arith)
-  down_stays zero_word may = not_stored zero_word (λ e. omega arith)
+  down_stays zero_ring_word may = not_stored zero_ring_word (λ e. omega arith)
   down_stays publish_end may = not_stored publish_end (λ e. omega arith)
-  down_stays publish_initialised may = not_stored publish_initialised (λ e. omega arith)
+  down_stays publish_initialised_end may = not_stored publish_initialised_end (λ e. omega arith)
   down_stays release_mapping_turn may = not_stored release_mapping_turn (λ e. omega arith)
   down_stays (create segment outcome) may = not_stored (create segment outcome) (λ e. omega arith)
   down_stays (write segment page upto bytes outcome) may =

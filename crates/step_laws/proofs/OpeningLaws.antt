@@ -15,17 +15,17 @@ use Rattle.wal_page.specs.Order.{Entry, end_position}
 use Rattle.wal_page.proofs.WordPositions.{end_address_of-first_position}
 use Rattle.wal_page.proofs.LogWordLaws.{log_word-unowned}
 use Rattle.wal_core.specs.declared.setup.Setup.{Setup}
-use Rattle.wal_core.specs.Words.{Opening, position_word, prev_word, lock_word, mapping_turn, write_turn, initialised_word, written_word, flushed_word, moment_word, down_word, end_word, end_form, ring_word}
+use Rattle.wal_core.specs.Words.{Opening, position_word, prev_word, lock_word, mapping_turn, write_turn, initialised_word, written_word, flushed_word, moment_word, down_word, end_word, end_form, word_of_ring}
 use Rattle.wal_core.specs.Views.{HasAt, Plain, Away, Landed, Copying, AreSomeOf, View, mapper_of, told_of, writer_of}
 use Rattle.wal_core.specs.Opened.{AreFirstWords, IsFirstWriter, IsNew, first_view}
 use Rattle.wal_core.specs.Ordered.{HasLive, IsUnused, OrderHolds, Role, active, spare, ended, unborn}
 use Rattle.wal_core.specs.Locked.{LocksHold, ProgressHolds, most_told}
-use Rattle.wal_core.specs.Ringed.{RingHolds, StandsIn}
+use Rattle.wal_core.specs.Ringed.{RingHolds, IsOfOrder}
 use Rattle.wal_core.specs.Paged.{PagesHold}
-use Rattle.wal_core.specs.Watched.{IsBehind, WatchHolds}
+use Rattle.wal_core.specs.Watched.{IsCopiedToBound, WatchHolds}
 use Rattle.wal_core.specs.Positioned.{PositionsHold}
 use Rattle.ring_laws.proofs.Buffers.{one_page}
-use Rattle.wal_core.specs.Durable.{DurabilityHolds, IsAssured, IsLawfulAt, IsLogBelow}
+use Rattle.wal_core.specs.Durable.{DurabilityHolds, IsToldRightly, IsLawfulAt, IsLogBelow}
 use Rattle.segment_disk.specs.DiskImage.{image_as_read}
 use Rattle.segment_disk.specs.declared.disk.Call.{Call}
 use Rattle.segment_disk.specs.Tape.{Segment, Tape, after_calls, state_now}
@@ -190,7 +190,7 @@ module _ (opening : Opening) (words : List ℕ) (writer : Plain) (new : IsNew op
   ring_begins : RingHolds setup [] reach (λ k. 0) (Landed ∷ [])
   ring_begins = record {
     in_flight = λ id c at. only_one Landed
-        (λ j u. u ≡ Copying c → StandsIn setup.segment_size [] c) (λ is. absurd (cc)) id
+        (λ j u. u ≡ Copying c → IsOfOrder setup.segment_size [] c) (λ is. absurd (cc)) id
         (Copying c) at refl;
     alone = λ i j c d at. only_one Landed
         (λ n u. u ≡ Copying c → HasAt (Landed ∷ []) j (Copying d)
@@ -212,7 +212,7 @@ module _ (opening : Opening) (words : List ℕ) (writer : Plain) (new : IsNew op
       held.end_is ∙ ap (λ (q : ℕ). (q + 1) * 8192) same
 
   pages_begin : PagesHold setup.ring_pages reach Away (initialised_word words)
-      (written_word words) (end_word words) (ring_word setup words) (λ k. 0) (0 ∷ [])
+      (written_word words) (end_word words) (word_of_ring setup words) (λ k. 0) (0 ∷ [])
   pages_begin =
       let start = start_in_pages in
       record {
@@ -233,7 +233,7 @@ module _ (opening : Opening) (words : List ℕ) (writer : Plain) (new : IsNew op
       (view.working ∷ []) (view.watching ∷ [])
   watching_begins = record {
     reserved = only_one view.watching (λ id x. (x.end ≤ end_form setup (end_position setup.segment_size [])) × (x.bound ≤ x.end)) (omega arith, omega arith);
-    behind = λ id j x w at there. only_one view.watching (λ i y. IsBehind setup.segment_size y w)
+    behind = λ id j x w at there. only_one view.watching (λ i y. IsCopiedToBound setup.segment_size y w)
         (λ c is under starts. omega arith) id x at;
   }
 
@@ -287,7 +287,7 @@ module _ (opening : Opening) (words : List ℕ) (writer : Plain) (new : IsNew op
       (SegmentAssures setup.segment_size (IsMadeUpto setup.segment_size upto)
       (IsLogBelow setup [] upto) n) (sym (nothing n)) (none_below n upto is)
 
-  told_begins : IsAssured opening [] (flushed_word words) (moment_word words) (down_word words) writer (told_of view)
+  told_begins : IsToldRightly opening [] (flushed_word words) (moment_word words) (down_word words) writer (told_of view)
   told_begins = record {
     own_promised = All-nil _;
     joined_promised = All-nil _;

@@ -6,7 +6,7 @@ use Rattle.wal_core.specs.Words.{position_word, prev_word, flushed_word}
 use Rattle.wal_core.specs.Views.{HasAt, Plain, Reserving, Hold, Idle, Turned, Out, Taken, View, reserving_of}
 use Rattle.wal_core.specs.Ordered.{OrderHolds}
 use Rattle.wal_core.specs.Moves.{with_hold, with_stage, with_working}
-use Rattle.wal_core.specs.Steps.{Event, MayStep, word_of_step, number_lent, load_position, take_write_turn, slot_out, slot_in, release_write_turn, lock_position, load_prev, store_prev, store_position, give_position_back, load_lock, take_lock, advance, release, load_end, store_word, load_word, load_written, load_flushed, load_moment, load_down, store_written, store_moment, store_flushed, set_down, take_mapping_turn, load_initialised, clear_end, zero_word, publish_end, publish_initialised, release_mapping_turn, create, write, sync, with_slot, with_call_on}
+use Rattle.wal_core.specs.Steps.{StepKind, MayStep, word_of_step, number_lent, load_position, take_write_turn, slot_out, slot_in, release_write_turn, lock_position, load_prev, store_prev, store_position, give_position_back, load_lock, take_lock, advance, release, load_buffer_end, store_ring_word, load_ring_word, load_written, load_flushed, load_moment, load_down, store_written, store_moment, store_flushed, set_down, take_mapping_turn, load_initialised_end, clear_end, zero_ring_word, publish_end, publish_initialised_end, release_mapping_turn, create, write, sync, with_slot, with_call_on}
 use Rattle.wal_core.specs.Sound.{IsSound}
 use Rattle.wal_core.proofs.Lists.{part_at, part_set}
 use Rattle.wal_core.proofs.WordLists.{single_set, word_else}
@@ -29,7 +29,7 @@ module _ (words : List ℕ) (home : Option Plain) (views : List View) (id : ℕ)
     live = live;
   }
 
-  module _ (e : Event) where
+  module _ (e : StepKind) where
     abbrev s : Moved
     s = moved words home views id v k here e
 
@@ -77,7 +77,7 @@ module _ (words : List ℕ) (home : Option Plain) (views : List View) (id : ℕ)
         (λ j. (sym position j, sym prev j, sym (part_set reserving_of views id s.w) j)) holds
 
   -- a step that leaves the part
-  stays : (e : Event) → reserving_of (moved words home views id v k here e).w ≡ reserving_of v
+  stays : (e : StepKind) → reserving_of (moved words home views id v k here e).w ≡ reserving_of v
       → 2 ≤ word_of_step v e → HasOrder e k.order
   stays e same above = order_stays (moved words home views id v k here e) same above
 
@@ -90,7 +90,7 @@ module _ (words : List ℕ) (home : Option Plain) (views : List View) (id : ℕ)
   call_same f Turned = refl
   call_same f (Out l) = refl
 
-  pub order_holds : (e : Event) → MayStep v e → HasOrder e (order_behind v e k.order)
+  pub order_holds : (e : StepKind) → MayStep v e → HasOrder e (order_behind v e k.order)
   order_holds load_position may = position_stored load_position k.order refl
       (order.load_position_keeps k.order (position_word words) (prev_word words)
       (map reserving_of views) id v home takes_part)
@@ -123,9 +123,9 @@ module _ (words : List ℕ) (home : Option Plain) (views : List View) (id : ℕ)
       (with_working ((v.working).locks ++ lock ∷ []) (v.working).flight v) v refl) (omega arith)
   order_holds (advance lock upto) may = stays (advance lock upto) refl (omega arith)
   order_holds (release lock) may = stays (release lock) refl (omega arith)
-  order_holds (load_end buffer) may = stays (load_end buffer) refl (omega arith)
-  order_holds store_word may = stays store_word refl (omega arith)
-  order_holds (load_word number) may = stays (load_word number) refl (omega arith)
+  order_holds (load_buffer_end buffer) may = stays (load_buffer_end buffer) refl (omega arith)
+  order_holds store_ring_word may = stays store_ring_word refl (omega arith)
+  order_holds (load_ring_word number) may = stays (load_ring_word number) refl (omega arith)
   order_holds load_written may = stays load_written refl (omega arith)
   order_holds load_flushed may = neither_stored load_flushed (omega arith)
       (order.load_flushed_keeps k.order (position_word words) (prev_word words)
@@ -144,11 +144,11 @@ module _ (words : List ℕ) (home : Option Plain) (views : List View) (id : ℕ)
   order_holds take_mapping_turn may = stays take_mapping_turn
       (same_either reserving_of (eqb (slice_index words 10) 0) (with_stage Taken v) v refl)
       (omega arith)
-  order_holds load_initialised may = stays load_initialised refl (omega arith)
+  order_holds load_initialised_end may = stays load_initialised_end refl (omega arith)
   order_holds clear_end may = stays clear_end refl (omega arith)
-  order_holds zero_word may = stays zero_word refl (omega arith)
+  order_holds zero_ring_word may = stays zero_ring_word refl (omega arith)
   order_holds publish_end may = stays publish_end refl (omega arith)
-  order_holds publish_initialised may = stays publish_initialised refl (omega arith)
+  order_holds publish_initialised_end may = stays publish_initialised_end refl (omega arith)
   order_holds release_mapping_turn may = stays release_mapping_turn refl (omega arith)
   order_holds (create segment outcome) may =
       stays (create segment outcome) (call_same _ (v.writing).hold) (omega arith)

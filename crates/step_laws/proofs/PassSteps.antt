@@ -6,7 +6,7 @@ use Rattle.wal_core.specs.Words.{Opening, position_word, prev_word, written_word
 use Rattle.wal_core.specs.Views.{HasAt, Flight, Plain, Reserving, View, Writing, reserving_of, flight_of, writing_of, told_of}
 use Rattle.wal_core.specs.Ordered.{OrderHolds}
 use Rattle.wal_core.specs.Positioned.{PositionsHold}
-use Rattle.wal_core.specs.Moves.{left_of, right_of, both_of, spent, without_work, orphan_of}
+use Rattle.wal_core.specs.Moves.{after_split, split_off, after_join, spent, without_work, orphan_of}
 use Rattle.wal_core.specs.Steps.{State, Splits, IsResting, Joins, IsStranded, GivesUp}
 use Rattle.wal_core.specs.Sound.{IsGrounded, IsSound}
 use Rattle.wal_core.proofs.Lists.{one_set, one_added, part_at}
@@ -116,12 +116,12 @@ module _ (words : List ℕ) (home : Option Plain) (views : List View) (id : ℕ)
   low = (k.grounded id v here).watches live
 
   pub split_sound : (v.reserving).spare < (v.reserving).spare_end
-      → IsSound v.opening words home (set views id (left_of v) ++ right_of v ∷ [])
-  split_sound some_left = changed_sound (set views id (left_of v) ++ right_of v ∷ [])
-      (grounded_added (left_of v) (right_of v)
-      (grounded_live v.opening (down_word words) (left_of v) refl live low)
-      (grounded_live v.opening (down_word words) (right_of v) refl refl (omega arith)))
-      _ (one_changes reserving_of views id v here (left_of v) (right_of v))
+      → IsSound v.opening words home (set views id (after_split v) ++ split_off v ∷ [])
+  split_sound some_left = changed_sound (set views id (after_split v) ++ split_off v ∷ [])
+      (grounded_added (after_split v) (split_off v)
+      (grounded_live v.opening (down_word words) (after_split v) refl live low)
+      (grounded_live v.opening (down_word words) (split_off v) refl refl (omega arith)))
+      _ (one_changes reserving_of views id v here (after_split v) (split_off v))
       (order.split_keeps k.order (position_word words) (prev_word words)
       (map reserving_of views) id v part some_left)
       (works_split (v.opening).setup k.order words views id v here
@@ -130,8 +130,8 @@ module _ (words : List ℕ) (home : Option Plain) (views : List View) (id : ℕ)
       (turns_now v.opening words home views k))
       (ring-split v.opening words home views k id v here)
       (pages-split v.opening words home views k id v here)
-      _ (one_changes flight_of views id v here (left_of v) (right_of v))
-      _ (one_changes writing_of views id v here (left_of v) (right_of v))
+      _ (one_changes flight_of views id v here (after_split v) (split_off v))
+      _ (one_changes writing_of views id v here (after_split v) (split_off v))
       (positions.split_keeps all id v has_all)
       (durable-split words home views id v k here)
 
@@ -164,17 +164,17 @@ module _ (words : List ℕ) (home : Option Plain) (views : List View) (id : ℕ)
 
   pub join_sound : (other : ℕ) (w : View) → HasAt views other w → (w.reserving).live ≡ true
       → id ≢ other → IsResting w
-      → IsSound v.opening words home (set (set views other (spent w)) id (both_of v w))
+      → IsSound v.opening words home (set (set views other (spent w)) id (after_join v w))
   join_sound other w there alive apart rests =
-      changed_sound (set (set views other (spent w)) id (both_of v w))
-      (one_set (λ j u. Grounded u) (set views other (spent w)) id (both_of v w)
+      changed_sound (set (set views other (spent w)) id (after_join v w))
+      (one_set (λ j u. Grounded u) (set views other (spent w)) id (after_join v w)
       (λ j u not_this at. one_set (λ i x. Grounded x) views other (spent w)
       (λ i x not_other found. k.grounded i x found)
       (grounded_spent v.opening (down_word words) w) j u at)
-      (grounded_live v.opening (down_word words) (both_of v w) refl live
+      (grounded_live v.opening (down_word words) (after_join v w) refl live
       (watches_still (v.opening).setup (k.setup_is).size (v.watching).end (v.reserving).seen
       (max (v.reserving).seen (w.reserving).seen) low (omega arith))))
-      _ (two_change reserving_of views id v here other (both_of v w) (spent w))
+      _ (two_change reserving_of views id v here other (after_join v w) (spent w))
       (order.join_keeps k.order (position_word words) (prev_word words) (map reserving_of views)
       id v other w part (part_at reserving_of views other w there) alive apart rests.place)
       (works_join (v.opening).setup k.order words views id v here
@@ -183,8 +183,8 @@ module _ (words : List ℕ) (home : Option Plain) (views : List View) (id : ℕ)
       (turns_now v.opening words home views k) other w there rests)
       (ring-taken_in v.opening words home views k id v here other w there rests)
       (pages-taken_in v.opening words home views k id v here other w there)
-      _ (two_change flight_of views id v here other (both_of v w) (spent w))
-      _ (two_change writing_of views id v here other (both_of v w) (spent w))
+      _ (two_change flight_of views id v here other (after_join v w) (spent w))
+      _ (two_change writing_of views id v here other (after_join v w) (spent w))
       (positions.join_keeps all id v has_all other w)
       (durable-taken_in words home views id v k here other w there)
 
@@ -214,7 +214,7 @@ module _ (opening : Opening) (s t : State) (id : ℕ) (k : IsSound opening s.wor
     pub splits_keep : Splits id s t → IsSound opening t.words t.home t.views
     splits_keep m =
         let v : View = m.view in
-        let views : List View = set s.views id (left_of v) ++ right_of v ∷ [] in
+        let views : List View = set s.views id (after_split v) ++ split_off v ∷ [] in
         sound_as s.words s.home views m.words m.home m.views
         (at_own_opening opening s.words s.home s.views id v k (m.live).0 (m.live).1 s.words s.home
         views
@@ -233,7 +233,7 @@ module _ (opening : Opening) (s t : State) (id : ℕ) (k : IsSound opening s.wor
     joins_keep other m =
         let v : View = m.view in
         let w : View = m.other_view in
-        let views : List View = set (set s.views other (spent w)) id (both_of v w) in
+        let views : List View = set (set s.views other (spent w)) id (after_join v w) in
         sound_as s.words s.home views m.words m.home m.views
         (at_own_opening opening s.words s.home s.views id v k (m.live).0 (m.live).1 s.words s.home
         views

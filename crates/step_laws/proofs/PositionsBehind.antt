@@ -7,7 +7,7 @@ use Rattle.wal_core.specs.Words.{lock_word, position_word, prev_word, written_wo
 use Rattle.wal_core.specs.Views.{HasAt, Plain, Flight, Writing, Locked, Taken, View, reserving_of, working_of, flight_of, writing_of, told_of}
 use Rattle.wal_core.specs.Positioned.{PositionsHold}
 use Rattle.wal_core.specs.Moves.{with_place, with_stage, with_working}
-use Rattle.wal_core.specs.Steps.{Event, MayStep, word_of_step, home_behind, load_position, take_write_turn, slot_out, slot_in, release_write_turn, lock_position, load_prev, store_prev, store_position, give_position_back, load_lock, take_lock, advance, release, load_end, store_word, load_word, load_written, load_flushed, load_moment, load_down, store_written, store_moment, store_flushed, set_down, take_mapping_turn, load_initialised, clear_end, zero_word, publish_end, publish_initialised, release_mapping_turn, create, write, sync}
+use Rattle.wal_core.specs.Steps.{StepKind, MayStep, word_of_step, home_behind, load_position, take_write_turn, slot_out, slot_in, release_write_turn, lock_position, load_prev, store_prev, store_position, give_position_back, load_lock, take_lock, advance, release, load_buffer_end, store_ring_word, load_ring_word, load_written, load_flushed, load_moment, load_down, store_written, store_moment, store_flushed, set_down, take_mapping_turn, load_initialised_end, clear_end, zero_ring_word, publish_end, publish_initialised_end, release_mapping_turn, create, write, sync}
 use Rattle.wal_core.specs.Sound.{IsSound}
 use Rattle.wal_core.proofs.Lists.{part_at, part_set}
 use Rattle.wal_core.proofs.WordLists.{single_set, word_else, word_again}
@@ -23,7 +23,7 @@ module _ (words : List ℕ) (home : Option Plain) (views : List View) (id : ℕ)
   abbrev setup : Setup
   setup = (v.opening).setup
 
-  module _ (e : Event) where
+  module _ (e : StepKind) where
     abbrev s : Moved
     s = moved words home views id v k here e
 
@@ -74,7 +74,7 @@ module _ (words : List ℕ) (home : Option Plain) (views : List View) (id : ℕ)
     by_load es writer is holds = with_words es writer (written_word words) (flushed_word words)
         (down_word words) (ap written_word is) (ap flushed_word is) (ap down_word is) holds
 
-  abbrev step : Event → Moved
+  abbrev step : StepKind → Moved
   step e = moved words home views id v k here e
 
   -- the writer's holder knows the down value that it set
@@ -85,7 +85,7 @@ module _ (words : List ℕ) (home : Option Plain) (views : List View) (id : ℕ)
   lock_low lock has =
       (((k.locks).locks).each id lock v.working (part_at working_of views id v here) has).0
 
-  pub positions_hold : (e : Event) → MayStep v e
+  pub positions_hold : (e : StepKind) → MayStep v e
       → HasPositions e (order_behind v e k.order) (writer_behind v e k.writer)
   positions_hold load_position may = positions_stay (step load_position) refl refl
       (λ e. omega arith) (λ e. omega arith) (λ e. omega arith)
@@ -139,16 +139,16 @@ module _ (words : List ℕ) (home : Option Plain) (views : List View) (id : ℕ)
       (λ e. omega arith) (λ e. omega arith) (λ e. omega arith)
       (kept.release_keeps (now words home views id v k) id v (has_now words home views id v k here) lock
       (slice_index words (2 + lock)))
-  positions_hold (load_end buffer) may = positions_stay (step (load_end buffer)) refl refl
+  positions_hold (load_buffer_end buffer) may = positions_stay (step (load_buffer_end buffer)) refl refl
       (λ e. omega arith) (λ e. omega arith) (λ e. omega arith)
-  positions_hold store_word may = by_law store_word k.order k.writer
+  positions_hold store_ring_word may = by_law store_ring_word k.order k.writer
       (λ e. omega arith) (λ e. omega arith) (λ e. omega arith)
       (kept.store_word_keeps (now words home views id v k) id v (has_now words home views id v k here)
-      (slice_index words (word_of_step v store_word)))
-  positions_hold (load_word number) may = by_law (load_word number) k.order k.writer
+      (slice_index words (word_of_step v store_ring_word)))
+  positions_hold (load_ring_word number) may = by_law (load_ring_word number) k.order k.writer
       (λ e. omega arith) (λ e. omega arith) (λ e. omega arith)
       (kept.load_word_keeps (now words home views id v k) id v (has_now words home views id v k here) number
-      (slice_index words (word_of_step v (load_word number))))
+      (slice_index words (word_of_step v (load_ring_word number))))
   positions_hold load_written may = by_load load_written k.order k.writer (word_again words 13)
       (kept.load_written_keeps (now words home views id v k) id v (has_now words home views id v k here))
   positions_hold load_flushed may = by_load load_flushed k.order k.writer (word_again words 14)
@@ -184,15 +184,15 @@ module _ (words : List ℕ) (home : Option Plain) (views : List View) (id : ℕ)
       (same_either flight_of free (with_stage Taken v) v refl)
       (same_either writing_of free (with_stage Taken v) v refl)
       (λ e. omega arith) (λ e. omega arith) (λ e. omega arith)
-  positions_hold load_initialised may = positions_stay (step load_initialised) refl refl
+  positions_hold load_initialised_end may = positions_stay (step load_initialised_end) refl refl
       (λ e. omega arith) (λ e. omega arith) (λ e. omega arith)
   positions_hold clear_end may = positions_stay (step clear_end) refl refl
       (λ e. omega arith) (λ e. omega arith) (λ e. omega arith)
-  positions_hold zero_word may = positions_stay (step zero_word) refl refl
+  positions_hold zero_ring_word may = positions_stay (step zero_ring_word) refl refl
       (λ e. omega arith) (λ e. omega arith) (λ e. omega arith)
   positions_hold publish_end may = positions_stay (step publish_end) refl refl
       (λ e. omega arith) (λ e. omega arith) (λ e. omega arith)
-  positions_hold publish_initialised may = positions_stay (step publish_initialised) refl refl
+  positions_hold publish_initialised_end may = positions_stay (step publish_initialised_end) refl refl
       (λ e. omega arith) (λ e. omega arith) (λ e. omega arith)
   positions_hold release_mapping_turn may = positions_stay (step release_mapping_turn) refl refl
       (λ e. omega arith) (λ e. omega arith) (λ e. omega arith)

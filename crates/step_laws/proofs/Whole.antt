@@ -3,8 +3,8 @@ use Rattle.std.proofs.Common.{◌≡◌, ℕ, ◌+◌, true, List, [], ◌∷◌
 use mathlib.Core.Option.{Option}
 use Rattle.wal_core.specs.Views.{HasAt, Plain, Stage, Away, Taken, Looked, Ready, Zeroing, Published, View, mapper_of}
 use Rattle.wal_core.specs.Locked.{HasTurn}
-use Rattle.wal_core.specs.Moves.{entry_at, looked, ready}
-use Rattle.wal_core.specs.Steps.{Event, MayStep, place_at, word_of_step, load_position, take_write_turn, slot_out, slot_in, release_write_turn, lock_position, load_prev, store_prev, store_position, give_position_back, load_lock, take_lock, advance, release, load_end, store_word, load_word, load_written, load_flushed, load_moment, load_down, store_written, store_moment, store_flushed, set_down, take_mapping_turn, load_initialised, clear_end, zero_word, publish_end, publish_initialised, release_mapping_turn, create, write, sync}
+use Rattle.wal_core.specs.Moves.{entry_reserved, looked, ready}
+use Rattle.wal_core.specs.Steps.{StepKind, MayStep, place_at, word_of_step, load_position, take_write_turn, slot_out, slot_in, release_write_turn, lock_position, load_prev, store_prev, store_position, give_position_back, load_lock, take_lock, advance, release, load_buffer_end, store_ring_word, load_ring_word, load_written, load_flushed, load_moment, load_down, store_written, store_moment, store_flushed, set_down, take_mapping_turn, load_initialised_end, clear_end, zero_ring_word, publish_end, publish_initialised_end, release_mapping_turn, create, write, sync}
 use Rattle.wal_core.specs.Words.{down_word}
 use Rattle.wal_core.specs.Sound.{IsSound}
 use Rattle.wal_core.proofs.Lists.{part_at}
@@ -23,12 +23,12 @@ use Rattle.step_laws.proofs.OrderBehind.{order_holds}
 use Rattle.step_laws.proofs.PositionsBehind.{positions_hold}
 
 -- how many pages are mapped behind a step, and the log's words in memory
-abbrev pub reach_behind : Event → ℕ → ℕ
+abbrev pub reach_behind : StepKind → ℕ → ℕ
 reach_behind publish_end reach = reach + 1
 reach_behind other reach = reach
 
-abbrev pub memory_behind : View → Event → (ℕ → ℕ) → ℕ → ℕ
-memory_behind v store_word memory = memory_stored v memory
+abbrev pub memory_behind : View → StepKind → (ℕ → ℕ) → ℕ → ℕ
+memory_behind v store_ring_word memory = memory_stored v memory
 memory_behind v other memory = memory
 
 -- what holds of the stage that a load leaves, where only the mapper moves it
@@ -44,7 +44,7 @@ by_moved P (Published at) stage f stays goes = goes tt
 module _ (words : List ℕ) (home : Option Plain) (views : List View) (id : ℕ) (v : View)
     (k : IsSound v.opening words home views) (here : HasAt views id v)
     (live : (v.reserving).live ≡ true) where
-  ring_holds : (e : Event) → MayStep v e → HasRing v words home views id e
+  ring_holds : (e : StepKind) → MayStep v e → HasRing v words home views id e
       (order_behind v e k.order) (reach_behind e k.reach) (memory_behind v e k.memory)
   ring_holds load_position may =
       left.ring_behind-left v words home views id k here load_position tt
@@ -65,7 +65,7 @@ module _ (words : List ℕ) (home : Option Plain) (views : List View) (id : ℕ)
   ring_holds (store_position locks value) may =
       let number = (v.reserving).number in
       subst (λ (at : ℕ). HasRing v words home views id (store_position locks value)
-      (k.order ++ entry_at number at value ∷ []) k.reach k.memory)
+      (k.order ++ entry_reserved number at value ∷ []) k.reach k.memory)
       (sym (ap (place_at v) may.2))
       (ring.ring_behind-reserved v words home views id k here locks value live may)
   ring_holds (give_position_back value) may =
@@ -77,11 +77,11 @@ module _ (words : List ℕ) (home : Option Plain) (views : List View) (id : ℕ)
   ring_holds (advance lock upto) may =
       left.ring_behind-left v words home views id k here (advance lock upto) tt
   ring_holds (release lock) may = ring.ring_behind-released v words home views id k here lock may
-  ring_holds (load_end buffer) may =
-      left.ring_behind-left v words home views id k here (load_end buffer) tt
-  ring_holds store_word may = ring.ring_behind-stored v words home views id k here may
-  ring_holds (load_word number) may =
-      left.ring_behind-left v words home views id k here (load_word number) tt
+  ring_holds (load_buffer_end buffer) may =
+      left.ring_behind-left v words home views id k here (load_buffer_end buffer) tt
+  ring_holds store_ring_word may = ring.ring_behind-stored v words home views id k here may
+  ring_holds (load_ring_word number) may =
+      left.ring_behind-left v words home views id k here (load_ring_word number) tt
   ring_holds load_written may =
       left.ring_behind-left v words home views id k here load_written tt
   ring_holds load_flushed may =
@@ -100,15 +100,15 @@ module _ (words : List ℕ) (home : Option Plain) (views : List View) (id : ℕ)
       left.ring_behind-left v words home views id k here set_down tt
   ring_holds take_mapping_turn may =
       left.ring_behind-left v words home views id k here take_mapping_turn tt
-  ring_holds load_initialised may =
-      left.ring_behind-left v words home views id k here load_initialised tt
+  ring_holds load_initialised_end may =
+      left.ring_behind-left v words home views id k here load_initialised_end tt
   ring_holds clear_end may =
       left.ring_behind-left v words home views id k here clear_end tt
-  ring_holds zero_word may =
-      left.ring_behind-left v words home views id k here zero_word tt
+  ring_holds zero_ring_word may =
+      left.ring_behind-left v words home views id k here zero_ring_word tt
   ring_holds publish_end may = ring.ring_behind-published v words home views id k here
-  ring_holds publish_initialised may =
-      left.ring_behind-left v words home views id k here publish_initialised tt
+  ring_holds publish_initialised_end may =
+      left.ring_behind-left v words home views id k here publish_initialised_end tt
   ring_holds release_mapping_turn may =
       left.ring_behind-left v words home views id k here release_mapping_turn tt
   ring_holds (create segment outcome) may =
@@ -123,7 +123,7 @@ module _ (words : List ℕ) (home : Option Plain) (views : List View) (id : ℕ)
   its_stage has =
       (((k.locks).mapping).each id (mapper_of v) (part_at mapper_of views id v here) has).1
 
-  pages_hold : (e : Event) → MayStep v e → HasPages v words home views id e
+  pages_hold : (e : StepKind) → MayStep v e → HasPages v words home views id e
       (reach_behind e k.reach) (stage_behind v e (slice_index words (word_of_step v e)) k.stage)
       (memory_behind v e k.memory)
   pages_hold load_position may =
@@ -154,10 +154,10 @@ module _ (words : List ℕ) (home : Option Plain) (views : List View) (id : ℕ)
       left.pages_behind-left v words home views id k here (advance lock upto) may tt
   pages_hold (release lock) may =
       left.pages_behind-left v words home views id k here (release lock) may tt
-  pages_hold (load_end buffer) may = page.pages_behind-end v words home views id k here buffer may
-  pages_hold store_word may = page.pages_behind-stored v words home views id k here may
-  pages_hold (load_word number) may =
-      left.pages_behind-left v words home views id k here (load_word number) may tt
+  pages_hold (load_buffer_end buffer) may = page.pages_behind-end v words home views id k here buffer may
+  pages_hold store_ring_word may = page.pages_behind-stored v words home views id k here may
+  pages_hold (load_ring_word number) may =
+      left.pages_behind-left v words home views id k here (load_ring_word number) may tt
   pages_hold load_written may = by_moved
       (λ (st : Stage). HasPages v words home views id load_written k.reach st k.memory)
       (v.mapping).stage k.stage (ready (slice_index words 13))
@@ -179,17 +179,17 @@ module _ (words : List ℕ) (home : Option Plain) (views : List View) (id : ℕ)
   pages_hold set_down may =
       left.pages_behind-left v words home views id k here set_down may tt
   pages_hold take_mapping_turn may = page.pages_behind-taken v words home views id k here
-  pages_hold load_initialised may = by_moved
-      (λ (st : Stage). HasPages v words home views id load_initialised k.reach st k.memory)
+  pages_hold load_initialised_end may = by_moved
+      (λ (st : Stage). HasPages v words home views id load_initialised_end k.reach st k.memory)
       (v.mapping).stage k.stage (looked (slice_index words 12))
       (page.pages_behind-initialised v words home views id k here)
-      (λ has. subst (λ (st : Stage). HasPages v words home views id load_initialised k.reach
+      (λ has. subst (λ (st : Stage). HasPages v words home views id load_initialised_end k.reach
       (looked (slice_index words 12) st) k.memory) (sym (its_stage has))
       (page.pages_behind-looked v words home views id k here (its_stage has)))
   pages_hold clear_end may = page.pages_behind-cleared v words home views id k here may
-  pages_hold zero_word may = page.pages_behind-zeroed v words home views id k here may
+  pages_hold zero_ring_word may = page.pages_behind-zeroed v words home views id k here may
   pages_hold publish_end may = page.pages_behind-published v words home views id k here may
-  pages_hold publish_initialised may = page.pages_behind-advanced v words home views id k here may
+  pages_hold publish_initialised_end may = page.pages_behind-advanced v words home views id k here may
   pages_hold release_mapping_turn may = page.pages_behind-given_back v words home views id k here may
   pages_hold (create segment outcome) may =
       left.pages_behind-left v words home views id k here (create segment outcome) may tt
@@ -198,7 +198,7 @@ module _ (words : List ℕ) (home : Option Plain) (views : List View) (id : ℕ)
   pages_hold (sync segment outcome) may =
       left.pages_behind-left v words home views id k here (sync segment outcome) may tt
 
-  durable_holds : (e : Event) → MayStep v e → HasDurable words home views id v e
+  durable_holds : (e : StepKind) → MayStep v e → HasDurable words home views id v e
       (order_behind v e k.order) (writer_behind v e k.writer)
   durable_holds load_position may = durable.durable-inside words home views id v k here load_position may tt tt
   durable_holds take_write_turn may = durable.durable-inside words home views id v k here take_write_turn may tt tt
@@ -214,9 +214,9 @@ module _ (words : List ℕ) (home : Option Plain) (views : List View) (id : ℕ)
   durable_holds (take_lock lock) may = durable.durable-inside words home views id v k here (take_lock lock) may tt tt
   durable_holds (advance lock upto) may = durable.durable-inside words home views id v k here (advance lock upto) may tt tt
   durable_holds (release lock) may = durable.durable-inside words home views id v k here (release lock) may tt tt
-  durable_holds (load_end buffer) may = durable.durable-inside words home views id v k here (load_end buffer) may tt tt
-  durable_holds store_word may = durable.durable-inside words home views id v k here store_word may tt tt
-  durable_holds (load_word number) may = durable.durable-inside words home views id v k here (load_word number) may tt
+  durable_holds (load_buffer_end buffer) may = durable.durable-inside words home views id v k here (load_buffer_end buffer) may tt tt
+  durable_holds store_ring_word may = durable.durable-inside words home views id v k here store_ring_word may tt tt
+  durable_holds (load_ring_word number) may = durable.durable-inside words home views id v k here (load_ring_word number) may tt
       (λ l out. page.staged_behind v words home views id k here number l out may)
   durable_holds load_written may = durable.durable-inside words home views id v k here load_written may tt tt
   durable_holds load_flushed may = durable.durable-inside words home views id v k here load_flushed may tt tt
@@ -227,18 +227,18 @@ module _ (words : List ℕ) (home : Option Plain) (views : List View) (id : ℕ)
   durable_holds store_flushed may = durable.durable-inside words home views id v k here store_flushed may tt tt
   durable_holds set_down may = durable.durable-inside words home views id v k here set_down may tt tt
   durable_holds take_mapping_turn may = durable.durable-inside words home views id v k here take_mapping_turn may tt tt
-  durable_holds load_initialised may = durable.durable-inside words home views id v k here load_initialised may tt tt
+  durable_holds load_initialised_end may = durable.durable-inside words home views id v k here load_initialised_end may tt tt
   durable_holds clear_end may = durable.durable-inside words home views id v k here clear_end may tt tt
-  durable_holds zero_word may = durable.durable-inside words home views id v k here zero_word may tt tt
+  durable_holds zero_ring_word may = durable.durable-inside words home views id v k here zero_ring_word may tt tt
   durable_holds publish_end may = durable.durable-inside words home views id v k here publish_end may tt tt
-  durable_holds publish_initialised may = durable.durable-inside words home views id v k here publish_initialised may tt tt
+  durable_holds publish_initialised_end may = durable.durable-inside words home views id v k here publish_initialised_end may tt tt
   durable_holds release_mapping_turn may = durable.durable-inside words home views id v k here release_mapping_turn may tt tt
   durable_holds (create segment outcome) may = durable.durable-create words home views id v k here segment outcome may
   durable_holds (write segment page upto bytes outcome) may =
       durable.durable-write words home views id v k here segment page upto bytes outcome may
   durable_holds (sync segment outcome) may = durable.durable-sync words home views id v k here segment outcome may
 
-  pub sound_behind : (e : Event) → MayStep v e → KeepsSound words home views id v e
+  pub sound_behind : (e : StepKind) → MayStep v e → KeepsSound words home views id v e
   sound_behind e may =
       let s = moved words home views id v k here e in
       let behind = locks_behind v.opening words home views k id v here live e may in

@@ -2,14 +2,14 @@
 use Rattle.std.specs.Prelude.{ℕ, List, set, slice_index}
 use mathlib.Core.Option.{Option}
 use Rattle.wal_core.specs.Views.{Plain, View}
-use Rattle.wal_core.specs.Steps.{Event, word_of_step, value_behind, home_behind, view_behind}
+use Rattle.wal_core.specs.Steps.{StepKind, word_of_step, value_behind, home_behind, view_behind}
 use Rattle.wal_core.specs.Sound.{IsSound}
 
 -- the word that the step loads, stores or exchanges holds this number before
-abbrev pub number_met : List ℕ → View → Event → ℕ
+abbrev pub number_met : List ℕ → View → StepKind → ℕ
 number_met words v e = slice_index words (word_of_step v e)
 
-abbrev pub KeepsSound : List ℕ → Option Plain → List View → ℕ → View → Event → Type 0
+abbrev pub KeepsSound : List ℕ → Option Plain → List View → ℕ → View → StepKind → Type 0
 KeepsSound words home views id v e =
     IsSound v.opening (set words (word_of_step v e) (value_behind v e (number_met words v e)))
     (home_behind v e home) (set views id (view_behind v e (number_met words v e) home))

@@ -4,7 +4,7 @@ ghost use Rattle.std.specs.Prelude.{◌≡◌, ℕ, true, List};
 ghost use mathlib.Core.Option.{Option};
 ghost use Rattle.wal_core.specs.Words.{Opening};
 ghost use Rattle.wal_core.specs.Views.{HasAt, Plain, View};
-ghost use Rattle.wal_core.specs.Steps.{Event, MayStep, State, Step};
+ghost use Rattle.wal_core.specs.Steps.{StepKind, MayStep, State, Step};
 ghost use Rattle.wal_core.specs.Sound.{IsSound};
 ghost use Rattle.step_laws.specs.Kept.{KeepsSound};
 ghost use Rattle.step_laws.specs.Runs.{Runs};
@@ -14,7 +14,7 @@ ghost use Rattle.step_laws.specs.Runs.{Runs};
 pub fn every_kind_keeps_the_invariant()
     ensures { (words : List ℕ) (home : Option Plain) (views : List View) (id : ℕ) (v : View)
         → IsSound v.opening words home views → HasAt views id v → (v.reserving).live ≡ true
-        → (e : Event) → MayStep v e → KeepsSound words home views id v e }
+        → (e : StepKind) → MayStep v e → KeepsSound words home views id v e }
 {}
 
 /// Every step of the machine keeps the invariant: one of a pass, and a pass that is split off, is

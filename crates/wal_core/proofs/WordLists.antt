@@ -3,7 +3,7 @@ use Rattle.std.proofs.Common.{◌≡◌, ◌≢◌, ◌⊎◌, ⊎_elim, ℕ, �
 use Rattle.std.specs.Prelude.{slice_index}
 use Rattle.std.proofs.lemmas.List.{length-set, set-get_or, get_or-set_same, get_or-set_other}
 use Rattle.wal_core.specs.declared.setup.Setup.{Setup}
-use Rattle.wal_core.specs.Words.{lock_word, end_word, ring_word, word_count}
+use Rattle.wal_core.specs.Words.{lock_word, end_word, word_of_ring, word_count}
 
 module _ (words : List ℕ) where
   -- a load leaves all words
@@ -38,13 +38,13 @@ module _ (words : List ℕ) where
   module _ (setup : Setup) where
     -- the ring
     pub ring_before : (i n : ℕ) → i < 17 + setup.ring_pages
-        → ring_word setup (set words i n) ≡ ring_word setup words
+        → word_of_ring setup (set words i n) ≡ word_of_ring setup words
     ring_before i n before =
         λ k place. word_else i n (17 + setup.ring_pages + place) (λ e. omega arith) k
 
     pub ring_else : (place n p : ℕ) → p ≢ place
-        → ring_word setup (set words (17 + setup.ring_pages + place) n) p
-        ≡ ring_word setup words p
+        → word_of_ring setup (set words (17 + setup.ring_pages + place) n) p
+        ≡ word_of_ring setup words p
     ring_else place n p ne = word_else (17 + setup.ring_pages + place) n
         (17 + setup.ring_pages + p) (λ e. ne (omega arith))
 
@@ -65,7 +65,7 @@ module _ (words : List ℕ) where
       end_set buffer n below = word_set (17 + buffer) n (omega (arith, wide))
 
       pub ring_set : (place n : ℕ) → place < setup.ring_pages * 1024
-          → ring_word setup (set words (17 + setup.ring_pages + place) n) place ≡ n
+          → word_of_ring setup (set words (17 + setup.ring_pages + place) n) place ≡ n
       ring_set place n below = word_set (17 + setup.ring_pages + place) n (omega (arith, wide))
 
 pub wide_still : (setup : Setup) (words : List ℕ) (i n : ℕ) → length words ≡ word_count setup

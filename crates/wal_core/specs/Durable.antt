@@ -18,7 +18,7 @@ use Rattle.wal_core.specs.declared.setup.Setup.{Setup}
 use Rattle.wal_core.specs.Words.{Opening}
 use Rattle.wal_core.specs.Suited.{IfSuited}
 use Rattle.wal_core.specs.Ringed.{log_word_of}
-use Rattle.wal_core.specs.Views.{HasAt, Joined, Promise, Plain, Lent, Out, Told}
+use Rattle.wal_core.specs.Views.{HasAt, Joined, FlushPromise, Plain, Lent, Out, Told}
 
 -- ---- words of the disk, by page and number
 
@@ -59,16 +59,16 @@ IsUnwritten size opened tape moment e =
 
 -- a promise made to a log since the opening: what it names is firm, and no entry that came later was
 -- written before
-pub record IsKept (opening : Opening) (order : List Entry) (tape : Tape) (entries : List Entry)
-    (p : Promise) : Type 0 where
+pub record IsPromiseKept (opening : Opening) (order : List Entry) (tape : Tape) (entries : List Entry)
+    (p : FlushPromise) : Type 0 where
   pub since : opening.moment ≤ p.moment
   pub firm : IsFirm opening.setup order p.upto p.moment tape
   pub later : (k : ℕ) (e : Entry) → p.entries ≤ k → slice_get entries k ≡ Some e
       → IsUnwritten opening.setup.segment_size opening.moment tape p.moment e
 
-abbrev pub AreKept : Opening → List Entry → Tape → List Entry → List Promise → Type 0
+abbrev pub AreKept : Opening → List Entry → Tape → List Entry → List FlushPromise → Type 0
 AreKept opening order tape entries promises =
-    All (IsKept opening order tape entries) promises
+    All (IsPromiseKept opening order tape entries) promises
 
 -- with the writer in hand: what was loaded is lawful, and below which address all is durable from
 -- the moment on that was stored, where one was
@@ -81,12 +81,12 @@ pub record IsInHand (opening : Opening) (order : List Entry) (moment : ℕ) (wri
   pub firm : l.hard ≢ 0 → IfSuited opening writer (IsFirm opening.setup order l.hard l.hard_moment)
 
 -- what a promise names is not above what the words say now
-pub record IsPromised (flushed moment : ℕ) (p : Promise) : Type 0 where
+pub record IsPromised (flushed moment : ℕ) (p : FlushPromise) : Type 0 where
   pub upto_low : p.upto ≤ flushed
   pub moment_low : p.moment ≤ moment
 
 -- what is said of one view
-pub record IsAssured (opening : Opening) (order : List Entry) (flushed moment down : ℕ)
+pub record IsToldRightly (opening : Opening) (order : List Entry) (flushed moment down : ℕ)
     (writer : Plain) (x : Told) : Type 0 where
   pub own_promised : All (IsPromised flushed moment) (x.writing).promises
   pub joined_promised : All (λ (j : Joined). All (IsPromised flushed moment) j.promises) x.joined
@@ -124,4 +124,4 @@ pub record DurabilityHolds (opening : Opening) (order : List Entry)
     pub down_at_home : home ≡ some writer → down ≡ 0 → writer.fault ≡ none
     pub fault_rose : (f : ℕ) → writer.fault ≡ some f → Rose opening.faults f
     pub views : (id : ℕ) (x : Told) → HasAt parts id x
-        → IsAssured opening order flushed moment down writer x
+        → IsToldRightly opening order flushed moment down writer x

@@ -70,8 +70,8 @@ abbrev pub after_slot_out : Plain → View → View
 after_slot_out writer v = with_hold (Out (lent writer v)) v
 
 -- the pass keeps its number, and gives the least of its spare ones away
-abbrev pub left_of : View → View
-left_of v = with_reserving (record v.reserving { spare = (v.reserving).spare + 1 }) v
+abbrev pub after_split : View → View
+after_split v = with_reserving (record v.reserving { spare = (v.reserving).spare + 1 }) v
 
 abbrev pub no_writing : Writing
 no_writing = record {
@@ -83,8 +83,8 @@ no_writing = record {
   hold = Idle;
 }
 
-abbrev pub right_of : View → View
-right_of v = record {
+abbrev pub split_off : View → View
+split_off v = record {
   opening = v.opening;
   reserving = record {
     live = true;
@@ -117,8 +117,8 @@ has_spares r = nat_lt r.spare r.spare_end
 
 -- one pass takes another in: its log, what it took in, what it has seen, its spare numbers, and the
 -- down values that it knows
-abbrev pub both_of : View → View → View
-both_of v w =
+abbrev pub after_join : View → View → View
+after_join v w =
     let r = v.reserving in
     let s = w.reserving in
     record v {
@@ -136,8 +136,8 @@ both_of v w =
 
 -- what is left of a pass that was taken in
 abbrev pub spent : View → View
-spent v = record (right_of v) {
-  reserving = record (right_of v).reserving {
+spent v = record (split_off v) {
+  reserving = record (split_off v).reserving {
     live = false;
     number = (v.reserving).number;
   };
@@ -178,12 +178,12 @@ after_store_prev v = stored (v.reserving).place
     stored (Locked at) = v
     stored (Stored at prev) = v
 
-abbrev pub entry_at : ℕ → ℕ → Record → Entry
-entry_at number at value = record { pass = Some number; value = value; start = at }
+abbrev pub entry_reserved : ℕ → ℕ → Record → Entry
+entry_reserved number at value = record { pass = Some number; value = value; start = at }
 
 -- the entry joins the log, and is in flight under these locks
-abbrev pub with_entry : ℕ → Entry → ℕ → List ℕ → View → View
-with_entry size e prev locks v = record v {
+abbrev pub with_reserved : ℕ → Entry → ℕ → List ℕ → View → View
+with_reserved size e prev locks v = record v {
   reserving = record v.reserving {
     entries = (v.reserving).entries ++ e ∷ [];
     seen = position_behind size e;
@@ -198,8 +198,8 @@ abbrev pub after_store_position : List ℕ → Record → View → View
 after_store_position locks value v = reserved (v.reserving).place
   where
     reserved : Place → View
-    reserved (Stored at prev) = with_entry ((v.opening).setup).segment_size
-        (entry_at (v.reserving).number at value) prev locks v
+    reserved (Stored at prev) = with_reserved ((v.opening).setup).segment_size
+        (entry_reserved (v.reserving).number at value) prev locks v
     reserved Free = v
     reserved (Locked at) = v
     reserved (Loaded at prev) = v
@@ -314,8 +314,8 @@ after_load_flushed met v =
     (with_writing (record v.writing { flushed = met }) v)
 
 -- a pass is told that all below an address is durable from a moment on
-abbrev pub with_promise : ℕ → ℕ → View → View
-with_promise upto moment v = with_writing (record v.writing {
+abbrev pub with_flush_promise : ℕ → ℕ → View → View
+with_flush_promise upto moment v = with_writing (record v.writing {
   promises = (v.writing).promises ++ (record {
     upto = upto;
     moment = moment;
@@ -325,7 +325,7 @@ with_promise upto moment v = with_writing (record v.writing {
 
 -- what was loaded as flushed is durable from the moment met on: it is told so
 abbrev pub after_load_moment : ℕ → View → View
-after_load_moment met v = with_promise (v.writing).flushed met v
+after_load_moment met v = with_flush_promise (v.writing).flushed met v
 
 abbrev pub after_load_down : ℕ → View → View
 after_load_down met v = with_writing (record v.writing { down_met = met }) v
@@ -344,7 +344,7 @@ after_store_moment v = with_hold (with_lent hardened (v.writing).hold) v
 -- what is stored as flushed is durable from the moment that was stored before: it is told so
 abbrev pub after_store_flushed : ℕ → ℕ → View → View
 after_store_flushed upto moment v =
-    with_seen (position_of ((v.opening).setup).segment_size upto) (with_promise upto moment v)
+    with_seen (position_of ((v.opening).setup).segment_size upto) (with_flush_promise upto moment v)
 
 abbrev pub after_set_down : ℕ → View → View
 after_set_down faults v = with_writing (record v.writing { down_set = faults }) v

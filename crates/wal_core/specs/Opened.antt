@@ -1,7 +1,7 @@
 -- How a log begins that holds nothing: its words, its writer, and the view of its first pass.
 use Rattle.std.specs.Prelude.{◌≡◌, ℕ, ◌+◌, ◌*◌, ◌/◌, ◌<◌, ◌≤◌, true, List, [], length, slice_index, IfSome}
 use mathlib.Core.Option.{none}
-use Rattle.wal_core.specs.Words.{Opening, position_word, initialised_word, written_word, flushed_word, moment_word, down_word, end_word, ring_word, word_count, log_start}
+use Rattle.wal_core.specs.Words.{Opening, position_word, initialised_word, written_word, flushed_word, moment_word, down_word, end_word, word_of_ring, word_count, log_start}
 use Rattle.wal_core.specs.Views.{Away, Free, Landed, Plain, View}
 use Rattle.wal_core.specs.Moves.{no_writing}
 use Rattle.wal_core.specs.Paged.{HoldsPage}
@@ -27,7 +27,7 @@ pub record AreFirstWords (opening : Opening) (words : List ℕ) : Type 0 where
   pub ends : (b : ℕ) → b < (opening.setup).ring_pages
       → HoldsPage (opening.setup).ring_pages ((opening.setup).segment_size / 8192)
       ((opening.setup).segment_size / 8192 + (opening.setup).ring_pages) b (end_word words b)
-  pub ring : (k : ℕ) → k < (opening.setup).ring_pages * 1024 → ring_word opening.setup words k ≡ 0
+  pub ring : (k : ℕ) → k < (opening.setup).ring_pages * 1024 → word_of_ring opening.setup words k ≡ 0
 
 -- a writer that has written nothing, on any disk
 pub record IsFirstWriter (opening : Opening) (writer : Plain) : Type 0 where

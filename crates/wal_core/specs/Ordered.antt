@@ -13,10 +13,10 @@ is_pass number None = false
 is_pass number (Some pass) = pass == number
 
 -- the entries of an order that a pass reserved
-abbrev pub entries_of : ℕ → List Entry → List Entry
-entries_of number [] = []
-entries_of number (e ∷ es) =
-    if is_pass number e.pass then e ∷ entries_of number es else entries_of number es
+abbrev pub entries_under : ℕ → List Entry → List Entry
+entries_under number [] = []
+entries_under number (e ∷ es) =
+    if is_pass number e.pass then e ∷ entries_under number es else entries_under number es
 
 -- what has become of a pass's number: the view that goes by it, the view that may give it away, the
 -- view that took its pass in, or none, since it was not given to anybody
@@ -41,7 +41,7 @@ pub record FrontEndsAt (size number : ℕ) (found order entries : List Entry) (f
   pub back : List Entry
   pub are : order ≡ front ++ back
   pub end : full.position ≡ end_position size front
-  pub own : entries_of number front ≡ take full.entries entries
+  pub own : entries_under number front ≡ take full.entries entries
   pub within : full.entries ≤ length entries
   pub found_within : length found ≤ length front
 
@@ -49,7 +49,7 @@ pub record FrontEndsAt (size number : ℕ) (found order entries : List Entry) (f
 pub record IsEnded (size : ℕ) (found order : List Entry) (role : ℕ → Role) (id : ℕ) (j : Joined)
     : Type 0 where
   pub role_is : role j.number ≡ ended id
-  pub entries_are : j.entries ≡ entries_of j.number order
+  pub entries_are : j.entries ≡ entries_under j.number order
   pub filled : All (FrontEndsAt size j.number found order j.entries) j.filled
 
 -- passes that were taken in have numbers that differ
@@ -60,7 +60,7 @@ AreApart joined = AllPairs (λ i j. i.number ≢ j.number) joined
 pub record IsPartOf (size : ℕ) (found order : List Entry) (role : ℕ → Role) (id : ℕ)
     (r : Reserving) : Type 0 where
   pub own : role r.number ≡ active id
-  pub entries_are : r.entries ≡ entries_of r.number order
+  pub entries_are : r.entries ≡ entries_under r.number order
   pub spares : (n : ℕ) → r.spare ≤ n → n < r.spare_end → role n ≡ spare id
   pub seen : r.seen ≤ end_position size order
   pub filled : All (FrontEndsAt size r.number found order r.entries) r.filled
@@ -108,7 +108,7 @@ pub record OrderHolds (setup : Setup) (found order : List Entry) (position prev 
   pub position_is : position ≡ end_position setup.segment_size order + locked
   pub one_bit : locked ≤ 1
   pub at_rest : locked ≡ 0 → prev ≡ prev_of setup.segment_size 0 order
-  pub unused : (n : ℕ) → IsUnused (role n) → entries_of n order ≡ []
+  pub unused : (n : ℕ) → IsUnused (role n) → entries_under n order ≡ []
   pub beyond : (n : ℕ) → setup.passes ≤ n → role n ≡ unborn
   pub views : (id : ℕ) (r : Reserving) → HasAt parts id r → r.live ≡ true
       → IsPartOf setup.segment_size found order role id r

@@ -14,7 +14,7 @@ abbrev pub log_word_of : Setup → List Entry → ℕ → ℕ
 log_word_of setup order address = log_word setup.segment_size setup.sysid order address
 
 -- an entry in flight is one of the order, behind the one that it names
-pub record StandsIn (size : ℕ) (order : List Entry) (c : Copy) : Type 0 where
+pub record IsOfOrder (size : ℕ) (order : List Entry) (c : Copy) : Type 0 where
   pub front : List Entry
   pub back : List Entry
   pub are : order ≡ front ++ c.entry ∷ back
@@ -39,7 +39,7 @@ IsInFlightOnce flights = (i j : ℕ) (c d : Copy) → HasAt flights i (Copying c
 pub record RingHolds (setup : Setup) (order : List Entry) (reach : ℕ) (memory : ℕ → ℕ)
     (flights : List Flight) : Type 0 where
   pub in_flight : (id : ℕ) (c : Copy) → HasAt flights id (Copying c)
-      → StandsIn setup.segment_size order c
+      → IsOfOrder setup.segment_size order c
   pub alone : IsInFlightOnce flights
   pub words : (k : ℕ) → (memory k ≡ log_word_of setup order (8 * k))
       ⊎ ((memory k ≡ 0) × IsAwaited setup.segment_size flights (8 * k))

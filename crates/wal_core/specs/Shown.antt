@@ -3,7 +3,7 @@ use Rattle.std.specs.Prelude.{◌≡◌, ◌≢◌, ◌⊎◌, ℕ, ◌+◌, ◌
 use Rattle.wal_page.specs.Order.{Entry, end_position}
 use Rattle.wal_page.specs.EntryWords.{address_of_word, words_owned}
 use Rattle.wal_core.specs.declared.setup.Setup.{Setup}
-use Rattle.wal_core.specs.Words.{initialised_word, written_word, end_word, ring_word, end_form}
+use Rattle.wal_core.specs.Words.{initialised_word, written_word, end_word, word_of_ring, end_form}
 use Rattle.wal_core.specs.Views.{HasAt, Stage, Away, Taken, Looked, Ready, Zeroing, Published, Copy, Copying, Lent, Out, View, flight_of}
 use Rattle.wal_core.specs.Ringed.{IsAwaited, log_word_of}
 use Rattle.wal_core.specs.Durable.{IsStaged}
@@ -48,7 +48,7 @@ IsInNoFlight views e = (id : ℕ) (v : View) (c : Copy) → HasAt views id v
 -- where the ring has the page of a word at this address, it has the log's word there
 abbrev pub HasLogWord : Setup → List Entry → List ℕ → ℕ → Type 0
 HasLogWord setup order words address = IsPresent setup words (address / 8192)
-    → ring_word setup words (ring_place setup (address / 8)) ≡ log_word_of setup order address
+    → word_of_ring setup words (ring_place setup (address / 8)) ≡ log_word_of setup order address
 
 module _ (setup : Setup) (order : List Entry) (words : List ℕ) (views : List View) where
   -- what is said of the order's entries: one in flight is in flight in one view, and what counts as
@@ -68,7 +68,7 @@ module _ (setup : Setup) (order : List Entry) (words : List ℕ) (views : List V
   pub record WordsAreLogs : Type 0 where
     -- in each page that is present
     pub ring : (k : ℕ) → IsPresent setup words (k / 1024)
-        → IsLogOrAwaited setup order views k (ring_word setup words (ring_place setup k))
+        → IsLogOrAwaited setup order views k (word_of_ring setup words (ring_place setup k))
     -- what was loaded for a write is 0 or the log's, and the log's below what was known as copied
     pub staged : (id : ℕ) (v : View) (l : Lent) → HasAt views id v → (v.writing).hold ≡ Out l
         → All (IsStaged setup order l.known) l.staged
@@ -76,7 +76,7 @@ module _ (setup : Setup) (order : List Entry) (words : List ℕ) (views : List V
     pub watched : (id : ℕ) (v : View) (k : ℕ) → HasAt views id v → (v.watching).visited ≡ 8
         → written_word words ≤ 8 * k → 8 * k < (v.watching).bound
         → IsPresent setup words (k / 1024)
-        × (ring_word setup words (ring_place setup k) ≡ log_word_of setup order (8 * k))
+        × (word_of_ring setup words (ring_place setup k) ≡ log_word_of setup order (8 * k))
 
   -- what is said of its pages
   pub record PagesArePresent : Type 0 where
@@ -108,4 +108,4 @@ module _ (setup : Setup) (order : List Entry) (words : List ℕ) (views : List V
         → page_mapped (v.mapping).stage + 8192 ≤ written_word words + setup.ring_pages * 8192
     pub zeroed : (id : ℕ) (v : View) (n : ℕ) → HasAt views id v
         → n < words_zeroed (v.mapping).stage
-        → ring_word setup words (buffer_of setup (page_mapped (v.mapping).stage) * 1024 + n) ≡ 0
+        → word_of_ring setup words (buffer_of setup (page_mapped (v.mapping).stage) * 1024 + n) ≡ 0

@@ -4,7 +4,7 @@ use mathlib.Core.Option.{Option}
 use Rattle.byte_position.specs.Geometry.{IsSegmentSize}
 use Rattle.wal_page.specs.Order.{Entry, end_position}
 use Rattle.wal_core.specs.declared.setup.Setup.{Setup}
-use Rattle.wal_core.specs.Words.{Opening, position_word, prev_word, lock_word, mapping_turn, write_turn, initialised_word, written_word, flushed_word, moment_word, down_word, end_word, ring_word, word_count, end_form}
+use Rattle.wal_core.specs.Words.{Opening, position_word, prev_word, lock_word, mapping_turn, write_turn, initialised_word, written_word, flushed_word, moment_word, down_word, end_word, word_of_ring, word_count, end_form}
 use Rattle.wal_core.specs.Views.{HasAt, Landed, Away, Idle, Plain, View, Stage, reserving_of, working_of, flight_of, watching_of, mapper_of, confirmed_of, writer_of, writing_of, told_of}
 use Rattle.wal_core.specs.Ordered.{OrderHolds}
 use Rattle.wal_core.specs.Locked.{LocksHold, ProgressHolds}
@@ -57,7 +57,7 @@ pub record IsSound (opening : Opening) (words : List ℕ) (home : Option Plain) 
   pub progress : ProgressHolds opening.setup.segment_size (lock_word words) (map working_of views)
   pub ring : RingHolds opening.setup order reach memory (map flight_of views)
   pub pages : PagesHold opening.setup.ring_pages reach stage (initialised_word words)
-      (written_word words) (end_word words) (ring_word opening.setup words) memory
+      (written_word words) (end_word words) (word_of_ring opening.setup words) memory
       (map confirmed_of views)
   pub positions : PositionsHold opening order (written_word words) (flushed_word words)
       (down_word words) home writer (map flight_of views) (map writing_of views)

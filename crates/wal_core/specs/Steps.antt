@@ -18,7 +18,7 @@ use Rattle.wal_core.specs.declared.setup.Setup.{Setup}
 use Rattle.wal_core.specs.Words.{log_limit}
 use Rattle.wal_core.specs.Views.{HasAt, Place, Free, Locked, Loaded, Stored, Copy, Flight, Landed, Copying, AreSomeOf, Stage, Taken, Looked, Ready, Zeroing, Published, Plain, Lent, Hold, Idle, Turned, Out, Away, View}
 use Rattle.wal_core.specs.Paged.{IsOpen}
-use Rattle.wal_core.specs.Moves.{Outcome, Done, Failed, left_of, right_of, both_of, spent, without_work, orphan_of, with_stage, with_hold, with_confirmed, with_writer, after_load_position, after_take_write_turn, after_slot_out, after_lock_position, after_load_prev, after_store_prev, after_store_position, after_give_back, after_load_lock, after_take_lock, after_release, after_store_word, after_load_word, after_load_written, after_load_flushed, after_load_moment, after_load_down, after_store_written, after_store_moment, after_store_flushed, after_set_down, after_take_mapping_turn, after_load_initialised, after_create, after_write, after_sync}
+use Rattle.wal_core.specs.Moves.{Outcome, Done, Failed, after_split, split_off, after_join, spent, without_work, orphan_of, with_stage, with_hold, with_confirmed, with_writer, after_load_position, after_take_write_turn, after_slot_out, after_lock_position, after_load_prev, after_store_prev, after_store_position, after_give_back, after_load_lock, after_take_lock, after_release, after_store_word, after_load_word, after_load_written, after_load_flushed, after_load_moment, after_load_down, after_store_written, after_store_moment, after_store_flushed, after_set_down, after_take_mapping_turn, after_load_initialised, after_create, after_write, after_sync}
 
 -- ---- what a step may rest on
 
@@ -43,8 +43,8 @@ pub record IsToBeWritten (k : ℕ) (l : Lent) : Type 0 where
   pub copied : k / 1024 * 8192 < l.known
 
 -- the words of a page were loaded
-abbrev pub IsLoaded : ℕ → List ℕ → List (ℕ × ℕ) → Type 0
-IsLoaded page bytes staged = (n : ℕ) → n < 1024
+abbrev pub IsPageLoaded : ℕ → List ℕ → List (ℕ × ℕ) → Type 0
+IsPageLoaded page bytes staged = (n : ℕ) → n < 1024
     → (value : ℕ) × Contains staged (page * 1024 + n, value)
     × (word_of bytes n ≡ to_le_bytes w64 value)
 
@@ -61,7 +61,7 @@ pub record IsNextWrite (setup : Setup) (segment page upto : ℕ) (bytes : List �
     pub within : upto ≤ ((l.writer).written / 8192 + 1) * 8192
     pub copied : upto ≤ l.known
     pub whole : length bytes ≡ 8192
-    pub loaded : IsLoaded ((l.writer).written / 8192) bytes l.staged
+    pub loaded : IsPageLoaded ((l.writer).written / 8192) bytes l.staged
 
 -- the segment under way, which is the one behind the last that is made, is made
 pub record IsNextCreate (segment : ℕ) (l : Lent) : Type 0 where
@@ -74,51 +74,51 @@ pub record IsNextSync (segment : ℕ) (l : Lent) : Type 0 where
 
 -- ---- the kinds
 
-pub data Event : Type 0 where
+pub data StepKind : Type 0 where
   -- seats and turns
-  load_position : Event
-  take_write_turn : Event
-  slot_out : Event
-  slot_in : Event
-  release_write_turn : Event
+  load_position : StepKind
+  take_write_turn : StepKind
+  slot_out : StepKind
+  slot_in : StepKind
+  release_write_turn : StepKind
   -- reservation
-  lock_position : ℕ → Event
-  load_prev : Event
-  store_prev : Event
+  lock_position : ℕ → StepKind
+  load_prev : StepKind
+  store_prev : StepKind
   -- the entry is to stand under these locks
-  store_position : List ℕ → Record → Event
-  give_position_back : Record → Event
+  store_position : List ℕ → Record → StepKind
+  give_position_back : Record → StepKind
   -- insertion locks
   -- a watcher's visit, which learns up to the limit at most; an insert's vain try has the limit 0
-  load_lock : (lock limit : ℕ) → Event
-  take_lock : ℕ → Event
-  advance : ℕ → ℕ → Event
-  release : ℕ → Event
+  load_lock : (lock limit : ℕ) → StepKind
+  take_lock : ℕ → StepKind
+  advance : ℕ → ℕ → StepKind
+  release : ℕ → StepKind
   -- words of the ring
-  load_end : ℕ → Event
-  store_word : Event
-  load_word : ℕ → Event
+  load_buffer_end : ℕ → StepKind
+  store_ring_word : StepKind
+  load_ring_word : ℕ → StepKind
   -- positions and down
-  load_written : Event
-  load_flushed : Event
-  load_moment : Event
-  load_down : Event
-  store_written : Event
-  store_moment : Event
-  store_flushed : Event
-  set_down : Event
+  load_written : StepKind
+  load_flushed : StepKind
+  load_moment : StepKind
+  load_down : StepKind
+  store_written : StepKind
+  store_moment : StepKind
+  store_flushed : StepKind
+  set_down : StepKind
   -- mapping
-  take_mapping_turn : Event
-  load_initialised : Event
-  clear_end : Event
-  zero_word : Event
-  publish_end : Event
-  publish_initialised : Event
-  release_mapping_turn : Event
+  take_mapping_turn : StepKind
+  load_initialised_end : StepKind
+  clear_end : StepKind
+  zero_ring_word : StepKind
+  publish_end : StepKind
+  publish_initialised_end : StepKind
+  release_mapping_turn : StepKind
   -- calls of the device
-  create : ℕ → Outcome → Event
-  write : ℕ → ℕ → ℕ → List ℕ → Outcome → Event
-  sync : ℕ → Outcome → Event
+  create : ℕ → Outcome → StepKind
+  write : ℕ → ℕ → ℕ → List ℕ → Outcome → StepKind
+  sync : ℕ → Outcome → StepKind
 
 -- ---- the word that a step loads, stores or exchanges, by its number
 
@@ -152,9 +152,9 @@ words_zeroed (Zeroing at count) = count
 words_zeroed (Published at) = 0
 
 -- the number of the log's word that a copy stores next
-abbrev pub next_number : Setup → Flight → ℕ
-next_number setup Landed = 0
-next_number setup (Copying c) = address_of_word setup.segment_size c.entry c.copied / 8
+abbrev pub number_of_next : Setup → Flight → ℕ
+number_of_next setup Landed = 0
+number_of_next setup (Copying c) = address_of_word setup.segment_size c.entry c.copied / 8
 
 module _ (v : View) where
   abbrev setup_of : Setup
@@ -163,7 +163,7 @@ module _ (v : View) where
   abbrev stage_of : Stage
   stage_of = (v.mapping).stage
 
-  abbrev pub word_of_step : Event → ℕ
+  abbrev pub word_of_step : StepKind → ℕ
   word_of_step load_position = 0
   word_of_step take_write_turn = 11
   word_of_step slot_out = 11
@@ -178,10 +178,10 @@ module _ (v : View) where
   word_of_step (take_lock lock) = 2 + lock
   word_of_step (advance lock upto) = 2 + lock
   word_of_step (release lock) = 2 + lock
-  word_of_step (load_end buffer) = end_number setup_of buffer
-  word_of_step store_word =
-      ring_number setup_of (ring_place setup_of (next_number setup_of (v.working).flight))
-  word_of_step (load_word k) = ring_number setup_of (ring_place setup_of k)
+  word_of_step (load_buffer_end buffer) = end_number setup_of buffer
+  word_of_step store_ring_word =
+      ring_number setup_of (ring_place setup_of (number_of_next setup_of (v.working).flight))
+  word_of_step (load_ring_word k) = ring_number setup_of (ring_place setup_of k)
   word_of_step load_written = 13
   word_of_step load_flushed = 14
   word_of_step load_moment = 15
@@ -191,12 +191,12 @@ module _ (v : View) where
   word_of_step store_flushed = 14
   word_of_step set_down = 16
   word_of_step take_mapping_turn = 10
-  word_of_step load_initialised = 12
+  word_of_step load_initialised_end = 12
   word_of_step clear_end = end_number setup_of (buffer_of setup_of (page_mapped stage_of))
-  word_of_step zero_word = ring_number setup_of
+  word_of_step zero_ring_word = ring_number setup_of
       (buffer_of setup_of (page_mapped stage_of) * 1024 + words_zeroed stage_of)
   word_of_step publish_end = end_number setup_of (buffer_of setup_of (page_mapped stage_of))
-  word_of_step publish_initialised = 12
+  word_of_step publish_initialised_end = 12
   word_of_step release_mapping_turn = 10
   word_of_step (create segment outcome) = 11
   word_of_step (write segment page upto bytes outcome) = 11
@@ -227,7 +227,7 @@ module _ (v : View) where
   fault_number none = 0
   fault_number (some faults) = faults
 
-  abbrev pub value_behind : Event → ℕ → ℕ
+  abbrev pub value_behind : StepKind → ℕ → ℕ
   value_behind load_position met = met
   value_behind take_write_turn met = exchanged 0 ((v.reserving).number + 1) met
   value_behind slot_out met = met
@@ -244,9 +244,9 @@ module _ (v : View) where
   value_behind (take_lock lock) met = exchanged 0 1 met
   value_behind (advance lock upto) met = upto + 1
   value_behind (release lock) met = 0
-  value_behind (load_end buffer) met = met
-  value_behind store_word met = next_value (v.working).flight
-  value_behind (load_word k) met = met
+  value_behind (load_buffer_end buffer) met = met
+  value_behind store_ring_word met = next_value (v.working).flight
+  value_behind (load_ring_word k) met = met
   value_behind load_written met = met
   value_behind load_flushed met = met
   value_behind load_moment met = met
@@ -256,11 +256,11 @@ module _ (v : View) where
   value_behind store_flushed met = number_lent (λ l. l.hard) (v.writing).hold
   value_behind set_down met = number_lent (λ l. fault_number (l.writer).fault) (v.writing).hold
   value_behind take_mapping_turn met = exchanged 0 ((v.reserving).number + 1) met
-  value_behind load_initialised met = met
+  value_behind load_initialised_end met = met
   value_behind clear_end met = 0
-  value_behind zero_word met = 0
+  value_behind zero_ring_word met = 0
   value_behind publish_end met = page_mapped stage_of + 8192
-  value_behind publish_initialised met = page_mapped stage_of + 8192
+  value_behind publish_initialised_end met = page_mapped stage_of + 8192
   value_behind release_mapping_turn met = 0
   value_behind (create segment outcome) met = met
   value_behind (write segment page upto bytes outcome) met = met
@@ -275,11 +275,11 @@ module _ (v : View) where
   IsCopying P = (c : Copy) × ((v.working).flight ≡ Copying c) × P c
 
   -- a fault that a call tells is above the count at the opening
-  abbrev pub IsFault : Outcome → Type 0
-  IsFault Done = Unit {0}
-  IsFault (Failed faults counted) = Rose (v.opening).faults faults
+  abbrev pub IsCallFault : Outcome → Type 0
+  IsCallFault Done = Unit {0}
+  IsCallFault (Failed faults counted) = Rose (v.opening).faults faults
 
-  abbrev pub MayStep : Event → Type 0
+  abbrev pub MayStep : StepKind → Type 0
   MayStep load_position = Unit {0}
   MayStep take_write_turn = (v.writing).hold ≡ Idle
   MayStep slot_out = (v.writing).hold ≡ Turned
@@ -303,9 +303,9 @@ module _ (v : View) where
   MayStep (release lock) = Contains (v.working).locks lock
       × ((c : Copy) → (v.working).flight ≡ Copying c → Contains c.locks lock
       → c.copied ≡ words_owned (setup_of).segment_size c.entry)
-  MayStep (load_end buffer) = buffer < (setup_of).ring_pages
-  MayStep store_word = IsCopying (CopiesOn setup_of (v.mapping).confirmed)
-  MayStep (load_word k) = HasOut (IsToBeWritten k)
+  MayStep (load_buffer_end buffer) = buffer < (setup_of).ring_pages
+  MayStep store_ring_word = IsCopying (CopiesOn setup_of (v.mapping).confirmed)
+  MayStep (load_ring_word k) = HasOut (IsToBeWritten k)
   MayStep load_written = Unit {0}
   MayStep load_flushed = Unit {0}
   MayStep load_moment = Unit {0}
@@ -316,17 +316,17 @@ module _ (v : View) where
       HasOut (λ l. (l.hard ≡ (l.writer).written) × (l.stored ≡ (l.writer).written))
   MayStep set_down = HasOut (λ l. (faults : ℕ) × ((l.writer).fault ≡ some faults))
   MayStep take_mapping_turn = (v.mapping).stage ≡ Away
-  MayStep load_initialised = Unit {0}
+  MayStep load_initialised_end = Unit {0}
   MayStep clear_end = (at written : ℕ) × ((v.mapping).stage ≡ Ready at written)
       × (at + 8192 ≤ written + (setup_of).ring_pages * 8192)
-  MayStep zero_word = (at count : ℕ) × ((v.mapping).stage ≡ Zeroing at count) × (count < 1024)
+  MayStep zero_ring_word = (at count : ℕ) × ((v.mapping).stage ≡ Zeroing at count) × (count < 1024)
   MayStep publish_end = (at : ℕ) × ((v.mapping).stage ≡ Zeroing at 1024)
-  MayStep publish_initialised = (at : ℕ) × ((v.mapping).stage ≡ Published at)
+  MayStep publish_initialised_end = (at : ℕ) × ((v.mapping).stage ≡ Published at)
   MayStep release_mapping_turn = IsOpen (v.mapping).stage
-  MayStep (create segment outcome) = HasOut (IsNextCreate segment) × IsFault outcome
+  MayStep (create segment outcome) = HasOut (IsNextCreate segment) × IsCallFault outcome
   MayStep (write segment page upto bytes outcome) =
-      HasOut (IsNextWrite setup_of segment page upto bytes) × IsFault outcome
-  MayStep (sync segment outcome) = HasOut (IsNextSync segment) × IsFault outcome
+      HasOut (IsNextWrite setup_of segment page upto bytes) × IsCallFault outcome
+  MayStep (sync segment outcome) = HasOut (IsNextSync segment) × IsCallFault outcome
 
   -- ---- what it knows behind the step, and where the writer is
 
@@ -340,7 +340,7 @@ module _ (v : View) where
   with_call_on f Turned = v
   with_call_on f (Out l) = with_writer (f l.writer) v
 
-  abbrev pub view_behind : Event → ℕ → Option Plain → View
+  abbrev pub view_behind : StepKind → ℕ → Option Plain → View
   view_behind load_position met home = after_load_position met v
   view_behind take_write_turn met home = after_take_write_turn met v
   view_behind slot_out met home = with_slot home
@@ -355,9 +355,9 @@ module _ (v : View) where
   view_behind (take_lock lock) met home = after_take_lock lock met v
   view_behind (advance lock upto) met home = v
   view_behind (release lock) met home = after_release lock v
-  view_behind (load_end buffer) met home = with_confirmed met v
-  view_behind store_word met home = after_store_word v
-  view_behind (load_word k) met home = after_load_word k met v
+  view_behind (load_buffer_end buffer) met home = with_confirmed met v
+  view_behind store_ring_word met home = after_store_word v
+  view_behind (load_ring_word k) met home = after_load_word k met v
   view_behind load_written met home = after_load_written met v
   view_behind load_flushed met home = after_load_flushed met v
   view_behind load_moment met home = after_load_moment met v
@@ -370,12 +370,12 @@ module _ (v : View) where
   view_behind set_down met home =
       after_set_down (number_lent (λ l. fault_number (l.writer).fault) (v.writing).hold) v
   view_behind take_mapping_turn met home = after_take_mapping_turn met v
-  view_behind load_initialised met home = after_load_initialised met v
+  view_behind load_initialised_end met home = after_load_initialised met v
   view_behind clear_end met home = with_stage (Zeroing (page_mapped stage_of) 0) v
-  view_behind zero_word met home =
+  view_behind zero_ring_word met home =
       with_stage (Zeroing (page_mapped stage_of) (words_zeroed stage_of + 1)) v
   view_behind publish_end met home = with_stage (Published (page_mapped stage_of)) v
-  view_behind publish_initialised met home =
+  view_behind publish_initialised_end met home =
       with_stage Taken (with_confirmed (page_mapped stage_of + 8192) v)
   view_behind release_mapping_turn met home = with_stage Away v
   view_behind (create segment outcome) met home = with_call_on
@@ -392,7 +392,7 @@ module _ (v : View) where
   returned Turned home = home
   returned (Out l) home = some l.writer
 
-  abbrev pub home_behind : Event → Option Plain → Option Plain
+  abbrev pub home_behind : StepKind → Option Plain → Option Plain
   home_behind slot_out home = none
   home_behind slot_in home = returned (v.writing).hold home
   home_behind other home = home
@@ -410,7 +410,7 @@ abbrev pub IsLive : State → ℕ → View → Type 0
 IsLive s id v = HasAt s.views id v × ((v.reserving).live ≡ true)
 
 -- the pass with this view makes one step of this kind, and meets this number
-pub record Makes (id : ℕ) (e : Event) (met : ℕ) (s t : State) : Type 0 where
+pub record Makes (id : ℕ) (e : StepKind) (met : ℕ) (s t : State) : Type 0 where
   pub view : View
   pub live : IsLive s id view
   pub may : MayStep view e
@@ -426,7 +426,7 @@ pub record Splits (id : ℕ) (s t : State) : Type 0 where
   pub may : (view.reserving).spare < (view.reserving).spare_end
   pub words : t.words ≡ s.words
   pub home : t.home ≡ s.home
-  pub views : t.views ≡ set s.views id (left_of view) ++ right_of view ∷ []
+  pub views : t.views ≡ set s.views id (after_split view) ++ split_off view ∷ []
 
 -- a pass that is about nothing
 pub record IsResting (v : View) : Type 0 where
@@ -447,7 +447,7 @@ pub record Joins (id other : ℕ) (s t : State) : Type 0 where
   pub words : t.words ≡ s.words
   pub home : t.home ≡ s.home
   pub views : t.views
-      ≡ set (set s.views other (spent other_view)) id (both_of view other_view)
+      ≡ set (set s.views other (spent other_view)) id (after_join view other_view)
 
 -- a pass that met or set a down value, and is about nothing but a copy that it does not end
 pub record IsStranded (v : View) : Type 0 where
@@ -468,7 +468,7 @@ pub record GivesUp (id : ℕ) (s t : State) : Type 0 where
   pub views : t.views ≡ set s.views id (without_work view) ++ orphan_of view ∷ []
 
 pub data Step (s t : State) : Type 0 where
-  Moves : (id : ℕ) (e : Event) (met : ℕ) → Makes id e met s t → Step s t
+  Moves : (id : ℕ) (e : StepKind) (met : ℕ) → Makes id e met s t → Step s t
   SplitsOff : (id : ℕ) → Splits id s t → Step s t
   TakesIn : (id other : ℕ) → Joins id other s t → Step s t
   Abandons : (id : ℕ) → GivesUp id s t → Step s t

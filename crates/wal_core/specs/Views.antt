@@ -28,7 +28,7 @@ pub record Filled : Type 0 where
 
 -- what a pass was told of a flush: all below the address `upto` is durable from the moment on; and
 -- how many entries it had then
-pub record Promise : Type 0 where
+pub record FlushPromise : Type 0 where
   pub upto : ℕ
   pub moment : ℕ
   pub entries : ℕ
@@ -38,7 +38,7 @@ pub record Joined : Type 0 where
   pub number : ℕ
   pub entries : List Entry
   pub filled : List Filled
-  pub promises : List Promise
+  pub promises : List FlushPromise
 
 -- the pass's number, the numbers from `spare` up to `spare_end` that it may give to others, the
 -- entries that it reserved in order, where it found the log full, a reserved end that it has seen,
@@ -145,7 +145,7 @@ pub record Writing : Type 0 where
   pub flushed : ℕ
   pub down_met : ℕ
   pub down_set : ℕ
-  pub promises : List Promise
+  pub promises : List FlushPromise
   pub hold : Hold
 
 -- ---- the whole

@@ -6,8 +6,8 @@ use Rattle.wal_core.specs.Views.{HasAt, Copy, Copying, Working, Watching}
 
 -- an entry in flight of which any lock was visited, and of which a word lies below the end watched
 -- for, has all its words below the bound copied
-abbrev pub IsBehind : ℕ → Watching → Working → Type 0
-IsBehind size watch work = (c : Copy) (lock : ℕ) → work.flight ≡ Copying c → Contains c.locks lock
+abbrev pub IsCopiedToBound : ℕ → Watching → Working → Type 0
+IsCopiedToBound size watch work = (c : Copy) (lock : ℕ) → work.flight ≡ Copying c → Contains c.locks lock
     → lock < watch.visited → address_of_word size c.entry 0 < watch.end
     → watch.bound ≤ address_of_word size c.entry c.copied
 
@@ -17,4 +17,4 @@ pub record WatchHolds (size end : ℕ) (works : List Working) (watches : List Wa
     pub reserved : (id : ℕ) (x : Watching) → HasAt watches id x
         → (x.end ≤ end) × (x.bound ≤ x.end)
     pub behind : (id j : ℕ) (x : Watching) (w : Working) → HasAt watches id x → HasAt works j w
-        → IsBehind size x w
+        → IsCopiedToBound size x w

@@ -49,8 +49,8 @@ abbrev pub end_word : List ℕ → ℕ → ℕ
 end_word words buffer = slice_index words (17 + buffer)
 
 -- the words of the ring, 1024 for each buffer
-abbrev pub ring_word : Setup → List ℕ → ℕ → ℕ
-ring_word setup words k = slice_index words (17 + setup.ring_pages + k)
+abbrev pub word_of_ring : Setup → List ℕ → ℕ → ℕ
+word_of_ring setup words k = slice_index words (17 + setup.ring_pages + k)
 
 -- how many words there are
 abbrev pub word_count : Setup → ℕ

@@ -2,7 +2,7 @@
 
 ghost use Rattle.std.specs.Prelude.{◌≡◌, ◌≢◌, ◌⊎◌, ℕ, ◌+◌, ◌*◌, ◌<◌, ◌≤◌, List, [], ◌∷◌, ◌++◌, length, map, set, slice_index};
 ghost use Rattle.wal_core.specs.declared.setup.Setup.{Setup};
-ghost use Rattle.wal_core.specs.Words.{end_word, lock_word, ring_word, word_count};
+ghost use Rattle.wal_core.specs.Words.{end_word, lock_word, word_of_ring, word_count};
 ghost use Rattle.wal_core.specs.Views.{Flight, HasAt, View, reserving_of};
 ghost use Rattle.wal_core.specs.Moves.{with_working};
 
@@ -38,9 +38,9 @@ pub fn words_are_set_one_at_a_time()
         → end_word (set words (17 + setup.ring_pages + place) n) b ≡ end_word words b }
     ensures ring { (setup : Setup) (words : List ℕ) (place n : ℕ)
         → length words ≡ word_count setup → place < setup.ring_pages * 1024
-        → ring_word setup (set words (17 + setup.ring_pages + place) n) place ≡ n }
+        → word_of_ring setup (set words (17 + setup.ring_pages + place) n) place ≡ n }
     ensures ring_before { (setup : Setup) (words : List ℕ) (i n : ℕ) → i < 17 + setup.ring_pages
-        → ring_word setup (set words i n) ≡ ring_word setup words }
+        → word_of_ring setup (set words i n) ≡ word_of_ring setup words }
     ensures wide { (setup : Setup) (words : List ℕ) (i n : ℕ) → length words ≡ word_count setup
         → length (set words i n) ≡ word_count setup }
 {}

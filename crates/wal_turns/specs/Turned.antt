@@ -12,13 +12,13 @@ use Rattle.wal_core.specs.declared.setup.Setup.{Setup}
 use Rattle.wal_core.specs.Words.{position_word, lock_word, mapping_turn, write_turn, down_word, log_limit, end_form}
 use Rattle.wal_core.specs.Views.{Place, Free, Locked, Loaded, Stored, Copy, Flight, Landed, Copying, Stage, Away, Taken, Looked, Ready, Zeroing, Published, Plain, Lent, Hold, Idle, Turned as HasTurned, Out, View}
 use Rattle.wal_core.specs.Moves.{Outcome, Done as CallDone, Failed}
-use Rattle.wal_core.specs.Steps.{Event, State, load_position, take_write_turn, slot_out, slot_in, release_write_turn, lock_position, load_prev, store_prev, store_position, give_position_back, load_lock, take_lock, advance, release, load_end, store_word, load_word, load_written, load_flushed, load_moment, load_down, store_written, store_moment, store_flushed, set_down, take_mapping_turn, load_initialised, clear_end, zero_word, publish_end, publish_initialised, release_mapping_turn, create, write, sync, word_of_step, value_behind, view_behind, home_behind}
+use Rattle.wal_core.specs.Steps.{StepKind, State, load_position, take_write_turn, slot_out, slot_in, release_write_turn, lock_position, load_prev, store_prev, store_position, give_position_back, load_lock, take_lock, advance, release, load_buffer_end, store_ring_word, load_ring_word, load_written, load_flushed, load_moment, load_down, store_written, store_moment, store_flushed, set_down, take_mapping_turn, load_initialised_end, clear_end, zero_ring_word, publish_end, publish_initialised_end, release_mapping_turn, create, write, sync, word_of_step, value_behind, view_behind, home_behind}
 use Rattle.wal_turns.specs.Doing.{Ask, Inserts, Commits, Flushes, Purpose, ForLine, ForPage, Doing, Begins, Tries, Reserves, Looks, Copies, Maps, GivesTurn, Tells, Releases, FlushBegins, LoadsPosition, LoadsFlushed, LoadsMoment, Visits, TakesTurn, LoadsDown, TakesOut, LoadsPage, Creates, Writes, SyncsFull, SyncsLast, StoresWritten, StoresMoment, StoresFlushed, SetsDown, PutsBack, GivesWriteTurn, Backend, Machine}
 
 -- what a turn tells: the step that was made; the word that holds it up, with its value; that all
 -- lines are answered; that the disk has failed
 pub data Turn : Type 0 where
-  Moved : Event → Turn
+  Moved : StepKind → Turn
   Waits : (on value : ℕ) → Turn
   AllDone : Turn
   IsDown : (faults : ℕ) → Turn
@@ -122,7 +122,7 @@ module _ (v : View) where
   fits (Inserts value) at = nat_le (at + room_at size at value) (log_limit setup)
   fits (Commits value) at = nat_le (at + room_at size at value) (log_limit setup)
 
-  abbrev pub reserve_event : List ℕ → Ask → ℕ → Place → Event
+  abbrev pub reserve_event : List ℕ → Ask → ℕ → Place → StepKind
   reserve_event words ask lock Free = lock_position (position_word words)
   reserve_event words Flushes lock (Locked at) = load_prev
   reserve_event words (Inserts value) lock (Locked at) =
@@ -134,13 +134,13 @@ module _ (v : View) where
   reserve_event words (Commits value) lock (Stored at prev) = store_position (lock ∷ []) value
   reserve_event words Flushes lock (Stored at prev) = load_down
 
-  abbrev pub map_event : Stage → Event
+  abbrev pub map_event : Stage → StepKind
   map_event Away = take_mapping_turn
-  map_event Taken = load_initialised
+  map_event Taken = load_initialised_end
   map_event (Looked at) = load_written
   map_event (Ready at written) = clear_end
-  map_event (Zeroing at count) = if nat_lt count 1024 then zero_word else publish_end
-  map_event (Published at) = publish_initialised
+  map_event (Zeroing at count) = if nat_lt count 1024 then zero_ring_word else publish_end
+  map_event (Published at) = publish_initialised_end
 
   -- the lock that it tries when so many were found taken: the first is its number's
   abbrev pub lock_tried : ℕ → ℕ
@@ -148,13 +148,13 @@ module _ (v : View) where
 
 -- how a call of the device ends: it fails where its number, counted from 1, is listed; a create that
 -- fails makes nothing
-abbrev pub outcome_of : List ℕ → ℕ → ℕ → Outcome
-outcome_of failing faults moment =
+abbrev pub call_outcome : List ℕ → ℕ → ℕ → Outcome
+call_outcome failing faults moment =
     if is_listed failing (moment + 1) then Failed (faults + 1) (some false) else CallDone
 
-abbrev pub is_done : Outcome → Bool
-is_done CallDone = true
-is_done (Failed faults counted) = false
+abbrev pub is_call_done : Outcome → Bool
+is_call_done CallDone = true
+is_call_done (Failed faults counted) = false
 
 -- ---- the step that the order names
 
@@ -163,16 +163,16 @@ module _ (m : Machine) (v : View) (ask : Ask) where
   words = (m.state).words
 
   abbrev pub outcome : Outcome
-  outcome = outcome_of m.failing (m.opening).faults (of_lent v (λ l. (l.writer).moment))
+  outcome = call_outcome m.failing (m.opening).faults (of_lent v (λ l. (l.writer).moment))
 
-  abbrev pub event_named : Doing → Event
+  abbrev pub event_named : Doing → StepKind
   event_named Begins = load_down
   event_named (Tries n) =
       if lock_word words (lock_tried v n) == 0 then take_lock (lock_tried v n)
       else load_lock (lock_tried v n) 0
   event_named (Reserves lock) = reserve_event v words ask lock (v.reserving).place
-  event_named (Looks lock) = load_end (next_address v / 8192 % (setup v).ring_pages)
-  event_named (Copies lock) = store_word
+  event_named (Looks lock) = load_buffer_end (next_address v / 8192 % (setup v).ring_pages)
+  event_named (Copies lock) = store_ring_word
   event_named (Maps lock) = map_event v (v.mapping).stage
   event_named (GivesTurn lock end) = release_mapping_turn
   event_named (Tells lock end) = advance lock (next_address v)
@@ -185,7 +185,7 @@ module _ (m : Machine) (v : View) (ask : Ask) where
   event_named (TakesTurn purpose) = take_write_turn
   event_named (LoadsDown purpose) = load_down
   event_named (TakesOut purpose) = slot_out
-  event_named (LoadsPage purpose k) = load_word (page_under_way v * 1024 + k)
+  event_named (LoadsPage purpose k) = load_ring_word (page_under_way v * 1024 + k)
   event_named (Creates purpose) = create (of_lent v (λ l. (l.writer).made) + 1) outcome
   event_named (Writes purpose) = write (segment_under_way v)
       (page_under_way v % pages_of (size v)) (written_upto v) (page_staged v) outcome
@@ -338,17 +338,17 @@ module _ (v w : View) (ask : Ask) (met : ℕ) (done : Bool) where
 -- ---- a turn
 
 -- where a line begins
-abbrev pub start_of : Option Ask → Doing
-start_of None = Begins
-start_of (Some (Inserts value)) = Begins
-start_of (Some (Commits value)) = Begins
-start_of (Some Flushes) = FlushBegins
+abbrev pub line_start : Option Ask → Doing
+line_start None = Begins
+line_start (Some (Inserts value)) = Begins
+line_start (Some (Commits value)) = Begins
+line_start (Some Flushes) = FlushBegins
 
 -- a backend whose line is answered
 abbrev pub with_answer : Backend → Backend
 with_answer b = record b {
   answered = b.answered + 1;
-  doing = start_of (slice_get b.asks (b.answered + 1));
+  doing = line_start (slice_get b.asks (b.answered + 1));
 }
 
 abbrev pub with_next : Next → Backend → Backend
@@ -360,8 +360,8 @@ tells_full (goes_on doing) = false
 tells_full (answers full) = full
 
 -- the state behind a step by the view with this number
-abbrev pub state_behind : ℕ → View → Event → State → State
-state_behind id v e s =
+abbrev pub state_stepped : ℕ → View → StepKind → State → State
+state_stepped id v e s =
     let met = slice_index s.words (word_of_step v e) in
     record {
       words = set s.words (word_of_step v e) (value_behind v e met);
@@ -371,26 +371,31 @@ state_behind id v e s =
 
 module _ (m : Machine) (number : ℕ) (b : Backend) (v : View) (ask : Ask) where
   -- the step is made, and what comes behind it
-  abbrev pub with_step : Event → (Machine → Backend → Machine) → Machine
-  with_step e f = f (record m { state = state_behind (number + 1) v e m.state }) b
+  abbrev pub with_step : StepKind → (Machine → Backend → Machine) → Machine
+  with_step e f = f (record m { state = state_stepped (number + 1) v e m.state }) b
 
-  abbrev pub moved_on : Event → Turn × Machine
+  abbrev pub moved_on : StepKind → Turn × Machine
   moved_on e =
       let met = slice_index (m.state).words (word_of_step v e) in
       let next = next_of v (view_behind v e met (m.state).home) ask met
-          (is_done (outcome m v ask)) b.doing in
-      (Moved e, record m {
-        state = state_behind (number + 1) v e m.state;
-        backends = set m.backends number (with_next next b);
-        full = m.full || tells_full next;
-      })
+      (is_call_done (outcome m v ask)) b.doing in (
+        Moved e,
+        record m {
+          state = state_stepped (number + 1) v e m.state;
+          backends = set m.backends number (with_next next b);
+          full = m.full || tells_full next;
+        },
+      )
 
   -- the down word says that the disk has failed: the line is answered by it
   abbrev pub fallen : Turn × Machine
-  fallen = (IsDown (down_word (m.state).words), record m {
-    state = state_behind (number + 1) v load_down m.state;
-    backends = set m.backends number (with_answer b);
-  })
+  fallen = (
+    IsDown (down_word (m.state).words),
+    record m {
+      state = state_stepped (number + 1) v load_down m.state;
+      backends = set m.backends number (with_answer b);
+    },
+  )
 
   abbrev pub turned_by : Turn × Machine
   turned_by =
@@ -398,8 +403,11 @@ module _ (m : Machine) (number : ℕ) (b : Backend) (v : View) (ask : Ask) where
       let can = can_step m v ask b.doing in
       if not (down == 0) && (looks_down m v ask b.doing || not can) then fallen
       else (if can then moved_on (event_named m v ask b.doing)
-      else (Waits (word_waited m v ask b.doing)
-          (slice_index (m.state).words (word_waited m v ask b.doing)), m))
+      else (
+        Waits (word_waited m v ask b.doing)
+            (slice_index (m.state).words (word_waited m v ask b.doing)),
+        m,
+      ))
 
 module _ (m : Machine) (number : ℕ) where
   abbrev pub turned_for : Backend → View → Option Ask → Turn × Machine

@@ -25,7 +25,7 @@ pub returns-clause-load_down : goal.returns-clause-load_down
 returns-clause-load_down c = λ o order flushed moment down home writer parts id v h here.
     load_down_keeps o order flushed moment down home writer parts h id v here
 
-pub returns-clause-load_word : goal.returns-clause-load_word
-returns-clause-load_word c = λ o order flushed moment down home writer parts id k met v h here
+pub returns-clause-load_ring_word : goal.returns-clause-load_ring_word
+returns-clause-load_ring_word c = λ o order flushed moment down home writer parts id k met v h here
     staged.
     load_word_keeps o order flushed moment down home writer parts h id v here k met staged

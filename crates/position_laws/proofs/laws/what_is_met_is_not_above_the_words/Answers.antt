@@ -7,8 +7,8 @@ returns-clause-take_write_turn c = take_write_turn_keeps
 pub returns-clause-release_write_turn : goal.returns-clause-release_write_turn
 returns-clause-release_write_turn c = release_write_turn_keeps
 
-pub returns-clause-load_word : goal.returns-clause-load_word
-returns-clause-load_word c = load_word_keeps
+pub returns-clause-load_ring_word : goal.returns-clause-load_ring_word
+returns-clause-load_ring_word c = load_word_keeps
 
 pub returns-clause-load_written : goal.returns-clause-load_written
 returns-clause-load_written c = load_written_keeps
