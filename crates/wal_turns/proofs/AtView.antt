@@ -12,7 +12,7 @@ use Rattle.wal_core.specs.Words.{Opening, down_word, lock_word, write_turn}
 use Rattle.wal_core.specs.Views.{HasAt, Place, Free, Locked, Loaded, Stored, Stage, Away, Taken, Looked, Ready, Zeroing, Published, Plain, Lent, Hold, Idle, Turned as HasTurned, Out, View, reserving_of, writer_of, told_of}
 use Rattle.wal_core.specs.Ordered.{AtPlace}
 use Rattle.wal_core.specs.Locked.{StandsTo}
-use Rattle.wal_core.specs.Steps.{Event, load_prev, give_position_back, take_lock, load_lock, zero_word, publish_end, slot_in, IsLive, returned, home_behind}
+use Rattle.wal_core.specs.Steps.{StepKind, load_prev, give_position_back, take_lock, load_lock, zero_ring_word, publish_end, slot_in, IsLive, returned, home_behind}
 use Rattle.wal_core.specs.Sound.{IsSound}
 use Rattle.wal_core.proofs.Lists.{part_at}
 use Rattle.wal_turns.specs.Doing.{Ask, Inserts, Commits, Flushes, Purpose, ForLine, ForPage, Doing, Begins, Tries, Reserves, Looks, Copies, Maps, GivesTurn, Tells, Releases, FlushBegins, LoadsPosition, LoadsFlushed, LoadsMoment, Visits, TakesTurn, LoadsDown, TakesOut, LoadsPage, Creates, Writes, SyncsFull, SyncsLast, StoresWritten, StoresMoment, StoresFlushed, SetsDown, PutsBack, GivesWriteTurn, Backend, Machine}
@@ -181,11 +181,11 @@ module _ (m : Machine) (run : IsRunning m) (number : ℕ) (v : View)
 
   -- ---- the writer's home
 
-  abbrev pub HomeBy : Event → Type 0
+  abbrev pub HomeBy : StepKind → Type 0
   HomeBy e = (w : Plain) → home_behind v e home ≡ some w → w.fault ≡ none
       → AwaitsOne ((m.opening).setup).segment_size w
 
-  either_home : (t : Bool) (e f : Event) → HomeBy e → HomeBy f → HomeBy (cond t e f)
+  either_home : (t : Bool) (e f : StepKind) → HomeBy e → HomeBy f → HomeBy (cond t e f)
   either_home true e f p q = p
   either_home false e f p q = q
 
@@ -207,7 +207,7 @@ module _ (m : Machine) (run : IsRunning m) (number : ℕ) (v : View)
   home_mapping (Looked at) = run.at_home
   home_mapping (Ready at written) = run.at_home
   home_mapping (Zeroing at count) =
-      either_home (ltb count 1024) zero_word publish_end run.at_home run.at_home
+      either_home (ltb count 1024) zero_ring_word publish_end run.at_home run.at_home
   home_mapping (Published at) = run.at_home
 
   home_put : (l : Lent) → (v.writing).hold ≡ Out l

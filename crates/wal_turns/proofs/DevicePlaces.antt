@@ -10,9 +10,9 @@ use Rattle.segment_disk.specs.Failing.{is_listed}
 use Rattle.segment_disk.specs.Tape.{create_call, sync_call, write_call}
 use Rattle.wal_core.specs.Views.{Plain, Lent, Hold, Out, View}
 use Rattle.wal_core.specs.Moves.{Outcome, Done, Failed, with_hold, after_create, after_write, after_sync}
-use Rattle.wal_core.specs.Steps.{Event, MayStep, IsNextWrite, create, write, sync, word_of_step, view_behind}
+use Rattle.wal_core.specs.Steps.{StepKind, MayStep, IsNextWrite, create, write, sync, word_of_step, view_behind}
 use Rattle.wal_turns.specs.Doing.{Ask, Purpose, ForLine, ForPage, Doing, Creates, Writes, SyncsFull, SyncsLast, StoresWritten, SetsDown, Machine}
-use Rattle.wal_turns.specs.Turned.{outcome, is_done, behind_call, page_or_end, segment_or, page_staged}
+use Rattle.wal_turns.specs.Turned.{outcome, is_call_done, behind_call, page_or_end, segment_or, page_staged}
 use Rattle.wal_turns.specs.Standing.{IsUp, AwaitsOne, AwaitsSync, IsFailed, LoadsOn, WritesFor, segment_next, StandsAt}
 use Rattle.wal_turns.proofs.Poses.{Goes, StandsNext, bool_cases}
 use Rattle.wal_turns.proofs.FlushPlaces.{hold_of, in_hand, of_hold, page_or_end_stands, writes_on, writes_still}
@@ -37,12 +37,12 @@ module _ (m : Machine) (ask : Ask) where
     size = ((v.opening).setup).segment_size
 
     -- behind the call, as it ended
-    abbrev GoesBy : (Outcome → Event) → Doing → Outcome → Type 0
+    abbrev GoesBy : (Outcome → StepKind) → Doing → Outcome → Type 0
     GoesBy event next o =
         let e = event o in
         let met = slice_index (m.state).words (word_of_step here e) in
         let w = view_behind here e met (m.state).home in
-        MayStep here e × StandsNext (behind_call here w ask met (is_done o) purpose next) ask w
+        MayStep here e × StandsNext (behind_call here w ask met (is_call_done o) purpose next) ask w
 
     still : (d : Lent) → WritesFor (in_hand m ask d v) purpose ask (Out d)
     still d = writes_still m ask purpose l v base d
@@ -117,15 +117,15 @@ module _ (m : Machine) (ask : Ask) where
         let behind : Outcome → Lent = λ (o : Outcome).
         record l { writer = after_write segment upto call o l.writer } in
         let may = next_write valid on made in
-        let event : Outcome → Event = λ (o : Outcome).
+        let event : Outcome → StepKind = λ (o : Outcome).
         write segment (page % pages_of size) upto (page_staged here) o in
         let met = slice_index (m.state).words 11 in
         by_outcome (λ (o : Outcome).
         let e = event o in
         let w = view_behind here e met (m.state).home in
-        MayStep here e × StandsNext (behind_call here w ask met (is_done o) purpose
+        MayStep here e × StandsNext (behind_call here w ask met (is_call_done o) purpose
         (cond (eqb (Rattle.wal_turns.specs.Turned.of_lent w (λ k. (k.writer).written) % size) 0)
-        (SyncsFull purpose) (page_or_end here w ask met (is_done o) purpose))) ask w) here
+        (SyncsFull purpose) (page_or_end here w ask met (is_call_done o) purpose))) ask w) here
         (((l, refl, may), inl rose), failed_by (behind fails) refl)
         (((l, refl, may), tt), bool_cases
         (λ (b : Bool). StandsAt (in_hand m ask (behind Done) v) (cond b (SyncsFull purpose)
@@ -155,8 +155,8 @@ module _ (m : Machine) (ask : Ask) where
         let met = slice_index (m.state).words 11 in
         by_outcome (λ (o : Outcome).
         let w = view_behind here (sync segment o) met (m.state).home in
-        MayStep here (sync segment o) × StandsNext (behind_call here w ask met (is_done o) purpose
-        (page_or_end here w ask met (is_done o) purpose)) ask w) here
+        MayStep here (sync segment o) × StandsNext (behind_call here w ask met (is_call_done o) purpose
+        (page_or_end here w ask met (is_call_done o) purpose)) ask w) here
         (((l, refl, record { up = waits.0; waits = may }), inl rose), failed_by (behind fails) refl)
         (((l, refl, record { up = waits.0; waits = may }), tt),
         page_or_end_stands m ask purpose (behind Done) here v met true

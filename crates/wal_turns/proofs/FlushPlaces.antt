@@ -158,10 +158,10 @@ module _ (m : Machine) (ask : Ask) where
       (λ (home : Option Plain). let w = view_behind v Rattle.wal_core.specs.Steps.slot_out
       (slice_index words 11) home in
       StandsAt w (page_or_end v w ask (slice_index words 11)
-      (Rattle.wal_turns.specs.Turned.is_done (Rattle.wal_turns.specs.Turned.outcome m v ask)) purpose)
+      (Rattle.wal_turns.specs.Turned.is_call_done (Rattle.wal_turns.specs.Turned.outcome m v ask)) purpose)
       ask) (sym at_home)
       (page_or_end_stands purpose l v v (slice_index words 11)
-      (Rattle.wal_turns.specs.Turned.is_done (Rattle.wal_turns.specs.Turned.outcome m v ask)) up
+      (Rattle.wal_turns.specs.Turned.is_call_done (Rattle.wal_turns.specs.Turned.outcome m v ask)) up
       (writes_on purpose ask HasTurned (Out l) v (in_hand l v) stands (refl, refl, refl, refl) refl)))
 
   module _ (purpose : Purpose) (l : Lent) (v : View)
@@ -178,7 +178,7 @@ module _ (m : Machine) (ask : Ask) where
         let page = (l.writer).written / 8192 in
         let number = page * 1024 + k in
         let left = on.left in
-        let e = Rattle.wal_core.specs.Steps.load_word number in
+        let e = Rattle.wal_core.specs.Steps.load_ring_word number in
         let met = slice_index words (word_of_step (in_hand l v) e) in
         let d : Lent = record l { staged = (number, met) ∷ l.staged } in
         let loaded : AreLoaded page (suc k) d.staged = (refl, on.loaded) in

@@ -5,7 +5,7 @@ use Rattle.std.proofs.lemmas.Bool.{leb-true, leb-false, eqb-false}
 use Rattle.byte_position.specs.Geometry.{IsSegmentSize}
 use Rattle.wal_core.specs.Words.{position_word, down_word, lock_word, log_limit}
 use Rattle.wal_core.specs.Views.{Place, Free, Locked, Loaded, Stored, Copy, Flight, Landed, Copying, Stage, Away, Taken, Looked, Ready, Zeroing, Published, Hold, Idle, View}
-use Rattle.wal_core.specs.Steps.{MayStep, IsResting, Event, load_prev, store_prev, store_position, give_position_back, load_end, store_word, take_mapping_turn, zero_word, publish_end, release, lock_position, take_lock, load_lock, word_of_step, view_behind}
+use Rattle.wal_core.specs.Steps.{MayStep, IsResting, StepKind, load_prev, store_prev, store_position, give_position_back, load_buffer_end, store_ring_word, take_mapping_turn, zero_ring_word, publish_end, release, lock_position, take_lock, load_lock, word_of_step, view_behind}
 use Rattle.wal_page.specs.EntryWords.{address_of_word, words_owned}
 use Rattle.wal_page.specs.Order.{position_behind, room_at}
 use Rattle.wal_page.specs.Order.{Entry}
@@ -13,9 +13,9 @@ use Rattle.byte_position.proofs.EndAddresses.{end_address_of-mono_lt}
 use Rattle.byte_position.proofs.Words.{end_address_of-mod_word}
 use Rattle.wal_types.specs.declared.record.Record.{Record}
 use Rattle.record_spelling.specs.Spelling.{IsWritable}
-use Rattle.wal_core.specs.Moves.{entry_at}
+use Rattle.wal_core.specs.Moves.{entry_reserved}
 use Rattle.wal_turns.specs.Doing.{Ask, Inserts, Commits, Flushes, Doing, Begins, Tries, Reserves, Looks, Copies, Maps, GivesTurn, Tells, Releases, FlushBegins, Machine}
-use Rattle.wal_turns.specs.Turned.{can_step, event_named, fits, lock_tried, next_of, goes_on, answers, is_done, outcome}
+use Rattle.wal_turns.specs.Turned.{can_step, event_named, fits, lock_tried, next_of, goes_on, answers, is_call_done, outcome}
 use Rattle.wal_turns.specs.Standing.{IsPosed, IsRecord, IsUnder, IsLeft, IsMet, IsWhole, MapsOn, IsReserving, KnowsDown, MayBegin, StandsAt}
 use Rattle.wal_turns.proofs.Poses.{Goes, StandsNext, bool_cases, of_posed, posed}
 
@@ -76,7 +76,7 @@ module _ (m : Machine) (ask : Ask) where
           (load_lock lock 0) in
       let w = view_behind rest e (slice_index words (word_of_step rest e)) (m.state).home in
       MayStep rest e × StandsNext (next_of rest w ask (slice_index words (word_of_step rest e))
-      (is_done (outcome m rest ask)) (Tries n)) ask w)
+      (is_call_done (outcome m rest ask)) (Tries n)) ask w)
       (eqb met 0)
       (λ free. (low, subst (λ (c : Bool). StandsNext
       (cond c (goes_on (Reserves lock))
@@ -176,7 +176,7 @@ module _ (m : Machine) (ask : Ask) where
         × IsUnder lock c × IsLeft ((v.opening).setup).segment_size c)
     reserves_now value writable within =
         let size = ((v.opening).setup).segment_size in
-        let e : Entry = entry_at (v.reserving).number at value in
+        let e : Entry = entry_reserved (v.reserving).number at value in
         let c : Copy = record { entry = e; prev = prev; locks = lock ∷ []; copied = 0 } in
         let rises = end_address_of-mono_lt size valid at (position_behind size e) (omega arith) in
         let first = end_address_of-mod_word size valid at whole in
@@ -244,7 +244,7 @@ module _ (m : Machine) (ask : Ask) where
   looks_at lock c v some_page under left insert =
       let u = at_copy lock c Away v in
       let address = address_of_word ((v.opening).setup).segment_size c.entry c.copied in
-      let e = load_end (address / 8192 % ((v.opening).setup).ring_pages) in
+      let e = load_buffer_end (address / 8192 % ((v.opening).setup).ring_pages) in
       let met = slice_index words (word_of_step u e) in
       let w = view_behind u e met (m.state).home in
       let pose : IsPosed Free (lock ∷ []) (Copying c) Away Idle w = record {

@@ -3,7 +3,7 @@ use Rattle.std.proofs.Common.{◌≡◌, ℕ, ◌+◌, Bool, true, false, cond, 
 use mathlib.Core.Option.{Option, none, some}
 use Rattle.wal_core.specs.Views.{Place, Free, Locked, Loaded, Stored, Plain, Hold, Idle, Turned, Out, Taken, View}
 use Rattle.wal_core.specs.Moves.{with_hold, with_place, with_stage, with_working, after_load_prev, after_store_prev, after_store_position, after_give_back}
-use Rattle.wal_core.specs.Steps.{Event, view_behind, with_slot, with_call_on, load_position, take_write_turn, slot_out, slot_in, release_write_turn, lock_position, load_prev, store_prev, store_position, give_position_back, load_lock, take_lock, advance, release, load_end, store_word, load_word, load_written, load_flushed, load_moment, load_down, store_written, store_moment, store_flushed, set_down, take_mapping_turn, load_initialised, clear_end, zero_word, publish_end, publish_initialised, release_mapping_turn, create, write, sync}
+use Rattle.wal_core.specs.Steps.{StepKind, view_behind, with_slot, with_call_on, load_position, take_write_turn, slot_out, slot_in, release_write_turn, lock_position, load_prev, store_prev, store_position, give_position_back, load_lock, take_lock, advance, release, load_buffer_end, store_ring_word, load_ring_word, load_written, load_flushed, load_moment, load_down, store_written, store_moment, store_flushed, set_down, take_mapping_turn, load_initialised_end, clear_end, zero_ring_word, publish_end, publish_initialised_end, release_mapping_turn, create, write, sync}
 
 abbrev is_live : View → Bool
 is_live v = (v.reserving).live
@@ -47,7 +47,7 @@ given_back v (Loaded at prev) = refl
 given_back v (Stored at prev) = refl
 
 module _ (v : View) (met : ℕ) (home : Option Plain) where
-  pub live_stays : (e : Event) → is_live (view_behind v e met home) ≡ is_live v
+  pub live_stays : (e : StepKind) → is_live (view_behind v e met home) ≡ is_live v
   live_stays load_position = refl
   live_stays take_write_turn = either_live (eqb met 0) (with_hold Turned v) v refl
   live_stays slot_out = slot_live v home
@@ -71,9 +71,9 @@ module _ (v : View) (met : ℕ) (home : Option Plain) where
   live_stays (take_lock lock) = either_live (eqb met 0) _ v refl
   live_stays (advance lock upto) = refl
   live_stays (release lock) = refl
-  live_stays (load_end buffer) = refl
-  live_stays store_word = refl
-  live_stays (load_word number) = refl
+  live_stays (load_buffer_end buffer) = refl
+  live_stays store_ring_word = refl
+  live_stays (load_ring_word number) = refl
   live_stays load_written = refl
   live_stays load_flushed = refl
   live_stays load_moment = refl
@@ -83,11 +83,11 @@ module _ (v : View) (met : ℕ) (home : Option Plain) where
   live_stays store_flushed = refl
   live_stays set_down = refl
   live_stays take_mapping_turn = either_live (eqb met 0) (with_stage Taken v) v refl
-  live_stays load_initialised = refl
+  live_stays load_initialised_end = refl
   live_stays clear_end = refl
-  live_stays zero_word = refl
+  live_stays zero_ring_word = refl
   live_stays publish_end = refl
-  live_stays publish_initialised = refl
+  live_stays publish_initialised_end = refl
   live_stays release_mapping_turn = refl
   live_stays (create segment outcome) = call_live v _ (v.writing).hold
   live_stays (write segment page upto bytes outcome) = call_live v _ (v.writing).hold

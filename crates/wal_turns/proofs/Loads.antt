@@ -6,7 +6,7 @@ use Rattle.std.proofs.lemmas.List.{length-append, take-append-le, drop-append-le
 use Rattle.std.proofs.Math.Seq.{drop-append_seam, take-length}
 use Rattle.segment_disk.specs.DiskImage.{word_of}
 use Rattle.wal_core.specs.Views.{View}
-use Rattle.wal_core.specs.Steps.{IsLoaded}
+use Rattle.wal_core.specs.Steps.{IsPageLoaded}
 use Rattle.wal_turns.specs.Turned.{bytes_staged}
 use Rattle.wal_turns.specs.Standing.{AreLoaded}
 

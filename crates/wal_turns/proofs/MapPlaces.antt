@@ -9,7 +9,7 @@ use Rattle.wal_core.specs.Words.{mapping_turn}
 use Rattle.wal_core.specs.Views.{Place, Free, Copy, Flight, Landed, Copying, Stage, Away, Taken, Looked, Ready, Zeroing, Published, Hold, Idle, View, is_among}
 use Rattle.wal_core.specs.Moves.{landed, standing, without_lock}
 use Rattle.wal_core.specs.Paged.{IsOpen}
-use Rattle.wal_core.specs.Steps.{MayStep, IsResting, Event, load_written, take_mapping_turn, zero_word, publish_end, release, word_of_step, view_behind}
+use Rattle.wal_core.specs.Steps.{MayStep, IsResting, StepKind, load_written, take_mapping_turn, zero_ring_word, publish_end, release, word_of_step, view_behind}
 use Rattle.wal_turns.specs.Doing.{Ask, Inserts, Commits, Flushes, Doing, Looks, Maps, GivesTurn, Tells, Releases, Machine}
 use Rattle.wal_turns.specs.Turned.{can_step, own_end, next_of, goes_on, answers, behind_insert}
 use Rattle.wal_turns.specs.Standing.{IsPosed, IsRecord, IsUnder, IsLeft, IsWhole, MapsOn, StandsAt, StandsToRelease}
@@ -71,7 +71,7 @@ module _ (m : Machine) (ask : Ask) where
         let u = at_map lock c (Zeroing at count) v in
         bool_cases
         (λ (b : Bool).
-        let e = cond b zero_word publish_end in
+        let e = cond b zero_ring_word publish_end in
         MayStep u e × StandsAt (view_behind u e (slice_index words (word_of_step u e)) (m.state).home)
         (Maps lock) ask)
         (ltb count 1024)

@@ -6,7 +6,7 @@ use Rattle.std.specs.Prelude.{Some, None}
 use Rattle.wal_types.specs.declared.record.Record.{Record}
 use Rattle.wal_core.specs.Views.{Place, Free, Locked, Loaded, Stored, Stage, Away, Taken, Looked, Ready, Zeroing, Published, View}
 use Rattle.wal_turns.specs.Doing.{Ask, Inserts, Commits, Flushes, Purpose, ForLine, ForPage, Doing, Begins, Tries, Reserves, Looks, Copies, Maps, GivesTurn, Tells, Releases, FlushBegins, LoadsPosition, LoadsFlushed, LoadsMoment, Visits, TakesTurn, LoadsDown, TakesOut, LoadsPage, Creates, Writes, SyncsFull, SyncsLast, StoresWritten, StoresMoment, StoresFlushed, SetsDown, PutsBack, GivesWriteTurn}
-use Rattle.wal_turns.specs.Turned.{Next, goes_on, answers, next_of, page_or_end, behind_reserving, behind_mapping, behind_written, behind_insert, behind_writing, behind_call, start_of, has_page_left, is_some_segment, waiting_segment, fits, own_end, lock_tried, is_whole, next_address, asked_end, is_segment_new, of_lent}
+use Rattle.wal_turns.specs.Turned.{Next, goes_on, answers, next_of, page_or_end, behind_reserving, behind_mapping, behind_written, behind_insert, behind_writing, behind_call, line_start, has_page_left, is_some_segment, waiting_segment, fits, own_end, lock_tried, is_whole, next_address, asked_end, is_segment_new, of_lent}
 use Rattle.wal_turns.specs.Standing.{UpFor}
 
 abbrev pub UpNext : Next → ℕ → Type 0
@@ -30,7 +30,7 @@ either_place false x y d p q = q
 at_place : (x : Doing) (d : ℕ) → IsUpAt d x → GoesUp d (goes_on x)
 at_place x d p = record { up = p.up }
 
-pub up_start : (x : Rattle.std.specs.Prelude.Option Ask) (d : ℕ) → UpFor (start_of x) d
+pub up_start : (x : Rattle.std.specs.Prelude.Option Ask) (d : ℕ) → UpFor (line_start x) d
 up_start None d = tt
 up_start (Some (Inserts value)) d = tt
 up_start (Some (Commits value)) d = tt

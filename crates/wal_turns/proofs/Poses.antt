@@ -3,7 +3,7 @@ use Rattle.std.proofs.Common.{◌≡◌, ◌≢◌, ◌⊎◌, ℕ, Bool, true, 
 use Rattle.wal_core.specs.Views.{Place, Flight, Stage, Hold, View}
 use Rattle.wal_core.specs.Steps.{MayStep, IsResting, word_of_step, view_behind}
 use Rattle.wal_turns.specs.Doing.{Ask, Doing, Machine}
-use Rattle.wal_turns.specs.Turned.{Next, goes_on, answers, event_named, next_of, outcome, is_done}
+use Rattle.wal_turns.specs.Turned.{Next, goes_on, answers, event_named, next_of, outcome, is_call_done}
 use Rattle.wal_turns.specs.Standing.{IsPosed, MayBegin, StandsAt}
 
 pub bool_cases : (P : Bool → Type 0) (b : Bool) → (b ≡ true → P true) → (b ≡ false → P false)
@@ -42,4 +42,4 @@ module _ (m : Machine) (ask : Ask) where
       let e = event_named m v ask doing in
       let met = slice_index (m.state).words (word_of_step v e) in
       let w = view_behind v e met (m.state).home in
-      MayStep v e × StandsNext (next_of v w ask met (is_done (outcome m v ask)) doing) ask w
+      MayStep v e × StandsNext (next_of v w ask met (is_call_done (outcome m v ask)) doing) ask w

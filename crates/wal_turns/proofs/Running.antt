@@ -6,12 +6,12 @@ use mathlib.Core.Option.{none, some}
 use lib.ListN.{get_elem?}
 use Rattle.wal_core.specs.Words.{down_word}
 use Rattle.wal_core.specs.Views.{HasAt, Plain, Lent, Hold, Out, Turned as HasTurned, View, working_of}
-use Rattle.wal_core.specs.Steps.{Event, MayStep, State, Step, Moves, IsLive, load_down, word_of_step, value_behind, view_behind, home_behind}
+use Rattle.wal_core.specs.Steps.{StepKind, MayStep, State, Step, Moves, IsLive, load_down, word_of_step, value_behind, view_behind, home_behind}
 use Rattle.wal_core.proofs.Lists.{at_else, at_place, part_at}
 use Rattle.wal_core.proofs.WordLists.{word_again}
 use Rattle.step_laws.proofs.EveryStep.{step_keeps}
 use Rattle.wal_turns.specs.Doing.{Ask, Inserts, Commits, Flushes, Purpose, Doing, Begins, FlushBegins, LoadsDown, TakesOut, Backend, Machine}
-use Rattle.wal_turns.specs.Turned.{Turn, Waits, Next, goes_on, answers, can_step, looks_down, event_named, next_of, outcome, is_done, with_answer, with_next, tells_full, start_of, state_behind, moved_on, fallen, word_waited, turned, turned_by, turned_for, turned_of, run_of}
+use Rattle.wal_turns.specs.Turned.{Turn, Waits, Next, goes_on, answers, can_step, looks_down, event_named, next_of, outcome, is_call_done, with_answer, with_next, tells_full, line_start, state_stepped, moved_on, fallen, word_waited, turned, turned_by, turned_for, turned_of, run_of}
 use Rattle.wal_turns.specs.Standing.{IsRunning, HasBackend, HasLeft, IsLine, IsStepOrSame, MayBegin, StandsAt, StandsFor, UpFor, AwaitsOne}
 use Rattle.wal_turns.proofs.Poses.{Goes, StandsNext, bool_cases}
 use Rattle.wal_turns.proofs.FlushPlaces.{hold_of}
@@ -41,7 +41,7 @@ all_got P xs i x all e = subst P
 
 -- ---- a backend behind its step
 
-begin_stands : (a : Ask) (w : View) → IsLine a → MayBegin w → StandsAt w (start_of (Some a)) a
+begin_stands : (a : Ask) (w : View) → IsLine a → MayBegin w → StandsAt w (line_start (Some a)) a
 begin_stands (Inserts value) w writable may = (may, writable)
 begin_stands (Commits value) w writable may = (may, writable)
 begin_stands Flushes w writable may = may
@@ -49,7 +49,7 @@ begin_stands Flushes w writable may = may
 answer_stands : (b : Backend) (w : View) → All IsLine b.asks → MayBegin w
     → StandsFor (with_answer b) w
 answer_stands b w lines may ask left = subst
-    (λ (x : Rattle.std.specs.Prelude.Option Ask). StandsAt w (start_of x) ask) (sym left)
+    (λ (x : Rattle.std.specs.Prelude.Option Ask). StandsAt w (line_start x) ask) (sym left)
     (begin_stands ask w (all_got IsLine b.asks (b.answered + 1) ask lines left) may)
 
 next_stands : (b : Backend) (ask : Ask) (w : View) → All IsLine b.asks → HasLeft b ask
@@ -88,13 +88,13 @@ module _ (m : Machine) (run : IsRunning m) (number : ℕ) (b : Backend) (here : 
   abbrev id : ℕ
   id = number + 1
 
-  abbrev later : Event → State
-  later e = state_behind id v e m.state
+  abbrev later : StepKind → State
+  later e = state_stepped id v e m.state
 
-  abbrev behind : Event → View
+  abbrev behind : StepKind → View
   behind e = view_behind v e (slice_index words (word_of_step v e)) home
 
-  step_made : (e : Event) → MayStep v e → Step m.state (later e)
+  step_made : (e : StepKind) → MayStep v e → Step m.state (later e)
   step_made e may = Moves id e (slice_index words (word_of_step v e)) (record {
     view = v;
     live = live;
@@ -105,11 +105,11 @@ module _ (m : Machine) (run : IsRunning m) (number : ℕ) (b : Backend) (here : 
     views = refl;
   })
 
-  still_live : (e : Event) → MayStep v e → ((behind e).reserving).live ≡ true
+  still_live : (e : StepKind) → MayStep v e → ((behind e).reserving).live ≡ true
   still_live e may = live_stays v _ home e ∙ live.1
 
   -- who is to take the writer out has the turn, so that no other one sets the down word
-  down_kept : (e : Event) → MayStep v e → (j : ℕ) (u : View) → j ≢ number
+  down_kept : (e : StepKind) → MayStep v e → (j : ℕ) (u : View) → j ≢ number
       → IsLive m.state (j + 1) u → (u.writing).hold ≡ HasTurned
       → down_word (later e).words ≡ down_word words
   down_kept e may j u apart alive turned_there =
@@ -123,14 +123,14 @@ module _ (m : Machine) (run : IsRunning m) (number : ℕ) (b : Backend) (here : 
       (down_still words v (λ i held. (((k.locks).locks).each id i (working_of v)
       (part_at working_of views id v live.0) held).0) e may)
 
-  abbrev with_backend : Event → Backend → Bool → Machine
+  abbrev with_backend : StepKind → Backend → Bool → Machine
   with_backend e c full = record m {
     state = later e;
     backends = set m.backends number c;
     full = full;
   }
 
-  runs_on : (e : Event) → MayStep v e → (c : Backend) (full : Bool) → All IsLine c.asks
+  runs_on : (e : StepKind) → MayStep v e → (c : Backend) (full : Bool) → All IsLine c.asks
       → StandsFor c (behind e) → HomeBy m run number v live ask e
       → UpFor c.doing (down_word (later e).words) → Good m (with_backend e c full)
   runs_on e may c full lines mine at_home up = (inr (step_made e may), record {
@@ -175,7 +175,7 @@ module _ (m : Machine) (run : IsRunning m) (number : ℕ) (b : Backend) (here : 
   moves can up =
       let e = event_named m v ask b.doing in
       let met = slice_index words (word_of_step v e) in
-      let done = is_done (outcome m v ask) in
+      let done = is_call_done (outcome m v ask) in
       let next = next_of v (behind e) ask met done b.doing in
       let lines = run.lines number b here in
       let g = goes m run number v live ask b.doing (run.up number b ask here left) stands can up in
