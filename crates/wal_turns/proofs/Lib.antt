@@ -11,3 +11,4 @@ pub mod LiveStays
 pub mod AtView
 pub mod Running
 pub mod Schedules
+pub mod FirstMachine

@@ -33,7 +33,7 @@ set_cases (z ∷ zs) (suc i) (suc j) x y e = ⊎_elim
     (λ (h : (j ≢ i) × (slice_get zs j ≡ Some y)). inr (λ is. h.0 (omega (arith, is)), h.1))
     (set_cases zs i j x y e)
 
-all_got : {A : Type 0} (P : A → Type 0) (xs : List A) (i : ℕ) (x : A) → All P xs
+pub all_got : {A : Type 0} (P : A → Type 0) (xs : List A) (i : ℕ) (x : A) → All P xs
     → slice_get xs i ≡ Some x → P x
 all_got P xs i x all e = subst P
     (sym (unwrap_or-slice_get xs i x) ∙ ap (λ (o : Rattle.std.specs.Prelude.Option _). unwrap_or o x) e)
@@ -41,7 +41,7 @@ all_got P xs i x all e = subst P
 
 -- ---- a backend behind its step
 
-begin_stands : (a : Ask) (w : View) → IsLine a → MayBegin w → StandsAt w (line_start (Some a)) a
+pub begin_stands : (a : Ask) (w : View) → IsLine a → MayBegin w → StandsAt w (line_start (Some a)) a
 begin_stands (Inserts value) w writable may = (may, writable)
 begin_stands (Commits value) w writable may = (may, writable)
 begin_stands Flushes w writable may = may

@@ -1,3 +1,4 @@
 pub mod Doing
 pub mod Turned
 pub mod Standing
+pub mod Begun

@@ -371,9 +371,6 @@ state_stepped id v e s =
 
 module _ (m : Machine) (number : ℕ) (b : Backend) (v : View) (ask : Ask) where
   -- the step is made, and what comes behind it
-  abbrev pub with_step : StepKind → (Machine → Backend → Machine) → Machine
-  with_step e f = f (record m { state = state_stepped (number + 1) v e m.state }) b
-
   abbrev pub moved_on : StepKind → Turn × Machine
   moved_on e =
       let met = slice_index (m.state).words (word_of_step v e) in
@@ -387,7 +384,8 @@ module _ (m : Machine) (number : ℕ) (b : Backend) (v : View) (ask : Ask) where
         },
       )
 
-  -- the down word says that the disk has failed: the line is answered by it
+  -- the down word says that the disk has failed: the line is answered by it. A lock, an entry and the
+  -- turn to write that the backend has stay with it, since from then on every line ends so
   abbrev pub fallen : Turn × Machine
   fallen = (
     IsDown (down_word (m.state).words),
