@@ -1,9 +1,20 @@
 //! Laws of turns, each proved by a function that does nothing.
 
 ghost use Rattle.std.specs.Prelude.{List, ℕ};
-ghost use Rattle.wal_turns.specs.Doing.{Machine};
+ghost use Rattle.wal_core.specs.Views.{Plain};
+ghost use Rattle.wal_core.specs.Words.{Opening};
+ghost use Rattle.wal_turns.specs.Begun.{MayBeginRunning, first_machine};
+ghost use Rattle.wal_turns.specs.Doing.{Ask, Machine};
 ghost use Rattle.wal_turns.specs.Standing.{IsRunning, IsStepOrSame, RunsOn};
 ghost use Rattle.wal_turns.specs.Turned.{run_of, turned};
+
+/// A machine that begins runs: over a log that holds nothing, with a pass for each backend, whatever
+/// records that can be written its lines ask for, and whichever calls of the device are to fail.
+pub fn machines_begin_running()
+    ensures { (opening : Opening) (words : List ℕ) (writer : Plain) (failing : List ℕ)
+        (lines : List (List Ask)) → MayBeginRunning opening words writer lines
+        → IsRunning (first_machine opening words writer failing lines) }
+{}
 
 /// In a machine that runs the step that the order names for a backend may be made: each turn leaves
 /// the state as it was, where the backend waits or is done, or makes one step; and the machine runs
