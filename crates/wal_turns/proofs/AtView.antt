@@ -1,24 +1,23 @@
 -- From a machine that runs: what its invariant gives of one backend's view, so that the step that
 -- the order names goes, and what becomes of the writer's home.
-use Rattle.std.proofs.Common.{◌≡◌, ◌≢◌, ◌⊎◌, inl, inr, ⊎_elim, ℕ, zero, suc, ◌+◌, ◌*◌, ◌/◌, ◌%◌, ◌<◌, ◌≤◌, Bool, true, false, cond, eqb, List, [], ◌∷◌, map, slice_index, slice_get, Some, None, refl, sym, ap, ◌∙◌, subst, arith}
+use Rattle.std.proofs.Common.{◌≡◌, ◌≢◌, ⊎_elim, ℕ, ◌+◌, ◌%◌, ◌<◌, ◌≤◌, Bool, true, false, cond, eqb, List, refl, sym, ap, ◌∙◌, subst, arith}
 use Rattle.std.proofs.Math.Dec.{ltb}
 use mathlib.Core.Option.{Option, none, some, some-injective}
 use Rattle.byte_position.specs.Geometry.{IsSegmentSize}
-use Rattle.wal_types.specs.declared.record.Record.{Record}
 use Rattle.wal_page.specs.Order.{end_position}
 use Rattle.wal_page.proofs.OwnerLaws.{rooms_of-whole}
 use Rattle.wal_page.proofs.WordPositions.{first_position-whole}
 use Rattle.wal_core.specs.Words.{Opening, down_word, lock_word, write_turn}
-use Rattle.wal_core.specs.Views.{HasAt, Place, Free, Locked, Loaded, Stored, Stage, Away, Taken, Looked, Ready, Zeroing, Published, Plain, Lent, Hold, Idle, Turned as HasTurned, Out, View, reserving_of, writer_of, told_of}
+use Rattle.wal_core.specs.Views.{Place, Free, Locked, Loaded, Stored, Stage, Away, Taken, Looked, Ready, Zeroing, Published, Plain, Lent, Hold, Turned as HasTurned, Out, View, reserving_of, writer_of, told_of}
 use Rattle.wal_core.specs.Ordered.{AtPlace}
 use Rattle.wal_core.specs.Locked.{StandsTo}
 use Rattle.wal_core.specs.Steps.{StepKind, load_prev, give_position_back, take_lock, load_lock, zero_ring_word, publish_end, slot_in, IsLive, returned, home_behind}
 use Rattle.wal_core.specs.Sound.{IsSound}
 use Rattle.wal_core.proofs.Lists.{part_at}
-use Rattle.wal_turns.specs.Doing.{Ask, Inserts, Commits, Flushes, Purpose, ForLine, ForPage, Doing, Begins, Tries, Reserves, Looks, Copies, Maps, GivesTurn, Tells, Releases, FlushBegins, LoadsPosition, LoadsFlushed, LoadsMoment, Visits, TakesTurn, LoadsDown, TakesOut, LoadsPage, Creates, Writes, SyncsFull, SyncsLast, StoresWritten, StoresMoment, StoresFlushed, SetsDown, PutsBack, GivesWriteTurn, Backend, Machine}
+use Rattle.wal_turns.specs.Doing.{Ask, Inserts, Commits, Flushes, Purpose, Doing, Begins, Tries, Reserves, Looks, Copies, Maps, GivesTurn, Tells, Releases, FlushBegins, LoadsPosition, LoadsFlushed, LoadsMoment, Visits, TakesTurn, LoadsDown, TakesOut, LoadsPage, Creates, Writes, SyncsFull, SyncsLast, StoresWritten, StoresMoment, StoresFlushed, SetsDown, PutsBack, GivesWriteTurn, Machine}
 use Rattle.wal_turns.specs.Turned.{can_step, looks_down, event_named, reserve_event, map_event, fits, lock_tried}
-use Rattle.wal_turns.specs.Standing.{IsRunning, HasBackend, HasLeft, KnowsDown, IsUp, AwaitsOne, UpFor, segment_next, StandsAt}
-use Rattle.wal_turns.proofs.Poses.{Goes, bool_cases}
+use Rattle.wal_turns.specs.Standing.{IsRunning, KnowsDown, IsWriterUp, AwaitsOne, UpFor, segment_next, StandsAt}
+use Rattle.wal_turns.proofs.Poses.{Goes}
 use Rattle.wal_turns.proofs.SegmentSteps.{next-near}
 use Rattle.wal_turns.proofs.InsertPlaces.{IsPlaceWhole, begins_goes, tries_goes, reserves_goes, looks_goes, copies_goes}
 use Rattle.wal_turns.proofs.MapPlaces.{maps_goes, gives_turn_goes, tells_goes, releases_goes}
@@ -91,8 +90,12 @@ module _ (m : Machine) (run : IsRunning m) (number : ℕ) (v : View)
   -- ---- the position
 
   whole_end : (at : ℕ) → at ≡ end_position size sound.order → at % 8 ≡ 0
-  whole_end at is = omega (arith, is, rooms_of-whole size sound.order,
-      first_position-whole size valid)
+  whole_end at is = omega (
+    arith,
+    is,
+    rooms_of-whole size sound.order,
+    first_position-whole size valid,
+  )
 
   whole_at : (p : Place) (last prev locked holder : ℕ)
       → AtPlace size (end_position size sound.order) last prev locked holder id p
@@ -123,7 +126,7 @@ module _ (m : Machine) (run : IsRunning m) (number : ℕ) (v : View)
       (next-near size valid (sound.writer).written (sound.writer).made (sound.durable).reached)
 
   -- at home, while no disk has failed
-  at_home_up : (w : Plain) → w.fault ≡ none → home ≡ some w → IsUp size w
+  at_home_up : (w : Plain) → w.fault ≡ none → home ≡ some w → IsWriterUp size w
   at_home_up w up is = record {
     up = up;
     awaits = subst (λ (o : Opening). AwaitsOne (o.setup).segment_size w) (sym own)
@@ -140,7 +143,7 @@ module _ (m : Machine) (run : IsRunning m) (number : ℕ) (v : View)
       → Goes m ask (TakesOut purpose) v
   takes_out_now purpose up stands =
       let there = (to_writer_of v.opening sound HasTurned
-          (hold_of purpose ask HasTurned v stands)).2 in
+      (hold_of purpose ask HasTurned v stands)).2 in
       let no_fault = (sound.durable).down_at_home there up in
       takes_out_goes m ask purpose v sound.writer there
       (at_home_up sound.writer no_fault there) stands
@@ -214,7 +217,7 @@ module _ (m : Machine) (run : IsRunning m) (number : ℕ) (v : View)
       → ((l.writer).fault ≡ none → AwaitsOne size l.writer) → HomeBy slot_in
   home_put l is holds w back up =
       let same : l.writer ≡ w = some-injective l.writer w
-          (subst (λ (h : Hold). returned v h home ≡ some w) is back) in
+      (subst (λ (h : Hold). returned v h home ≡ some w) is back) in
       subst (λ (o : Opening). AwaitsOne (o.setup).segment_size w) own
       (subst (AwaitsOne size) same (holds (subst (λ (x : Plain). x.fault ≡ none) (sym same) up)))
 

@@ -1,19 +1,18 @@
 -- At the calls of the device: the step that the order names may be made, whether the call fails or
 -- not, and the view behind it stands at the next place.
-use Rattle.std.proofs.Common.{◌≡◌, ◌≢◌, ◌⊎◌, inl, inr, ⊎_elim, ℕ, zero, suc, ◌+◌, ◌-◌, ◌*◌, ◌/◌, ◌%◌, ◌<◌, ◌≤◌, Bool, true, false, cond, eqb, eqb-true, min, List, [], ◌∷◌, slice_index, refl, sym, ap, ◌∙◌, subst, arith}
+use Rattle.std.proofs.Common.{◌≡◌, inl, inr, ⊎_elim, ℕ, suc, ◌+◌, ◌*◌, ◌/◌, ◌%◌, ◌<◌, ◌≤◌, Bool, true, false, cond, eqb, min, slice_index, refl, sym, ap, ◌∙◌, subst, arith}
 use Rattle.std.proofs.lemmas.Bool.{eqb-false}
 use Rattle.std.proofs.Math.Nat.{div-add-mod, le-min, min-le_left, min-le_right, mod-lt}
-use mathlib.Core.Option.{Option, none, some}
+use mathlib.Core.Option.{Option, some}
 use Rattle.byte_position.specs.Geometry.{IsSegmentSize, pages_of}
 use Rattle.byte_position.proofs.SegmentSizes.{segment_size_in_pages}
-use Rattle.segment_disk.specs.Failing.{is_listed}
 use Rattle.segment_disk.specs.Tape.{create_call, sync_call, write_call}
-use Rattle.wal_core.specs.Views.{Plain, Lent, Hold, Out, View}
-use Rattle.wal_core.specs.Moves.{Outcome, Done, Failed, with_hold, after_create, after_write, after_sync}
+use Rattle.wal_core.specs.Views.{Lent, Out, View}
+use Rattle.wal_core.specs.Moves.{Outcome, Done, Failed, after_create, after_write, after_sync}
 use Rattle.wal_core.specs.Steps.{StepKind, MayStep, IsNextWrite, create, write, sync, word_of_step, view_behind}
-use Rattle.wal_turns.specs.Doing.{Ask, Purpose, ForLine, ForPage, Doing, Creates, Writes, SyncsFull, SyncsLast, StoresWritten, SetsDown, Machine}
-use Rattle.wal_turns.specs.Turned.{outcome, is_call_done, behind_call, page_or_end, segment_or, page_staged}
-use Rattle.wal_turns.specs.Standing.{IsUp, AwaitsOne, AwaitsSync, IsFailed, LoadsOn, WritesFor, segment_next, StandsAt}
+use Rattle.wal_turns.specs.Doing.{Ask, Purpose, ForLine, Doing, Creates, Writes, SyncsFull, SyncsLast, StoresWritten, SetsDown, Machine}
+use Rattle.wal_turns.specs.Turned.{outcome, is_call_done, behind_call, page_or_end, segment_or, page_staged, of_lent}
+use Rattle.wal_turns.specs.Standing.{AwaitsSync, LoadsOn, WritesFor, segment_next, StandsAt}
 use Rattle.wal_turns.proofs.Poses.{Goes, StandsNext, bool_cases}
 use Rattle.wal_turns.proofs.FlushPlaces.{hold_of, in_hand, of_hold, page_or_end_stands, writes_on, writes_still}
 use Rattle.wal_turns.proofs.Loads.{bytes-length, bytes-words}
@@ -66,17 +65,25 @@ module _ (m : Machine) (ask : Ask) where
         record l { writer = after_create segment call o l.writer } in
         let up = (on.writer_up).up in
         by_outcome (GoesBy (create segment) (Writes purpose)) here
-        (((l, refl, record { up = up; next = refl }), inl rose), failed_by (behind fails) refl)
-        (((l, refl, record { up = up; next = refl }), tt), (behind Done, still (behind Done),
-        (record {
-          writer_up = record {
-            up = up;
-            awaits = ⊎_elim (λ is. inl is) (λ is. let low = is.1 in inr (is.0, omega arith))
-                (on.writer_up).awaits;
-          };
-          left = on.left;
-          loaded = on.loaded;
-        }, near)))
+        (((l, refl, record { up = up; next = refl }), inl rose), failed_by (behind fails) refl) (
+          ((l, refl, record { up = up; next = refl }), tt),
+          (
+            behind Done,
+            still (behind Done),
+            (
+              record {
+                writer_up = record {
+                  up = up;
+                  awaits = ⊎_elim (λ is. inl is) (λ is. let low = is.1 in inr (is.0, omega arith))
+                      (on.writer_up).awaits;
+                };
+                left = on.left;
+                loaded = on.loaded;
+              },
+              near,
+            ),
+          ),
+        )
 
     next_write : IsSegmentSize size → LoadsOn size 1024 l
         → segment_next size l.writer ≤ (l.writer).made
@@ -124,22 +131,27 @@ module _ (m : Machine) (ask : Ask) where
         let e = event o in
         let w = view_behind here e met (m.state).home in
         MayStep here e × StandsNext (behind_call here w ask met (is_call_done o) purpose
-        (cond (eqb (Rattle.wal_turns.specs.Turned.of_lent w (λ k. (k.writer).written) % size) 0)
+        (cond (eqb (of_lent w (λ k. (k.writer).written) % size) 0)
         (SyncsFull purpose) (page_or_end here w ask met (is_call_done o) purpose))) ask w) here
-        (((l, refl, may), inl rose), failed_by (behind fails) refl)
-        (((l, refl, may), tt), bool_cases
-        (λ (b : Bool). StandsAt (in_hand m ask (behind Done) v) (cond b (SyncsFull purpose)
-        (page_or_end here (in_hand m ask (behind Done) v) ask met true purpose)) ask)
-        (eqb (upto % size) 0)
-        (λ full. (behind Done, still (behind Done), ((on.writer_up).up, (segment, refl))))
-        (λ inside.
-        let same = segment-still size valid page upto may.behind_start may.within
-            (eqb-false _ _ inside) in
-        page_or_end_stands m ask purpose (behind Done) here v met true (record {
-          up = (on.writer_up).up;
-          awaits = inr (ap (λ (n : ℕ). some n) (sym same), subst (λ (n : ℕ). n ≤ (l.writer).made)
-              (sym same) made);
-        }) (still (behind Done))))
+        (((l, refl, may), inl rose), failed_by (behind fails) refl) (
+          ((l, refl, may), tt),
+          bool_cases
+              (λ (b : Bool). StandsAt (in_hand m ask (behind Done) v) (cond b (SyncsFull purpose)
+              (page_or_end here (in_hand m ask (behind Done) v) ask met true purpose)) ask)
+              (eqb (upto % size) 0)
+              (λ full. (behind Done, still (behind Done), ((on.writer_up).up, (segment, refl))))
+              (λ inside.
+              let same = segment-still size valid page upto may.behind_start may.within
+              (eqb-false _ _ inside) in
+              page_or_end_stands m ask purpose (behind Done) here v met true (record {
+                up = (on.writer_up).up;
+                awaits = inr (
+                  ap (λ (n : ℕ). some n) (sym same),
+                  subst (λ (n : ℕ). n ≤ (l.writer).made)
+                      (sym same) made,
+                );
+              }) (still (behind Done))),
+        )
 
     next_sync : (segment : ℕ) → (l.writer).waiting ≡ some segment
         → (l.writer).waiting ≡ some (segment_or here 0 (l.writer).waiting)
@@ -157,10 +169,11 @@ module _ (m : Machine) (ask : Ask) where
         let w = view_behind here (sync segment o) met (m.state).home in
         MayStep here (sync segment o) × StandsNext (behind_call here w ask met (is_call_done o) purpose
         (page_or_end here w ask met (is_call_done o) purpose)) ask w) here
-        (((l, refl, record { up = waits.0; waits = may }), inl rose), failed_by (behind fails) refl)
-        (((l, refl, record { up = waits.0; waits = may }), tt),
-        page_or_end_stands m ask purpose (behind Done) here v met true
-        (record { up = waits.0; awaits = inl refl }) (still (behind Done)))
+        (((l, refl, record { up = waits.0; waits = may }), inl rose), failed_by (behind fails) refl) (
+          ((l, refl, record { up = waits.0; waits = may }), tt),
+          page_or_end_stands m ask purpose (behind Done) here v met true
+              (record { up = waits.0; awaits = inl refl }) (still (behind Done)),
+        )
 
   syncs_last_at : (l : Lent) (v : View) → WritesFor (in_hand m ask l v) ForLine ask (Out l)
       → (v.opening).faults ≡ (m.opening).faults → AwaitsSync l
@@ -172,11 +185,17 @@ module _ (m : Machine) (ask : Ask) where
       let behind : Outcome → Lent = λ (o : Outcome).
       record l { writer = after_sync call o l.writer } in
       let may = next_sync ForLine l v base told waits.1.0 waits.1.1 in
-      by_outcome (GoesBy ForLine l v base told (sync segment) (StoresWritten ForLine)) u
-      (((l, refl, record { up = waits.0; waits = may }), inl (rose ForLine l v base told)),
-      failed_by ForLine l v base told (behind fails) refl)
-      (((l, refl, record { up = waits.0; waits = may }), tt), (behind Done,
-      still ForLine l v base told (behind Done), (waits.0, refl)))
+      by_outcome (GoesBy ForLine l v base told (sync segment) (StoresWritten ForLine)) u (
+        ((l, refl, record { up = waits.0; waits = may }), inl (rose ForLine l v base told)),
+        failed_by ForLine l v base told (behind fails) refl,
+      ) (
+        ((l, refl, record { up = waits.0; waits = may }), tt),
+        (
+          behind Done,
+          still ForLine l v base told (behind Done),
+          (waits.0, refl),
+        ),
+      )
 
   module _ (v : View) (told : (v.opening).faults ≡ (m.opening).faults) where
     again : (purpose : Purpose) (l : Lent) → WritesFor v purpose ask (Out l)

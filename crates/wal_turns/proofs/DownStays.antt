@@ -1,5 +1,5 @@
 -- Only with the writer in hand is the down word set.
-use Rattle.std.proofs.Common.{◌≡◌, ◌≢◌, ◌⊎◌, inl, inr, ℕ, ◌+◌, ◌<◌, List, Contains, set, slice_index, ap, arith}
+use Rattle.std.proofs.Common.{◌≡◌, ◌≢◌, ◌⊎◌, inl, inr, ℕ, ◌<◌, List, Contains, set, slice_index, ap, arith}
 use Rattle.wal_core.specs.Words.{down_word}
 use Rattle.wal_core.specs.Views.{Lent, Out, View}
 use Rattle.wal_core.specs.Steps.{StepKind, MayStep, word_of_step, value_behind, load_position, take_write_turn, slot_out, slot_in, release_write_turn, lock_position, load_prev, store_prev, store_position, give_position_back, load_lock, take_lock, advance, release, load_buffer_end, store_ring_word, load_ring_word, load_written, load_flushed, load_moment, load_down, store_written, store_moment, store_flushed, set_down, take_mapping_turn, load_initialised_end, clear_end, zero_ring_word, publish_end, publish_initialised_end, release_mapping_turn, create, write, sync}

@@ -1,12 +1,12 @@
 -- A machine that begins runs.
-use Rattle.std.proofs.Common.{◌≡◌, ◌⊎◌, inl, inr, ℕ, zero, suc, ◌+◌, ◌<◌, ◌≤◌, All, true, List, [], ◌∷◌, ◌++◌, length, map, slice_get, Some, None, refl, sym, ap, ◌∙◌, subst, ⊎_elim, arith}
+use Rattle.std.proofs.Common.{◌≡◌, inl, inr, ℕ, zero, suc, ◌+◌, ◌<◌, All, true, List, [], ◌∷◌, length, map, slice_get, Some, refl, sym, subst, arith}
 use Rattle.std.proofs.lemmas.Bool.{cases_lt}
 use Rattle.std.proofs.lemmas.List.{length-append}
-use mathlib.Core.Option.{Option, none, some, some-injective}
-use Rattle.wal_core.specs.Words.{Opening}
-use Rattle.wal_core.specs.Views.{HasAt, Plain, View}
-use Rattle.wal_core.specs.Moves.{after_split, split_off}
-use Rattle.wal_core.specs.Steps.{State, Splits, IsLive}
+use mathlib.Core.Option.{none, some, some-injective}
+use Rattle.wal_core.specs.Words.{Opening, down_word}
+use Rattle.wal_core.specs.Views.{HasAt, Plain}
+use Rattle.wal_core.specs.Moves.{split_off}
+use Rattle.wal_core.specs.Steps.{State, Splits}
 use Rattle.wal_core.specs.Sound.{IsSound}
 use Rattle.wal_core.specs.Opened.{first_view}
 use Rattle.wal_core.proofs.Lists.{at_end, at_front}
@@ -14,7 +14,7 @@ use Rattle.step_laws.proofs.OpeningLaws.{logs_begin}
 use Rattle.step_laws.proofs.PassSteps.{splits_keep}
 use Rattle.wal_turns.specs.Doing.{Ask, Backend, Machine}
 use Rattle.wal_turns.specs.Turned.{line_start}
-use Rattle.wal_turns.specs.Standing.{AwaitsOne, HasLeft, IsLine, IsRunning, StandsAt, StandsFor}
+use Rattle.wal_turns.specs.Standing.{IsLine, IsRunning, StandsAt, StandsFor, UpFor}
 use Rattle.wal_turns.specs.Begun.{MayBeginRunning, first_backend, first_machine, splitting_view, views_split_off}
 use Rattle.wal_turns.proofs.NextUp.{up_start}
 use Rattle.wal_turns.proofs.Running.{all_got, begin_stands}
@@ -54,13 +54,13 @@ module _ (opening : Opening) where
       → HasAt (views_split_off opening n) j (split_off (splitting_view opening j))
   split_at zero j low = absurd (omega arith)
   split_at (suc n) j low = elim (cases_lt j n) [
-      inl before ↦ at_front (views_split_off opening n) j (split_off (splitting_view opening n))
-      (split_off (splitting_view opening j)) (split_at n j before)
+    | inl before ↦ at_front (views_split_off opening n) j (split_off (splitting_view opening n))
+        (split_off (splitting_view opening j)) (split_at n j before)
     | inr last ↦ (let same : n ≡ j = omega arith in
-      subst (λ (k : ℕ). HasAt (views_split_off opening (suc n)) k (split_off (splitting_view opening k)))
-      same (subst (λ (k : ℕ). HasAt (views_split_off opening (suc n)) k
-      (split_off (splitting_view opening n))) (split_count n)
-      (at_end (views_split_off opening n) (split_off (splitting_view opening n)))))
+        subst (λ (k : ℕ). HasAt (views_split_off opening (suc n)) k (split_off (splitting_view opening k)))
+        same (subst (λ (k : ℕ). HasAt (views_split_off opening (suc n)) k
+        (split_off (splitting_view opening n))) (split_count n)
+        (at_end (views_split_off opening n) (split_off (splitting_view opening n)))))
   ]
 
   module _ (words : List ℕ) (writer : Plain) where
@@ -113,20 +113,22 @@ module _ (opening : Opening) where
         sound = split_sound (logs_begin opening words writer may.is_new may.first_words
             may.first_writer) (length lines) may.passes;
         lines = λ j b is.
-        let found = got_image first_backend lines j b is in
-        subst (λ (x : Backend). All IsLine x.asks) found.2
-        (all_got (All IsLine) lines j found.0 may.writable found.1);
+            let found = got_image first_backend lines j b is in
+            subst (λ (x : Backend). All IsLine x.asks) found.2
+            (all_got (All IsLine) lines j found.0 may.writable found.1);
         views = λ j b is.
-        let found = got_image first_backend lines j b is in
-        (split_off (splitting_view opening j), (by_next j (split_at (length lines) j found.3), refl),
-        subst (λ (x : Backend). StandsFor x (split_off (splitting_view opening j))) found.2
-        (stands_first found.0 (all_got (All IsLine) lines j found.0 may.writable found.1) j));
+            let found = got_image first_backend lines j b is in (
+              split_off (splitting_view opening j),
+              (by_next j (split_at (length lines) j found.3), refl),
+              subst (λ (x : Backend). StandsFor x (split_off (splitting_view opening j))) found.2
+                  (stands_first found.0 (all_got (All IsLine) lines j found.0 may.writable found.1) j),
+            );
         at_home = λ w is up. inl (subst (λ (x : Plain). x.waiting ≡ none)
             (some-injective writer w is) (may.first_writer).waiting);
         up = λ j b ask is left.
-        let found = got_image first_backend lines j b is in
-        subst (λ (x : Backend). Rattle.wal_turns.specs.Standing.UpFor x.doing
-        (Rattle.wal_core.specs.Words.down_word words)) found.2 (up_start (slice_get found.0 0) _);
+            let found = got_image first_backend lines j b is in
+            subst (λ (x : Backend). UpFor x.doing
+            (down_word words)) found.2 (up_start (slice_get found.0 0) _);
       }
         where
           by_next : (j : ℕ) → HasAt (views_split_off opening (length lines)) j

@@ -1,16 +1,16 @@
 -- At the places of a flush but for the calls of the device: the step that the order names may be
 -- made, and the view behind it stands at the next place.
-use Rattle.std.proofs.Common.{◌≡◌, ◌≢◌, ◌⊎◌, inl, inr, ⊎_elim, ℕ, zero, suc, ◌+◌, ◌-◌, ◌*◌, ◌/◌, ◌%◌, ◌<◌, ◌≤◌, Bool, true, false, cond, eqb, eqb-true, eq-eqb, not, List, [], ◌∷◌, Contains, slice_index, refl, sym, ap, ◌∙◌, subst, arith}
+use Rattle.std.proofs.Common.{◌≡◌, inl, inr, ⊎_elim, ℕ, suc, ◌+◌, ◌*◌, ◌/◌, ◌<◌, Bool, true, false, cond, eqb, eqb-true, List, [], ◌∷◌, slice_index, refl, sym, ap, ◌∙◌, subst, arith}
 use Rattle.std.proofs.Math.Dec.{ltb, leb}
-use Rattle.std.proofs.lemmas.Bool.{leb-true, leb-false, ltb-true, eqb-false}
+use Rattle.std.proofs.lemmas.Bool.{ltb-true, eqb-false}
 use mathlib.Core.Option.{Option, none, some}
-use Rattle.wal_core.specs.Words.{write_turn}
-use Rattle.wal_core.specs.Views.{Place, Free, Copy, Flight, Landed, Copying, Stage, Away, Plain, Lent, Hold, Idle, Turned as HasTurned, Out, View}
-use Rattle.wal_core.specs.Moves.{with_hold}
-use Rattle.wal_core.specs.Steps.{MayStep, IsResting, word_of_step, view_behind}
-use Rattle.wal_turns.specs.Doing.{Ask, Purpose, ForLine, ForPage, Doing, FlushBegins, LoadsPosition, LoadsFlushed, LoadsMoment, Visits, TakesTurn, LoadsDown, TakesOut, LoadsPage, Creates, Writes, SyncsFull, SyncsLast, StoresWritten, StoresMoment, StoresFlushed, SetsDown, PutsBack, GivesWriteTurn, Machine}
-use Rattle.wal_turns.specs.Turned.{can_step, goes_on, answers, page_or_end, is_some_segment, asked_end, is_segment_new}
-use Rattle.wal_turns.specs.Standing.{IsPosed, IsUnder, IsLeft, KnowsDown, IsRecord, IsUp, LoadsOn, IsSynced, IsSyncedFor, IsStored, IsFailed, AwaitsSync, AwaitsOne, AreLoaded, segment_next, WritesFor, HasWriter, StandsAt}
+use Rattle.wal_core.specs.Words.{Opening, end_form}
+use Rattle.wal_core.specs.Views.{Free, Flight, Landed, Copying, Away, Plain, Lent, Hold, Idle, Turned as HasTurned, Out, View, Working}
+use Rattle.wal_core.specs.Moves.{with_hold, after_set_down, hardened, lent}
+use Rattle.wal_core.specs.Steps.{IsResting, word_of_step, view_behind, fault_number, load_flushed, load_lock, load_ring_word, slot_out}
+use Rattle.wal_turns.specs.Doing.{Ask, Purpose, ForLine, ForPage, FlushBegins, LoadsPosition, LoadsFlushed, LoadsMoment, Visits, TakesTurn, LoadsDown, TakesOut, LoadsPage, Creates, Writes, SyncsLast, StoresWritten, StoresMoment, StoresFlushed, SetsDown, PutsBack, GivesWriteTurn, Machine}
+use Rattle.wal_turns.specs.Turned.{can_step, goes_on, page_or_end, is_some_segment, asked_end, is_segment_new, is_call_done, outcome}
+use Rattle.wal_turns.specs.Standing.{IsPosed, IsLeft, KnowsDown, IsWriterUp, LoadsOn, IsSyncedFor, IsFailed, AreLoaded, WritesFor, StandsAt}
 use Rattle.wal_turns.proofs.Poses.{Goes, StandsNext, bool_cases}
 use Rattle.wal_turns.proofs.InsertPlaces.{resting_posed}
 use Rattle.wal_turns.proofs.MapPlaces.{ltb-false}
@@ -25,8 +25,8 @@ posed_on : (locks : List ℕ) (f : Flight) (h g : Hold) (v w : View)
     → IsPosed Free locks f Away g w
 posed_on locks f h g v w p like hold = record {
   place_is = like.1 ∙ p.place_is;
-  locks_are = ap (λ (x : Rattle.wal_core.specs.Views.Working). x.locks) like.2 ∙ p.locks_are;
-  flight_is = ap (λ (x : Rattle.wal_core.specs.Views.Working). x.flight) like.2 ∙ p.flight_is;
+  locks_are = ap (λ (x : Working). x.locks) like.2 ∙ p.locks_are;
+  flight_is = ap (λ (x : Working). x.flight) like.2 ∙ p.flight_is;
   stage_is = like.3 ∙ p.stage_is;
   hold_is = hold;
 }
@@ -35,10 +35,16 @@ pub writes_on : (purpose : Purpose) (ask : Ask) (h g : Hold) (v w : View)
     → WritesFor v purpose ask h → IsLike v w → (w.writing).hold ≡ g → WritesFor w purpose ask g
 writes_on ForLine ask h g v w p like hold = posed_on [] Landed h g v w p like hold
 writes_on (ForPage lock end) ask h g v w p like hold =
-    let c = p.0.0 in
-    ((c, posed_on (lock ∷ []) (Copying c) h g v w p.0.1 like hold, p.0.2,
-    subst (λ (o : Rattle.wal_core.specs.Words.Opening). IsLeft (o.setup).segment_size c)
-    (sym like.0) p.0.3), p.1)
+    let c = p.0.0 in (
+      (
+        c,
+        posed_on (lock ∷ []) (Copying c) h g v w p.0.1 like hold,
+        p.0.2,
+        subst (λ (o : Opening). IsLeft (o.setup).segment_size c)
+            (sym like.0) p.0.3,
+      ),
+      p.1,
+    )
 
 -- the view's own hold, as it is known
 pub of_hold : (P : View → Type 0) (h : Hold) (v : View) → (v.writing).hold ≡ h
@@ -56,15 +62,18 @@ module _ (m : Machine) (ask : Ask) where
 
   pub flush_begins_goes : (v : View) → (KnowsDown v → ⊥) → StandsAt v FlushBegins ask
       → Goes m ask FlushBegins v
-  flush_begins_goes v up stands = (tt, ⊎_elim
-      (λ (r : IsResting v). record {
-        place_is = r.place;
-        locks_are = r.locks;
-        flight_is = r.flight;
-        stage_is = r.stage;
-        hold_is = r.hold;
-      })
-      (λ (d : KnowsDown v). absurd (up d)) stands)
+  flush_begins_goes v up stands = (
+    tt,
+    ⊎_elim
+        (λ (r : IsResting v). record {
+          place_is = r.place;
+          locks_are = r.locks;
+          flight_is = r.flight;
+          stage_is = r.stage;
+          hold_is = r.hold;
+        })
+        (λ (d : KnowsDown v). absurd (up d)) stands,
+  )
 
   at_rest_on : (v w : View) → IsPosed Free [] Landed Away Idle v → IsLike v w
       → (w.writing).hold ≡ (v.writing).hold → IsPosed Free [] Landed Away Idle w
@@ -76,11 +85,13 @@ module _ (m : Machine) (ask : Ask) where
   pub loads_flushed_goes : (v : View) → StandsAt v LoadsFlushed ask → Goes m ask LoadsFlushed v
   loads_flushed_goes v stands =
       let met = slice_index words 14 in
-      let w = view_behind v Rattle.wal_core.specs.Steps.load_flushed met (m.state).home in
-      let rest = at_rest_on v w stands (refl, refl, refl, refl) refl in
-      (tt, bool_cases
-      (λ (b : Bool). StandsNext (cond b (goes_on LoadsMoment) (goes_on (Visits ForLine 0))) ask w)
-      (leb (asked_end v) met) (λ reached. rest) (λ before. (rest, omega arith)))
+      let w = view_behind v load_flushed met (m.state).home in
+      let rest = at_rest_on v w stands (refl, refl, refl, refl) refl in (
+        tt,
+        bool_cases
+            (λ (b : Bool). StandsNext (cond b (goes_on LoadsMoment) (goes_on (Visits ForLine 0))) ask w)
+            (leb (asked_end v) met) (λ reached. rest) (λ before. (rest, omega arith)),
+      )
 
   pub loads_moment_goes : (v : View) → StandsAt v LoadsMoment ask → Goes m ask LoadsMoment v
   loads_moment_goes v stands =
@@ -89,28 +100,36 @@ module _ (m : Machine) (ask : Ask) where
   pub visits_goes : (purpose : Purpose) (lock : ℕ) (v : View)
       → StandsAt v (Visits purpose lock) ask → Goes m ask (Visits purpose lock) v
   visits_goes purpose lock v stands =
-      let e = Rattle.wal_core.specs.Steps.load_lock lock
-          (Rattle.wal_core.specs.Words.end_form (v.opening).setup (v.reserving).seen) in
+      let e = load_lock lock
+      (end_form (v.opening).setup (v.reserving).seen) in
       let w = view_behind v e (slice_index words (2 + lock)) (m.state).home in
       let still = writes_on purpose ask Idle Idle v w stands.0 (refl, refl, refl, refl)
-          (hold_of purpose ask Idle v stands.0) in
-      (stands.1, bool_cases
-      (λ (b : Bool). StandsNext (cond b (goes_on (TakesTurn purpose))
-      (goes_on (Visits purpose (lock + 1)))) ask w)
-      (eqb (lock + 1) 8) (λ last. still)
-      (λ more. let apart = eqb-false _ _ more in let low = stands.1 in (still, omega arith)))
+      (hold_of purpose ask Idle v stands.0) in (
+        stands.1,
+        bool_cases
+            (λ (b : Bool). StandsNext (cond b (goes_on (TakesTurn purpose))
+            (goes_on (Visits purpose (lock + 1)))) ask w)
+            (eqb (lock + 1) 8) (λ last. still)
+            (λ more. let apart = eqb-false _ _ more in let low = stands.1 in (still, omega arith)),
+      )
 
   pub takes_turn_goes : (purpose : Purpose) (v : View) → StandsAt v (TakesTurn purpose) ask
       → can_step m v ask (TakesTurn purpose) ≡ true → Goes m ask (TakesTurn purpose) v
-  takes_turn_goes purpose v stands can = (hold_of purpose ask Idle v stands, subst
-      (λ (b : Bool). WritesFor (cond b (with_hold HasTurned v) v) purpose ask HasTurned) (sym can)
-      (writes_on purpose ask Idle HasTurned v (with_hold HasTurned v) stands (refl, refl, refl, refl)
-      refl))
+  takes_turn_goes purpose v stands can = (
+    hold_of purpose ask Idle v stands,
+    subst
+        (λ (b : Bool). WritesFor (cond b (with_hold HasTurned v) v) purpose ask HasTurned) (sym can)
+        (writes_on purpose ask Idle HasTurned v (with_hold HasTurned v) stands (refl, refl, refl, refl)
+        refl),
+  )
 
   pub loads_down_goes : (purpose : Purpose) (v : View) → StandsAt v (LoadsDown purpose) ask
       → Goes m ask (LoadsDown purpose) v
-  loads_down_goes purpose v stands = (tt, writes_on purpose ask HasTurned HasTurned v _ stands
-      (refl, refl, refl, refl) (hold_of purpose ask HasTurned v stands))
+  loads_down_goes purpose v stands = (
+    tt,
+    writes_on purpose ask HasTurned HasTurned v _ stands
+        (refl, refl, refl, refl) (hold_of purpose ask HasTurned v stands),
+  )
 
   -- ---- with the writer in hand
 
@@ -118,17 +137,24 @@ module _ (m : Machine) (ask : Ask) where
   in_hand l v = with_hold (Out l) v
 
   pub page_or_end_stands : (purpose : Purpose) (l : Lent) (u v : View) (met : ℕ) (done : Bool)
-      → IsUp ((v.opening).setup).segment_size l.writer → WritesFor (in_hand l v) purpose ask (Out l)
+      → IsWriterUp ((v.opening).setup).segment_size l.writer → WritesFor (in_hand l v) purpose ask (Out l)
       → StandsAt (in_hand l v) (page_or_end u (in_hand l v) ask met done purpose) ask
   page_or_end_stands ForLine l u v met done up base = bool_cases
       (λ (b : Bool). StandsAt w (cond b (LoadsPage ForLine 0) (cond
       (is_some_segment w (l.writer).waiting) SyncsLast (StoresWritten ForLine))) ask)
       (ltb (l.writer).written l.known)
-      (λ left. ((l, base, record {
-        writer_up = up;
-        left = ltb-true _ _ left;
-        loaded = tt;
-      }), omega arith))
+      (λ left. (
+        (
+          l,
+          base,
+          record {
+            writer_up = up;
+            left = ltb-true _ _ left;
+            loaded = tt;
+          },
+        ),
+        omega arith,
+      ))
       (λ all. by_waiting (l.writer).waiting refl)
     where
       w : View
@@ -142,27 +168,36 @@ module _ (m : Machine) (ask : Ask) where
       (λ (b : Bool). StandsAt (in_hand l v) (cond b (LoadsPage (ForPage lock end) 0)
       (StoresWritten (ForPage lock end))) ask)
       (ltb (l.writer).written l.known)
-      (λ left. ((l, base, record {
-        writer_up = up;
-        left = ltb-true _ _ left;
-        loaded = tt;
-      }), omega arith))
+      (λ left. (
+        (
+          l,
+          base,
+          record {
+            writer_up = up;
+            left = ltb-true _ _ left;
+            loaded = tt;
+          },
+        ),
+        omega arith,
+      ))
       (λ all. (l, base, up))
 
   pub takes_out_goes : (purpose : Purpose) (v : View) (writer : Plain)
-      → (m.state).home ≡ some writer → IsUp ((v.opening).setup).segment_size writer
+      → (m.state).home ≡ some writer → IsWriterUp ((v.opening).setup).segment_size writer
       → StandsAt v (TakesOut purpose) ask → Goes m ask (TakesOut purpose) v
   takes_out_goes purpose v writer at_home up stands =
-      let l = Rattle.wal_core.specs.Moves.lent writer v in
-      (hold_of purpose ask HasTurned v stands, subst
-      (λ (home : Option Plain). let w = view_behind v Rattle.wal_core.specs.Steps.slot_out
-      (slice_index words 11) home in
-      StandsAt w (page_or_end v w ask (slice_index words 11)
-      (Rattle.wal_turns.specs.Turned.is_call_done (Rattle.wal_turns.specs.Turned.outcome m v ask)) purpose)
-      ask) (sym at_home)
-      (page_or_end_stands purpose l v v (slice_index words 11)
-      (Rattle.wal_turns.specs.Turned.is_call_done (Rattle.wal_turns.specs.Turned.outcome m v ask)) up
-      (writes_on purpose ask HasTurned (Out l) v (in_hand l v) stands (refl, refl, refl, refl) refl)))
+      let l = lent writer v in (
+        hold_of purpose ask HasTurned v stands,
+        subst
+            (λ (home : Option Plain). let w = view_behind v slot_out
+            (slice_index words 11) home in
+            StandsAt w (page_or_end v w ask (slice_index words 11)
+            (is_call_done (outcome m v ask)) purpose)
+            ask) (sym at_home)
+            (page_or_end_stands purpose l v v (slice_index words 11)
+            (is_call_done (outcome m v ask)) up
+            (writes_on purpose ask HasTurned (Out l) v (in_hand l v) stands (refl, refl, refl, refl) refl)),
+      )
 
   module _ (purpose : Purpose) (l : Lent) (v : View)
       (base : WritesFor (in_hand l v) purpose ask (Out l)) where
@@ -178,7 +213,7 @@ module _ (m : Machine) (ask : Ask) where
         let page = (l.writer).written / 8192 in
         let number = page * 1024 + k in
         let left = on.left in
-        let e = Rattle.wal_core.specs.Steps.load_ring_word number in
+        let e = load_ring_word number in
         let met = slice_index words (word_of_step (in_hand l v) e) in
         let d : Lent = record l { staged = (number, met) ∷ l.staged } in
         let loaded : AreLoaded page (suc k) d.staged = (refl, on.loaded) in
@@ -189,31 +224,42 @@ module _ (m : Machine) (ask : Ask) where
           left = left;
           loaded = loaded;
         } in
-        let more = subst (λ (n : ℕ). LoadsOn ((v.opening).setup).segment_size n d) next further in
-        ((l, refl, record { unwritten = omega arith; copied = omega arith }), bool_cases
-        (λ (b : Bool). StandsNext (cond b
-        (cond (is_segment_new (in_hand l v)) (goes_on (Creates purpose)) (goes_on (Writes purpose)))
-        (goes_on (LoadsPage purpose (k + 1)))) ask (in_hand d v))
-        (eqb (k + 1) 1024)
-        (λ last.
-        let all = subst (λ (n : ℕ). LoadsOn ((v.opening).setup).segment_size n d)
-            (eqb-true _ _ last) more in
-        bool_cases
-        (λ (b : Bool). StandsNext (cond b (goes_on (Creates purpose)) (goes_on (Writes purpose))) ask
-        (in_hand d v))
-        (is_segment_new (in_hand l v))
-        (λ fresh. (d, still, (all, ltb-true _ _ fresh)))
-        (λ made. (d, still, (all, ltb-false _ _ made))))
-        (λ some_left. let apart = eqb-false _ _ some_left in ((d, still, more), omega arith)))
+        let more = subst (λ (n : ℕ). LoadsOn ((v.opening).setup).segment_size n d) next further in (
+          (l, refl, record { unwritten = omega arith; copied = omega arith }),
+          bool_cases
+              (λ (b : Bool). StandsNext (cond b
+              (cond (is_segment_new (in_hand l v)) (goes_on (Creates purpose)) (goes_on (Writes purpose)))
+              (goes_on (LoadsPage purpose (k + 1)))) ask (in_hand d v))
+              (eqb (k + 1) 1024)
+              (λ last.
+              let all = subst (λ (n : ℕ). LoadsOn ((v.opening).setup).segment_size n d)
+              (eqb-true _ _ last) more in
+              bool_cases
+              (λ (b : Bool). StandsNext (cond b (goes_on (Creates purpose)) (goes_on (Writes purpose))) ask
+              (in_hand d v))
+              (is_segment_new (in_hand l v))
+              (λ fresh. (d, still, (all, ltb-true _ _ fresh)))
+              (λ made. (d, still, (all, ltb-false _ _ made))))
+              (λ some_left. let apart = eqb-false _ _ some_left in ((d, still, more), omega arith)),
+        )
 
     sets_down_at : IsFailed l → Goes m ask (SetsDown purpose) (in_hand l v)
     sets_down_at failed =
-        let number = Rattle.wal_core.specs.Steps.fault_number v (l.writer).fault in
+        let number = fault_number v (l.writer).fault in
         let is : number ≡ suc failed.0 =
-            ap (λ (x : Option ℕ). Rattle.wal_core.specs.Steps.fault_number v x) failed.1 in
-        ((l, refl, (suc failed.0, failed.1)), ((l, writes_on purpose ask (Out l) (Out l) (in_hand l v)
-        (Rattle.wal_core.specs.Moves.after_set_down number (in_hand l v)) base (refl, refl, refl, refl)
-        refl, failed), λ (none_set : number ≡ 0). omega (arith, is, none_set)))
+        ap (λ (x : Option ℕ). fault_number v x) failed.1 in (
+          (l, refl, (suc failed.0, failed.1)),
+          (
+            (
+              l,
+              writes_on purpose ask (Out l) (Out l) (in_hand l v)
+                  (after_set_down number (in_hand l v)) base (refl, refl, refl, refl)
+                  refl,
+              failed,
+            ),
+            λ (none_set : number ≡ 0). omega (arith, is, none_set),
+          ),
+        )
 
     stores_written_at : IsSyncedFor v purpose l → Goes m ask (StoresWritten purpose) (in_hand l v)
     stores_written_at synced = by_purpose purpose synced
@@ -260,41 +306,63 @@ module _ (m : Machine) (ask : Ask) where
   pub stores_moment_goes : (v : View) → StandsAt v StoresMoment ask → Goes m ask StoresMoment v
   stores_moment_goes v stands =
       let l = stands.0 in
-      let d : Lent = Rattle.wal_core.specs.Moves.hardened l in
-      of_hold (Goes m ask StoresMoment) (Out l) v (hold_of ForLine ask (Out l) v stands.1)
-      ((l, refl, stands.2.0), (d, writes_on ForLine ask (Out l) (Out d) v (in_hand d v) stands.1
-      (refl, refl, refl, refl) refl, (stands.2.0, stands.2.1, refl)))
+      let d : Lent = hardened l in
+      of_hold (Goes m ask StoresMoment) (Out l) v (hold_of ForLine ask (Out l) v stands.1) (
+        (l, refl, stands.2.0),
+        (
+          d,
+          writes_on ForLine ask (Out l) (Out d) v (in_hand d v) stands.1
+              (refl, refl, refl, refl) refl,
+          (stands.2.0, stands.2.1, refl),
+        ),
+      )
 
   pub stores_flushed_goes : (v : View) → StandsAt v StoresFlushed ask → Goes m ask StoresFlushed v
   stores_flushed_goes v stands =
       let l = stands.0 in
-      of_hold (Goes m ask StoresFlushed) (Out l) v (hold_of ForLine ask (Out l) v stands.1)
-      ((l, refl, (stands.2.2, stands.2.1)), (l, writes_on ForLine ask (Out l) (Out l) v _
-      stands.1 (refl, refl, refl, refl) refl, (record { up = (stands.2.0).0; awaits = inl (stands.2.0).1 },
-      stands.2.1)))
+      of_hold (Goes m ask StoresFlushed) (Out l) v (hold_of ForLine ask (Out l) v stands.1) (
+        (l, refl, (stands.2.2, stands.2.1)),
+        (
+          l,
+          writes_on ForLine ask (Out l) (Out l) v _
+              stands.1 (refl, refl, refl, refl) refl,
+          (
+            record { up = (stands.2.0).0; awaits = inl (stands.2.0).1 },
+            stands.2.1,
+          ),
+        ),
+      )
 
   pub puts_back_goes : (purpose : Purpose) (failed : Bool) (v : View)
       → StandsAt v (PutsBack purpose failed) ask → Goes m ask (PutsBack purpose failed) v
   puts_back_goes purpose false v stands =
-      let l = stands.0 in
-      ((l, hold_of purpose ask (Out l) v stands.1, inl ((stands.2.0).up, stands.2.1)),
-      writes_on purpose ask (Out l) HasTurned v (with_hold HasTurned v) stands.1
-      (refl, refl, refl, refl) refl)
+      let l = stands.0 in (
+        (l, hold_of purpose ask (Out l) v stands.1, inl ((stands.2.0).up, stands.2.1)),
+        writes_on purpose ask (Out l) HasTurned v (with_hold HasTurned v) stands.1
+            (refl, refl, refl, refl) refl,
+      )
   puts_back_goes purpose true v stands =
-      let l = stands.0.0 in
-      ((l, hold_of purpose ask (Out l) v stands.0.1, inr stands.1),
-      (writes_on purpose ask (Out l) HasTurned v (with_hold HasTurned v) stands.0.1
-      (refl, refl, refl, refl) refl, stands.1))
+      let l = stands.0.0 in (
+        (l, hold_of purpose ask (Out l) v stands.0.1, inr stands.1),
+        (
+          writes_on purpose ask (Out l) HasTurned v (with_hold HasTurned v) stands.0.1
+              (refl, refl, refl, refl) refl,
+          stands.1,
+        ),
+      )
 
   pub gives_write_turn_goes : (purpose : Purpose) (failed : Bool) (v : View)
       → StandsAt v (GivesWriteTurn purpose failed) ask → Goes m ask (GivesWriteTurn purpose failed) v
-  gives_write_turn_goes ForLine false v stands = (hold_of ForLine ask HasTurned v stands,
-      inl (resting_posed _ (writes_on ForLine ask HasTurned Idle v (with_hold Idle v) stands
-      (refl, refl, refl, refl) refl)))
-  gives_write_turn_goes (ForPage lock end) false v stands =
-      (hold_of (ForPage lock end) ask HasTurned v stands,
-      writes_on (ForPage lock end) ask HasTurned Idle v (with_hold Idle v) stands
-      (refl, refl, refl, refl) refl)
+  gives_write_turn_goes ForLine false v stands = (
+    hold_of ForLine ask HasTurned v stands,
+    inl (resting_posed _ (writes_on ForLine ask HasTurned Idle v (with_hold Idle v) stands
+        (refl, refl, refl, refl) refl)),
+  )
+  gives_write_turn_goes (ForPage lock end) false v stands = (
+    hold_of (ForPage lock end) ask HasTurned v stands,
+    writes_on (ForPage lock end) ask HasTurned Idle v (with_hold Idle v) stands
+        (refl, refl, refl, refl) refl,
+  )
   gives_write_turn_goes ForLine true v stands =
       (hold_of ForLine ask HasTurned v stands.0, inr (inr stands.1))
   gives_write_turn_goes (ForPage lock end) true v stands =

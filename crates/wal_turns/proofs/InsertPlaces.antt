@@ -1,11 +1,11 @@
 -- At the places of an insert: the step that the order names may be made, and the view behind it
 -- stands at the next place.
-use Rattle.std.proofs.Common.{◌≡◌, ◌≢◌, ◌⊎◌, inl, inr, ⊎_elim, ℕ, ◌+◌, ◌*◌, ◌/◌, ◌%◌, ◌<◌, ◌≤◌, Bool, true, false, cond, eqb, eqb-true, eq-eqb, ne_eqb, not, List, [], ◌∷◌, Contains, slice_index, refl, sym, ap, ◌∙◌, subst, arith}
+use Rattle.std.proofs.Common.{◌≡◌, inl, ⊎_elim, ℕ, ◌+◌, ◌*◌, ◌/◌, ◌%◌, ◌<◌, ◌≤◌, Bool, true, false, cond, eqb, eqb-true, eq-eqb, List, [], ◌∷◌, slice_index, refl, sym, subst, arith}
 use Rattle.std.proofs.lemmas.Bool.{leb-true, leb-false, eqb-false}
 use Rattle.byte_position.specs.Geometry.{IsSegmentSize}
-use Rattle.wal_core.specs.Words.{position_word, down_word, lock_word, log_limit}
-use Rattle.wal_core.specs.Views.{Place, Free, Locked, Loaded, Stored, Copy, Flight, Landed, Copying, Stage, Away, Taken, Looked, Ready, Zeroing, Published, Hold, Idle, View}
-use Rattle.wal_core.specs.Steps.{MayStep, IsResting, StepKind, load_prev, store_prev, store_position, give_position_back, load_buffer_end, store_ring_word, take_mapping_turn, zero_ring_word, publish_end, release, lock_position, take_lock, load_lock, word_of_step, view_behind}
+use Rattle.wal_core.specs.Words.{position_word, lock_word, log_limit}
+use Rattle.wal_core.specs.Views.{Place, Free, Locked, Loaded, Stored, Copy, Flight, Landed, Copying, Stage, Away, Hold, Idle, View}
+use Rattle.wal_core.specs.Steps.{MayStep, IsResting, load_prev, store_position, give_position_back, load_buffer_end, take_lock, load_lock, word_of_step, view_behind}
 use Rattle.wal_page.specs.EntryWords.{address_of_word, words_owned}
 use Rattle.wal_page.specs.Order.{position_behind, room_at}
 use Rattle.wal_page.specs.Order.{Entry}
@@ -14,9 +14,9 @@ use Rattle.byte_position.proofs.Words.{end_address_of-mod_word}
 use Rattle.wal_types.specs.declared.record.Record.{Record}
 use Rattle.record_spelling.specs.Spelling.{IsWritable}
 use Rattle.wal_core.specs.Moves.{entry_reserved}
-use Rattle.wal_turns.specs.Doing.{Ask, Inserts, Commits, Flushes, Doing, Begins, Tries, Reserves, Looks, Copies, Maps, GivesTurn, Tells, Releases, FlushBegins, Machine}
-use Rattle.wal_turns.specs.Turned.{can_step, event_named, fits, lock_tried, next_of, goes_on, answers, is_call_done, outcome}
-use Rattle.wal_turns.specs.Standing.{IsPosed, IsRecord, IsUnder, IsLeft, IsMet, IsWhole, MapsOn, IsReserving, KnowsDown, MayBegin, StandsAt}
+use Rattle.wal_turns.specs.Doing.{Ask, Inserts, Commits, Flushes, Begins, Tries, Reserves, Looks, Copies, Maps, Releases, Machine}
+use Rattle.wal_turns.specs.Turned.{can_step, fits, lock_tried, next_of, goes_on, is_call_done, outcome}
+use Rattle.wal_turns.specs.Standing.{IsPosed, IsRecord, IsUnder, IsLeft, IsMet, IsReserving, KnowsDown, StandsAt}
 use Rattle.wal_turns.proofs.Poses.{Goes, StandsNext, bool_cases, of_posed, posed}
 
 pub posed_at_rest : (v : View) → IsResting v → IsPosed Free [] Landed Away Idle v
@@ -52,15 +52,21 @@ module _ (m : Machine) (ask : Ask) where
   words = (m.state).words
 
   pub begins_goes : (v : View) → (KnowsDown v → ⊥) → StandsAt v Begins ask → Goes m ask Begins v
-  begins_goes v up stands = (tt, ⊎_elim
-      (λ (r : IsResting v). (record {
-        place_is = r.place;
-        locks_are = r.locks;
-        flight_is = r.flight;
-        stage_is = r.stage;
-        hold_is = r.hold;
-      }, stands.1))
-      (λ (d : KnowsDown v). absurd (up d)) stands.0)
+  begins_goes v up stands = (
+    tt,
+    ⊎_elim
+        (λ (r : IsResting v). (
+          record {
+            place_is = r.place;
+            locks_are = r.locks;
+            flight_is = r.flight;
+            stage_is = r.stage;
+            hold_is = r.hold;
+          },
+          stands.1,
+        ))
+        (λ (d : KnowsDown v). absurd (up d)) stands.0,
+  )
 
   tries_at : (n : ℕ) (v : View) → IsRecord ask
       → Goes m ask (Tries n) (posed Free [] Landed Away Idle v)
@@ -73,28 +79,34 @@ module _ (m : Machine) (ask : Ask) where
       bool_cases
       (λ (b : Bool).
       let e = cond b (take_lock lock)
-          (load_lock lock 0) in
+      (load_lock lock 0) in
       let w = view_behind rest e (slice_index words (word_of_step rest e)) (m.state).home in
       MayStep rest e × StandsNext (next_of rest w ask (slice_index words (word_of_step rest e))
       (is_call_done (outcome m rest ask)) (Tries n)) ask w)
       (eqb met 0)
-      (λ free. (low, subst (λ (c : Bool). StandsNext
-      (cond c (goes_on (Reserves lock))
-      (cond (eqb (n + 1) 8) (goes_on Begins)
-      (goes_on (Tries (n + 1))))) ask (cond c held rest))
-      (sym free) ((Free, is_posed Free (lock ∷ []) Landed Away Idle v, tt), insert)))
-      (λ taken. (low, subst (λ (c : Bool). StandsNext
-      (cond c (goes_on (Reserves lock))
-      (cond (eqb (n + 1) 8) (goes_on Begins)
-      (goes_on (Tries (n + 1))))) ask
-      (view_behind rest (load_lock lock 0) met (m.state).home))
-      (sym taken) (bool_cases (λ (c : Bool). StandsNext
-      (cond c (goes_on Begins)
-      (goes_on (Tries (n + 1)))) ask
-      (view_behind rest (load_lock lock 0) met (m.state).home))
-      (eqb (n + 1) 8)
-      (λ last. (inl (record { place = refl; locks = refl; flight = refl; stage = refl; hold = refl }), insert))
-      (λ more. (record { place_is = refl; locks_are = refl; flight_is = refl; stage_is = refl; hold_is = refl }, insert)))))
+      (λ free. (
+        low,
+        subst (λ (c : Bool). StandsNext
+            (cond c (goes_on (Reserves lock))
+            (cond (eqb (n + 1) 8) (goes_on Begins)
+            (goes_on (Tries (n + 1))))) ask (cond c held rest))
+            (sym free) ((Free, is_posed Free (lock ∷ []) Landed Away Idle v, tt), insert),
+      ))
+      (λ taken. (
+        low,
+        subst (λ (c : Bool). StandsNext
+            (cond c (goes_on (Reserves lock))
+            (cond (eqb (n + 1) 8) (goes_on Begins)
+            (goes_on (Tries (n + 1))))) ask
+            (view_behind rest (load_lock lock 0) met (m.state).home))
+            (sym taken) (bool_cases (λ (c : Bool). StandsNext
+            (cond c (goes_on Begins)
+            (goes_on (Tries (n + 1)))) ask
+            (view_behind rest (load_lock lock 0) met (m.state).home))
+            (eqb (n + 1) 8)
+            (λ last. (inl (record { place = refl; locks = refl; flight = refl; stage = refl; hold = refl }), insert))
+            (λ more. (record { place_is = refl; locks_are = refl; flight_is = refl; stage_is = refl; hold_is = refl }, insert))),
+      ))
 
   pub tries_goes : (n : ℕ) (v : View) → StandsAt v (Tries n) ask → Goes m ask (Tries n) v
   tries_goes n v stands = of_posed (Goes m ask (Tries n)) Free [] Landed Away Idle v stands.0
@@ -115,10 +127,12 @@ module _ (m : Machine) (ask : Ask) where
       → Goes m ask (Reserves lock) (at_reserving lock Free v)
   locks_at lock v insert can =
       let u = at_reserving lock Free v in
-      let at = position_word words in
-      ((refl, eqb-true _ _ can), subst
-      (λ (c : Bool). StandsAt (cond c (at_reserving lock (Locked at) v) u) (Reserves lock) ask)
-      (sym (eq-eqb at at refl)) (stands_reserving lock (Locked at) v tt insert))
+      let at = position_word words in (
+        (refl, eqb-true _ _ can),
+        subst
+            (λ (c : Bool). StandsAt (cond c (at_reserving lock (Locked at) v) u) (Reserves lock) ask)
+            (sym (eq-eqb at at refl)) (stands_reserving lock (Locked at) v tt insert),
+      )
 
   fits_at : (lock at : ℕ) (v : View) → IsRecord ask
       → Goes m ask (Reserves lock) (at_reserving lock (Locked at) v)
@@ -141,15 +155,23 @@ module _ (m : Machine) (ask : Ask) where
           MayStep u e × StandsNext (cond b (goes_on (Reserves lock)) (goes_on (Releases lock true)))
           a w)
           (fits v a at)
-          (λ enough. ((at, refl), ((Loaded at _, is_posed _ (lock ∷ []) Landed Away Idle v, enough),
-          insert)))
-          (λ few. ((at, refl, over few), record {
-            place_is = refl;
-            locks_are = refl;
-            flight_is = refl;
-            stage_is = refl;
-            hold_is = refl;
-          }))
+          (λ enough. (
+            (at, refl),
+            (
+              (Loaded at _, is_posed _ (lock ∷ []) Landed Away Idle v, enough),
+              insert,
+            ),
+          ))
+          (λ few. (
+            (at, refl, over few),
+            record {
+              place_is = refl;
+              locks_are = refl;
+              flight_is = refl;
+              stage_is = refl;
+              hold_is = refl;
+            },
+          ))
 
       by_ask : (a : Ask) → IsRecord a → Goes m a (Reserves lock) (at_reserving lock (Locked at) v)
       by_ask (Inserts value) writable =
@@ -181,14 +203,21 @@ module _ (m : Machine) (ask : Ask) where
         let rises = end_address_of-mono_lt size valid at (position_behind size e) (omega arith) in
         let first = end_address_of-mod_word size valid at whole in
         let last = end_address_of-mod_word size valid (position_behind size e) (omega arith) in
-        let left : 0 < words_owned size e = omega arith in
-        ((at, prev, refl, writable, within, ((omega arith, λ i held. held)), refl), (c, record {
-          place_is = refl;
-          locks_are = refl;
-          flight_is = refl;
-          stage_is = refl;
-          hold_is = refl;
-        }, record { locks_are = refl; whole = whole }, left))
+        let left : 0 < words_owned size e = omega arith in (
+          (at, prev, refl, writable, within, ((omega arith, λ i held. held)), refl),
+          (
+            c,
+            record {
+              place_is = refl;
+              locks_are = refl;
+              flight_is = refl;
+              stage_is = refl;
+              hold_is = refl;
+            },
+            record { locks_are = refl; whole = whole },
+            left,
+          ),
+        )
 
   stores_position_at : (lock at prev : ℕ) (v : View)
       → IsSegmentSize ((v.opening).setup).segment_size → at % 8 ≡ 0 → IsRecord ask
@@ -253,12 +282,14 @@ module _ (m : Machine) (ask : Ask) where
         flight_is = refl;
         stage_is = refl;
         hold_is = refl;
-      } in
-      (omega arith, bool_cases
-      (λ (b : Bool). StandsNext (cond b (goes_on (Copies lock)) (goes_on (Maps lock))) ask w)
-      (eqb met ((address / 8192 + 1) * 8192))
-      (λ own. let same = eqb-true _ _ own in ((c, pose, under, (left, omega arith)), insert))
-      (λ other. ((Away, (c, pose, under, left), tt), insert)))
+      } in (
+        omega arith,
+        bool_cases
+            (λ (b : Bool). StandsNext (cond b (goes_on (Copies lock)) (goes_on (Maps lock))) ask w)
+            (eqb met ((address / 8192 + 1) * 8192))
+            (λ own. let same = eqb-true _ _ own in ((c, pose, under, (left, omega arith)), insert))
+            (λ other. ((Away, (c, pose, under, left), tt), insert)),
+      )
 
   pub looks_goes : (lock : ℕ) (v : View) → 0 < ((v.opening).setup).ring_pages
       → StandsAt v (Looks lock) ask → Goes m ask (Looks lock) v
@@ -278,20 +309,22 @@ module _ (m : Machine) (ask : Ask) where
       let d : Copy = record c { copied = c.copied + 1 } in
       let w = at_copy lock d Away v in
       let pose = is_posed Free (lock ∷ []) (Copying d) Away Idle v in
-      let under_still : IsUnder lock d = record { locks_are = under.locks_are; whole = under.whole } in
-      ((c, refl, record { left = left; met = omega arith }), bool_cases
-      (λ (b : Bool). StandsNext (cond b (goes_on (Releases lock false))
-      (cond (eqb (address_of_word size c.entry (c.copied + 1) % 8192) 0) (goes_on (Looks lock))
-      (goes_on (Copies lock)))) ask w)
-      (eqb (c.copied + 1) (words_owned size c.entry))
-      (λ whole. ((d, pose, under_still, eqb-true _ _ whole), insert))
-      (λ more. let apart = eqb-false _ _ more in
-      let left_still : IsLeft size d = omega arith in bool_cases
-      (λ (b : Bool). StandsNext (cond b (goes_on (Looks lock)) (goes_on (Copies lock))) ask w)
-      (eqb (address_of_word size c.entry (c.copied + 1) % 8192) 0)
-      (λ page. ((d, pose, under_still, left_still), insert))
-      (λ inside. let within = eqb-false _ _ inside in
-      ((d, pose, under_still, (left_still, omega arith)), insert))))
+      let under_still : IsUnder lock d = record { locks_are = under.locks_are; whole = under.whole } in (
+        (c, refl, record { left = left; met = omega arith }),
+        bool_cases
+            (λ (b : Bool). StandsNext (cond b (goes_on (Releases lock false))
+            (cond (eqb (address_of_word size c.entry (c.copied + 1) % 8192) 0) (goes_on (Looks lock))
+            (goes_on (Copies lock)))) ask w)
+            (eqb (c.copied + 1) (words_owned size c.entry))
+            (λ whole. ((d, pose, under_still, eqb-true _ _ whole), insert))
+            (λ more. let apart = eqb-false _ _ more in
+            let left_still : IsLeft size d = omega arith in bool_cases
+            (λ (b : Bool). StandsNext (cond b (goes_on (Looks lock)) (goes_on (Copies lock))) ask w)
+            (eqb (address_of_word size c.entry (c.copied + 1) % 8192) 0)
+            (λ page. ((d, pose, under_still, left_still), insert))
+            (λ inside. let within = eqb-false _ _ inside in
+            ((d, pose, under_still, (left_still, omega arith)), insert))),
+      )
 
   pub copies_goes : (lock : ℕ) (v : View) → IsSegmentSize ((v.opening).setup).segment_size
       → StandsAt v (Copies lock) ask → Goes m ask (Copies lock) v

@@ -1,8 +1,8 @@
 -- A view that steps stays live.
-use Rattle.std.proofs.Common.{◌≡◌, ℕ, ◌+◌, Bool, true, false, cond, eqb, refl}
+use Rattle.std.proofs.Common.{◌≡◌, ℕ, Bool, true, false, cond, eqb, refl}
 use mathlib.Core.Option.{Option, none, some}
 use Rattle.wal_core.specs.Views.{Place, Free, Locked, Loaded, Stored, Plain, Hold, Idle, Turned, Out, Taken, View}
-use Rattle.wal_core.specs.Moves.{with_hold, with_place, with_stage, with_working, after_load_prev, after_store_prev, after_store_position, after_give_back}
+use Rattle.wal_core.specs.Moves.{with_hold, with_place, with_stage, after_load_prev, after_store_prev, after_store_position, after_give_back}
 use Rattle.wal_core.specs.Steps.{StepKind, view_behind, with_slot, with_call_on, load_position, take_write_turn, slot_out, slot_in, release_write_turn, lock_position, load_prev, store_prev, store_position, give_position_back, load_lock, take_lock, advance, release, load_buffer_end, store_ring_word, load_ring_word, load_written, load_flushed, load_moment, load_down, store_written, store_moment, store_flushed, set_down, take_mapping_turn, load_initialised_end, clear_end, zero_ring_word, publish_end, publish_initialised_end, release_mapping_turn, create, write, sync}
 
 abbrev is_live : View → Bool

@@ -1,12 +1,11 @@
 -- The bytes of a page's words that were loaded in order.
-use Rattle.std.proofs.Common.{◌≡◌, ◌≢◌, ◌⊎◌, inl, inr, ⊎_elim, ℕ, zero, suc, ◌+◌, ◌*◌, ◌<◌, ◌≤◌, List, [], ◌∷◌, ◌++◌, length, take, drop, Contains, refl, sym, ap, ◌∙◌, subst, arith}
+use Rattle.std.proofs.Common.{◌≡◌, inl, inr, ℕ, zero, suc, ◌+◌, ◌*◌, ◌<◌, List, [], ◌∷◌, ◌++◌, length, take, drop, Contains, refl, sym, ap, ◌∙◌, subst, arith}
 use Rattle.std.proofs.lemmas.Bool.{cases_lt}
 use Rattle.std.specs.Int.{w64, to_le_bytes}
 use Rattle.std.proofs.lemmas.List.{length-append, take-append-le, drop-append-le, length-drop}
 use Rattle.std.proofs.Math.Seq.{drop-append_seam, take-length}
 use Rattle.segment_disk.specs.DiskImage.{word_of}
 use Rattle.wal_core.specs.Views.{View}
-use Rattle.wal_core.specs.Steps.{IsPageLoaded}
 use Rattle.wal_turns.specs.Turned.{bytes_staged}
 use Rattle.wal_turns.specs.Standing.{AreLoaded}
 
@@ -55,9 +54,9 @@ module _ (v : View) (page : ℕ) where
   bytes-words zero staged all n below = absurd (omega arith)
   bytes-words (suc k) [] all n below = absurd all
   bytes-words (suc k) (s ∷ ss) all n below = elim (cases_lt n k) [
-      inl earlier ↦ (let e = bytes-words k ss all.1 n earlier in
-      (e.0, there_too s ss _ e.1, earlier_word k n s ss all.1 earlier ∙ e.2))
+    | inl earlier ↦ (let e = bytes-words k ss all.1 n earlier in
+        (e.0, there_too s ss _ e.1, earlier_word k n s ss all.1 earlier ∙ e.2))
     | inr last ↦ (let same : n ≡ k = omega arith in
-      subst (λ (i : ℕ). IsThere (suc k) (s ∷ ss) i) (sym same)
-      (s.1, (0, omega arith, (λ i. (all.0 i, s.1))), last_word k s ss all.1))
+        subst (λ (i : ℕ). IsThere (suc k) (s ∷ ss) i) (sym same)
+        (s.1, (0, omega arith, (λ i. (all.0 i, s.1))), last_word k s ss all.1))
   ]

@@ -1,18 +1,16 @@
 -- At the places of mapping, and where an insert tells its progress and releases its lock: the step
 -- that the order names may be made, and the view behind it stands at the next place.
-use Rattle.std.proofs.Common.{◌≡◌, ◌≢◌, ◌⊎◌, inl, inr, ⊎_elim, ℕ, ◌+◌, ◌-◌, ◌*◌, ◌/◌, ◌%◌, ◌<◌, ◌≤◌, Bool, true, false, cond, eqb, eqb-true, eq-eqb, not, ◌||◌, List, [], ◌∷◌, Contains, filter, slice_index, refl, sym, ap, ◌∙◌, subst, arith}
+use Rattle.std.proofs.Common.{◌≡◌, inl, ℕ, ◌+◌, ◌-◌, ◌*◌, ◌≤◌, Bool, true, false, cond, eqb, eq-eqb, not, ◌||◌, List, [], ◌∷◌, Contains, filter, slice_index, refl, sym, ap, subst, arith}
 use Rattle.std.proofs.Math.Dec.{ltb, leb}
-use Rattle.std.proofs.lemmas.Bool.{leb-true, leb-false, ltb-true}
+use Rattle.std.proofs.lemmas.Bool.{leb-false, ltb-true}
 use mathlib.Core.Option.{Option, none, some}
-use Rattle.wal_page.specs.EntryWords.{address_of_word, words_owned}
-use Rattle.wal_core.specs.Words.{mapping_turn}
-use Rattle.wal_core.specs.Views.{Place, Free, Copy, Flight, Landed, Copying, Stage, Away, Taken, Looked, Ready, Zeroing, Published, Hold, Idle, View, is_among}
+use Rattle.wal_core.specs.Views.{Free, Copy, Flight, Landed, Copying, Stage, Away, Taken, Looked, Ready, Zeroing, Published, Idle, View, is_among}
 use Rattle.wal_core.specs.Moves.{landed, standing, without_lock}
 use Rattle.wal_core.specs.Paged.{IsOpen}
-use Rattle.wal_core.specs.Steps.{MayStep, IsResting, StepKind, load_written, take_mapping_turn, zero_ring_word, publish_end, release, word_of_step, view_behind}
-use Rattle.wal_turns.specs.Doing.{Ask, Inserts, Commits, Flushes, Doing, Looks, Maps, GivesTurn, Tells, Releases, Machine}
-use Rattle.wal_turns.specs.Turned.{can_step, own_end, next_of, goes_on, answers, behind_insert}
-use Rattle.wal_turns.specs.Standing.{IsPosed, IsRecord, IsUnder, IsLeft, IsWhole, MapsOn, StandsAt, StandsToRelease}
+use Rattle.wal_core.specs.Steps.{MayStep, IsResting, load_written, zero_ring_word, publish_end, release, word_of_step, view_behind}
+use Rattle.wal_turns.specs.Doing.{Ask, Inserts, Commits, Flushes, Maps, GivesTurn, Tells, Releases, Machine}
+use Rattle.wal_turns.specs.Turned.{can_step, own_end, goes_on, behind_insert}
+use Rattle.wal_turns.specs.Standing.{IsPosed, IsRecord, IsUnder, IsLeft, IsAllCopied, MapsOn, StandsAt}
 use Rattle.wal_turns.proofs.Poses.{Goes, StandsNext, bool_cases, of_posed, posed}
 use Rattle.wal_turns.proofs.InsertPlaces.{is_posed}
 
@@ -34,9 +32,12 @@ module _ (m : Machine) (ask : Ask) where
 
     takes_turn_at : can_step m (at_map lock c Away v) ask (Maps lock) ≡ true
         → Goes m ask (Maps lock) (at_map lock c Away v)
-    takes_turn_at can = (refl, subst
-        (λ (b : Bool). StandsAt (cond b (at_map lock c Taken v) (at_map lock c Away v)) (Maps lock)
-        ask) (sym can) (stands_mapping Taken tt))
+    takes_turn_at can = (
+      refl,
+      subst
+          (λ (b : Bool). StandsAt (cond b (at_map lock c Taken v) (at_map lock c Away v)) (Maps lock)
+          ask) (sym can) (stands_mapping Taken tt),
+    )
 
     -- behind the load of written
     looks_at_written : (at : ℕ) → Goes m ask (Maps lock) (at_map lock c (Looked at) v)
@@ -51,20 +52,22 @@ module _ (m : Machine) (ask : Ask) where
           flight_is = refl;
           stage_is = refl;
           hold_is = refl;
-        } in
-        (tt, bool_cases
-        (λ (b : Bool). StandsNext (cond b (goes_on (GivesTurn lock none))
-        (cond (ltb (met + pages * 8192) (at + 8192))
-        (goes_on (GivesTurn lock (some (at + 8192 - pages * 8192)))) (goes_on (Maps lock)))) ask w)
-        (leb (own_end u) at)
-        (λ own. ((Ready at met, (c, pose, under, left), tt), insert))
-        (λ ahead. bool_cases
-        (λ (b : Bool). StandsNext
-        (cond b (goes_on (GivesTurn lock (some (at + 8192 - pages * 8192)))) (goes_on (Maps lock)))
-        ask w)
-        (ltb (met + pages * 8192) (at + 8192))
-        (λ old. ((Ready at met, (c, pose, under, left), tt), insert))
-        (λ written. ((Ready at met, (c, pose, under, left), ltb-false _ _ written), insert))))
+        } in (
+          tt,
+          bool_cases
+              (λ (b : Bool). StandsNext (cond b (goes_on (GivesTurn lock none))
+              (cond (ltb (met + pages * 8192) (at + 8192))
+              (goes_on (GivesTurn lock (some (at + 8192 - pages * 8192)))) (goes_on (Maps lock)))) ask w)
+              (leb (own_end u) at)
+              (λ own. ((Ready at met, (c, pose, under, left), tt), insert))
+              (λ ahead. bool_cases
+              (λ (b : Bool). StandsNext
+              (cond b (goes_on (GivesTurn lock (some (at + 8192 - pages * 8192)))) (goes_on (Maps lock)))
+              ask w)
+              (ltb (met + pages * 8192) (at + 8192))
+              (λ old. ((Ready at met, (c, pose, under, left), tt), insert))
+              (λ written. ((Ready at met, (c, pose, under, left), ltb-false _ _ written), insert))),
+        )
 
     zeroes_at : (at count : ℕ) → count ≤ 1024 → Goes m ask (Maps lock) (at_map lock c (Zeroing at count) v)
     zeroes_at at count within =
@@ -84,24 +87,54 @@ module _ (m : Machine) (ask : Ask) where
     maps_at : (s : Stage) → MapsOn v s → can_step m (at_map lock c s v) ask (Maps lock) ≡ true
         → Goes m ask (Maps lock) (at_map lock c s v)
     maps_at Away so can = takes_turn_at can
-    maps_at Taken so can = (tt, ((Looked _, (c, record {
-      place_is = refl;
-      locks_are = refl;
-      flight_is = refl;
-      stage_is = refl;
-      hold_is = refl;
-    }, under, left), tt), insert))
+    maps_at Taken so can = (
+      tt,
+      (
+        (
+          Looked _,
+          (
+            c,
+            record {
+              place_is = refl;
+              locks_are = refl;
+              flight_is = refl;
+              stage_is = refl;
+              hold_is = refl;
+            },
+            under,
+            left,
+          ),
+          tt,
+        ),
+        insert,
+      ),
+    )
     maps_at (Looked at) so can = looks_at_written at
     maps_at (Ready at written) so can =
         ((at, written, refl, so), stands_mapping (Zeroing at 0) (omega arith))
     maps_at (Zeroing at count) so can = zeroes_at at count so
-    maps_at (Published at) so can = ((at, refl), ((Taken, (c, record {
-      place_is = refl;
-      locks_are = refl;
-      flight_is = refl;
-      stage_is = refl;
-      hold_is = refl;
-    }, under, left), tt), insert))
+    maps_at (Published at) so can = (
+      (at, refl),
+      (
+        (
+          Taken,
+          (
+            c,
+            record {
+              place_is = refl;
+              locks_are = refl;
+              flight_is = refl;
+              stage_is = refl;
+              hold_is = refl;
+            },
+            under,
+            left,
+          ),
+          tt,
+        ),
+        insert,
+      ),
+    )
 
     gives_turn_at : (s : Stage) (end : Option ℕ) → IsOpen s
         → Goes m ask (GivesTurn lock end) (at_map lock c s v)
@@ -111,10 +144,24 @@ module _ (m : Machine) (ask : Ask) where
         (may, ((c, is_posed Free (lock ∷ []) (Copying c) Away Idle v, under, left), insert))
 
     tells_at : (end : ℕ) → Goes m ask (Tells lock end) (at_map lock c Away v)
-    tells_at end = (((0, omega arith, refl), (c, refl, (subst
-        (λ (ls : List ℕ). Contains ls lock) (sym under.locks_are) (0, omega arith, refl), omega arith))),
-        (((c, is_posed Free (lock ∷ []) (Copying c) Away Idle v, under, left), insert),
-        omega arith))
+    tells_at end = (
+      (
+        (0, omega arith, refl),
+        (
+          c,
+          refl,
+          (
+            subst
+                (λ (ls : List ℕ). Contains ls lock) (sym under.locks_are) (0, omega arith, refl),
+            omega arith,
+          ),
+        ),
+      ),
+      (
+        ((c, is_posed Free (lock ∷ []) (Copying c) Away Idle v, under, left), insert),
+        omega arith,
+      ),
+    )
 
   pub maps_goes : (lock : ℕ) (v : View) → StandsAt v (Maps lock) ask
       → can_step m v ask (Maps lock) ≡ true → Goes m ask (Maps lock) v
@@ -168,24 +215,33 @@ module _ (m : Machine) (ask : Ask) where
 
   releases_full_at : (lock : ℕ) (v : View)
       → Goes m ask (Releases lock true) (posed Free (lock ∷ []) Landed Away Idle v)
-  releases_full_at lock v = (((0, omega arith, refl),
-      λ (c : Copy) (is : Landed ≡ Copying c). absurd (cc)), inl (at_rest lock Landed v refl))
+  releases_full_at lock v = (
+    (
+      (0, omega arith, refl),
+      λ (c : Copy) (is : Landed ≡ Copying c). absurd (cc),
+    ),
+    inl (at_rest lock Landed v refl),
+  )
 
   releases_at : (lock : ℕ) (c : Copy) (v : View) → IsUnder lock c
-      → IsWhole ((v.opening).setup).segment_size c → IsRecord ask
+      → IsAllCopied ((v.opening).setup).segment_size c → IsRecord ask
       → Goes m ask (Releases lock false) (at_map lock c Away v)
   releases_at lock c v under whole insert =
       let lands : landed lock (Copying c) ≡ Landed =
       subst (λ (ls : List ℕ). cond (is_among ls lock) (standing c (without_lock lock ls)) (Copying c)
       ≡ Landed) (sym under.locks_are)
       (ap (λ (b : Bool). cond (b || false) (standing c (cond (not b) (lock ∷ []) [])) (Copying c))
-      (eq-eqb lock lock refl)) in
-      (((0, omega arith, refl), λ (d : Copy) (is : Copying c ≡ Copying d) (same : Contains d.locks lock).
-      let copy : c ≡ d = cc in
-      subst (IsWhole ((v.opening).setup).segment_size) copy whole),
-      answered ask insert
-      (view_behind (at_map lock c Away v) (release lock) (slice_index words (2 + lock))
-      (m.state).home) (at_rest lock (Copying c) v lands))
+      (eq-eqb lock lock refl)) in (
+        (
+          (0, omega arith, refl),
+          λ (d : Copy) (is : Copying c ≡ Copying d) (same : Contains d.locks lock).
+              let copy : c ≡ d = cc in
+              subst (IsAllCopied ((v.opening).setup).segment_size) copy whole,
+        ),
+        answered ask insert
+            (view_behind (at_map lock c Away v) (release lock) (slice_index words (2 + lock))
+            (m.state).home) (at_rest lock (Copying c) v lands),
+      )
 
   pub releases_goes : (lock : ℕ) (full : Bool) (v : View) → StandsAt v (Releases lock full) ask
       → Goes m ask (Releases lock full) v

@@ -1,12 +1,11 @@
 -- Only behind the load of the down word comes the place at which the writer is taken out.
-use Rattle.std.proofs.Common.{◌≡◌, ℕ, ◌+◌, ◌-◌, ◌*◌, ◌/◌, ◌%◌, Bool, true, false, cond, eqb, refl, List}
+use Rattle.std.proofs.Common.{◌≡◌, ℕ, ◌+◌, ◌-◌, ◌*◌, ◌%◌, Bool, true, false, cond, eqb, refl}
 use Rattle.std.proofs.Math.Dec.{ltb, leb}
-use mathlib.Core.Option.{Option, none, some}
+use mathlib.Core.Option.{none, some}
 use Rattle.std.specs.Prelude.{Some, None}
-use Rattle.wal_types.specs.declared.record.Record.{Record}
 use Rattle.wal_core.specs.Views.{Place, Free, Locked, Loaded, Stored, Stage, Away, Taken, Looked, Ready, Zeroing, Published, View}
 use Rattle.wal_turns.specs.Doing.{Ask, Inserts, Commits, Flushes, Purpose, ForLine, ForPage, Doing, Begins, Tries, Reserves, Looks, Copies, Maps, GivesTurn, Tells, Releases, FlushBegins, LoadsPosition, LoadsFlushed, LoadsMoment, Visits, TakesTurn, LoadsDown, TakesOut, LoadsPage, Creates, Writes, SyncsFull, SyncsLast, StoresWritten, StoresMoment, StoresFlushed, SetsDown, PutsBack, GivesWriteTurn}
-use Rattle.wal_turns.specs.Turned.{Next, goes_on, answers, next_of, page_or_end, behind_reserving, behind_mapping, behind_written, behind_insert, behind_writing, behind_call, line_start, has_page_left, is_some_segment, waiting_segment, fits, own_end, lock_tried, is_whole, next_address, asked_end, is_segment_new, of_lent}
+use Rattle.wal_turns.specs.Turned.{Next, goes_on, answers, next_of, page_or_end, behind_reserving, behind_mapping, behind_insert, behind_call, line_start, has_page_left, is_some_segment, waiting_segment, fits, own_end, lock_tried, is_whole, next_address, asked_end, is_segment_new, of_lent}
 use Rattle.wal_turns.specs.Standing.{UpFor}
 
 abbrev pub UpNext : Next → ℕ → Type 0

@@ -1,7 +1,7 @@
 -- A view with its parts set, and what a step's event leads to at one place.
-use Rattle.std.proofs.Common.{◌≡◌, ◌≢◌, ◌⊎◌, ℕ, Bool, true, false, List, slice_index, refl, sym, subst}
+use Rattle.std.proofs.Common.{◌≡◌, ℕ, Bool, true, false, List, slice_index, refl, sym, subst}
 use Rattle.wal_core.specs.Views.{Place, Flight, Stage, Hold, View}
-use Rattle.wal_core.specs.Steps.{MayStep, IsResting, word_of_step, view_behind}
+use Rattle.wal_core.specs.Steps.{MayStep, word_of_step, view_behind}
 use Rattle.wal_turns.specs.Doing.{Ask, Doing, Machine}
 use Rattle.wal_turns.specs.Turned.{Next, goes_on, answers, event_named, next_of, outcome, is_call_done}
 use Rattle.wal_turns.specs.Standing.{IsPosed, MayBegin, StandsAt}
@@ -27,8 +27,13 @@ pub of_posed : (P : View → Type 0) (place : Place) (locks : List ℕ) (flight 
     → P (posed place locks flight stage hold v) → P v
 of_posed P place locks flight stage hold v e holds = subst
     (λ (y : Place × List ℕ × Flight × Stage × Hold). P (posed y.0 y.1 y.2 y.3 y.4 v))
-    (λ i. (sym e.place_is i, sym e.locks_are i, sym e.flight_is i, sym e.stage_is i,
-    sym e.hold_is i)) holds
+    (λ i. (
+      sym e.place_is i,
+      sym e.locks_are i,
+      sym e.flight_is i,
+      sym e.stage_is i,
+      sym e.hold_is i,
+    )) holds
 
 -- how a view stands behind its step
 abbrev pub StandsNext : Next → Ask → View → Type 0

@@ -1,24 +1,23 @@
 -- A machine that runs: each turn leaves its state or makes a step, and it runs on.
-use Rattle.std.proofs.Common.{◌≡◌, ◌≢◌, ◌⊎◌, inl, inr, ⊎_elim, ℕ, zero, suc, ◌+◌, Bool, true, false, cond, eqb, eqb-true, not, ◌&&◌, ◌||◌, All, List, [], ◌∷◌, set, slice_index, slice_get, Some, None, refl, sym, ap, ◌∙◌, subst, arith}
+use Rattle.std.proofs.Common.{◌≡◌, ◌≢◌, ◌⊎◌, inl, inr, ⊎_elim, ℕ, zero, suc, ◌+◌, Bool, true, false, cond, eqb, eqb-true, not, ◌&&◌, ◌||◌, All, List, [], ◌∷◌, set, slice_index, slice_get, Some, refl, sym, ap, ◌∙◌, subst, arith}
 use Rattle.std.specs.Option.{unwrap_or}
 use Rattle.std.proofs.lemmas.Option.{slice_get_within, unwrap_or-slice_get}
 use mathlib.Core.Option.{none, some}
-use lib.ListN.{get_elem?}
 use Rattle.wal_core.specs.Words.{down_word}
-use Rattle.wal_core.specs.Views.{HasAt, Plain, Lent, Hold, Out, Turned as HasTurned, View, working_of}
-use Rattle.wal_core.specs.Steps.{StepKind, MayStep, State, Step, Moves, IsLive, load_down, word_of_step, value_behind, view_behind, home_behind}
+use Rattle.wal_core.specs.Views.{Plain, Lent, Out, Turned as HasTurned, View, working_of}
+use Rattle.wal_core.specs.Steps.{StepKind, MayStep, State, Step, Moves, IsLive, load_down, word_of_step, view_behind}
 use Rattle.wal_core.proofs.Lists.{at_else, at_place, part_at}
 use Rattle.wal_core.proofs.WordLists.{word_again}
 use Rattle.step_laws.proofs.EveryStep.{step_keeps}
-use Rattle.wal_turns.specs.Doing.{Ask, Inserts, Commits, Flushes, Purpose, Doing, Begins, FlushBegins, LoadsDown, TakesOut, Backend, Machine}
-use Rattle.wal_turns.specs.Turned.{Turn, Waits, Next, goes_on, answers, can_step, looks_down, event_named, next_of, outcome, is_call_done, with_answer, with_next, tells_full, line_start, state_stepped, moved_on, fallen, word_waited, turned, turned_by, turned_for, turned_of, run_of}
-use Rattle.wal_turns.specs.Standing.{IsRunning, HasBackend, HasLeft, IsLine, IsStepOrSame, MayBegin, StandsAt, StandsFor, UpFor, AwaitsOne}
-use Rattle.wal_turns.proofs.Poses.{Goes, StandsNext, bool_cases}
+use Rattle.wal_turns.specs.Doing.{Ask, Inserts, Commits, Flushes, Doing, Backend, Machine}
+use Rattle.wal_turns.specs.Turned.{Turn, Waits, Next, goes_on, answers, can_step, looks_down, event_named, next_of, outcome, is_call_done, with_answer, with_next, tells_full, line_start, state_stepped, moved_on, fallen, word_waited, turned_by}
+use Rattle.wal_turns.specs.Standing.{IsRunning, HasBackend, HasLeft, IsLine, IsStepOrSame, MayBegin, StandsAt, StandsFor, UpFor}
+use Rattle.wal_turns.proofs.Poses.{StandsNext, bool_cases}
 use Rattle.wal_turns.proofs.FlushPlaces.{hold_of}
 use Rattle.wal_turns.proofs.NextUp.{UpNext, next_up, up_start}
 use Rattle.wal_turns.proofs.DownStays.{down_still}
 use Rattle.wal_turns.proofs.LiveStays.{live_stays}
-use Rattle.wal_turns.proofs.AtView.{HomeBy, goes, homes, own, sound, to_writer_of, up_by}
+use Rattle.wal_turns.proofs.AtView.{HomeBy, goes, homes, to_writer_of, up_by}
 
 -- ---- lists
 
@@ -133,36 +132,45 @@ module _ (m : Machine) (run : IsRunning m) (number : ℕ) (b : Backend) (here : 
   runs_on : (e : StepKind) → MayStep v e → (c : Backend) (full : Bool) → All IsLine c.asks
       → StandsFor c (behind e) → HomeBy m run number v live ask e
       → UpFor c.doing (down_word (later e).words) → Good m (with_backend e c full)
-  runs_on e may c full lines mine at_home up = (inr (step_made e may), record {
-    sound = step_keeps m.opening m.state (later e) run.sound (step_made e may);
-    lines = λ j d is. ⊎_elim
-        (λ (h : (j ≡ number) × (c ≡ d)). subst (λ (x : Backend). All IsLine x.asks) h.1 lines)
-        (λ (h : (j ≢ number) × HasBackend m j d). run.lines j d h.1)
-        (set_cases m.backends number j c d is);
-    views = λ j d is. ⊎_elim
-        (λ (h : (j ≡ number) × (c ≡ d)). subst
-        (λ (y : ℕ × Backend). (u : View) × IsLive (later e) (y.0 + 1) u × StandsFor y.1 u)
-        (λ i. (sym h.0 i, h.1 i))
-        (behind e, (at_place views id v (behind e) live.0, still_live e may), mine))
-        (λ (h : (j ≢ number) × HasBackend m j d).
-        let old = run.views j d h.1 in
-        (old.0, (at_else views id (j + 1) (behind e) old.0 (λ same. h.0 (omega (arith, same)))
-        old.1.0, old.1.1), old.2))
-        (set_cases m.backends number j c d is);
-    at_home = at_home;
-    up = λ j d a is has. ⊎_elim
-        (λ (h : (j ≡ number) × (c ≡ d)).
-        subst (λ (x : Backend). UpFor x.doing (down_word (later e).words)) h.1 up)
-        (λ (h : (j ≢ number) × HasBackend m j d).
-        let old = run.views j d h.1 in
-        let up_there = run.up j d a h.1 has in
-        up_by d.doing (down_word (later e).words) (λ purpose takes.
-        down_kept e may j old.0 h.0 old.1
-        (hold_of purpose a HasTurned old.0
-        (subst (λ (x : Doing). StandsAt old.0 x a) takes (old.2 a has)))
-        ∙ subst (λ (x : Doing). UpFor x (down_word words)) takes up_there))
-        (set_cases m.backends number j c d is);
-  })
+  runs_on e may c full lines mine at_home up = (
+    inr (step_made e may),
+    record {
+      sound = step_keeps m.opening m.state (later e) run.sound (step_made e may);
+      lines = λ j d is. ⊎_elim
+          (λ (h : (j ≡ number) × (c ≡ d)). subst (λ (x : Backend). All IsLine x.asks) h.1 lines)
+          (λ (h : (j ≢ number) × HasBackend m j d). run.lines j d h.1)
+          (set_cases m.backends number j c d is);
+      views = λ j d is. ⊎_elim
+          (λ (h : (j ≡ number) × (c ≡ d)). subst
+          (λ (y : ℕ × Backend). (u : View) × IsLive (later e) (y.0 + 1) u × StandsFor y.1 u)
+          (λ i. (sym h.0 i, h.1 i))
+          (behind e, (at_place views id v (behind e) live.0, still_live e may), mine))
+          (λ (h : (j ≢ number) × HasBackend m j d).
+          let old = run.views j d h.1 in (
+            old.0,
+            (
+              at_else views id (j + 1) (behind e) old.0 (λ same. h.0 (omega (arith, same)))
+                  old.1.0,
+              old.1.1,
+            ),
+            old.2,
+          ))
+          (set_cases m.backends number j c d is);
+      at_home = at_home;
+      up = λ j d a is has. ⊎_elim
+          (λ (h : (j ≡ number) × (c ≡ d)).
+          subst (λ (x : Backend). UpFor x.doing (down_word (later e).words)) h.1 up)
+          (λ (h : (j ≢ number) × HasBackend m j d).
+          let old = run.views j d h.1 in
+          let up_there = run.up j d a h.1 has in
+          up_by d.doing (down_word (later e).words) (λ purpose takes.
+          down_kept e may j old.0 h.0 old.1
+          (hold_of purpose a HasTurned old.0
+          (subst (λ (x : Doing). StandsAt old.0 x a) takes (old.2 a has)))
+          ∙ subst (λ (x : Doing). UpFor x (down_word words)) takes up_there))
+          (set_cases m.backends number j c d is);
+    },
+  )
 
   falls : down_word words ≢ 0 → Good m (fallen m number b v ask).1
   falls down = runs_on load_down tt (with_answer b) m.full (run.lines number b here)
@@ -185,8 +193,8 @@ module _ (m : Machine) (run : IsRunning m) (number : ℕ) (b : Backend) (here : 
       (next_up_for b next _ (next_up v (behind e) ask met done _ b.doing
       (λ purpose is.
       let loaded : down_word (later e).words ≡ down_word words = subst
-          (λ (d : Doing). down_word (later (event_named m v ask d)).words ≡ down_word words) (sym is)
-          (ap (λ (ws : List ℕ). down_word ws) (word_again words 16)) in
+      (λ (d : Doing). down_word (later (event_named m v ask d)).words ≡ down_word words) (sym is)
+      (ap (λ (ws : List ℕ). down_word ws) (word_again words 16)) in
       loaded ∙ up (ap (λ (d : Doing). looks_down m v ask d) is))))
 
   and_left : (s t : Bool) → s && t ≡ true → s ≡ true
@@ -210,8 +218,11 @@ module _ (m : Machine) (run : IsRunning m) (number : ℕ) (b : Backend) (here : 
       let down = down_word words in
       let can = can_step m v ask b.doing in
       let looks = looks_down m v ask b.doing in
-      let waits : Turn × Machine = (Waits (word_waited m v ask b.doing)
-          (slice_index words (word_waited m v ask b.doing)), m) in
+      let waits : Turn × Machine = (
+        Waits (word_waited m v ask b.doing)
+            (slice_index words (word_waited m v ask b.doing)),
+        m,
+      ) in
       let moved = moved_on m number b v ask (event_named m v ask b.doing) in
       bool_cases
       (λ (t : Bool). Good m (cond t (fallen m number b v ask) (cond can moved waits)).1)

@@ -1,15 +1,15 @@
 -- Turns one after another: each leaves the state or makes a step, so a schedule is a run.
-use Rattle.std.proofs.Common.{◌≡◌, ◌⊎◌, inl, inr, ⊎_elim, ℕ, zero, suc, ◌+◌, ◌≤◌, List, [], ◌∷◌, length, slice_get, Some, None, refl, sym, ap, ◌∙◌, subst, arith}
+use Rattle.std.proofs.Common.{◌≡◌, inl, ⊎_elim, ℕ, zero, suc, ◌+◌, List, [], ◌∷◌, slice_get, Some, None, refl, subst, arith}
 use Rattle.std.specs.Prelude.{Option}
 use mathlib.Core.Option.{none, some}
 use lib.ListN.{get_elem?}
-use Rattle.wal_core.specs.Views.{HasAt, View}
+use Rattle.wal_core.specs.Views.{View}
 use Rattle.wal_core.specs.Steps.{IsLive, State, Step}
 use Rattle.wal_core.proofs.Lists.{at_same}
 use Rattle.step_laws.specs.Runs.{Runs}
 use Rattle.wal_turns.specs.Doing.{Ask, Backend, Machine}
-use Rattle.wal_turns.specs.Turned.{turned, turned_for, turned_of, run_of}
-use Rattle.wal_turns.specs.Standing.{HasBackend, HasLeft, IsRunning, IsStepOrSame, RunsOn, StandsFor}
+use Rattle.wal_turns.specs.Turned.{turned, turned_for, turned_of, machine_behind}
+use Rattle.wal_turns.specs.Standing.{HasBackend, IsRunning, RunsOn, StandsFor}
 use Rattle.wal_turns.proofs.Running.{Good, turn_good}
 
 module _ (m : Machine) (run : IsRunning m) (number : ℕ) where
@@ -29,7 +29,7 @@ module _ (m : Machine) (run : IsRunning m) (number : ℕ) where
       let mine = run.views number b is in
       let same : mine.0 ≡ v = at_same (m.state).views mine.0 v (number + 1) mine.1.0 at in
       let found = subst (λ (u : View). IsLive m.state (number + 1) u × StandsFor b u) same
-          (mine.1, mine.2) in
+      (mine.1, mine.2) in
       by_ask b v is found.0 found.1 (slice_get b.asks b.answered) refl
 
   pub turned_good : Good m (turned m number).1
@@ -42,7 +42,7 @@ earlier zero s u t step same = (s, refl, subst (Step s) same step)
 earlier (suc n) s u t step run = (run.0, earlier n s u run.0 step run.1, run.2)
 
 pub schedule_good : (schedule : List ℕ) (m : Machine) → IsRunning m
-    → RunsOn m schedule × IsRunning (run_of m schedule)
+    → RunsOn m schedule × IsRunning (machine_behind m schedule)
 schedule_good [] m run = ((0, omega arith, refl), run)
 schedule_good (number ∷ schedule) m run =
     let here = turned_good m run number in
@@ -50,9 +50,17 @@ schedule_good (number ∷ schedule) m run =
     let rest = schedule_good schedule n here.1 in
     let behind = rest.0 in
     let within = behind.1 in
-    let last = (run_of n schedule).state in
-    (⊎_elim
-    (λ (same : n.state ≡ m.state). (behind.0, omega (arith, within),
-    subst (λ (s : State). Runs behind.0 s last) same behind.2))
-    (λ (step : Step m.state n.state). (suc behind.0, omega (arith, within),
-    earlier behind.0 m.state n.state last step behind.2)) here.0, rest.1)
+    let last = (machine_behind n schedule).state in (
+      ⊎_elim
+          (λ (same : n.state ≡ m.state). (
+            behind.0,
+            omega (arith, within),
+            subst (λ (s : State). Runs behind.0 s last) same behind.2,
+          ))
+          (λ (step : Step m.state n.state). (
+            suc behind.0,
+            omega (arith, within),
+            earlier behind.0 m.state n.state last step behind.2,
+          )) here.0,
+      rest.1,
+    )

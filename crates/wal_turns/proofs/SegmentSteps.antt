@@ -1,5 +1,5 @@
 -- Which segment a page lies in, as the log is written on.
-use Rattle.std.proofs.Common.{◌≡◌, ◌≢◌, ◌⊎◌, inl, inr, ⊎_elim, ℕ, zero, suc, ◌+◌, ◌*◌, ◌/◌, ◌%◌, ◌<◌, ◌≤◌, refl, sym, ap, ◌∙◌, subst, arith}
+use Rattle.std.proofs.Common.{◌≡◌, ◌≢◌, inl, inr, ℕ, ◌+◌, ◌*◌, ◌/◌, ◌%◌, ◌<◌, ◌≤◌, ap, ◌∙◌, arith}
 use Rattle.std.proofs.lemmas.Bool.{cases_lt}
 use Rattle.std.proofs.lemmas.Nat.{div-mul-add}
 use Rattle.std.proofs.Math.Nat.{div-add-mod, mul-mod_right, div-le_of_le-mul, mod-lt}
@@ -25,22 +25,22 @@ module _ (size : ℕ) (valid : IsSegmentSize size) where
   pub segment-still : (page upto : ℕ) → page * 8192 < upto → upto ≤ (page + 1) * 8192
       → upto % size ≢ 0 → upto / 8192 / pages ≡ page / pages
   segment-still page upto from to apart = elim (cases_lt upto ((page + 1) * 8192)) [
-      inl inside ↦ (let same : upto / 8192 ≡ page = omega arith in ap (λ (n : ℕ). n / pages) same)
+    | inl inside ↦ (let same : upto / 8192 ≡ page = omega arith in ap (λ (n : ℕ). n / pages) same)
     | inr ends ↦ (
-      let geometry = segment_size_in_pages size valid in
-      let count : ℕ = pages in
-      let split = div-add-mod page count in
-      let low : page % count < count = mod-lt page (omega (arith, geometry.1)) in
-      let at_end : upto ≡ (page + 1) * 8192 = omega arith in
-      let next : upto / 8192 ≡ page + 1 = omega arith in
-      elim (cases_lt (page % count + 1) count) [
-          inl more ↦ (let one : page + 1 ≡ page / count * count + (page % count + 1) = omega (arith, split) in
-          ap (λ (n : ℕ). n / count) (next ∙ one)
-          ∙ div-mul-add (page / count) count (page % count + 1) more)
-        | inr full ↦ (let one : page + 1 ≡ count * (page / count + 1) = omega (arith, split, low, full) in
-          let all : upto ≡ 8192 * count * (page / count + 1) = omega (arith, at_end, ap (λ (n : ℕ). 8192 * n) one) in
-          absurd (apart (ap (λ (n : ℕ). n % size) all
-          ∙ ap (λ (n : ℕ). (8192 * count * (page / count + 1)) % n) geometry.0
-          ∙ mul-mod_right (8192 * count) (page / count + 1))))
-      ])
+        let geometry = segment_size_in_pages size valid in
+        let count : ℕ = pages in
+        let split = div-add-mod page count in
+        let low : page % count < count = mod-lt page (omega (arith, geometry.1)) in
+        let at_end : upto ≡ (page + 1) * 8192 = omega arith in
+        let next : upto / 8192 ≡ page + 1 = omega arith in
+        elim (cases_lt (page % count + 1) count) [
+          | inl more ↦ (let one : page + 1 ≡ page / count * count + (page % count + 1) = omega (arith, split) in
+              ap (λ (n : ℕ). n / count) (next ∙ one)
+              ∙ div-mul-add (page / count) count (page % count + 1) more)
+          | inr full ↦ (let one : page + 1 ≡ count * (page / count + 1) = omega (arith, split, low, full) in
+              let all : upto ≡ 8192 * count * (page / count + 1) = omega (arith, at_end, ap (λ (n : ℕ). 8192 * n) one) in
+              absurd (apart (ap (λ (n : ℕ). n % size) all
+              ∙ ap (λ (n : ℕ). (8192 * count * (page / count + 1)) % n) geometry.0
+              ∙ mul-mod_right (8192 * count) (page / count + 1))))
+        ])
   ]

@@ -1,6 +1,6 @@
 -- How a machine begins: the log is opened by its first pass, from which one is split off for each
 -- backend, and each backend is at its first line.
-use Rattle.std.specs.Prelude.{◌≡◌, ℕ, zero, suc, ◌<◌, false, All, List, [], ◌∷◌, ◌++◌, length, map, slice_get}
+use Rattle.std.specs.Prelude.{ℕ, zero, suc, ◌<◌, false, All, List, [], ◌∷◌, ◌++◌, length, map, slice_get}
 use mathlib.Core.Option.{some}
 use Rattle.wal_core.specs.Words.{Opening}
 use Rattle.wal_core.specs.Views.{Plain, View}

@@ -12,7 +12,7 @@ use Rattle.wal_core.specs.Steps.{IsLive, IsResting, Step}
 use Rattle.wal_core.specs.Sound.{IsSound}
 use Rattle.wal_turns.specs.Doing.{Ask, Inserts, Commits, Flushes, Purpose, ForLine, ForPage, Doing, Begins, Tries, Reserves, Looks, Copies, Maps, GivesTurn, Tells, Releases, FlushBegins, LoadsPosition, LoadsFlushed, LoadsMoment, Visits, TakesTurn, LoadsDown, TakesOut, LoadsPage, Creates, Writes, SyncsFull, SyncsLast, StoresWritten, StoresMoment, StoresFlushed, SetsDown, PutsBack, GivesWriteTurn, Backend, Machine}
 use Rattle.step_laws.specs.Runs.{Runs}
-use Rattle.wal_turns.specs.Turned.{fits, run_of}
+use Rattle.wal_turns.specs.Turned.{fits, machine_behind}
 
 -- ---- what a line asks for
 
@@ -39,7 +39,7 @@ AwaitsOne size w = (w.waiting ≡ none)
     ⊎ ((w.waiting ≡ some (segment_next size w)) × (segment_next size w ≤ w.made))
 
 -- no call failed
-pub record IsUp (size : ℕ) (w : Plain) : Type 0 where
+pub record IsWriterUp (size : ℕ) (w : Plain) : Type 0 where
   pub up : w.fault ≡ none
   pub awaits : AwaitsOne size w
 
@@ -51,7 +51,7 @@ AreLoaded page (suc k) (s ∷ ss) = (s.0 ≡ page * 1024 + k) × AreLoaded page 
 
 -- a page is left to write, and so many of its words are loaded
 pub record LoadsOn (size k : ℕ) (l : Lent) : Type 0 where
-  pub writer_up : IsUp size l.writer
+  pub writer_up : IsWriterUp size l.writer
   pub left : (l.writer).written < l.known
   pub loaded : AreLoaded ((l.writer).written / 8192) k l.staged
 
@@ -94,8 +94,8 @@ abbrev pub IsMet : ℕ → ℕ → Copy → Type 0
 IsMet size confirmed c =
     (address_of_word size c.entry c.copied / 8192 + 1) * 8192 ≤ confirmed
 
-abbrev pub IsWhole : ℕ → Copy → Type 0
-IsWhole size c = c.copied ≡ words_owned size c.entry
+abbrev pub IsAllCopied : ℕ → Copy → Type 0
+IsAllCopied size c = c.copied ≡ words_owned size c.entry
 
 module _ (v : View) where
   abbrev setup : Setup
@@ -147,15 +147,15 @@ module _ (v : View) where
 
   abbrev pub IsSyncedFor : Purpose → Lent → Type 0
   IsSyncedFor ForLine l = IsSynced l
-  IsSyncedFor (ForPage lock end) l = IsUp size l.writer
+  IsSyncedFor (ForPage lock end) l = IsWriterUp size l.writer
 
   abbrev pub StandsToRelease : ℕ → Ask → Bool → Type 0
   StandsToRelease lock ask true = IsPosed Free (lock ∷ []) Landed Away Idle v
-  StandsToRelease lock ask false = CopiesUnder lock Away Idle (IsWhole size) × IsRecord ask
+  StandsToRelease lock ask false = CopiesUnder lock Away Idle (IsAllCopied size) × IsRecord ask
 
   abbrev pub StandsToPut : Purpose → Ask → Bool → Type 0
   StandsToPut purpose ask false =
-      HasWriter purpose ask (λ l. IsUp size l.writer × IsStored l)
+      HasWriter purpose ask (λ l. IsWriterUp size l.writer × IsStored l)
   StandsToPut purpose ask true = HasWriter purpose ask IsFailed × ((v.writing).down_set ≢ 0)
 
   abbrev pub StandsToGive : Purpose → Ask → Bool → Type 0
@@ -237,4 +237,4 @@ IsStepOrSame m n = (n.state ≡ m.state) ⊎ Step m.state n.state
 -- behind a schedule the state is that of a run of at most as many steps
 abbrev pub RunsOn : Machine → List ℕ → Type 0
 RunsOn m schedule =
-    (n : ℕ) × (n ≤ length schedule) × Runs n m.state (run_of m schedule).state
+    (n : ℕ) × (n ≤ length schedule) × Runs n m.state (machine_behind m schedule).state

@@ -1,16 +1,15 @@
 -- A backend's turn: the step that the order names, or what the backend waits for.
-use Rattle.std.specs.Prelude.{ℕ, ◌+◌, ◌-◌, ◌*◌, ◌/◌, ◌%◌, Bool, true, false, ◌&&◌, ◌||◌, not, List, [], ◌∷◌, ◌++◌, length, set, take, slice_index, Option, Some, None, slice_get, min, ◌==◌, nat_lt, nat_le, if◌then◌else◌}
+use Rattle.std.specs.Prelude.{ℕ, ◌+◌, ◌-◌, ◌*◌, ◌/◌, ◌%◌, Bool, true, false, ◌&&◌, ◌||◌, not, List, [], ◌∷◌, ◌++◌, set, take, slice_index, Option, Some, None, slice_get, min, ◌==◌, nat_lt, nat_le, if◌then◌else◌}
 use Rattle.std.specs.Int.{w64, to_le_bytes}
 use mathlib.Core.Option.{none, some}
 use lib.ListN.{get_elem?}
 use Rattle.byte_position.specs.Geometry.{pages_of}
 use Rattle.segment_disk.specs.Failing.{is_listed}
-use Rattle.wal_types.specs.declared.record.Record.{Record}
 use Rattle.wal_page.specs.Order.{Entry, finish_of, room_at}
 use Rattle.wal_page.specs.EntryWords.{address_of_word, words_owned}
 use Rattle.wal_core.specs.declared.setup.Setup.{Setup}
 use Rattle.wal_core.specs.Words.{position_word, lock_word, mapping_turn, write_turn, down_word, log_limit, end_form}
-use Rattle.wal_core.specs.Views.{Place, Free, Locked, Loaded, Stored, Copy, Flight, Landed, Copying, Stage, Away, Taken, Looked, Ready, Zeroing, Published, Plain, Lent, Hold, Idle, Turned as HasTurned, Out, View}
+use Rattle.wal_core.specs.Views.{Place, Free, Locked, Loaded, Stored, Flight, Landed, Copying, Stage, Away, Taken, Looked, Ready, Zeroing, Published, Lent, Hold, Idle, Turned as HasTurned, Out, View}
 use Rattle.wal_core.specs.Moves.{Outcome, Done as CallDone, Failed}
 use Rattle.wal_core.specs.Steps.{StepKind, State, load_position, take_write_turn, slot_out, slot_in, release_write_turn, lock_position, load_prev, store_prev, store_position, give_position_back, load_lock, take_lock, advance, release, load_buffer_end, store_ring_word, load_ring_word, load_written, load_flushed, load_moment, load_down, store_written, store_moment, store_flushed, set_down, take_mapping_turn, load_initialised_end, clear_end, zero_ring_word, publish_end, publish_initialised_end, release_mapping_turn, create, write, sync, word_of_step, value_behind, view_behind, home_behind}
 use Rattle.wal_turns.specs.Doing.{Ask, Inserts, Commits, Flushes, Purpose, ForLine, ForPage, Doing, Begins, Tries, Reserves, Looks, Copies, Maps, GivesTurn, Tells, Releases, FlushBegins, LoadsPosition, LoadsFlushed, LoadsMoment, Visits, TakesTurn, LoadsDown, TakesOut, LoadsPage, Creates, Writes, SyncsFull, SyncsLast, StoresWritten, StoresMoment, StoresFlushed, SetsDown, PutsBack, GivesWriteTurn, Backend, Machine}
@@ -422,6 +421,6 @@ turned m number =
     turned_of m number (slice_get m.backends number) (get_elem? (m.state).views (number + 1))
 
 -- the machine behind the turns of a schedule, one after another
-abbrev pub run_of : Machine → List ℕ → Machine
-run_of m [] = m
-run_of m (number ∷ schedule) = run_of (turned m number).1 schedule
+abbrev pub machine_behind : Machine → List ℕ → Machine
+machine_behind m [] = m
+machine_behind m (number ∷ schedule) = machine_behind (turned m number).1 schedule

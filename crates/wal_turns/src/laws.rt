@@ -6,7 +6,7 @@ ghost use Rattle.wal_core.specs.Words.{Opening};
 ghost use Rattle.wal_turns.specs.Begun.{MayBeginRunning, first_machine};
 ghost use Rattle.wal_turns.specs.Doing.{Ask, Machine};
 ghost use Rattle.wal_turns.specs.Standing.{IsRunning, IsStepOrSame, RunsOn};
-ghost use Rattle.wal_turns.specs.Turned.{run_of, turned};
+ghost use Rattle.wal_turns.specs.Turned.{machine_behind, turned};
 
 /// A machine that begins runs: over a log that holds nothing, with a pass for each backend, whatever
 /// records that can be written its lines ask for, and whichever calls of the device are to fail.
@@ -24,5 +24,5 @@ pub fn turns_are_steps()
     ensures turn { (m : Machine) (number : ℕ) → IsRunning m
         → IsStepOrSame m (turned m number).1 × IsRunning (turned m number).1 }
     ensures schedule { (schedule : List ℕ) (m : Machine) → IsRunning m
-        → RunsOn m schedule × IsRunning (run_of m schedule) }
+        → RunsOn m schedule × IsRunning (machine_behind m schedule) }
 {}
