@@ -2,7 +2,7 @@
 use Rattle.std.proofs.Common.{◌≡◌, ◌≢◌, inl, inr, ℕ, ◌+◌, ◌*◌, ◌/◌, ◌%◌, ◌<◌, ◌≤◌, ap, ◌∙◌, arith}
 use Rattle.std.proofs.lemmas.Bool.{cases_lt}
 use Rattle.std.proofs.lemmas.Nat.{div-mul-add}
-use Rattle.std.proofs.Math.Nat.{div-add-mod, mul-mod_right, div-le_of_le-mul, mod-lt}
+use Rattle.std.proofs.Math.Nat.{div-add-mod, mul-mod_right, div-le_of_le-mul, le-div_iff_mul-le, mod-lt}
 use Rattle.byte_position.specs.Geometry.{IsSegmentSize, pages_of}
 use Rattle.byte_position.proofs.SegmentSizes.{segment_size_in_pages}
 
@@ -44,3 +44,16 @@ module _ (size : ℕ) (valid : IsSegmentSize size) where
               ∙ mul-mod_right (8192 * count) (page / count + 1))))
         ])
   ]
+
+  -- where the next segment is not made, it begins at or below what is written
+  pub next-begins : (written made : ℕ) → made < written / 8192 / pages
+      → (made + 1) * size ≤ written
+  next-begins written made fresh =
+      let geometry = segment_size_in_pages size valid in
+      let count : ℕ = pages in
+      let some_page : 0 < count = omega (arith, geometry.1) in
+      let whole : (made + 1) * count ≤ written / 8192 =
+          (le-div_iff_mul-le some_page).0 (omega arith) in
+      let multiplied : (made + 1) * size ≡ (made + 1) * (8192 * count) =
+          ap (λ (n : ℕ). (made + 1) * n) geometry.0 in
+      omega (arith, multiplied, whole)

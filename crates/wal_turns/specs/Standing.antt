@@ -218,8 +218,8 @@ abbrev pub HasBackend : Machine → ℕ → Backend → Type 0
 HasBackend m number b = slice_get m.backends number ≡ Some b
 
 -- Its state keeps the invariant; each backend's lines can be written, and its view, number b's at
--- b + 1, is live and stands at its place. The writer at home, unless a call failed, awaits a sync of
--- one segment at most, and who is to take it out has met no failed disk
+-- b + 1, is live and stands at its place. The writer at home, unless a call failed, awaits a sync
+-- of one segment at most, and who is to take it out has met no failed disk
 pub record IsRunning (m : Machine) : Type 0 where
   pub sound : IsSound m.opening (m.state).words (m.state).home (m.state).views
   pub lines : (number : ℕ) (b : Backend) → HasBackend m number b → All IsLine b.asks

@@ -145,8 +145,8 @@ module _ (v : View) where
   abbrev pub lock_tried : ℕ → ℕ
   lock_tried n = ((v.reserving).number + n) % 8
 
--- how a call of the device ends: it fails where its number, counted from 1, is listed; a create that
--- fails makes nothing
+-- how a call of the device ends: it fails where its number, counted from 1, is listed; a create
+-- that fails makes nothing
 abbrev pub call_outcome : List ℕ → ℕ → ℕ → Outcome
 call_outcome failing faults moment =
     if is_listed failing (moment + 1) then Failed (faults + 1) (some false) else CallDone
@@ -383,8 +383,8 @@ module _ (m : Machine) (number : ℕ) (b : Backend) (v : View) (ask : Ask) where
         },
       )
 
-  -- the down word says that the disk has failed: the line is answered by it. A lock, an entry and the
-  -- turn to write that the backend has stay with it, since from then on every line ends so
+  -- the down word says that the disk has failed: the line is answered by it. A lock, an entry and
+  -- the turn to write that the backend has stay with it, since from then on every line ends so
   abbrev pub fallen : Turn × Machine
   fallen = (
     IsDown (down_word (m.state).words),

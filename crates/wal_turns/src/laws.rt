@@ -8,8 +8,9 @@ ghost use Rattle.wal_turns.specs.Doing.{Ask, Machine};
 ghost use Rattle.wal_turns.specs.Standing.{IsRunning, IsStepOrSame, RunsOn};
 ghost use Rattle.wal_turns.specs.Turned.{machine_behind, turned};
 
-/// A machine that begins runs: over a log that holds nothing, with a pass for each backend, whatever
-/// records that can be written its lines ask for, and whichever calls of the device are to fail.
+/// A machine that begins runs: over a log that holds nothing, with a pass for each backend,
+/// whatever records that can be written its lines ask for, and whichever calls of the device are to
+/// fail.
 pub fn machines_begin_running()
     ensures { (opening : Opening) (words : List ℕ) (writer : Plain) (failing : List ℕ)
         (lines : List (List Ask)) → MayBeginRunning opening words writer lines
