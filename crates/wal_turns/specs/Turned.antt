@@ -146,8 +146,8 @@ module _ (v : View) where
   abbrev pub lock_tried : ℕ → ℕ
   lock_tried n = ((v.reserving).number + n) % 8
 
--- how a call of the device ends: it fails where its number, counted from 1, is listed; a create that
--- fails makes nothing
+-- how a call of the device ends: it fails where its number, counted from 1, is listed; a create
+-- that fails makes nothing
 abbrev pub call_outcome : List ℕ → ℕ → ℕ → Outcome
 call_outcome failing faults moment =
     if is_listed failing (moment + 1) then Failed (faults + 1) (some false) else CallDone
