@@ -57,7 +57,8 @@ module _ (opening : Opening) (order : List Entry) (flushed moment down : ℕ) (w
     own_promised = subst (λ (ps : List FlushPromise). All (IsPromised flushed moment) ps)
         (sym promises) a.own_promised;
     joined_promised = a.joined_promised;
-    own = subst (λ (ps : List FlushPromise). IfSuited opening writer (λ t. AreKept opening order t es ps))
+    own = subst (λ (ps : List FlushPromise). IfSuited opening writer
+        (λ t. AreKept opening order t es ps))
         (sym promises) a.own;
     joined = a.joined;
     in_hand = held;
@@ -95,7 +96,8 @@ module _ (opening : Opening) (order : List Entry) (flushed moment down : ℕ) (w
   promise upto from es = record { upto = upto; moment = from; entries = length es }
 
   is_kept : (upto from : ℕ) (es : List Entry) (t : Tape) → opening.moment ≤ from
-      → IsFirm opening.setup order upto from t → IsPromiseKept opening order t es (promise upto from es)
+      → IsFirm opening.setup order upto from t → IsPromiseKept opening order t es
+      (promise upto from es)
   is_kept upto from es t begun firm = record {
     since = begun;
     firm = firm;
@@ -111,7 +113,8 @@ module _ (opening : Opening) (order : List Entry) (flushed moment down : ℕ) (w
     own_promised = All-push (IsPromised flushed moment) x.promises (promise upto from es)
         a.own_promised (record { upto_low = low; moment_low = past });
     joined_promised = a.joined_promised;
-    own = told_suited opening writer (λ t is suited. All-push (IsPromiseKept opening order t es) x.promises
+    own = told_suited opening writer (λ t is suited. All-push
+        (IsPromiseKept opening order t es) x.promises
         (promise upto from es)
         (at_suited opening writer (λ t. AreKept opening order t es x.promises) t is suited a.own)
         (is_kept upto from es t begun
@@ -203,7 +206,8 @@ module _ (opening : Opening) (order : List Entry) (flushed moment down : ℕ) (w
             All (λ (j : Joined). AreKept opening order t j.entries j.promises) js)
             t is suited a.joined)
             (All-cons Kept j ks
-            (at_suited opening writer (λ t. AreKept opening order t fs y.promises) t is suited b.own)
+            (at_suited opening writer
+            (λ t. AreKept opening order t fs y.promises) t is suited b.own)
             (at_suited opening writer (λ t.
             All (λ (j : Joined). AreKept opening order t j.entries j.promises) ks)
             t is suited b.joined)));

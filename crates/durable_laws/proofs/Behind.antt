@@ -137,7 +137,8 @@ module _ (o : Opening) (order : List Entry) (flushed moment down : ℕ) (home : 
       begun = h.begun;
       reached = reached;
       lawful = suited_behind (TapeAssures size IsNowhere (IsLawfulAt o.setup order) o.moment)
-          (λ t there suited. TapeAssures-behind size IsNowhere (IsLawfulAt o.setup order) call outcome
+          (λ t there suited. TapeAssures-behind size IsNowhere
+          (IsLawfulAt o.setup order) call outcome
           o.moment t lawful
           (at_suited o w (TapeAssures size IsNowhere (IsLawfulAt o.setup order) o.moment) t there
           suited h.lawful));

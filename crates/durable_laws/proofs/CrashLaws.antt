@@ -160,7 +160,8 @@ module _ (o : Opening) (order : List Entry) (flushed moment down : ℕ) (home : 
           (λ (j : Joined). AreKept o order t j.entries j.promises)
           (λ (j : Joined). All (HoldsPromise o order t j.entries) j.promises)
           (λ j kept. keeps_promises j.entries j.promises kept) x.joined
-          (at_suited o writer (λ t. All (λ (j : Joined). AreKept o order t j.entries j.promises) x.joined)
+          (at_suited o writer (λ t. All (λ
+          (j : Joined). AreKept o order t j.entries j.promises) x.joined)
           t is suited (h.views id x here).joined);
     }
 

@@ -86,7 +86,8 @@ module _ (o : Opening) (order : List Entry) (flushed moment down : ℕ) (home : 
 
     kept_more : (t : Tape) (es : List Entry) (p : FlushPromise)
         → TapeAssures (o.setup).segment_size IsNowhere (IsLawfulAt o.setup order) opened t
-        → IsPromiseKept o order t es p → IsPromised flushed moment p → IsPromiseKept o longer t (es ++ e ∷ []) p
+        → IsPromiseKept o order t es p → IsPromised flushed moment p → IsPromiseKept o longer t
+        (es ++ e ∷ []) p
     kept_more t es p lawful kept promised = record {
       since = kept.since;
       firm = (kept_longer t es p kept promised).firm;
@@ -100,7 +101,8 @@ module _ (o : Opening) (order : List Entry) (flushed moment down : ℕ) (home : 
     -- of each view, whose entries may be one more
     longer_assured : (x : Told) (es : List Entry)
         → ((l : Lent) → (x.writing).hold ≡ Out l → l.known ≤ end)
-        → ((t : Tape) → writer.tape ≡ Some t → BeganSuited o t → (p : FlushPromise) → IsPromiseKept o order t x.entries p
+        → ((t : Tape) → writer.tape ≡ Some t → BeganSuited o t → (p : FlushPromise)
+        → IsPromiseKept o order t x.entries p
         → IsPromised flushed moment p → IsPromiseKept o longer t es p)
         → IsToldRightly o order flushed moment down writer x
         → IsToldRightly o longer flushed moment down writer (told es x.joined x.writing)
@@ -110,16 +112,19 @@ module _ (o : Opening) (order : List Entry) (flushed moment down : ℕ) (home : 
       own = told_suited o writer (λ t is suited. All-both (IsPromiseKept o order t x.entries)
           (IsPromised flushed moment) (IsPromiseKept o longer t es) (keeps t is suited)
           (x.writing).promises
-          (at_suited o writer (λ t. AreKept o order t x.entries (x.writing).promises) t is suited a.own)
+          (at_suited o writer (λ t. AreKept o order t x.entries
+          (x.writing).promises) t is suited a.own)
           a.own_promised);
       joined = told_suited o writer (λ t is suited.
           All-both (λ (j : Joined). AreKept o order t j.entries j.promises)
           (λ (j : Joined). All (IsPromised flushed moment) j.promises)
           (λ (j : Joined). AreKept o longer t j.entries j.promises)
-          (λ j kept promised. All-both (IsPromiseKept o order t j.entries) (IsPromised flushed moment)
+          (λ j kept promised. All-both (IsPromiseKept o order t j.entries)
+          (IsPromised flushed moment)
           (IsPromiseKept o longer t j.entries) (kept_longer t j.entries) j.promises kept promised)
           x.joined
-          (at_suited o writer (λ t. All (λ (j : Joined). AreKept o order t j.entries j.promises) x.joined)
+          (at_suited o writer (λ t. All (λ
+          (j : Joined). AreKept o order t j.entries j.promises) x.joined)
           t is suited a.joined) a.joined_promised);
       in_hand = λ l is. let i = a.in_hand l is in record {
         staged = All-weaker (IsStaged o.setup order l.known) (IsStaged o.setup longer l.known)
@@ -158,7 +163,8 @@ module _ (o : Opening) (order : List Entry) (flushed moment down : ℕ) (home : 
       lawful = IfSome_then writer.tape h.lawful (λ t lawful suited.
           lawful_stays o.setup valid order e chained start opened t (lawful suited));
       firm = IfSome_then writer.tape h.firm (λ t firm suited.
-          firm_stays o.setup valid order e chained start flushed moment t (omega arith) (firm suited));
+          firm_stays o.setup valid order e chained start flushed moment t (omega arith)
+          (firm suited));
       on_disk = IfSome_then writer.tape h.on_disk (λ t is suited. on_disk_longer t (is suited));
       down_is = h.down_is;
       down_at_home = h.down_at_home;
@@ -188,7 +194,8 @@ pub store_position_keeps : (o : Opening) (order : List Entry) (flushed moment do
     holder id (v.reserving).place
     → PositionsHold o order written flushed down home writer flights (map writing_of views)
     → (v.reserving).place ≡ Stored at prev
-    → DurabilityHolds o (order ++ entry_reserved (v.reserving).number at value ∷ []) flushed moment down
+    → DurabilityHolds o (order ++ entry_reserved
+    (v.reserving).number at value ∷ []) flushed moment down
     home writer
     (set (map told_of views) id (told_of (view_behind v (store_position locks value) met home)))
 store_position_keeps o order flushed moment down home writer views id met locks value v at prev

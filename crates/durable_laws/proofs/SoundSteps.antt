@@ -257,7 +257,8 @@ module _ (words : List ℕ) (home : Option Plain) (views : List View) (id : ℕ)
       let below = lock_below lock may.0 in
       untouched (2 + lock) _ _ refl (λ e. omega arith) (λ e. omega arith) (λ e. omega arith)
   durable-inside (load_buffer_end buffer) may inside staged =
-      untouched (word_of_step v (load_buffer_end buffer)) _ _ refl (λ e. omega arith) (λ e. omega arith)
+      untouched (word_of_step v (load_buffer_end buffer)) _ _ refl (λ e. omega arith)
+      (λ e. omega arith)
       (λ e. omega arith)
   durable-inside store_ring_word may inside staged =
       untouched (word_of_step v store_ring_word) _ _ refl (λ e. omega arith) (λ e. omega arith)

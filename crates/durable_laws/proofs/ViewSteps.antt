@@ -231,7 +231,8 @@ module _ (o : Opening) (order : List Entry) (flushed moment down : ℕ) (home : 
           (IsMadeUpto o.setup.segment_size writer.written)
           (IsLogBelow o.setup order writer.written) writer.moment t
           (at_told Counts writer.tape t is h.counted)
-          (λ segment. (at_suited o writer (IsOnDisk o.setup order writer) t is suited h.on_disk).firm
+          (λ segment. (at_suited o writer
+          (IsOnDisk o.setup order writer) t is suited h.on_disk).firm
           segment (λ waits. absurd (some-ne-none segment (sym waits ∙ nothing)))))
 
       pub store_moment_keeps : (met : ℕ) → MayStep v store_moment

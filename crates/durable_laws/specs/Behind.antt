@@ -23,7 +23,8 @@ LoadsStaged v order (load_ring_word k) met = (l : Lent) → (v.writing).hold ≡
     → IsStaged (v.opening).setup order l.known (k, met)
 LoadsStaged v order other met = Unit {0}
 
-module _ (words : List ℕ) (home : Option Plain) (views : List View) (id : ℕ) (v : View) (e : StepKind)
+module _ (words : List ℕ) (home : Option Plain) (views : List View) (id : ℕ) (v : View)
+    (e : StepKind)
   where
     -- the number that the step meets, and the words behind it
     abbrev pub met_then : ℕ

@@ -15,9 +15,10 @@ ghost use Rattle.wal_core.specs.Sound.{IsSetup};
 ghost use Rattle.wal_core.specs.Steps.{MayStep, create, set_down, sync, value_behind, write};
 ghost use Rattle.durable_laws.specs.Crashes.{CrashesLeave, DownTells};
 
-/// Where the disk tells what it holds, and held at the opening what a log may begin on, a crash at any moment since the opening leaves nothing but
-/// words of the log or zeros; and one at a moment from a promise's on leaves all of the log below
-/// the address that the promise names, in pages that are there.
+/// Where the disk tells what it holds, and held at the opening what a log may begin on, a crash at
+/// any moment since the opening leaves nothing but words of the log or zeros; and one at a moment
+/// from a promise's on leaves all of the log below the address that the promise names, in pages
+/// that are there.
 pub fn crashes_leave_what_was_promised()
     ensures lawful { (o : Opening) (order : List Entry) (flushed moment down : ℕ)
         (home : Option Plain) (writer : Plain) (parts : List Told)

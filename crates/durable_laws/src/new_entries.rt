@@ -27,7 +27,8 @@ pub fn reserving_keeps_durability()
         → PositionsHold o order written flushed down home writer flights
         (map writing_of views)
         → (v.reserving).place ≡ Stored at prev
-        → DurabilityHolds o (order ++ entry_reserved (v.reserving).number at value ∷ []) flushed moment
+        → DurabilityHolds o (order ++ entry_reserved (v.reserving).number at value ∷ [])
+        flushed moment
         down home writer
         (set (map told_of views) id
         (told_of (view_behind v (store_position locks value) met home))) }

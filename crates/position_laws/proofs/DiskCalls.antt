@@ -79,13 +79,15 @@ module _ (setup : Setup) (valid : IsSegmentSize setup.segment_size) (order : Lis
           → ReadUpto (if is_done outcome then upto else w.written)
           (tape_behind outcome (write_call size segment page bytes) t)
       write_reads Done = read_behind upto t (write_call size segment page bytes)
-          (ReadsBelow-write setup valid order (state_now t) segment page (w.written / 8192) w.written
+          (ReadsBelow-write setup valid order (state_now t) segment page
+          (w.written / 8192) w.written
           upto size (record { bytes = bytes }) true within page_is there (omega arith) ends words
           reads)
       write_reads (Failed faults none) = reads
       write_reads (Failed faults (some made)) =
           read_behind w.written t (failed_call made (write_call size segment page bytes))
-          (ReadsBelow-write setup valid order (state_now t) segment page (w.written / 8192) w.written
+          (ReadsBelow-write setup valid order (state_now t) segment page
+          (w.written / 8192) w.written
           w.written size (record { bytes = bytes }) false within page_is there (omega arith)
           (omega (arith, rises, ends)) (λ n low below. words n low (omega (arith, below, rises)))
           reads)

@@ -59,7 +59,8 @@ module _ (p : Positions) (id : ℕ) (v : View) (t : HasPositions p id v) where
   called f l is rises low copied reads =
       let s = stands p id v t (Out l) is in
       subst (CalledOn f l) (sym s.3)
-      (calls v.opening p t.holds id v.writing t.here (flight_of v) t.flight_here l is s.2 (f p.writer)
+      (calls v.opening p t.holds id v.writing t.here (flight_of v) t.flight_here l is s.2
+      (f p.writer)
       rises low copied reads)
 
   -- the writer keeps its position

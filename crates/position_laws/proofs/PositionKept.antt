@@ -154,7 +154,8 @@ module _ (p : Positions) (id : ℕ) (v : View) (t : HasPositions p id v) where
       (record p { written = value_behind (with_hold h v) store_written p.written }) id v
       (view_behind (with_hold h v) store_written p.written p.home))
       (sym may.1)
-      (stores_written v.opening p t.holds id v.writing t.here (flight_of v) t.flight_here may.0 may.1
+      (stores_written v.opening p t.holds id v.writing t.here
+      (flight_of v) t.flight_here may.0 may.1
       (stands (Out may.0) may.1).3)
 
   pub store_moment_keeps : (met : ℕ) → Still (view_behind v store_moment met p.home)
@@ -169,14 +170,16 @@ module _ (p : Positions) (id : ℕ) (v : View) (t : HasPositions p id v) where
       (record p { flushed = value_behind (with_hold h v) store_flushed p.flushed }) id v
       (view_behind v store_flushed p.flushed p.home))
       (sym may.1)
-      (stores_flushed v.opening p t.holds id v.writing t.here (flight_of v) t.flight_here may.0 may.1
+      (stores_flushed v.opening p t.holds id v.writing t.here
+      (flight_of v) t.flight_here may.0 may.1
       (stands (Out may.0) may.1).3 (may.2).0 (may.2).1
       (writing_of (view_behind v store_flushed p.flushed p.home)) refl refl refl)
 
   pub set_down_keeps : MayStep v set_down
       → HoldBehind (record p { down = value_behind v set_down p.down }) id v
       (view_behind v set_down p.down p.home)
-  set_down_keeps may = tells_down v.opening p t.holds id v.writing t.here (flight_of v) t.flight_here
+  set_down_keeps may = tells_down v.opening p t.holds id v.writing t.here
+      (flight_of v) t.flight_here
       (value_behind v set_down p.down) (stands (Out may.0) may.1).2
       (writing_of (view_behind v set_down p.down p.home)) refl refl refl
 
@@ -248,7 +251,8 @@ module _ (p : Positions) (id : ℕ) (v : View) (t : HasPositions p id v) where
         order = p.order ++ entry_reserved (v.reserving).number (place_at v q) value ∷ [];
       }) id v (view_behind (with_place q v) (store_position locks value) position p.home))
       (sym may.2)
-      (order_grows v.opening p t.holds t.size (entry_reserved (v.reserving).number may.0 value) at.2 id
+      (order_grows v.opening p t.holds t.size (entry_reserved
+      (v.reserving).number may.0 value) at.2 id
       (record {
         entry = entry_reserved (v.reserving).number may.0 value;
         prev = may.1;

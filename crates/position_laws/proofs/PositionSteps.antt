@@ -322,7 +322,8 @@ module _ (opening : Opening) (p : Positions) (k : PositionsHold opening p.order 
       pub calls : (l : Lent) → x.hold ≡ Out l → home ≡ none → (after : Plain)
           → writer.written ≤ after.written → after.written ≤ end
           → IsCopiedBelow setup.segment_size flights after.written
-          → IfSuited opening after (λ (t : Tape). ReadsBelow setup order after.written (state_now t))
+          → IfSuited opening after (λ (t : Tape). ReadsBelow setup order after.written
+          (state_now t))
           → PositionsHold opening order written flushed down home after (set flights id f)
           (set parts id (record x { hold = Out (record l { writer = after }) }))
       calls l is away after rises low copied reads =

@@ -134,7 +134,8 @@ pub fn calls_leave_the_log_readable()
 /// view of its own.
 pub fn passes_leave_the_positions()
     ensures split { (p : Positions) (id : ℕ) (v : View) → HasPositions p id v
-        → HoldAmong p v (set p.flights id (flight_of (after_split v)) ++ flight_of (split_off v) ∷ [])
+        → HoldAmong p v
+        (set p.flights id (flight_of (after_split v)) ++ flight_of (split_off v) ∷ [])
         (set p.parts id (writing_of (after_split v)) ++ writing_of (split_off v) ∷ []) }
     ensures join { (p : Positions) (id : ℕ) (v : View) → HasPositions p id v
         → (other : ℕ) (w : View) → HoldAmong p v

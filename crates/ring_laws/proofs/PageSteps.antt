@@ -116,7 +116,8 @@ module _ (v : View) (words : List ℕ) (home : Option Plain) (views : List View)
   pub pages_behind-looked : s.stage ≡ stage
       → HasPages v words home views id load_initialised_end s.reach
       (looked (initialised_word words) stage) s.memory
-  pages_behind-looked is = pages_by_load load_initialised_end (looked (initialised_word words) stage)
+  pages_behind-looked is = pages_by_load load_initialised_end (looked
+      (initialised_word words) stage)
       (max met (initialised_word words)) (word_again words 12) refl
       (subst (λ (x : Stage). PagesHold pages s.reach (looked (initialised_word words) x)
       (initialised_word words) (written_word words) (end_word words) (word_of_ring setup words)
@@ -288,10 +289,12 @@ module _ (v : View) (words : List ℕ) (home : Option Plain) (views : List View)
       (word_else words (17 + pages + place) value 13 (λ f. omega arith)) refl refl
       (stores_word setup s.reach s.stage (initialised_word words) (written_word words)
       (end_word words) (word_of_ring setup words) s.memory (set all_met id met) stays may.0
-      (map flight_of views) id met (s.writer).written value (end_word later) (word_of_ring setup later)
+      (map flight_of views) id met (s.writer).written value (end_word later)
+      (word_of_ring setup later)
       memory2 (at_place all_met id met met mine) flies may.2 (s.positions).copied
       (s.positions).written_low (ends_behind words setup place value)
-      (subst (λ (f : Flight). IsPut (word_of_ring setup words) (ring_place setup (number_of_next setup f))
+      (subst (λ (f : Flight). IsPut (word_of_ring setup words) (ring_place setup
+      (number_of_next setup f))
       value (word_of_ring setup later)) may.1
       (ring_put setup words s.wide place value
       (ring_place-below setup (s.pages).some_page number)))

@@ -50,7 +50,8 @@ module _ (opening : Opening) (words : List ℕ) (home : Option Plain) (views : L
 
   pub pages-split : HasPagesWith opening words home views s
       (set views id (after_split v) ++ split_off v ∷ [])
-  pages-split = subst Pages (sym (part_set_added confirmed_of views id (after_split v) (split_off v)))
+  pages-split = subst Pages (sym (part_set_added confirmed_of views id (after_split v)
+      (split_off v)))
       (page.one_more (opening.setup).ring_pages s.reach s.stage (initialised_word words)
       (written_word words) (end_word words) (word_of_ring opening.setup words) s.memory
       (map confirmed_of views) s.pages id (v.mapping).confirmed mine)
@@ -72,7 +73,8 @@ module _ (opening : Opening) (words : List ℕ) (home : Option Plain) (views : L
 
   module _ (other : ℕ) (u : View) (there : HasAt views other u) where
     pub ring-taken_in : IsResting u
-        → HasRingWith opening words home views s (set (set views other (spent u)) id (after_join v u))
+        → HasRingWith opening words home views s (set (set views other (spent u)) id
+        (after_join v u))
     ring-taken_in rests = subst Ring
         (sym (part_set_twice flight_of views other id (spent u) (after_join v u)))
         (ring.takes_in opening.setup s.order s.reach s.memory (map flight_of views) s.ring id

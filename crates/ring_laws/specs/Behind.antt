@@ -15,7 +15,8 @@ abbrev pub memory_stored : View → (ℕ → ℕ) → ℕ → ℕ
 memory_stored v memory = put memory (number_of_next (v.opening).setup (v.working).flight)
     (next_value v (v.working).flight)
 
-module _ (v : View) (words : List ℕ) (home : Option Plain) (views : List View) (id : ℕ) (e : StepKind)
+module _ (v : View) (words : List ℕ) (home : Option Plain) (views : List View) (id : ℕ)
+    (e : StepKind)
   where
     -- the number that the step meets, and words and views behind it
     abbrev pub met_by : ℕ

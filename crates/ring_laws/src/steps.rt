@@ -98,7 +98,8 @@ pub fn stores_leave_pages_in_order()
     ensures word { (v : View) (words : List ℕ) (home : Option Plain) (views : List View)
         (id : ℕ) (s : IsSound v.opening words home views) → HasAt views id v
         → MayStep v store_ring_word
-        → HasPages v words home views id store_ring_word s.reach s.stage (memory_stored v s.memory) }
+        → HasPages v words home views id store_ring_word s.reach s.stage
+        (memory_stored v s.memory) }
     ensures written { (v : View) (words : List ℕ) (home : Option Plain) (views : List View)
         (id : ℕ) (s : IsSound v.opening words home views) → HasAt views id v
         → MayStep v store_written

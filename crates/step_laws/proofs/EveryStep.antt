@@ -22,7 +22,8 @@ module _ (opening : Opening) where
       let here = subst (λ (o : Opening). IsSound o s.words s.home s.views) (sym known) k in
       let behind : KeepsSound s.words s.home s.views id v e =
       sound_behind s.words s.home s.views id v here (m.live).0 (m.live).1 e m.may in
-      let words : t.words ≡ set s.words (word_of_step v e) (value_behind v e (number_met s.words v e)) =
+      let words : t.words ≡ set s.words (word_of_step v e) (value_behind v e
+      (number_met s.words v e)) =
       m.words ∙ ap (λ (n : ℕ). set s.words (word_of_step v e) (value_behind v e n)) m.met_is in
       let views : t.views ≡ set s.views id (view_behind v e (number_met s.words v e) s.home) =
       m.views ∙ ap (λ (n : ℕ). set s.views id (view_behind v e n s.home)) m.met_is in

@@ -1,5 +1,5 @@
--- What a step leaves: each part of the invariant is kept where the step changes no word that the part
--- reads, and in its pass's view nothing of which the part speaks.
+-- What a step leaves: each part of the invariant is kept where the step changes no word that the
+-- part reads, and in its pass's view nothing of which the part speaks.
 use Rattle.std.proofs.Common.{◌≡◌, ◌≢◌, ℕ, ◌≤◌, Bool, cond, true, false, List, length, map, set, slice_index, refl, sym, subst, arith}
 use mathlib.Core.Option.{Option}
 use Rattle.byte_position.specs.Geometry.{IsSegmentSize}

@@ -66,7 +66,8 @@ module _ (words : List ℕ) (home : Option Plain) (views : List View) (id : ℕ)
       (end_form (v.opening).setup (v.reserving).seen) (omega arith) low
 
   module _ (down : ℕ) where
-    same : (e : StepKind) → ground_of (behind e) ≡ ground_of v → IsGrounded v.opening down (behind e)
+    same : (e : StepKind) → ground_of (behind e) ≡ ground_of v → IsGrounded v.opening down
+        (behind e)
     same e is = grounded_live v.opening down (behind e) (ap (λ g. g.0) is)
         (ap (λ g. g.1) is ∙ live)
         (subst (λ (g : Opening × Bool × ℕ × ℕ). g.2 ≤ end_form (v.opening).setup g.3) (sym is) low)

@@ -101,7 +101,8 @@ module _ (opening : Opening) (words : List ℕ) (writer : Plain) (new : IsNew op
   none_ended zero id is = cc
   none_ended (suc n) id is = nobody n (ended id) is
 
-  pub order_begins : OrderHolds setup opening.found [] (position_word words) (prev_word words) (view.reserving ∷ [])
+  pub order_begins : OrderHolds setup opening.found [] (position_word words) (prev_word words)
+      (view.reserving ∷ [])
   unfolding role
   order_begins = record {
     role = role;
@@ -145,9 +146,11 @@ module _ (opening : Opening) (words : List ℕ) (writer : Plain) (new : IsNew op
   locks_begin = record {
     locks = record {
       holder = λ i. 0;
-      each = λ id i w at. only_one view.working (λ j u. Contains u.locks i → (i < 8) × (0 ≡ j) × (lock_word words i ≢ 0)) (λ has. let none = has.1 in absurd (omega arith)) id w at;
+      each = λ id i w at. only_one view.working (λ j u. Contains u.locks i → (i < 8) × (0 ≡ j) ×
+          (lock_word words i ≢ 0)) (λ has. let none = has.1 in absurd (omega arith)) id w at;
       held = λ i below taken. absurd (taken (lock_zero i below));
-      under = λ id w c at. only_one view.working (λ j u. u.flight ≡ Copying c → AreSomeOf c.locks u.locks) (λ is. absurd (cc)) id w at;
+      under = λ id w c at. only_one view.working (λ j u. u.flight ≡ Copying c
+          → AreSomeOf c.locks u.locks) (λ is. absurd (cc)) id w at;
     };
     mapping = record {
       holder = 0;
@@ -207,7 +210,8 @@ module _ (opening : Opening) (words : List ℕ) (writer : Plain) (new : IsNew op
       let held = first.ends (p % setup.ring_pages) (mod-lt p some_page) in
       let same : held.page ≡ p = elim (cases_eq held.page p) [
         | inl is ↦ is
-        | inr apart ↦ absurd (one_page setup.ring_pages low reach held.page p (omega arith) held.from held.to from to apart held.place)
+        | inr apart ↦ absurd (one_page setup.ring_pages low reach held.page p
+            (omega arith) held.from held.to from to apart held.place)
       ] in
       held.end_is ∙ ap (λ (q : ℕ). (q + 1) * 8192) same
 
@@ -222,18 +226,22 @@ module _ (opening : Opening) (words : List ℕ) (writer : Plain) (new : IsNew op
         present = page_is;
         content = λ p j from to within. first.ring (p % setup.ring_pages * 1024 + j)
             (let some_page : 0 < setup.ring_pages = (let ring = valid.ring_low in omega arith) in
-            let below : p % setup.ring_pages < setup.ring_pages = mod-lt p some_page in omega arith);
+            let below : p % setup.ring_pages < setup.ring_pages = mod-lt p some_page in
+            omega arith);
         held = λ b below. inr (first.ends b below);
         blank = λ k behind. refl;
         seen = only_one 0 (λ id c. c ≤ reach * 8192) (omega arith);
         mapping = (refl, (let mapped = first.initialised in omega arith));
       }
 
-  watching_begins : WatchHolds setup.segment_size (end_form setup (end_position setup.segment_size []))
+  watching_begins : WatchHolds setup.segment_size (end_form setup
+      (end_position setup.segment_size []))
       (view.working ∷ []) (view.watching ∷ [])
   watching_begins = record {
-    reserved = only_one view.watching (λ id x. (x.end ≤ end_form setup (end_position setup.segment_size [])) × (x.bound ≤ x.end)) (omega arith, omega arith);
-    behind = λ id j x w at there. only_one view.watching (λ i y. IsCopiedToBound setup.segment_size y w)
+    reserved = only_one view.watching (λ id x. (x.end ≤ end_form setup
+        (end_position setup.segment_size [])) × (x.bound ≤ x.end)) (omega arith, omega arith);
+    behind = λ id j x w at there. only_one view.watching
+        (λ i y. IsCopiedToBound setup.segment_size y w)
         (λ c is under starts. omega arith) id x at;
   }
 
@@ -245,7 +253,8 @@ module _ (opening : Opening) (words : List ℕ) (writer : Plain) (new : IsNew op
       ap (λ (m : ℕ). take m t.calls) (sym begins.moment_is ∙ count) ∙ take-length t.calls in
       subst (λ (calls : List Call). after_calls t.at_first calls n ≡ None) all (suited n)
 
-  positions_begin : PositionsHold opening [] (written_word words) (flushed_word words) (down_word words) (some writer) writer (Landed ∷ []) (view.writing ∷ [])
+  positions_begin : PositionsHold opening [] (written_word words) (flushed_word words)
+      (down_word words) (some writer) writer (Landed ∷ []) (view.writing ∷ [])
   positions_begin =
       let written_is = first.written in
       let flushed_is = first.flushed in
@@ -257,7 +266,9 @@ module _ (opening : Opening) (words : List ℕ) (writer : Plain) (new : IsNew op
         written_low = omega arith;
         at_home = λ home up. omega arith;
         reserved = omega arith;
-        copied = λ id c at left. only_one Landed (λ j u. u ≡ Copying c → writer.written ≤ address_of_word setup.segment_size c.entry c.copied) (λ is. absurd (cc)) id (Copying c) at refl;
+        copied = λ id c at left. only_one Landed (λ j u. u ≡ Copying c
+            → writer.written ≤ address_of_word setup.segment_size c.entry c.copied) (λ is. absurd
+            (cc)) id (Copying c) at refl;
         reads = IfSome_then writer.tape begins.counted (λ t count suited k below.
             ap (λ (o : Option Segment). segment_word (image_as_read (λ n. o)
             (8 * k / setup.segment_size)) (8 * k % setup.segment_size))
@@ -276,7 +287,10 @@ module _ (opening : Opening) (words : List ℕ) (writer : Plain) (new : IsNew op
   none_below : (n : ℕ) (upto : ℕ) → upto ≡ setup.segment_size
       → IsMadeUpto setup.segment_size upto n → ⊥
   none_below n upto is made =
-      let quotient : (upto - 1) / setup.segment_size ≡ 0 = div-eq_of_lt (let start = start_in_pages in let size = segment_size_in_pages setup.segment_size valid.size in omega (arith, size.1)) in
+      let quotient : (upto - 1) / setup.segment_size ≡ 0 = div-eq_of_lt
+      (let start = start_in_pages in
+      let size = segment_size_in_pages setup.segment_size valid.size in omega
+      (arith, size.1)) in
       omega (arith, made.0, made.1)
 
   firm_now : (upto : ℕ) → upto ≡ setup.segment_size → (t : Tape)
@@ -287,7 +301,8 @@ module _ (opening : Opening) (words : List ℕ) (writer : Plain) (new : IsNew op
       (SegmentAssures setup.segment_size (IsMadeUpto setup.segment_size upto)
       (IsLogBelow setup [] upto) n) (sym (nothing n)) (none_below n upto is)
 
-  told_begins : IsToldRightly opening [] (flushed_word words) (moment_word words) (down_word words) writer (told_of view)
+  told_begins : IsToldRightly opening [] (flushed_word words) (moment_word words)
+      (down_word words) writer (told_of view)
   told_begins = record {
     own_promised = All-nil _;
     joined_promised = All-nil _;
@@ -298,7 +313,8 @@ module _ (opening : Opening) (words : List ℕ) (writer : Plain) (new : IsNew op
     down_set = λ some. absurd (some refl);
   }
 
-  durable_begins : DurabilityHolds opening [] (flushed_word words) (moment_word words) (down_word words) (some writer) writer (told_of view ∷ [])
+  durable_begins : DurabilityHolds opening [] (flushed_word words) (moment_word words)
+      (down_word words) (some writer) writer (told_of view ∷ [])
   durable_begins = record {
     counted = begins.counted;
     moment_low = (let moment = first.moment in let same = begins.moment_is in omega arith);

@@ -20,7 +20,8 @@ use Rattle.step_laws.proofs.Known.{now, has_now}
 module _ (words : List ℕ) (home : Option Plain) (views : List View) (id : ℕ) (v : View)
     (k : IsSound v.opening words home views) (here : HasAt views id v)
     (live : (v.reserving).live ≡ true) where
-  pub takes_part : TakesPart k.order (position_word words) (prev_word words) (map reserving_of views)
+  pub takes_part : TakesPart k.order (position_word words) (prev_word words)
+      (map reserving_of views)
       id v
   takes_part = record {
     size = (k.setup_is).size;
@@ -65,7 +66,8 @@ module _ (words : List ℕ) (home : Option Plain) (views : List View) (id : ℕ)
 
     -- where neither is stored, but the view may know more
     neither_stored : 2 ≤ s.i
-        → HoldsWith k.order (position_word words) (prev_word words) (map reserving_of views) id v s.w
+        → HoldsWith k.order (position_word words) (prev_word words)
+        (map reserving_of views) id v s.w
         → HasOrder k.order
     neither_stored above holds =
         let position : position_word (later s) ≡ position_word words =
@@ -85,7 +87,8 @@ module _ (words : List ℕ) (home : Option Plain) (views : List View) (id : ℕ)
   slot_same none = refl
   slot_same (some writer) = refl
 
-  call_same : (f : Plain → Plain) (hold : Hold) → reserving_of (with_call_on v f hold) ≡ reserving_of v
+  call_same : (f : Plain → Plain) (hold : Hold) → reserving_of
+      (with_call_on v f hold) ≡ reserving_of v
   call_same f Idle = refl
   call_same f Turned = refl
   call_same f (Out l) = refl
@@ -130,7 +133,8 @@ module _ (words : List ℕ) (home : Option Plain) (views : List View) (id : ℕ)
   order_holds load_flushed may = neither_stored load_flushed (omega arith)
       (order.load_flushed_keeps k.order (position_word words) (prev_word words)
       (map reserving_of views) id v home (flushed_word words) takes_part
-      (flushed_is_reserved (now words home views id v k) id v (has_now words home views id v k here)))
+      (flushed_is_reserved (now words home views id v k) id v
+      (has_now words home views id v k here)))
   order_holds load_moment may = stays load_moment refl (omega arith)
   order_holds load_down may = stays load_down refl (omega arith)
   order_holds store_written may = stays store_written refl (omega arith)

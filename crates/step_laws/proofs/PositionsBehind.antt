@@ -11,6 +11,7 @@ use Rattle.wal_core.specs.Steps.{StepKind, MayStep, word_of_step, home_behind, l
 use Rattle.wal_core.specs.Sound.{IsSound}
 use Rattle.wal_core.proofs.Lists.{part_at, part_set}
 use Rattle.wal_core.proofs.WordLists.{single_set, word_else, word_again}
+use Rattle.position_laws.specs.Parts.{Positions, HasPositions as HasPositionsNow}
 use Rattle.position_laws.proofs.PositionKept as kept
 use Rattle.position_laws.proofs.PositionCalls as calls
 use Rattle.lock_laws.specs.Behind.{order_behind, writer_behind}
@@ -77,6 +78,13 @@ module _ (words : List ℕ) (home : Option Plain) (views : List View) (id : ℕ)
   abbrev step : StepKind → Moved
   step e = moved words home views id v k here e
 
+  -- what the laws of positions start from
+  abbrev p : Positions
+  p = now words home views id v k
+
+  known : HasPositionsNow p id v
+  known = has_now words home views id v k here
+
   -- the writer's holder knows the down value that it set
   down_known : (v.writing).down_set ≢ 0 → (v.writing).down_set ≡ down_word words
   down_known = ((k.durable).views id (told_of v) (told_here words home views id v k here)).down_set
@@ -91,18 +99,18 @@ module _ (words : List ℕ) (home : Option Plain) (views : List View) (id : ℕ)
       (λ e. omega arith) (λ e. omega arith) (λ e. omega arith)
   positions_hold take_write_turn may = by_law take_write_turn k.order k.writer
       (λ e. omega arith) (λ e. omega arith) (λ e. omega arith)
-      (kept.take_write_turn_keeps (now words home views id v k) id v (has_now words home views id v k here))
+      (kept.take_write_turn_keeps p id v known)
   positions_hold slot_out may = by_law slot_out k.order k.writer
       (λ e. omega arith) (λ e. omega arith) (λ e. omega arith)
-      (kept.slot_out_keeps (now words home views id v k) id v (has_now words home views id v k here)
+      (kept.slot_out_keeps p id v known
       (lock_word words) views refl here (k.locks).locks k.watching may)
   positions_hold slot_in may = by_law slot_in k.order k.writer
       (λ e. omega arith) (λ e. omega arith) (λ e. omega arith)
-      (kept.slot_in_keeps (now words home views id v k) id v (has_now words home views id v k here)
+      (kept.slot_in_keeps p id v known
       (slice_index words 11) down_known may)
   positions_hold release_write_turn may = by_law release_write_turn k.order k.writer
       (λ e. omega arith) (λ e. omega arith) (λ e. omega arith)
-      (kept.release_write_turn_keeps (now words home views id v k) id v (has_now words home views id v k here))
+      (kept.release_write_turn_keeps p id v known)
   positions_hold (lock_position expected) may =
       let hit = eqb (slice_index words 0) expected in
       positions_stay (step (lock_position expected))
@@ -116,7 +124,7 @@ module _ (words : List ℕ) (home : Option Plain) (views : List View) (id : ℕ)
   positions_hold (store_position locks value) may = by_law (store_position locks value)
       (order_behind v (store_position locks value) k.order) k.writer
       (λ e. omega arith) (λ e. omega arith) (λ e. omega arith)
-      (kept.store_position_keeps (now words home views id v k) id v (has_now words home views id v k here)
+      (kept.store_position_keeps p id v known
       (position_word words) (prev_word words) (map reserving_of views) locks value k.reserved
       (part_at reserving_of views id v here) live may)
   positions_hold (give_position_back value) may = positions_stay (step (give_position_back value))
@@ -137,47 +145,48 @@ module _ (words : List ℕ) (home : Option Plain) (views : List View) (id : ℕ)
       let low = lock_low lock may.0 in
       by_law (release lock) k.order k.writer
       (λ e. omega arith) (λ e. omega arith) (λ e. omega arith)
-      (kept.release_keeps (now words home views id v k) id v (has_now words home views id v k here) lock
+      (kept.release_keeps p id v known lock
       (slice_index words (2 + lock)))
-  positions_hold (load_buffer_end buffer) may = positions_stay (step (load_buffer_end buffer)) refl refl
+  positions_hold (load_buffer_end buffer) may = positions_stay (step
+      (load_buffer_end buffer)) refl refl
       (λ e. omega arith) (λ e. omega arith) (λ e. omega arith)
   positions_hold store_ring_word may = by_law store_ring_word k.order k.writer
       (λ e. omega arith) (λ e. omega arith) (λ e. omega arith)
-      (kept.store_word_keeps (now words home views id v k) id v (has_now words home views id v k here)
+      (kept.store_word_keeps p id v known
       (slice_index words (word_of_step v store_ring_word)))
   positions_hold (load_ring_word number) may = by_law (load_ring_word number) k.order k.writer
       (λ e. omega arith) (λ e. omega arith) (λ e. omega arith)
-      (kept.load_word_keeps (now words home views id v k) id v (has_now words home views id v k here) number
+      (kept.load_word_keeps p id v known number
       (slice_index words (word_of_step v (load_ring_word number))))
   positions_hold load_written may = by_load load_written k.order k.writer (word_again words 13)
-      (kept.load_written_keeps (now words home views id v k) id v (has_now words home views id v k here))
+      (kept.load_written_keeps p id v known)
   positions_hold load_flushed may = by_load load_flushed k.order k.writer (word_again words 14)
-      (kept.load_flushed_keeps (now words home views id v k) id v (has_now words home views id v k here))
+      (kept.load_flushed_keeps p id v known)
   positions_hold load_moment may = by_load load_moment k.order k.writer (word_again words 15)
-      (kept.load_moment_keeps (now words home views id v k) id v (has_now words home views id v k here)
+      (kept.load_moment_keeps p id v known
       (moment_word words))
   positions_hold load_down may = by_load load_down k.order k.writer (word_again words 16)
-      (kept.load_down_keeps (now words home views id v k) id v (has_now words home views id v k here)
+      (kept.load_down_keeps p id v known
       (down_word words))
   positions_hold store_written may = with_words store_written k.order k.writer _
       (flushed_word words) (down_word words)
       (single_set words setup k.wide 13 (step store_written).n (omega arith))
       (same store_written 14 (λ e. omega arith)) (same store_written 16 (λ e. omega arith))
-      (kept.store_written_keeps (now words home views id v k) id v (has_now words home views id v k here) may)
+      (kept.store_written_keeps p id v known may)
   positions_hold store_moment may = by_law store_moment k.order k.writer
       (λ e. omega arith) (λ e. omega arith) (λ e. omega arith)
-      (kept.store_moment_keeps (now words home views id v k) id v (has_now words home views id v k here)
+      (kept.store_moment_keeps p id v known
       (moment_word words))
   positions_hold store_flushed may = with_words store_flushed k.order k.writer
       (written_word words) _ (down_word words) (same store_flushed 13 (λ e. omega arith))
       (single_set words setup k.wide 14 (step store_flushed).n (omega arith))
       (same store_flushed 16 (λ e. omega arith))
-      (kept.store_flushed_keeps (now words home views id v k) id v (has_now words home views id v k here) may)
+      (kept.store_flushed_keeps p id v known may)
   positions_hold set_down may = with_words set_down k.order k.writer (written_word words)
       (flushed_word words) _ (same set_down 13 (λ e. omega arith))
       (same set_down 14 (λ e. omega arith))
       (single_set words setup k.wide 16 (step set_down).n (omega arith))
-      (kept.set_down_keeps (now words home views id v k) id v (has_now words home views id v k here) may)
+      (kept.set_down_keeps p id v known may)
   positions_hold take_mapping_turn may =
       let free = eqb (slice_index words 10) 0 in
       positions_stay (step take_mapping_turn)
@@ -192,24 +201,25 @@ module _ (words : List ℕ) (home : Option Plain) (views : List View) (id : ℕ)
       (λ e. omega arith) (λ e. omega arith) (λ e. omega arith)
   positions_hold publish_end may = positions_stay (step publish_end) refl refl
       (λ e. omega arith) (λ e. omega arith) (λ e. omega arith)
-  positions_hold publish_initialised_end may = positions_stay (step publish_initialised_end) refl refl
+  positions_hold publish_initialised_end may = positions_stay
+      (step publish_initialised_end) refl refl
       (λ e. omega arith) (λ e. omega arith) (λ e. omega arith)
   positions_hold release_mapping_turn may = positions_stay (step release_mapping_turn) refl refl
       (λ e. omega arith) (λ e. omega arith) (λ e. omega arith)
   positions_hold (create segment outcome) may = by_law (create segment outcome) k.order
       (writer_behind v (create segment outcome) k.writer)
       (λ e. omega arith) (λ e. omega arith) (λ e. omega arith)
-      (calls.create_keeps (now words home views id v k) id v (has_now words home views id v k here)
+      (calls.create_keeps p id v known
       (moment_word words) (map told_of views) k.durable (slice_index words 11) segment outcome may)
   positions_hold (write segment page upto bytes outcome) may =
       by_law (write segment page upto bytes outcome) k.order
       (writer_behind v (write segment page upto bytes outcome) k.writer)
       (λ e. omega arith) (λ e. omega arith) (λ e. omega arith)
-      (calls.write_keeps (now words home views id v k) id v (has_now words home views id v k here)
+      (calls.write_keeps p id v known
       (moment_word words) (map told_of views) k.durable (slice_index words 11) segment page upto
       bytes outcome (told_here words home views id v k here) may)
   positions_hold (sync segment outcome) may = by_law (sync segment outcome) k.order
       (writer_behind v (sync segment outcome) k.writer)
       (λ e. omega arith) (λ e. omega arith) (λ e. omega arith)
-      (calls.sync_keeps (now words home views id v k) id v (has_now words home views id v k here)
+      (calls.sync_keeps p id v known
       (moment_word words) (map told_of views) k.durable (slice_index words 11) segment outcome may)

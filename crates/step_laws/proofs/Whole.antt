@@ -11,10 +11,11 @@ use Rattle.wal_core.proofs.Lists.{part_at}
 use Rattle.lock_laws.specs.Behind.{order_behind, stage_behind, writer_behind, moved as stage_moved}
 use Rattle.lock_laws.proofs.SoundSteps.{locks_behind}
 use Rattle.ring_laws.specs.Behind.{HasRing, HasPages, memory_stored}
+use Rattle.ring_laws.specs.Left.{LeavesCopies, LeavesPages}
 use Rattle.ring_laws.proofs.LeftSteps as left
 use Rattle.ring_laws.proofs.PageSteps as page
 use Rattle.ring_laws.proofs.RingSteps as ring
-use Rattle.durable_laws.specs.Behind.{HasDurable}
+use Rattle.durable_laws.specs.Behind.{HasDurable, IsInside, LoadsStaged}
 use Rattle.durable_laws.proofs.SoundSteps as durable
 use Rattle.step_laws.specs.Kept.{KeepsSound}
 use Rattle.step_laws.proofs.Frames.{moved, later, grounded_stay, wide_stays}
@@ -44,79 +45,63 @@ by_moved P (Published at) stage f stays goes = goes tt
 module _ (words : List ℕ) (home : Option Plain) (views : List View) (id : ℕ) (v : View)
     (k : IsSound v.opening words home views) (here : HasAt views id v)
     (live : (v.reserving).live ≡ true) where
+  -- where the part is left, or the step adds no entry and makes no call
+  ring_left : (e : StepKind) → LeavesCopies e
+      → HasRing v words home views id e k.order k.reach k.memory
+  ring_left = left.ring_behind-left v words home views id k here
+
+  pages_left : (e : StepKind) → MayStep v e → LeavesPages e
+      → HasPages v words home views id e k.reach k.stage k.memory
+  pages_left = left.pages_behind-left v words home views id k here
+
+  inside : (e : StepKind) → MayStep v e → IsInside e
+      → LoadsStaged v k.order e (slice_index words (word_of_step v e))
+      → HasDurable words home views id v e k.order k.writer
+  inside = durable.durable-inside words home views id v k here
+
   ring_holds : (e : StepKind) → MayStep v e → HasRing v words home views id e
       (order_behind v e k.order) (reach_behind e k.reach) (memory_behind v e k.memory)
-  ring_holds load_position may =
-      left.ring_behind-left v words home views id k here load_position tt
-  ring_holds take_write_turn may =
-      left.ring_behind-left v words home views id k here take_write_turn tt
-  ring_holds slot_out may =
-      left.ring_behind-left v words home views id k here slot_out tt
-  ring_holds slot_in may =
-      left.ring_behind-left v words home views id k here slot_in tt
-  ring_holds release_write_turn may =
-      left.ring_behind-left v words home views id k here release_write_turn tt
-  ring_holds (lock_position expected) may =
-      left.ring_behind-left v words home views id k here (lock_position expected) tt
-  ring_holds load_prev may =
-      left.ring_behind-left v words home views id k here load_prev tt
-  ring_holds store_prev may =
-      left.ring_behind-left v words home views id k here store_prev tt
+  ring_holds load_position may = ring_left load_position tt
+  ring_holds take_write_turn may = ring_left take_write_turn tt
+  ring_holds slot_out may = ring_left slot_out tt
+  ring_holds slot_in may = ring_left slot_in tt
+  ring_holds release_write_turn may = ring_left release_write_turn tt
+  ring_holds (lock_position expected) may = ring_left (lock_position expected) tt
+  ring_holds load_prev may = ring_left load_prev tt
+  ring_holds store_prev may = ring_left store_prev tt
   ring_holds (store_position locks value) may =
       let number = (v.reserving).number in
       subst (λ (at : ℕ). HasRing v words home views id (store_position locks value)
       (k.order ++ entry_reserved number at value ∷ []) k.reach k.memory)
       (sym (ap (place_at v) may.2))
       (ring.ring_behind-reserved v words home views id k here locks value live may)
-  ring_holds (give_position_back value) may =
-      left.ring_behind-left v words home views id k here (give_position_back value) tt
-  ring_holds (load_lock lock limit) may =
-      left.ring_behind-left v words home views id k here (load_lock lock limit) tt
-  ring_holds (take_lock lock) may =
-      left.ring_behind-left v words home views id k here (take_lock lock) tt
-  ring_holds (advance lock upto) may =
-      left.ring_behind-left v words home views id k here (advance lock upto) tt
+  ring_holds (give_position_back value) may = ring_left (give_position_back value) tt
+  ring_holds (load_lock lock limit) may = ring_left (load_lock lock limit) tt
+  ring_holds (take_lock lock) may = ring_left (take_lock lock) tt
+  ring_holds (advance lock upto) may = ring_left (advance lock upto) tt
   ring_holds (release lock) may = ring.ring_behind-released v words home views id k here lock may
-  ring_holds (load_buffer_end buffer) may =
-      left.ring_behind-left v words home views id k here (load_buffer_end buffer) tt
+  ring_holds (load_buffer_end buffer) may = ring_left (load_buffer_end buffer) tt
   ring_holds store_ring_word may = ring.ring_behind-stored v words home views id k here may
-  ring_holds (load_ring_word number) may =
-      left.ring_behind-left v words home views id k here (load_ring_word number) tt
-  ring_holds load_written may =
-      left.ring_behind-left v words home views id k here load_written tt
-  ring_holds load_flushed may =
-      left.ring_behind-left v words home views id k here load_flushed tt
-  ring_holds load_moment may =
-      left.ring_behind-left v words home views id k here load_moment tt
-  ring_holds load_down may =
-      left.ring_behind-left v words home views id k here load_down tt
-  ring_holds store_written may =
-      left.ring_behind-left v words home views id k here store_written tt
-  ring_holds store_moment may =
-      left.ring_behind-left v words home views id k here store_moment tt
-  ring_holds store_flushed may =
-      left.ring_behind-left v words home views id k here store_flushed tt
-  ring_holds set_down may =
-      left.ring_behind-left v words home views id k here set_down tt
-  ring_holds take_mapping_turn may =
-      left.ring_behind-left v words home views id k here take_mapping_turn tt
-  ring_holds load_initialised_end may =
-      left.ring_behind-left v words home views id k here load_initialised_end tt
-  ring_holds clear_end may =
-      left.ring_behind-left v words home views id k here clear_end tt
-  ring_holds zero_ring_word may =
-      left.ring_behind-left v words home views id k here zero_ring_word tt
+  ring_holds (load_ring_word number) may = ring_left (load_ring_word number) tt
+  ring_holds load_written may = ring_left load_written tt
+  ring_holds load_flushed may = ring_left load_flushed tt
+  ring_holds load_moment may = ring_left load_moment tt
+  ring_holds load_down may = ring_left load_down tt
+  ring_holds store_written may = ring_left store_written tt
+  ring_holds store_moment may = ring_left store_moment tt
+  ring_holds store_flushed may = ring_left store_flushed tt
+  ring_holds set_down may = ring_left set_down tt
+  ring_holds take_mapping_turn may = ring_left take_mapping_turn tt
+  ring_holds load_initialised_end may = ring_left load_initialised_end tt
+  ring_holds clear_end may = ring_left clear_end tt
+  ring_holds zero_ring_word may = ring_left zero_ring_word tt
   ring_holds publish_end may = ring.ring_behind-published v words home views id k here
-  ring_holds publish_initialised_end may =
-      left.ring_behind-left v words home views id k here publish_initialised_end tt
-  ring_holds release_mapping_turn may =
-      left.ring_behind-left v words home views id k here release_mapping_turn tt
-  ring_holds (create segment outcome) may =
-      left.ring_behind-left v words home views id k here (create segment outcome) tt
-  ring_holds (write segment page upto bytes outcome) may =
-      left.ring_behind-left v words home views id k here (write segment page upto bytes outcome) tt
-  ring_holds (sync segment outcome) may =
-      left.ring_behind-left v words home views id k here (sync segment outcome) tt
+  ring_holds publish_initialised_end may = ring_left publish_initialised_end tt
+  ring_holds release_mapping_turn may = ring_left release_mapping_turn tt
+  ring_holds (create segment outcome) may = ring_left (create segment outcome) tt
+  ring_holds (write segment page upto bytes outcome) may = ring_left
+      (write segment page upto bytes outcome) tt
+  ring_holds (sync segment outcome) may = ring_left (sync segment outcome) tt
 
   -- the stage of the one that has the turn
   its_stage : HasTurn (v.mapping).stage → k.stage ≡ (v.mapping).stage
@@ -126,38 +111,24 @@ module _ (words : List ℕ) (home : Option Plain) (views : List View) (id : ℕ)
   pages_hold : (e : StepKind) → MayStep v e → HasPages v words home views id e
       (reach_behind e k.reach) (stage_behind v e (slice_index words (word_of_step v e)) k.stage)
       (memory_behind v e k.memory)
-  pages_hold load_position may =
-      left.pages_behind-left v words home views id k here load_position may tt
-  pages_hold take_write_turn may =
-      left.pages_behind-left v words home views id k here take_write_turn may tt
-  pages_hold slot_out may =
-      left.pages_behind-left v words home views id k here slot_out may tt
-  pages_hold slot_in may =
-      left.pages_behind-left v words home views id k here slot_in may tt
-  pages_hold release_write_turn may =
-      left.pages_behind-left v words home views id k here release_write_turn may tt
-  pages_hold (lock_position expected) may =
-      left.pages_behind-left v words home views id k here (lock_position expected) may tt
-  pages_hold load_prev may =
-      left.pages_behind-left v words home views id k here load_prev may tt
-  pages_hold store_prev may =
-      left.pages_behind-left v words home views id k here store_prev may tt
-  pages_hold (store_position locks value) may =
-      left.pages_behind-left v words home views id k here (store_position locks value) may tt
-  pages_hold (give_position_back value) may =
-      left.pages_behind-left v words home views id k here (give_position_back value) may tt
-  pages_hold (load_lock lock limit) may =
-      left.pages_behind-left v words home views id k here (load_lock lock limit) may tt
-  pages_hold (take_lock lock) may =
-      left.pages_behind-left v words home views id k here (take_lock lock) may tt
-  pages_hold (advance lock upto) may =
-      left.pages_behind-left v words home views id k here (advance lock upto) may tt
-  pages_hold (release lock) may =
-      left.pages_behind-left v words home views id k here (release lock) may tt
-  pages_hold (load_buffer_end buffer) may = page.pages_behind-end v words home views id k here buffer may
+  pages_hold load_position may = pages_left load_position may tt
+  pages_hold take_write_turn may = pages_left take_write_turn may tt
+  pages_hold slot_out may = pages_left slot_out may tt
+  pages_hold slot_in may = pages_left slot_in may tt
+  pages_hold release_write_turn may = pages_left release_write_turn may tt
+  pages_hold (lock_position expected) may = pages_left (lock_position expected) may tt
+  pages_hold load_prev may = pages_left load_prev may tt
+  pages_hold store_prev may = pages_left store_prev may tt
+  pages_hold (store_position locks value) may = pages_left (store_position locks value) may tt
+  pages_hold (give_position_back value) may = pages_left (give_position_back value) may tt
+  pages_hold (load_lock lock limit) may = pages_left (load_lock lock limit) may tt
+  pages_hold (take_lock lock) may = pages_left (take_lock lock) may tt
+  pages_hold (advance lock upto) may = pages_left (advance lock upto) may tt
+  pages_hold (release lock) may = pages_left (release lock) may tt
+  pages_hold
+      (load_buffer_end buffer) may = page.pages_behind-end v words home views id k here buffer may
   pages_hold store_ring_word may = page.pages_behind-stored v words home views id k here may
-  pages_hold (load_ring_word number) may =
-      left.pages_behind-left v words home views id k here (load_ring_word number) may tt
+  pages_hold (load_ring_word number) may = pages_left (load_ring_word number) may tt
   pages_hold load_written may = by_moved
       (λ (st : Stage). HasPages v words home views id load_written k.reach st k.memory)
       (v.mapping).stage k.stage (ready (slice_index words 13))
@@ -165,19 +136,13 @@ module _ (words : List ℕ) (home : Option Plain) (views : List View) (id : ℕ)
       (λ has. subst (λ (st : Stage). HasPages v words home views id load_written k.reach
       (ready (slice_index words 13) st) k.memory) (sym (its_stage has))
       (page.pages_behind-ready v words home views id k here (its_stage has)))
-  pages_hold load_flushed may =
-      left.pages_behind-left v words home views id k here load_flushed may tt
-  pages_hold load_moment may =
-      left.pages_behind-left v words home views id k here load_moment may tt
-  pages_hold load_down may =
-      left.pages_behind-left v words home views id k here load_down may tt
+  pages_hold load_flushed may = pages_left load_flushed may tt
+  pages_hold load_moment may = pages_left load_moment may tt
+  pages_hold load_down may = pages_left load_down may tt
   pages_hold store_written may = page.pages_behind-written v words home views id k here may
-  pages_hold store_moment may =
-      left.pages_behind-left v words home views id k here store_moment may tt
-  pages_hold store_flushed may =
-      left.pages_behind-left v words home views id k here store_flushed may tt
-  pages_hold set_down may =
-      left.pages_behind-left v words home views id k here set_down may tt
+  pages_hold store_moment may = pages_left store_moment may tt
+  pages_hold store_flushed may = pages_left store_flushed may tt
+  pages_hold set_down may = pages_left set_down may tt
   pages_hold take_mapping_turn may = page.pages_behind-taken v words home views id k here
   pages_hold load_initialised_end may = by_moved
       (λ (st : Stage). HasPages v words home views id load_initialised_end k.reach st k.memory)
@@ -191,52 +156,53 @@ module _ (words : List ℕ) (home : Option Plain) (views : List View) (id : ℕ)
   pages_hold publish_end may = page.pages_behind-published v words home views id k here may
   pages_hold publish_initialised_end may = page.pages_behind-advanced v words home views id k here may
   pages_hold release_mapping_turn may = page.pages_behind-given_back v words home views id k here may
-  pages_hold (create segment outcome) may =
-      left.pages_behind-left v words home views id k here (create segment outcome) may tt
-  pages_hold (write segment page upto bytes outcome) may =
-      left.pages_behind-left v words home views id k here (write segment page upto bytes outcome) may tt
-  pages_hold (sync segment outcome) may =
-      left.pages_behind-left v words home views id k here (sync segment outcome) may tt
+  pages_hold (create segment outcome) may = pages_left (create segment outcome) may tt
+  pages_hold (write segment page upto bytes outcome) may = pages_left
+      (write segment page upto bytes outcome) may tt
+  pages_hold (sync segment outcome) may = pages_left (sync segment outcome) may tt
 
   durable_holds : (e : StepKind) → MayStep v e → HasDurable words home views id v e
       (order_behind v e k.order) (writer_behind v e k.writer)
-  durable_holds load_position may = durable.durable-inside words home views id v k here load_position may tt tt
-  durable_holds take_write_turn may = durable.durable-inside words home views id v k here take_write_turn may tt tt
-  durable_holds slot_out may = durable.durable-inside words home views id v k here slot_out may tt tt
-  durable_holds slot_in may = durable.durable-inside words home views id v k here slot_in may tt tt
-  durable_holds release_write_turn may = durable.durable-inside words home views id v k here release_write_turn may tt tt
-  durable_holds (lock_position expected) may = durable.durable-inside words home views id v k here (lock_position expected) may tt tt
-  durable_holds load_prev may = durable.durable-inside words home views id v k here load_prev may tt tt
-  durable_holds store_prev may = durable.durable-inside words home views id v k here store_prev may tt tt
-  durable_holds (store_position locks value) may = durable.durable-reserved words home views id v k here live locks value may
-  durable_holds (give_position_back value) may = durable.durable-inside words home views id v k here (give_position_back value) may tt tt
-  durable_holds (load_lock lock limit) may = durable.durable-inside words home views id v k here (load_lock lock limit) may tt tt
-  durable_holds (take_lock lock) may = durable.durable-inside words home views id v k here (take_lock lock) may tt tt
-  durable_holds (advance lock upto) may = durable.durable-inside words home views id v k here (advance lock upto) may tt tt
-  durable_holds (release lock) may = durable.durable-inside words home views id v k here (release lock) may tt tt
-  durable_holds (load_buffer_end buffer) may = durable.durable-inside words home views id v k here (load_buffer_end buffer) may tt tt
-  durable_holds store_ring_word may = durable.durable-inside words home views id v k here store_ring_word may tt tt
-  durable_holds (load_ring_word number) may = durable.durable-inside words home views id v k here (load_ring_word number) may tt
+  durable_holds load_position may = inside load_position may tt tt
+  durable_holds take_write_turn may = inside take_write_turn may tt tt
+  durable_holds slot_out may = inside slot_out may tt tt
+  durable_holds slot_in may = inside slot_in may tt tt
+  durable_holds release_write_turn may = inside release_write_turn may tt tt
+  durable_holds (lock_position expected) may = inside (lock_position expected) may tt tt
+  durable_holds load_prev may = inside load_prev may tt tt
+  durable_holds store_prev may = inside store_prev may tt tt
+  durable_holds
+      (store_position locks value) may = durable.durable-reserved words home views id v k here live locks value may
+  durable_holds (give_position_back value) may = inside (give_position_back value) may tt tt
+  durable_holds (load_lock lock limit) may = inside (load_lock lock limit) may tt tt
+  durable_holds (take_lock lock) may = inside (take_lock lock) may tt tt
+  durable_holds (advance lock upto) may = inside (advance lock upto) may tt tt
+  durable_holds (release lock) may = inside (release lock) may tt tt
+  durable_holds (load_buffer_end buffer) may = inside (load_buffer_end buffer) may tt tt
+  durable_holds store_ring_word may = inside store_ring_word may tt tt
+  durable_holds (load_ring_word number) may = inside (load_ring_word number) may tt
       (λ l out. page.staged_behind v words home views id k here number l out may)
-  durable_holds load_written may = durable.durable-inside words home views id v k here load_written may tt tt
-  durable_holds load_flushed may = durable.durable-inside words home views id v k here load_flushed may tt tt
-  durable_holds load_moment may = durable.durable-inside words home views id v k here load_moment may tt tt
-  durable_holds load_down may = durable.durable-inside words home views id v k here load_down may tt tt
-  durable_holds store_written may = durable.durable-inside words home views id v k here store_written may tt tt
-  durable_holds store_moment may = durable.durable-inside words home views id v k here store_moment may tt tt
-  durable_holds store_flushed may = durable.durable-inside words home views id v k here store_flushed may tt tt
-  durable_holds set_down may = durable.durable-inside words home views id v k here set_down may tt tt
-  durable_holds take_mapping_turn may = durable.durable-inside words home views id v k here take_mapping_turn may tt tt
-  durable_holds load_initialised_end may = durable.durable-inside words home views id v k here load_initialised_end may tt tt
-  durable_holds clear_end may = durable.durable-inside words home views id v k here clear_end may tt tt
-  durable_holds zero_ring_word may = durable.durable-inside words home views id v k here zero_ring_word may tt tt
-  durable_holds publish_end may = durable.durable-inside words home views id v k here publish_end may tt tt
-  durable_holds publish_initialised_end may = durable.durable-inside words home views id v k here publish_initialised_end may tt tt
-  durable_holds release_mapping_turn may = durable.durable-inside words home views id v k here release_mapping_turn may tt tt
-  durable_holds (create segment outcome) may = durable.durable-create words home views id v k here segment outcome may
+  durable_holds load_written may = inside load_written may tt tt
+  durable_holds load_flushed may = inside load_flushed may tt tt
+  durable_holds load_moment may = inside load_moment may tt tt
+  durable_holds load_down may = inside load_down may tt tt
+  durable_holds store_written may = inside store_written may tt tt
+  durable_holds store_moment may = inside store_moment may tt tt
+  durable_holds store_flushed may = inside store_flushed may tt tt
+  durable_holds set_down may = inside set_down may tt tt
+  durable_holds take_mapping_turn may = inside take_mapping_turn may tt tt
+  durable_holds load_initialised_end may = inside load_initialised_end may tt tt
+  durable_holds clear_end may = inside clear_end may tt tt
+  durable_holds zero_ring_word may = inside zero_ring_word may tt tt
+  durable_holds publish_end may = inside publish_end may tt tt
+  durable_holds publish_initialised_end may = inside publish_initialised_end may tt tt
+  durable_holds release_mapping_turn may = inside release_mapping_turn may tt tt
+  durable_holds
+      (create segment outcome) may = durable.durable-create words home views id v k here segment outcome may
   durable_holds (write segment page upto bytes outcome) may =
       durable.durable-write words home views id v k here segment page upto bytes outcome may
-  durable_holds (sync segment outcome) may = durable.durable-sync words home views id v k here segment outcome may
+  durable_holds
+      (sync segment outcome) may = durable.durable-sync words home views id v k here segment outcome may
 
   pub sound_behind : (e : StepKind) → MayStep v e → KeepsSound words home views id v e
   sound_behind e may =

@@ -57,9 +57,10 @@ abbrev pub IsUnwritten : ℕ → ℕ → Tape → ℕ → Entry → Type 0
 IsUnwritten size opened tape moment e =
     All (λ (c : Call). PutsNone size e c.segment c.kind) (drop opened (take moment tape.calls))
 
--- a promise made to a log since the opening: what it names is firm, and no entry that came later was
--- written before
-pub record IsPromiseKept (opening : Opening) (order : List Entry) (tape : Tape) (entries : List Entry)
+-- a promise made to a log since the opening: what it names is firm, and no entry that came later
+-- was written before
+pub record IsPromiseKept (opening : Opening) (order : List Entry) (tape : Tape)
+    (entries : List Entry)
     (p : FlushPromise) : Type 0 where
   pub since : opening.moment ≤ p.moment
   pub firm : IsFirm opening.setup order p.upto p.moment tape

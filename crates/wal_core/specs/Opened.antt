@@ -12,8 +12,8 @@ pub record IsNew (opening : Opening) : Type 0 where
   pub setup_is : IsSetup opening.setup
   pub none_found : opening.found ≡ []
 
--- The words: records begin with segment 1, and nothing is reserved, held or told; the ring holds the
--- log's first pages, in whichever buffers they lie, all zeros
+-- The words: records begin with segment 1, and nothing is reserved, held or told; the ring holds
+-- the log's first pages, in whichever buffers they lie, all zeros
 pub record AreFirstWords (opening : Opening) (words : List ℕ) : Type 0 where
   pub wide : length words ≡ word_count opening.setup
   pub position : position_word words ≡ log_start opening.setup
@@ -27,7 +27,8 @@ pub record AreFirstWords (opening : Opening) (words : List ℕ) : Type 0 where
   pub ends : (b : ℕ) → b < (opening.setup).ring_pages
       → HoldsPage (opening.setup).ring_pages ((opening.setup).segment_size / 8192)
       ((opening.setup).segment_size / 8192 + (opening.setup).ring_pages) b (end_word words b)
-  pub ring : (k : ℕ) → k < (opening.setup).ring_pages * 1024 → word_of_ring opening.setup words k ≡ 0
+  pub ring : (k : ℕ) → k < (opening.setup).ring_pages * 1024
+      → word_of_ring opening.setup words k ≡ 0
 
 -- a writer that has written nothing, on any disk
 pub record IsFirstWriter (opening : Opening) (writer : Plain) : Type 0 where

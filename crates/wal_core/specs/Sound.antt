@@ -37,7 +37,8 @@ pub record IsGrounded (opening : Opening) (down : ℕ) (v : View) : Type 0 where
   pub left : (v.reserving).live ≡ false
       → ((v.working).locks ≢ []) ⊎ ((v.working).flight ≢ Landed) → down ≢ 0
 
--- the parts, all over one reserved order, one memory of the log's words and one writer, wherever it is
+-- the parts, all over one reserved order, one memory of the log's words and one writer, wherever it
+-- is
 pub record IsSound (opening : Opening) (words : List ℕ) (home : Option Plain) (views : List View)
     : Type 0 where
   pub order : List Entry

@@ -12,7 +12,7 @@ IsSuited state = (segment : ℕ) → state segment ≡ None
 abbrev pub BeganSuited : Opening → Tape → Type 0
 BeganSuited opening t = IsSuited (state_at t opening.moment)
 
--- this holds of the writer's tape, where its disk tells what it holds, and held at the opening what a
--- log may begin on
+-- this holds of the writer's tape, where its disk tells what it holds, and held at the opening what
+-- a log may begin on
 abbrev pub IfSuited : Opening → Plain → (Tape → Type 0) → Type 0
 IfSuited opening writer P = IfSome writer.tape (λ t. BeganSuited opening t → P t)

@@ -92,8 +92,8 @@ pub record Watching : Type 0 where
 
 -- ---- mapping
 
--- how far a pass is with mapping a page: the initialised end that it loaded, which is where the page
--- begins; the written position that it loaded; how many words it zeroed
+-- how far a pass is with mapping a page: the initialised end that it loaded, which is where the
+-- page begins; the written position that it loaded; how many words it zeroed
 pub data Stage : Type 0 where
   Away : Stage
   Taken : Stage
@@ -122,8 +122,8 @@ pub record Plain : Type 0 where
 
 -- with the writer in hand: it, as last kept; the address below which all is copied; the words that
 -- were loaded from the ring, by their numbers in the log; the address below which all is durable
--- from the moment on that was stored last, and that moment (0 where none was stored); and the address
--- that was stored as written
+-- from the moment on that was stored last, and that moment (0 where none was stored); and the
+-- address that was stored as written
 pub record Lent : Type 0 where
   pub writer : Plain
   pub known : ℕ

@@ -7,7 +7,8 @@ use Rattle.wal_core.specs.Views.{HasAt, Copy, Copying, Working, Watching}
 -- an entry in flight of which any lock was visited, and of which a word lies below the end watched
 -- for, has all its words below the bound copied
 abbrev pub IsCopiedToBound : ℕ → Watching → Working → Type 0
-IsCopiedToBound size watch work = (c : Copy) (lock : ℕ) → work.flight ≡ Copying c → Contains c.locks lock
+IsCopiedToBound size watch work = (c : Copy) (lock : ℕ) → work.flight ≡ Copying c
+    → Contains c.locks lock
     → lock < watch.visited → address_of_word size c.entry 0 < watch.end
     → watch.bound ≤ address_of_word size c.entry c.copied
 
