@@ -5,13 +5,13 @@ use Rattle.std.proofs.lemmas.Option.{slice_get_within, unwrap_or-slice_get}
 use mathlib.Core.Option.{none, some}
 use Rattle.wal_core.specs.Words.{down_word}
 use Rattle.wal_core.specs.Views.{Plain, Lent, Out, Turned as HasTurned, View, working_of}
-use Rattle.wal_core.specs.Steps.{StepKind, MayStep, State, Step, Moves, IsLive, load_down, word_of_step, view_behind}
+use Rattle.wal_core.specs.Steps.{StepKind, MayStep, Makes, State, Moves, IsLive, load_down, word_of_step, view_behind}
 use Rattle.wal_core.proofs.Lists.{at_else, at_place, part_at}
 use Rattle.wal_core.proofs.WordLists.{word_again}
 use Rattle.step_laws.proofs.EveryStep.{step_keeps}
 use Rattle.wal_turns.specs.Doing.{Ask, Inserts, Commits, Flushes, Doing, Backend, Machine}
 use Rattle.wal_turns.specs.Turned.{Turn, Waits, Next, goes_on, answers, can_step, looks_down, event_named, next_of, outcome, is_call_done, with_answer, with_next, tells_full, line_start, state_stepped, moved_on, fallen, word_waited, turned_by}
-use Rattle.wal_turns.specs.Standing.{IsRunning, HasBackend, HasLeft, IsLine, IsStepOrSame, MayBegin, StandsAt, StandsFor, UpFor}
+use Rattle.wal_turns.specs.Standing.{IsRunning, HasBackend, HasLeft, IsLine, IsTold, MayBegin, StandsAt, StandsFor, UpFor}
 use Rattle.wal_turns.proofs.Poses.{StandsNext, bool_cases}
 use Rattle.wal_turns.proofs.FlushPlaces.{hold_of}
 use Rattle.wal_turns.proofs.NextUp.{UpNext, next_up, up_start}
@@ -69,8 +69,8 @@ next_up_for b (answers full) d up = up_start (slice_get b.asks (b.answered + 1))
 
 -- ---- a turn
 
-abbrev pub Good : Machine → Machine → Type 0
-Good m n = IsStepOrSame m n × IsRunning n
+abbrev pub Good : Machine → ℕ → Turn × Machine → Type 0
+Good m number x = IsTold m number x.0 x.1 × IsRunning x.1
 
 module _ (m : Machine) (run : IsRunning m) (number : ℕ) (b : Backend) (here : HasBackend m number b)
     (v : View) (live : IsLive m.state (number + 1) v) (ask : Ask) (left : HasLeft b ask)
@@ -93,8 +93,9 @@ module _ (m : Machine) (run : IsRunning m) (number : ℕ) (b : Backend) (here : 
   abbrev behind : StepKind → View
   behind e = view_behind v e (slice_index words (word_of_step v e)) home
 
-  step_made : (e : StepKind) → MayStep v e → Step m.state (later e)
-  step_made e may = Moves id e (slice_index words (word_of_step v e)) (record {
+  makes : (e : StepKind) → MayStep v e
+      → Makes id e (slice_index words (word_of_step v e)) m.state (later e)
+  makes e may = record {
     view = v;
     live = live;
     may = may;
@@ -102,7 +103,7 @@ module _ (m : Machine) (run : IsRunning m) (number : ℕ) (b : Backend) (here : 
     words = refl;
     home = refl;
     views = refl;
-  })
+  }
 
   still_live : (e : StepKind) → MayStep v e → ((behind e).reserving).live ≡ true
   still_live e may = live_stays v _ home e ∙ live.1
@@ -131,89 +132,96 @@ module _ (m : Machine) (run : IsRunning m) (number : ℕ) (b : Backend) (here : 
 
   runs_on : (e : StepKind) → MayStep v e → (c : Backend) (full : Bool) → All IsLine c.asks
       → StandsFor c (behind e) → HomeBy m run number v live ask e
-      → UpFor c.doing (down_word (later e).words) → Good m (with_backend e c full)
-  runs_on e may c full lines mine at_home up = (
-    inr (step_made e may),
-    record {
-      sound = step_keeps m.opening m.state (later e) run.sound (step_made e may);
-      lines = λ j d is. ⊎_elim
-          (λ (h : (j ≡ number) × (c ≡ d)). subst (λ (x : Backend). All IsLine x.asks) h.1 lines)
-          (λ (h : (j ≢ number) × HasBackend m j d). run.lines j d h.1)
-          (set_cases m.backends number j c d is);
-      views = λ j d is. ⊎_elim
-          (λ (h : (j ≡ number) × (c ≡ d)). subst
-          (λ (y : ℕ × Backend). (u : View) × IsLive (later e) (y.0 + 1) u × StandsFor y.1 u)
-          (λ i. (sym h.0 i, h.1 i))
-          (behind e, (at_place views id v (behind e) live.0, still_live e may), mine))
-          (λ (h : (j ≢ number) × HasBackend m j d).
-          let old = run.views j d h.1 in (
-            old.0,
-            (
-              at_else views id (j + 1) (behind e) old.0 (λ same. h.0 (omega (arith, same)))
-                  old.1.0,
-              old.1.1,
-            ),
-            old.2,
-          ))
-          (set_cases m.backends number j c d is);
-      at_home = at_home;
-      up = λ j d a is has. ⊎_elim
-          (λ (h : (j ≡ number) × (c ≡ d)).
-          subst (λ (x : Backend). UpFor x.doing (down_word (later e).words)) h.1 up)
-          (λ (h : (j ≢ number) × HasBackend m j d).
-          let old = run.views j d h.1 in
-          let up_there = run.up j d a h.1 has in
-          up_by d.doing (down_word (later e).words) (λ purpose takes.
-          down_kept e may j old.0 h.0 old.1
-          (hold_of purpose a HasTurned old.0
-          (subst (λ (x : Doing). StandsAt old.0 x a) takes (old.2 a has)))
-          ∙ subst (λ (x : Doing). UpFor x (down_word words)) takes up_there))
-          (set_cases m.backends number j c d is);
-    },
-  )
+      → UpFor c.doing (down_word (later e).words) → IsRunning (with_backend e c full)
+  runs_on e may c full lines mine at_home up = record {
+    sound = step_keeps m.opening m.state (later e) run.sound
+        (Moves id e (slice_index words (word_of_step v e)) (makes e may));
+    lines = λ j d is. ⊎_elim
+        (λ (h : (j ≡ number) × (c ≡ d)). subst (λ (x : Backend). All IsLine x.asks) h.1 lines)
+        (λ (h : (j ≢ number) × HasBackend m j d). run.lines j d h.1)
+        (set_cases m.backends number j c d is);
+    views = λ j d is. ⊎_elim
+        (λ (h : (j ≡ number) × (c ≡ d)). subst
+        (λ (y : ℕ × Backend). (u : View) × IsLive (later e) (y.0 + 1) u × StandsFor y.1 u)
+        (λ i. (sym h.0 i, h.1 i))
+        (behind e, (at_place views id v (behind e) live.0, still_live e may), mine))
+        (λ (h : (j ≢ number) × HasBackend m j d).
+        let old = run.views j d h.1 in (
+          old.0,
+          (
+            at_else views id (j + 1) (behind e) old.0 (λ same. h.0 (omega (arith, same)))
+                old.1.0,
+            old.1.1,
+          ),
+          old.2,
+        ))
+        (set_cases m.backends number j c d is);
+    at_home = at_home;
+    up = λ j d a is has. ⊎_elim
+        (λ (h : (j ≡ number) × (c ≡ d)).
+        subst (λ (x : Backend). UpFor x.doing (down_word (later e).words)) h.1 up)
+        (λ (h : (j ≢ number) × HasBackend m j d).
+        let old = run.views j d h.1 in
+        let up_there = run.up j d a h.1 has in
+        up_by d.doing (down_word (later e).words) (λ purpose takes.
+        down_kept e may j old.0 h.0 old.1
+        (hold_of purpose a HasTurned old.0
+        (subst (λ (x : Doing). StandsAt old.0 x a) takes (old.2 a has)))
+        ∙ subst (λ (x : Doing). UpFor x (down_word words)) takes up_there))
+        (set_cases m.backends number j c d is);
+  }
 
-  falls : down_word words ≢ 0 → Good m (fallen m number b v ask).1
-  falls down = runs_on load_down tt (with_answer b) m.full (run.lines number b here)
-      (answer_stands b (behind load_down) (run.lines number b here) (inr (inl down)))
-      run.at_home (up_start (slice_get b.asks (b.answered + 1)) _)
+  falls : down_word words ≢ 0 → Good m number (fallen m number b v ask)
+  falls down = (
+    (down, refl, (slice_index words 16, makes load_down tt)),
+    runs_on load_down tt (with_answer b) m.full (run.lines number b here)
+        (answer_stands b (behind load_down) (run.lines number b here) (inr (inl down)))
+        run.at_home (up_start (slice_get b.asks (b.answered + 1)) _),
+  )
 
   moves : can_step m v ask b.doing ≡ true
       → (looks_down m v ask b.doing ≡ true → down_word words ≡ 0)
-      → Good m (moved_on m number b v ask (event_named m v ask b.doing)).1
+      → Good m number (moved_on m number b v ask (event_named m v ask b.doing))
   moves can up =
       let e = event_named m v ask b.doing in
       let met = slice_index words (word_of_step v e) in
       let done = is_call_done (outcome m v ask) in
       let next = next_of v (behind e) ask met done b.doing in
       let lines = run.lines number b here in
-      let g = goes m run number v live ask b.doing (run.up number b ask here left) stands can up in
-      runs_on e g.0 (with_next next b) (m.full || tells_full next) (next_lines b next lines)
-      (next_stands b ask (behind e) lines left next g.1)
-      (homes m run number v live ask b.doing stands)
-      (next_up_for b next _ (next_up v (behind e) ask met done _ b.doing
-      (λ purpose is.
-      let loaded : down_word (later e).words ≡ down_word words = subst
-      (λ (d : Doing). down_word (later (event_named m v ask d)).words ≡ down_word words) (sym is)
-      (ap (λ (ws : List ℕ). down_word ws) (word_again words 16)) in
-      loaded ∙ up (ap (λ (d : Doing). looks_down m v ask d) is))))
+      let g = goes m run number v live ask b.doing (run.up number b ask here left) stands can up in (
+        (met, makes e g.0),
+        runs_on e g.0 (with_next next b) (m.full || tells_full next) (next_lines b next lines)
+            (next_stands b ask (behind e) lines left next g.1)
+            (homes m run number v live ask b.doing stands)
+            (next_up_for b next _ (next_up v (behind e) ask met done _ b.doing
+            (λ purpose is.
+            let loaded : down_word (later e).words ≡ down_word words = subst
+            (λ (d : Doing). down_word (later (event_named m v ask d)).words ≡ down_word words) (sym is)
+            (ap (λ (ws : List ℕ). down_word ws) (word_again words 16)) in
+            loaded ∙ up (ap (λ (d : Doing). looks_down m v ask d) is)))),
+      )
 
   and_left : (s t : Bool) → s && t ≡ true → s ≡ true
   and_left true t is = refl
   and_left false t is = absurd (cc)
 
-  off_by : (n : ℕ) (s t : Bool) → not (eqb n 0) && (s || t) ≡ false → s ≡ true → n ≡ 0
-  off_by n true t off on = eqb-true n 0 (by_test (eqb n 0) off)
+  off_by : (n : ℕ) (s : Bool) → not (eqb n 0) && s ≡ false → s ≡ true → n ≡ 0
+  off_by n true off on = eqb-true n 0 (by_test (eqb n 0) off)
     where
       by_test : (x : Bool) → not x && true ≡ false → x ≡ true
       by_test true is = refl
       by_test false is = absurd (cc)
-  off_by n false t off on = absurd (cc)
+  off_by n false off on = absurd (cc)
+
+  right_on : (s t : Bool) → t ≡ true → s || t ≡ true
+  right_on true t on = refl
+  right_on false t on = on
 
   down_by : (n : ℕ) → not (eqb n 0) ≡ true → n ≢ 0
   down_by n is zero_now =
       let same = subst (λ (k : ℕ). not (eqb k 0) ≡ true) zero_now is in absurd (cc)
 
-  pub turn_good : Good m (turned_by m number b v ask).1
+  pub turn_good : Good m number (turned_by m number b v ask)
   turn_good =
       let down = down_word words in
       let can = can_step m v ask b.doing in
@@ -225,9 +233,18 @@ module _ (m : Machine) (run : IsRunning m) (number : ℕ) (b : Backend) (here : 
       ) in
       let moved = moved_on m number b v ask (event_named m v ask b.doing) in
       bool_cases
-      (λ (t : Bool). Good m (cond t (fallen m number b v ask) (cond can moved waits)).1)
+      (λ (t : Bool). Good m number (cond t (fallen m number b v ask) (cond can moved waits)))
       (not (eqb down 0) && (looks || not can))
       (λ on. falls (down_by down (and_left _ _ on)))
-      (λ off. bool_cases (λ (c : Bool). Good m (cond c moved waits).1) can
-      (λ may. moves may (λ on. off_by down looks (not can) off on))
-      (λ waiting. (inl refl, run)))
+      (λ off. bool_cases (λ (c : Bool). Good m number (cond c moved waits)) can
+      (λ may. moves may (λ on. off_by down (looks || not can) off
+      (ap (λ (s : Bool). s || not can) on)))
+      (λ waiting. (
+        (
+          refl,
+          refl,
+          off_by down (looks || not can) off
+              (right_on looks (not can) (ap not waiting)),
+        ),
+        run,
+      )))

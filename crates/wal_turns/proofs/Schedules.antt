@@ -1,30 +1,30 @@
 -- Turns one after another: each leaves the state or makes a step, so a schedule is a run.
-use Rattle.std.proofs.Common.{◌≡◌, inl, ⊎_elim, ℕ, zero, suc, ◌+◌, List, [], ◌∷◌, slice_get, Some, None, refl, subst, arith}
+use Rattle.std.proofs.Common.{ap, ◌≡◌, ◌⊎◌, inl, ⊎_elim, ℕ, zero, suc, ◌+◌, List, [], ◌∷◌, slice_get, Some, None, refl, subst, arith, inr}
 use Rattle.std.specs.Prelude.{Option}
 use mathlib.Core.Option.{none, some}
 use lib.ListN.{get_elem?}
 use Rattle.wal_core.specs.Views.{View}
-use Rattle.wal_core.specs.Steps.{IsLive, State, Step}
+use Rattle.wal_core.specs.Steps.{IsLive, State, Step, Moves, load_down}
 use Rattle.wal_core.proofs.Lists.{at_same}
 use Rattle.step_laws.specs.Runs.{Runs}
 use Rattle.wal_turns.specs.Doing.{Ask, Backend, Machine}
-use Rattle.wal_turns.specs.Turned.{turned, turned_for, turned_of, machine_behind}
-use Rattle.wal_turns.specs.Standing.{HasBackend, IsRunning, RunsOn, StandsFor}
+use Rattle.wal_turns.specs.Turned.{Turn, Moved, Waits, AllDone, IsDown, turned, turned_for, turned_of, machine_behind}
+use Rattle.wal_turns.specs.Standing.{IsTold, HasBackend, IsRunning, RunsOn, StandsFor}
 use Rattle.wal_turns.proofs.Running.{Good, turn_good}
 
 module _ (m : Machine) (run : IsRunning m) (number : ℕ) where
   by_ask : (b : Backend) (v : View) → HasBackend m number b → IsLive m.state (number + 1) v
       → StandsFor b v → (x : Option Ask) → slice_get b.asks b.answered ≡ x
-      → Good m (turned_for m number b v x).1
-  by_ask b v here live stands None is = (inl refl, run)
+      → Good m number (turned_for m number b v x)
+  by_ask b v here live stands None is = (refl, run)
   by_ask b v here live stands (Some ask) is =
       turn_good m run number b here v live ask is (stands ask is)
 
   by_backend : (x : Option Backend) (y : mathlib.Core.Option.Option View)
       → slice_get m.backends number ≡ x → get_elem? (m.state).views (number + 1) ≡ y
-      → Good m (turned_of m number x y).1
-  by_backend None y is at = (inl refl, run)
-  by_backend (Some b) none is at = (inl refl, run)
+      → Good m number (turned_of m number x y)
+  by_backend None y is at = (refl, run)
+  by_backend (Some b) none is at = (refl, run)
   by_backend (Some b) (some v) is at =
       let mine = run.views number b is in
       let same : mine.0 ≡ v = at_same (m.state).views mine.0 v (number + 1) mine.1.0 at in
@@ -32,7 +32,7 @@ module _ (m : Machine) (run : IsRunning m) (number : ℕ) where
       (mine.1, mine.2) in
       by_ask b v is found.0 found.1 (slice_get b.asks b.answered) refl
 
-  pub turned_good : Good m (turned m number).1
+  pub turned_good : Good m number (turned m number)
   turned_good = by_backend (slice_get m.backends number) (get_elem? (m.state).views (number + 1))
       refl refl
 
@@ -40,6 +40,13 @@ module _ (m : Machine) (run : IsRunning m) (number : ℕ) where
 earlier : (n : ℕ) (s u t : State) → Step s u → Runs n u t → Runs (suc n) s t
 earlier zero s u t step same = (s, refl, subst (Step s) same step)
 earlier (suc n) s u t step run = (run.0, earlier n s u run.0 step run.1, run.2)
+
+step_or_same : (m : Machine) (number : ℕ) (t : Turn) (n : Machine) → IsTold m number t n
+    → (n.state ≡ m.state) ⊎ Step m.state n.state
+step_or_same m number (Moved e) n told = inr (Moves (number + 1) e told.0 told.1)
+step_or_same m number (Waits on value) n told = inl (ap (λ (x : Machine). x.state) told.0)
+step_or_same m number AllDone n told = inl (ap (λ (x : Machine). x.state) told)
+step_or_same m number (IsDown faults) n told = inr (Moves (number + 1) load_down told.2.0 told.2.1)
 
 pub schedule_good : (schedule : List ℕ) (m : Machine) → IsRunning m
     → RunsOn m schedule × IsRunning (machine_behind m schedule)
@@ -61,6 +68,6 @@ schedule_good (number ∷ schedule) m run =
             suc behind.0,
             omega (arith, within),
             earlier behind.0 m.state n.state last step behind.2,
-          )) here.0,
+          )) (step_or_same m number (turned m number).0 n here.0),
       rest.1,
     )

@@ -53,7 +53,7 @@ module _ (size : ℕ) (valid : IsSegmentSize size) where
       let count : ℕ = pages in
       let some_page : 0 < count = omega (arith, geometry.1) in
       let whole : (made + 1) * count ≤ written / 8192 =
-          (le-div_iff_mul-le some_page).0 (omega arith) in
+      (le-div_iff_mul-le some_page).0 (omega arith) in
       let multiplied : (made + 1) * size ≡ (made + 1) * (8192 * count) =
-          ap (λ (n : ℕ). (made + 1) * n) geometry.0 in
+      ap (λ (n : ℕ). (made + 1) * n) geometry.0 in
       omega (arith, multiplied, whole)

@@ -1,5 +1,5 @@
 -- How a backend's view stands at its place in the order of steps, and a machine that runs.
-use Rattle.std.specs.Prelude.{◌≡◌, ◌≢◌, ◌⊎◌, ℕ, zero, suc, ◌+◌, ◌*◌, ◌/◌, ◌%◌, ◌<◌, ◌≤◌, Bool, true, false, All, List, [], ◌∷◌, length, slice_get, Some}
+use Rattle.std.specs.Prelude.{◌≡◌, ◌≢◌, ◌⊎◌, ℕ, zero, suc, ◌+◌, ◌*◌, ◌/◌, ◌%◌, ◌<◌, ◌≤◌, Bool, true, false, All, List, [], ◌∷◌, length, slice_get, slice_index, Some}
 use mathlib.Core.Option.{none, some}
 use Rattle.byte_position.specs.Geometry.{pages_of}
 use Rattle.record_spelling.specs.Spelling.{IsWritable}
@@ -8,11 +8,11 @@ use Rattle.wal_core.specs.declared.setup.Setup.{Setup}
 use Rattle.wal_core.specs.Words.{down_word}
 use Rattle.wal_core.specs.Views.{Place, Free, Locked, Loaded, Stored, Copy, Flight, Landed, Copying, Stage, Away, Taken, Looked, Ready, Zeroing, Published, Plain, Lent, Hold, Idle, Turned as HasTurned, Out, View}
 use Rattle.wal_core.specs.Paged.{IsOpen}
-use Rattle.wal_core.specs.Steps.{IsLive, IsResting, Step}
+use Rattle.wal_core.specs.Steps.{IsLive, IsResting, Makes, load_down}
 use Rattle.wal_core.specs.Sound.{IsSound}
 use Rattle.wal_turns.specs.Doing.{Ask, Inserts, Commits, Flushes, Purpose, ForLine, ForPage, Doing, Begins, Tries, Reserves, Looks, Copies, Maps, GivesTurn, Tells, Releases, FlushBegins, LoadsPosition, LoadsFlushed, LoadsMoment, Visits, TakesTurn, LoadsDown, TakesOut, LoadsPage, Creates, Writes, SyncsFull, SyncsLast, StoresWritten, StoresMoment, StoresFlushed, SetsDown, PutsBack, GivesWriteTurn, Backend, Machine}
 use Rattle.step_laws.specs.Runs.{Runs}
-use Rattle.wal_turns.specs.Turned.{fits, machine_behind}
+use Rattle.wal_turns.specs.Turned.{Turn, Moved, Waits, AllDone, IsDown, fits, machine_behind}
 
 -- ---- what a line asks for
 
@@ -230,9 +230,16 @@ pub record IsRunning (m : Machine) : Type 0 where
   pub up : (number : ℕ) (b : Backend) (ask : Ask) → HasBackend m number b → HasLeft b ask
       → UpFor b.doing (down_word (m.state).words)
 
--- behind a turn the state is as it was, or a step's
-abbrev pub IsStepOrSame : Machine → Machine → Type 0
-IsStepOrSame m n = (n.state ≡ m.state) ⊎ Step m.state n.state
+-- what a turn of a backend tells is so: its view made a step of this kind; it waits for this word,
+-- which holds this value, and no disk has failed; all its lines are answered; or the disk has
+-- failed, as the load of the down word shows. A backend that waits or is done changes nothing
+abbrev pub IsTold : Machine → ℕ → Turn → Machine → Type 0
+IsTold m number (Moved e) n = (met : ℕ) × Makes (number + 1) e met m.state n.state
+IsTold m number (Waits on value) n =
+    (n ≡ m) × (value ≡ slice_index (m.state).words on) × (down_word (m.state).words ≡ 0)
+IsTold m number AllDone n = n ≡ m
+IsTold m number (IsDown faults) n = (faults ≢ 0) × (faults ≡ down_word (m.state).words)
+    × ((met : ℕ) × Makes (number + 1) load_down met m.state n.state)
 
 -- behind a schedule the state is that of a run of at most as many steps
 abbrev pub RunsOn : Machine → List ℕ → Type 0
