@@ -112,7 +112,8 @@ module _ (m : Machine) (run : IsRunning m) (number : ℕ) (v : View)
   -- ---- the writer
 
   pub to_writer_of : (o : Opening) (k : IsSound o words home views) (h : Hold)
-      → (v.writing).hold ≡ h → StandsTo (write_turn words) ((k.locks).writing).holder home k.writer id
+      → (v.writing).hold ≡ h
+      → StandsTo (write_turn words) ((k.locks).writing).holder home k.writer id
       (v.reserving).number h
   to_writer_of o k h is = subst
       (λ (g : Hold). StandsTo (write_turn words) ((k.locks).writing).holder home k.writer id
@@ -195,9 +196,11 @@ module _ (m : Machine) (run : IsRunning m) (number : ℕ) (v : View)
   home_reserving : (a : Ask) (lock : ℕ) (p : Place) → HomeBy (reserve_event v words a lock p)
   home_reserving a lock Free = run.at_home
   home_reserving Flushes lock (Locked at) = run.at_home
-  home_reserving (Inserts value) lock (Locked at) = either_home (fits v (Inserts value) at) load_prev
+  home_reserving (Inserts value) lock (Locked at) = either_home (fits v
+      (Inserts value) at) load_prev
       (give_position_back value) run.at_home run.at_home
-  home_reserving (Commits value) lock (Locked at) = either_home (fits v (Commits value) at) load_prev
+  home_reserving (Commits value) lock (Locked at) = either_home (fits v
+      (Commits value) at) load_prev
       (give_position_back value) run.at_home run.at_home
   home_reserving a lock (Loaded at prev) = run.at_home
   home_reserving Flushes lock (Stored at prev) = run.at_home

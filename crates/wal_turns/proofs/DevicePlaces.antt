@@ -167,9 +167,13 @@ module _ (m : Machine) (ask : Ask) where
         let met = slice_index (m.state).words 11 in
         by_outcome (λ (o : Outcome).
         let w = view_behind here (sync segment o) met (m.state).home in
-        MayStep here (sync segment o) × StandsNext (behind_call here w ask met (is_call_done o) purpose
-        (page_or_end here w ask met (is_call_done o) purpose)) ask w) here
-        (((l, refl, record { up = waits.0; waits = may }), inl rose), failed_by (behind fails) refl) (
+        MayStep here (sync segment o) × StandsNext (behind_call here w ask met
+        (is_call_done o) purpose
+        (page_or_end here w ask met (is_call_done o) purpose)) ask w) here (
+          ((l, refl, record { up = waits.0; waits = may }), inl rose),
+          failed_by
+              (behind fails) refl,
+        ) (
           ((l, refl, record { up = waits.0; waits = may }), tt),
           page_or_end_stands m ask purpose (behind Done) here v met true
               (record { up = waits.0; awaits = inl refl }) (still (behind Done)),

@@ -47,7 +47,8 @@ module _ (opening : Opening) where
   split_count zero = refl
   split_count (suc n) =
       let before = split_count n in
-      let both = length-append (views_split_off opening n) (split_off (splitting_view opening n) ∷ []) in
+      let both = length-append (views_split_off opening n) (split_off
+      (splitting_view opening n) ∷ []) in
       omega arith
 
   split_at : (n j : ℕ) → j < n
@@ -57,7 +58,8 @@ module _ (opening : Opening) where
     | inl before ↦ at_front (views_split_off opening n) j (split_off (splitting_view opening n))
         (split_off (splitting_view opening j)) (split_at n j before)
     | inr last ↦ (let same : n ≡ j = omega arith in
-        subst (λ (k : ℕ). HasAt (views_split_off opening (suc n)) k (split_off (splitting_view opening k)))
+        subst (λ (k : ℕ). HasAt (views_split_off opening (suc n)) k (split_off
+        (splitting_view opening k)))
         same (subst (λ (k : ℕ). HasAt (views_split_off opening (suc n)) k
         (split_off (splitting_view opening n))) (split_count n)
         (at_end (views_split_off opening n) (split_off (splitting_view opening n)))))
@@ -71,7 +73,8 @@ module _ (opening : Opening) where
       views = splitting_view opening n ∷ views_split_off opening n;
     }
 
-    splits : (n : ℕ) → n + 1 < (opening.setup).passes → Splits 0 (state_split n) (state_split (suc n))
+    splits : (n : ℕ) → n + 1 < (opening.setup).passes
+        → Splits 0 (state_split n) (state_split (suc n))
     splits n low = record {
       view = splitting_view opening n;
       live = (refl, lives n);
@@ -121,7 +124,8 @@ module _ (opening : Opening) where
               split_off (splitting_view opening j),
               (by_next j (split_at (length lines) j found.3), refl),
               subst (λ (x : Backend). StandsFor x (split_off (splitting_view opening j))) found.2
-                  (stands_first found.0 (all_got (All IsLine) lines j found.0 may.writable found.1) j),
+                  (stands_first found.0 (all_got
+                  (All IsLine) lines j found.0 may.writable found.1) j),
             );
         at_home = λ w is up. inl (subst (λ (x : Plain). x.waiting ≡ none)
             (some-injective writer w is) (may.first_writer).waiting);
@@ -134,7 +138,8 @@ module _ (opening : Opening) where
           by_next : (j : ℕ) → HasAt (views_split_off opening (length lines)) j
               (split_off (splitting_view opening j))
               → HasAt (splitting_view opening (length lines)
-              ∷ views_split_off opening (length lines)) (j + 1) (split_off (splitting_view opening j))
+              ∷ views_split_off opening (length lines)) (j + 1) (split_off
+              (splitting_view opening j))
           by_next j at = let next : suc j ≡ j + 1 = omega arith in
               subst (λ (k : ℕ). HasAt (splitting_view opening (length lines)
               ∷ views_split_off opening (length lines)) k (split_off (splitting_view opening j)))

@@ -89,7 +89,8 @@ module _ (m : Machine) (ask : Ask) where
       let rest = at_rest_on v w stands (refl, refl, refl, refl) refl in (
         tt,
         bool_cases
-            (λ (b : Bool). StandsNext (cond b (goes_on LoadsMoment) (goes_on (Visits ForLine 0))) ask w)
+            (λ (b : Bool). StandsNext (cond b (goes_on LoadsMoment)
+            (goes_on (Visits ForLine 0))) ask w)
             (leb (asked_end v) met) (λ reached. rest) (λ before. (rest, omega arith)),
       )
 
@@ -119,7 +120,8 @@ module _ (m : Machine) (ask : Ask) where
     hold_of purpose ask Idle v stands,
     subst
         (λ (b : Bool). WritesFor (cond b (with_hold HasTurned v) v) purpose ask HasTurned) (sym can)
-        (writes_on purpose ask Idle HasTurned v (with_hold HasTurned v) stands (refl, refl, refl, refl)
+        (writes_on purpose ask Idle HasTurned v (with_hold HasTurned v) stands
+        (refl, refl, refl, refl)
         refl),
   )
 
@@ -137,7 +139,8 @@ module _ (m : Machine) (ask : Ask) where
   in_hand l v = with_hold (Out l) v
 
   pub page_or_end_stands : (purpose : Purpose) (l : Lent) (u v : View) (met : ℕ) (done : Bool)
-      → IsWriterUp ((v.opening).setup).segment_size l.writer → WritesFor (in_hand l v) purpose ask (Out l)
+      → IsWriterUp ((v.opening).setup).segment_size l.writer
+      → WritesFor (in_hand l v) purpose ask (Out l)
       → StandsAt (in_hand l v) (page_or_end u (in_hand l v) ask met done purpose) ask
   page_or_end_stands ForLine l u v met done up base = bool_cases
       (λ (b : Bool). StandsAt w (cond b (LoadsPage ForLine 0) (cond
@@ -196,7 +199,8 @@ module _ (m : Machine) (ask : Ask) where
             ask) (sym at_home)
             (page_or_end_stands purpose l v v (slice_index words 11)
             (is_call_done (outcome m v ask)) up
-            (writes_on purpose ask HasTurned (Out l) v (in_hand l v) stands (refl, refl, refl, refl) refl)),
+            (writes_on purpose ask HasTurned (Out l) v (in_hand l v) stands
+            (refl, refl, refl, refl) refl)),
       )
 
   module _ (purpose : Purpose) (l : Lent) (v : View)
@@ -204,7 +208,8 @@ module _ (m : Machine) (ask : Ask) where
     -- as it was, but for the lent writer
     pub writes_still : (k : Lent) → WritesFor (in_hand k v) purpose ask (Out k)
     writes_still k =
-        writes_on purpose ask (Out l) (Out k) (in_hand l v) (in_hand k v) base (refl, refl, refl, refl)
+        writes_on purpose ask (Out l) (Out k) (in_hand l v) (in_hand k v) base
+        (refl, refl, refl, refl)
         refl
 
     loads_page_at : (k : ℕ) → LoadsOn ((v.opening).setup).segment_size k l → k < 1024
@@ -228,14 +233,16 @@ module _ (m : Machine) (ask : Ask) where
           (l, refl, record { unwritten = omega arith; copied = omega arith }),
           bool_cases
               (λ (b : Bool). StandsNext (cond b
-              (cond (is_segment_new (in_hand l v)) (goes_on (Creates purpose)) (goes_on (Writes purpose)))
+              (cond (is_segment_new (in_hand l v)) (goes_on (Creates purpose)) (goes_on
+              (Writes purpose)))
               (goes_on (LoadsPage purpose (k + 1)))) ask (in_hand d v))
               (eqb (k + 1) 1024)
               (λ last.
               let all = subst (λ (n : ℕ). LoadsOn ((v.opening).setup).segment_size n d)
               (eqb-true _ _ last) more in
               bool_cases
-              (λ (b : Bool). StandsNext (cond b (goes_on (Creates purpose)) (goes_on (Writes purpose))) ask
+              (λ (b : Bool). StandsNext (cond b (goes_on (Creates purpose))
+              (goes_on (Writes purpose))) ask
               (in_hand d v))
               (is_segment_new (in_hand l v))
               (λ fresh. (d, still, (all, ltb-true _ _ fresh)))
@@ -272,7 +279,8 @@ module _ (m : Machine) (ask : Ask) where
         by_purpose ForLine done still = ((l, refl, tt), (_, still, (done, refl)))
         by_purpose (ForPage lock end) done still = ((l, refl, tt), (_, still, (done, refl)))
 
-  pub loads_page_goes : (purpose : Purpose) (k : ℕ) (v : View) → StandsAt v (LoadsPage purpose k) ask
+  pub loads_page_goes : (purpose : Purpose) (k : ℕ) (v : View)
+      → StandsAt v (LoadsPage purpose k) ask
       → Goes m ask (LoadsPage purpose k) v
   loads_page_goes purpose k v stands =
       let l = stands.0.0 in
@@ -352,7 +360,8 @@ module _ (m : Machine) (ask : Ask) where
       )
 
   pub gives_write_turn_goes : (purpose : Purpose) (failed : Bool) (v : View)
-      → StandsAt v (GivesWriteTurn purpose failed) ask → Goes m ask (GivesWriteTurn purpose failed) v
+      → StandsAt v (GivesWriteTurn purpose failed) ask
+      → Goes m ask (GivesWriteTurn purpose failed) v
   gives_write_turn_goes ForLine false v stands = (
     hold_of ForLine ask HasTurned v stands,
     inl (resting_posed _ (writes_on ForLine ask HasTurned Idle v (with_hold Idle v) stands

@@ -104,8 +104,26 @@ module _ (m : Machine) (ask : Ask) where
             (goes_on (Tries (n + 1)))) ask
             (view_behind rest (load_lock lock 0) met (m.state).home))
             (eqb (n + 1) 8)
-            (λ last. (inl (record { place = refl; locks = refl; flight = refl; stage = refl; hold = refl }), insert))
-            (λ more. (record { place_is = refl; locks_are = refl; flight_is = refl; stage_is = refl; hold_is = refl }, insert))),
+            (λ last. (
+              inl (record {
+                place = refl;
+                locks = refl;
+                flight = refl;
+                stage = refl;
+                hold = refl;
+              }),
+              insert,
+            ))
+            (λ more. (
+              record {
+                place_is = refl;
+                locks_are = refl;
+                flight_is = refl;
+                stage_is = refl;
+                hold_is = refl;
+              },
+              insert,
+            ))),
       ))
 
   pub tries_goes : (n : ℕ) (v : View) → StandsAt v (Tries n) ask → Goes m ask (Tries n) v
@@ -130,7 +148,8 @@ module _ (m : Machine) (ask : Ask) where
       let at = position_word words in (
         (refl, eqb-true _ _ can),
         subst
-            (λ (c : Bool). StandsAt (cond c (at_reserving lock (Locked at) v) u) (Reserves lock) ask)
+            (λ (c : Bool). StandsAt (cond c (at_reserving lock (Locked at) v) u)
+            (Reserves lock) ask)
             (sym (eq-eqb at at refl)) (stands_reserving lock (Locked at) v tt insert),
       )
 
@@ -258,7 +277,8 @@ module _ (m : Machine) (ask : Ask) where
   reserves_goes lock v valid whole stands can =
       let p = stands.0.0 in
       let pose = stands.0.1 in
-      of_posed (λ (u : View). can_step m u ask (Reserves lock) ≡ true → Goes m ask (Reserves lock) u)
+      of_posed (λ (u : View). can_step m u ask (Reserves lock) ≡ true
+      → Goes m ask (Reserves lock) u)
       p (lock ∷ []) Landed Away Idle v pose
       (reserves_at lock p v valid (subst IsPlaceWhole pose.place_is whole) stands.1 stands.0.2) can
 
@@ -313,7 +333,8 @@ module _ (m : Machine) (ask : Ask) where
         (c, refl, record { left = left; met = omega arith }),
         bool_cases
             (λ (b : Bool). StandsNext (cond b (goes_on (Releases lock false))
-            (cond (eqb (address_of_word size c.entry (c.copied + 1) % 8192) 0) (goes_on (Looks lock))
+            (cond (eqb (address_of_word size c.entry (c.copied + 1) % 8192) 0) (goes_on
+            (Looks lock))
             (goes_on (Copies lock)))) ask w)
             (eqb (c.copied + 1) (words_owned size c.entry))
             (λ whole. ((d, pose, under_still, eqb-true _ _ whole), insert))

@@ -35,7 +35,8 @@ module _ (m : Machine) (ask : Ask) where
     takes_turn_at can = (
       refl,
       subst
-          (λ (b : Bool). StandsAt (cond b (at_map lock c Taken v) (at_map lock c Away v)) (Maps lock)
+          (λ (b : Bool). StandsAt (cond b (at_map lock c Taken v) (at_map lock c Away v))
+          (Maps lock)
           ask) (sym can) (stands_mapping Taken tt),
     )
 
@@ -57,25 +58,29 @@ module _ (m : Machine) (ask : Ask) where
           bool_cases
               (λ (b : Bool). StandsNext (cond b (goes_on (GivesTurn lock none))
               (cond (ltb (met + pages * 8192) (at + 8192))
-              (goes_on (GivesTurn lock (some (at + 8192 - pages * 8192)))) (goes_on (Maps lock)))) ask w)
+              (goes_on (GivesTurn lock (some (at + 8192 - pages * 8192)))) (goes_on
+              (Maps lock)))) ask w)
               (leb (own_end u) at)
               (λ own. ((Ready at met, (c, pose, under, left), tt), insert))
               (λ ahead. bool_cases
               (λ (b : Bool). StandsNext
-              (cond b (goes_on (GivesTurn lock (some (at + 8192 - pages * 8192)))) (goes_on (Maps lock)))
+              (cond b (goes_on (GivesTurn lock (some (at + 8192 - pages * 8192)))) (goes_on
+              (Maps lock)))
               ask w)
               (ltb (met + pages * 8192) (at + 8192))
               (λ old. ((Ready at met, (c, pose, under, left), tt), insert))
               (λ written. ((Ready at met, (c, pose, under, left), ltb-false _ _ written), insert))),
         )
 
-    zeroes_at : (at count : ℕ) → count ≤ 1024 → Goes m ask (Maps lock) (at_map lock c (Zeroing at count) v)
+    zeroes_at : (at count : ℕ) → count ≤ 1024
+        → Goes m ask (Maps lock) (at_map lock c (Zeroing at count) v)
     zeroes_at at count within =
         let u = at_map lock c (Zeroing at count) v in
         bool_cases
         (λ (b : Bool).
         let e = cond b zero_ring_word publish_end in
-        MayStep u e × StandsAt (view_behind u e (slice_index words (word_of_step u e)) (m.state).home)
+        MayStep u e × StandsAt (view_behind u e (slice_index words (word_of_step u e))
+        (m.state).home)
         (Maps lock) ask)
         (ltb count 1024)
         (λ more. let below = ltb-true count 1024 more in
@@ -228,7 +233,8 @@ module _ (m : Machine) (ask : Ask) where
       → Goes m ask (Releases lock false) (at_map lock c Away v)
   releases_at lock c v under whole insert =
       let lands : landed lock (Copying c) ≡ Landed =
-      subst (λ (ls : List ℕ). cond (is_among ls lock) (standing c (without_lock lock ls)) (Copying c)
+      subst (λ (ls : List ℕ). cond (is_among ls lock) (standing c (without_lock lock ls))
+      (Copying c)
       ≡ Landed) (sym under.locks_are)
       (ap (λ (b : Bool). cond (b || false) (standing c (cond (not b) (lock ∷ []) [])) (Copying c))
       (eq-eqb lock lock refl)) in (
@@ -250,5 +256,6 @@ module _ (m : Machine) (ask : Ask) where
       (releases_full_at lock v)
   releases_goes lock false v stands =
       let c = stands.0.0 in
-      of_posed (Goes m ask (Releases lock false)) Free (lock ∷ []) (Copying c) Away Idle v stands.0.1
+      of_posed (Goes m ask (Releases lock false)) Free (lock ∷ [])
+      (Copying c) Away Idle v stands.0.1
       (releases_at lock c v stands.0.2 stands.0.3 stands.1)

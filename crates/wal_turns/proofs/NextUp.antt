@@ -62,8 +62,10 @@ module _ (v w : View) (ask : Ask) (met : ℕ) (done : Bool) (d : ℕ) where
       let pages = ((v.opening).setup).ring_pages in
       let later = goes_on (GivesTurn lock (some (at + 8192 - pages * 8192))) in
       either (leb (own_end v) at) (goes_on (GivesTurn lock none))
-      (cond (ltb (met + pages * 8192) (at + 8192)) later (goes_on (Maps lock))) d (record { up = tt })
-      (either (ltb (met + pages * 8192) (at + 8192)) later (goes_on (Maps lock)) d (record { up = tt }) (record { up = tt }))
+      (cond (ltb (met + pages * 8192) (at + 8192)) later (goes_on (Maps lock))) d
+      (record { up = tt })
+      (either (ltb (met + pages * 8192) (at + 8192)) later (goes_on (Maps lock)) d
+      (record { up = tt }) (record { up = tt }))
   up_mapping lock (Ready at written) = flat (Maps lock) tt
   up_mapping lock (Zeroing at count) = flat (Maps lock) tt
   up_mapping lock (Published at) = flat (GivesTurn lock none) tt
@@ -83,13 +85,16 @@ module _ (v w : View) (ask : Ask) (met : ℕ) (done : Bool) (d : ℕ) where
   up_next Begins given = flat (Tries 0) tt
   up_next (Tries n) given = either (eqb met 0) (goes_on (Reserves (lock_tried v n)))
       (cond (eqb (n + 1) 8) (goes_on Begins) (goes_on (Tries (n + 1)))) d (record { up = tt })
-      (either (eqb (n + 1) 8) (goes_on Begins) (goes_on (Tries (n + 1))) d (record { up = tt }) (record { up = tt }))
+      (either (eqb (n + 1) 8) (goes_on Begins) (goes_on (Tries (n + 1))) d (record { up = tt })
+      (record { up = tt }))
   up_next (Reserves lock) given = up_reserving lock (v.reserving).place
   up_next (Looks lock) given = either (eqb met (own_end v)) (goes_on (Copies lock))
       (goes_on (Maps lock)) d (record { up = tt }) (record { up = tt })
   up_next (Copies lock) given = either (is_whole w) (goes_on (Releases lock false))
-      (cond (eqb (next_address w % 8192) 0) (goes_on (Looks lock)) (goes_on (Copies lock))) d (record { up = tt })
-      (either (eqb (next_address w % 8192) 0) (goes_on (Looks lock)) (goes_on (Copies lock)) d (record { up = tt }) (record { up = tt }))
+      (cond (eqb (next_address w % 8192) 0) (goes_on (Looks lock)) (goes_on (Copies lock))) d
+      (record { up = tt })
+      (either (eqb (next_address w % 8192) 0) (goes_on (Looks lock)) (goes_on (Copies lock)) d
+      (record { up = tt }) (record { up = tt }))
   up_next (Maps lock) given = up_mapping lock (v.mapping).stage
   up_next (GivesTurn lock none) given = flat (Looks lock) tt
   up_next (GivesTurn lock (some end)) given = flat (Tells lock end) tt
@@ -110,12 +115,14 @@ module _ (v w : View) (ask : Ask) (met : ℕ) (done : Bool) (d : ℕ) where
   up_next (LoadsPage purpose k) given = either (eqb (k + 1) 1024)
       (cond (is_segment_new v) (goes_on (Creates purpose)) (goes_on (Writes purpose)))
       (goes_on (LoadsPage purpose (k + 1))) d
-      (either (is_segment_new v) (goes_on (Creates purpose)) (goes_on (Writes purpose)) d (record { up = tt }) (record { up = tt })) (record { up = tt })
+      (either (is_segment_new v) (goes_on (Creates purpose)) (goes_on (Writes purpose)) d
+      (record { up = tt }) (record { up = tt })) (record { up = tt })
   up_next (Creates purpose) given = up_call purpose (Writes purpose) (record { up = tt })
   up_next (Writes purpose) given =
       let ends = eqb (of_lent w (λ l. (l.writer).written) % ((v.opening).setup).segment_size) 0 in
       up_call purpose (cond ends (SyncsFull purpose) (page_or_end v w ask met done purpose))
-      (either_place ends (SyncsFull purpose) (page_or_end v w ask met done purpose) d (record { up = tt })
+      (either_place ends (SyncsFull purpose) (page_or_end v w ask met done purpose) d
+      (record { up = tt })
       (up_page purpose))
   up_next (SyncsFull purpose) given =
       up_call purpose (page_or_end v w ask met done purpose) (up_page purpose)

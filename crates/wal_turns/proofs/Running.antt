@@ -35,7 +35,8 @@ set_cases (z ∷ zs) (suc i) (suc j) x y e = ⊎_elim
 pub all_got : {A : Type 0} (P : A → Type 0) (xs : List A) (i : ℕ) (x : A) → All P xs
     → slice_get xs i ≡ Some x → P x
 all_got P xs i x all e = subst P
-    (sym (unwrap_or-slice_get xs i x) ∙ ap (λ (o : Rattle.std.specs.Prelude.Option _). unwrap_or o x) e)
+    (sym (unwrap_or-slice_get xs i x) ∙ ap (λ
+    (o : Rattle.std.specs.Prelude.Option _). unwrap_or o x) e)
     (all i x (slice_get_within xs i x e))
 
 -- ---- a backend behind its step
@@ -188,7 +189,8 @@ module _ (m : Machine) (run : IsRunning m) (number : ℕ) (b : Backend) (here : 
       let done = is_call_done (outcome m v ask) in
       let next = next_of v (behind e) ask met done b.doing in
       let lines = run.lines number b here in
-      let g = goes m run number v live ask b.doing (run.up number b ask here left) stands can up in (
+      let g = goes m run number v live ask b.doing
+      (run.up number b ask here left) stands can up in (
         (met, makes e g.0),
         runs_on e g.0 (with_next next b) (m.full || tells_full next) (next_lines b next lines)
             (next_stands b ask (behind e) lines left next g.1)
@@ -196,7 +198,8 @@ module _ (m : Machine) (run : IsRunning m) (number : ℕ) (b : Backend) (here : 
             (next_up_for b next _ (next_up v (behind e) ask met done _ b.doing
             (λ purpose is.
             let loaded : down_word (later e).words ≡ down_word words = subst
-            (λ (d : Doing). down_word (later (event_named m v ask d)).words ≡ down_word words) (sym is)
+            (λ (d : Doing). down_word (later (event_named m v ask d)).words ≡ down_word words)
+            (sym is)
             (ap (λ (ws : List ℕ). down_word ws) (word_again words 16)) in
             loaded ∙ up (ap (λ (d : Doing). looks_down m v ask d) is)))),
       )

@@ -34,11 +34,18 @@ module _ (size : ℕ) (valid : IsSegmentSize size) where
         let at_end : upto ≡ (page + 1) * 8192 = omega arith in
         let next : upto / 8192 ≡ page + 1 = omega arith in
         elim (cases_lt (page % count + 1) count) [
-          | inl more ↦ (let one : page + 1 ≡ page / count * count + (page % count + 1) = omega (arith, split) in
+          | inl more ↦ (let one : page + 1 ≡ page / count * count + (page % count + 1) = omega
+              (arith, split) in
               ap (λ (n : ℕ). n / count) (next ∙ one)
               ∙ div-mul-add (page / count) count (page % count + 1) more)
-          | inr full ↦ (let one : page + 1 ≡ count * (page / count + 1) = omega (arith, split, low, full) in
-              let all : upto ≡ 8192 * count * (page / count + 1) = omega (arith, at_end, ap (λ (n : ℕ). 8192 * n) one) in
+          | inr full ↦ (let one : page + 1 ≡ count * (page / count + 1) = omega
+              (arith, split, low, full) in
+              let all : upto ≡ 8192 * count * (page / count + 1) = omega (
+                arith,
+                at_end,
+                ap (λ
+                    (n : ℕ). 8192 * n) one,
+              ) in
               absurd (apart (ap (λ (n : ℕ). n % size) all
               ∙ ap (λ (n : ℕ). (8192 * count * (page / count + 1)) % n) geometry.0
               ∙ mul-mod_right (8192 * count) (page / count + 1))))
