@@ -181,7 +181,8 @@ module _ (m : Machine) (run : IsRunning m) (number : ℕ) (v : View)
   goes StoresFlushed at_out s can up = stores_flushed_goes m ask v s
   goes (SetsDown purpose) at_out s can up = sets_down_goes m ask purpose v s
   goes (PutsBack purpose failed) at_out s can up = puts_back_goes m ask purpose failed v s
-  goes (GivesWriteTurn purpose failed) at_out s can up = gives_write_turn_goes m ask purpose failed v s
+  goes (GivesWriteTurn purpose failed) at_out s can up =
+      gives_write_turn_goes m ask purpose failed v s
 
   -- ---- the writer's home
 

@@ -329,7 +329,10 @@ module _ (m : Machine) (ask : Ask) where
       let d : Copy = record c { copied = c.copied + 1 } in
       let w = at_copy lock d Away v in
       let pose = is_posed Free (lock ∷ []) (Copying d) Away Idle v in
-      let under_still : IsUnder lock d = record { locks_are = under.locks_are; whole = under.whole } in (
+      let under_still : IsUnder lock d = record {
+        locks_are = under.locks_are;
+        whole = under.whole;
+      } in (
         (c, refl, record { left = left; met = omega arith }),
         bool_cases
             (λ (b : Bool). StandsNext (cond b (goes_on (Releases lock false))
