@@ -172,7 +172,7 @@ module _ (m : Machine) (run : IsRunning m) (number : ℕ) (v : View)
   goes (LoadsDown purpose) at_out s can up = loads_down_goes m ask purpose v s
   goes (TakesOut purpose) at_out s can up = takes_out_now purpose at_out s
   goes (LoadsPage purpose k) at_out s can up = loads_page_goes m ask purpose k v s
-  goes (Creates purpose) at_out s can up = creates_goes m ask v told purpose near s
+  goes (Creates purpose) at_out s can up = creates_goes m ask v told purpose valid near s
   goes (Writes purpose) at_out s can up = writes_goes m ask v told purpose valid s
   goes (SyncsFull purpose) at_out s can up = syncs_full_goes m ask v told purpose s
   goes SyncsLast at_out s can up = syncs_last_goes m ask v told s

@@ -3,20 +3,20 @@
 use Rattle.std.proofs.Common.{◌≡◌, inl, inr, ⊎_elim, ℕ, suc, ◌+◌, ◌*◌, ◌/◌, ◌%◌, ◌<◌, ◌≤◌, Bool, true, false, cond, eqb, min, slice_index, refl, sym, ap, ◌∙◌, subst, arith}
 use Rattle.std.proofs.lemmas.Bool.{eqb-false}
 use Rattle.std.proofs.Math.Nat.{div-add-mod, le-min, min-le_left, min-le_right, mod-lt}
-use mathlib.Core.Option.{Option, some}
+use mathlib.Core.Option.{Option, some, none}
 use Rattle.byte_position.specs.Geometry.{IsSegmentSize, pages_of}
 use Rattle.byte_position.proofs.SegmentSizes.{segment_size_in_pages}
 use Rattle.segment_disk.specs.Tape.{create_call, sync_call, write_call}
 use Rattle.wal_core.specs.Views.{Lent, Out, View}
 use Rattle.wal_core.specs.Moves.{Outcome, Done, Failed, after_create, after_write, after_sync}
-use Rattle.wal_core.specs.Steps.{StepKind, MayStep, IsNextWrite, create, write, sync, word_of_step, view_behind}
+use Rattle.wal_core.specs.Steps.{StepKind, MayStep, IsNextCreate, IsNextWrite, create, write, sync, word_of_step, view_behind}
 use Rattle.wal_turns.specs.Doing.{Ask, Purpose, ForLine, Doing, Creates, Writes, SyncsFull, SyncsLast, StoresWritten, SetsDown, Machine}
 use Rattle.wal_turns.specs.Turned.{outcome, is_call_done, behind_call, page_or_end, segment_or, page_staged, of_lent}
 use Rattle.wal_turns.specs.Standing.{AwaitsSync, LoadsOn, WritesFor, segment_next, StandsAt}
 use Rattle.wal_turns.proofs.Poses.{Goes, StandsNext, bool_cases}
 use Rattle.wal_turns.proofs.FlushPlaces.{hold_of, in_hand, of_hold, page_or_end_stands, writes_on, writes_still}
 use Rattle.wal_turns.proofs.Loads.{bytes-length, bytes-words}
-use Rattle.wal_turns.proofs.SegmentSteps.{segment-still}
+use Rattle.wal_turns.proofs.SegmentSteps.{next-begins, segment-still}
 
 module _ (m : Machine) (ask : Ask) where
   abbrev fails : Outcome
@@ -56,17 +56,40 @@ module _ (m : Machine) (ask : Ask) where
         let next : (m.opening).faults + 1 ≡ suc (m.opening).faults = omega arith in
         (d, still d, ((m.opening).faults, is ∙ ap (λ (n : ℕ). some n) next))
 
-    creates_at : LoadsOn size 1024 l → (l.writer).made < segment_next size l.writer
+    -- a segment is made where it begins at or below what is written and some of it is asked for, and
+    -- nothing waits for a sync then
+    create_due : IsSegmentSize size → LoadsOn size 1024 l
+        → (l.writer).made < segment_next size l.writer
+        → (((l.writer).made + 1) * size ≤ (l.writer).written)
+        × (((l.writer).made + 1) * size < l.known) × ((l.writer).waiting ≡ none)
+    create_due valid on fresh =
+        let begins = next-begins size valid (l.writer).written (l.writer).made fresh in
+        let left = on.left in (
+          begins,
+          omega (arith, begins, left),
+          ⊎_elim (λ is. is)
+              (λ is. let low = is.1 in absurd (omega (arith, low, fresh))) (on.writer_up).awaits,
+        )
+
+    next_create : IsSegmentSize size → LoadsOn size 1024 l
+        → (l.writer).made < segment_next size l.writer → IsNextCreate ((l.writer).made + 1) l
+    next_create valid on fresh =
+        let due = create_due valid on fresh in
+        record { up = (on.writer_up).up; next = refl }
+
+    creates_at : IsSegmentSize size → LoadsOn size 1024 l
+        → (l.writer).made < segment_next size l.writer
         → segment_next size l.writer ≤ (l.writer).made + 1 → Goes m ask (Creates purpose) here
-    creates_at on fresh near =
+    creates_at valid on fresh near =
         let segment = (l.writer).made + 1 in
         let call = create_call size segment in
         let behind : Outcome → Lent = λ (o : Outcome).
         record l { writer = after_create segment call o l.writer } in
         let up = (on.writer_up).up in
+        let may = next_create valid on fresh in
         by_outcome (GoesBy (create segment) (Writes purpose)) here
-        (((l, refl, record { up = up; next = refl }), inl rose), failed_by (behind fails) refl) (
-          ((l, refl, record { up = up; next = refl }), tt),
+        (((l, refl, may), inl rose), failed_by (behind fails) refl) (
+          ((l, refl, may), tt),
           (
             behind Done,
             still (behind Done),
@@ -207,14 +230,16 @@ module _ (m : Machine) (ask : Ask) where
     again purpose l base = writes_on purpose ask (Out l) (Out l) v (in_hand m ask l v) base
         (refl, refl, refl, refl) refl
 
-    pub creates_goes : (purpose : Purpose) → ((l : Lent) → (v.writing).hold ≡ Out l
+    pub creates_goes : (purpose : Purpose) → IsSegmentSize ((v.opening).setup).segment_size
+        → ((l : Lent) → (v.writing).hold ≡ Out l
         → segment_next ((v.opening).setup).segment_size l.writer ≤ (l.writer).made + 1)
         → StandsAt v (Creates purpose) ask → Goes m ask (Creates purpose) v
-    creates_goes purpose near stands =
+    creates_goes purpose valid near stands =
         let l = stands.0 in
         let is = hold_of purpose ask (Out l) v stands.1 in
         of_hold (Goes m ask (Creates purpose)) (Out l) v is
-        (creates_at purpose l v (again purpose l stands.1) told stands.2.0 stands.2.1 (near l is))
+        (creates_at purpose l v (again purpose l stands.1) told valid stands.2.0 stands.2.1
+        (near l is))
 
     pub writes_goes : (purpose : Purpose) → IsSegmentSize ((v.opening).setup).segment_size
         → StandsAt v (Writes purpose) ask → Goes m ask (Writes purpose) v
