@@ -11,7 +11,7 @@ use Rattle.wal_core.proofs.WordLists.{word_again}
 use Rattle.step_laws.proofs.EveryStep.{step_keeps}
 use Rattle.wal_turns.specs.Doing.{Ask, Inserts, Commits, Flushes, Doing, Backend, Machine}
 use Rattle.wal_turns.specs.Turned.{Turn, Waits, Next, goes_on, answers, can_step, looks_down, event_named, next_of, outcome, is_call_done, with_answer, with_next, tells_full, line_start, state_stepped, moved_on, fallen, word_waited, turned_by}
-use Rattle.wal_turns.specs.Standing.{IsRunning, HasBackend, HasLeft, IsLine, IsTold, MayBegin, StandsAt, StandsFor, UpFor}
+use Rattle.wal_turns.specs.Standing.{IsRunning, HasBackend, HasLeft, IsLine, IsTurnTold, MayBegin, StandsAt, StandsFor, UpFor}
 use Rattle.wal_turns.proofs.Poses.{StandsNext, bool_cases}
 use Rattle.wal_turns.proofs.FlushPlaces.{hold_of}
 use Rattle.wal_turns.proofs.NextUp.{UpNext, next_up, up_start}
@@ -71,7 +71,7 @@ next_up_for b (answers full) d up = up_start (slice_get b.asks (b.answered + 1))
 -- ---- a turn
 
 abbrev pub Good : Machine → ℕ → Turn × Machine → Type 0
-Good m number x = IsTold m number x.0 x.1 × IsRunning x.1
+Good m number x = IsTurnTold m number x.0 x.1 × IsRunning x.1
 
 module _ (m : Machine) (run : IsRunning m) (number : ℕ) (b : Backend) (here : HasBackend m number b)
     (v : View) (live : IsLive m.state (number + 1) v) (ask : Ask) (left : HasLeft b ask)

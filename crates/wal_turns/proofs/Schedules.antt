@@ -9,7 +9,7 @@ use Rattle.wal_core.proofs.Lists.{at_same}
 use Rattle.step_laws.specs.Runs.{Runs}
 use Rattle.wal_turns.specs.Doing.{Ask, Backend, Machine}
 use Rattle.wal_turns.specs.Turned.{Turn, Moved, Waits, AllDone, IsDown, turned, turned_for, turned_of, machine_behind}
-use Rattle.wal_turns.specs.Standing.{IsTold, HasBackend, IsRunning, RunsOn, StandsFor}
+use Rattle.wal_turns.specs.Standing.{IsTurnTold, HasBackend, IsRunning, RunsOn, StandsFor}
 use Rattle.wal_turns.proofs.Running.{Good, turn_good}
 
 module _ (m : Machine) (run : IsRunning m) (number : ℕ) where
@@ -41,7 +41,7 @@ earlier : (n : ℕ) (s u t : State) → Step s u → Runs n u t → Runs (suc n)
 earlier zero s u t step same = (s, refl, subst (Step s) same step)
 earlier (suc n) s u t step run = (run.0, earlier n s u run.0 step run.1, run.2)
 
-step_or_same : (m : Machine) (number : ℕ) (t : Turn) (n : Machine) → IsTold m number t n
+step_or_same : (m : Machine) (number : ℕ) (t : Turn) (n : Machine) → IsTurnTold m number t n
     → (n.state ≡ m.state) ⊎ Step m.state n.state
 step_or_same m number (Moved e) n told = inr (Moves (number + 1) e told.0 told.1)
 step_or_same m number (Waits on value) n told = inl (ap (λ (x : Machine). x.state) told.0)

@@ -233,12 +233,12 @@ pub record IsRunning (m : Machine) : Type 0 where
 -- what a turn of a backend tells is so: its view made a step of this kind; it waits for this word,
 -- which holds this value, and no disk has failed; all its lines are answered; or the disk has
 -- failed, as the load of the down word shows. A backend that waits or is done changes nothing
-abbrev pub IsTold : Machine → ℕ → Turn → Machine → Type 0
-IsTold m number (Moved e) n = (met : ℕ) × Makes (number + 1) e met m.state n.state
-IsTold m number (Waits on value) n =
+abbrev pub IsTurnTold : Machine → ℕ → Turn → Machine → Type 0
+IsTurnTold m number (Moved e) n = (met : ℕ) × Makes (number + 1) e met m.state n.state
+IsTurnTold m number (Waits on value) n =
     (n ≡ m) × (value ≡ slice_index (m.state).words on) × (down_word (m.state).words ≡ 0)
-IsTold m number AllDone n = n ≡ m
-IsTold m number (IsDown faults) n = (faults ≢ 0) × (faults ≡ down_word (m.state).words)
+IsTurnTold m number AllDone n = n ≡ m
+IsTurnTold m number (IsDown faults) n = (faults ≢ 0) × (faults ≡ down_word (m.state).words)
     × ((met : ℕ) × Makes (number + 1) load_down met m.state n.state)
 
 -- behind a schedule the state is that of a run of at most as many steps

@@ -5,7 +5,7 @@ ghost use Rattle.wal_core.specs.Views.{Plain};
 ghost use Rattle.wal_core.specs.Words.{Opening};
 ghost use Rattle.wal_turns.specs.Begun.{MayBeginRunning, first_machine};
 ghost use Rattle.wal_turns.specs.Doing.{Ask, Machine};
-ghost use Rattle.wal_turns.specs.Standing.{IsRunning, IsTold, RunsOn};
+ghost use Rattle.wal_turns.specs.Standing.{IsRunning, IsTurnTold, RunsOn};
 ghost use Rattle.wal_turns.specs.Turned.{machine_behind, turned};
 
 /// A machine that begins runs: over a log that holds nothing, with a pass for each backend,
@@ -17,14 +17,14 @@ pub fn machines_begin_running()
         → IsRunning (first_machine opening words writer failing lines) }
 {}
 
-/// In a machine that runs the step that the order names for a backend may be made, so each turn is as
-/// it tells: a step of the kind that it names, made by the backend's pass; or the backend waits or is
-/// done, and nothing changes; or the disk has failed, as the down word says. The machine runs on, so
-/// its state keeps the invariant. Behind any schedule the state is that of a run of at most as many
-/// steps, whichever calls of the device fail.
+/// In a machine that runs the step that the order names for a backend may be made, so each turn is
+/// as it tells: a step of the kind that it names, made by the backend's pass; or the backend waits
+/// or is done, and nothing changes; or the disk has failed, as the down word says. The machine runs
+/// on, so its state keeps the invariant. Behind any schedule the state is that of a run of at most
+/// as many steps, whichever calls of the device fail.
 pub fn turns_are_steps()
     ensures turn { (m : Machine) (number : ℕ) → IsRunning m
-        → IsTold m number (turned m number).0 (turned m number).1
+        → IsTurnTold m number (turned m number).0 (turned m number).1
         × IsRunning (turned m number).1 }
     ensures schedule { (schedule : List ℕ) (m : Machine) → IsRunning m
         → RunsOn m schedule × IsRunning (machine_behind m schedule) }
