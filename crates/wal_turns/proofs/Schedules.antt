@@ -1,7 +1,7 @@
 -- Turns one after another: each leaves the state or makes a step, so a schedule is a run.
-use Rattle.std.proofs.Common.{ap, ◌≡◌, ◌⊎◌, inl, ⊎_elim, ℕ, zero, suc, ◌+◌, List, [], ◌∷◌, slice_get, Some, None, refl, subst, arith, inr}
+use Rattle.std.proofs.Common.{ap, ◌≡◌, ◌⊎◌, inl, ⊎_elim, ℕ, zero, suc, ◌+◌, List, [], ◌∷◌, slice_get, Some, None, refl, subst, arith, inr, sym, ◌∙◌}
 use Rattle.std.specs.Prelude.{Option}
-use mathlib.Core.Option.{none, some}
+use mathlib.Core.Option.{some-ne-none, none, some}
 use lib.ListN.{get_elem?}
 use Rattle.wal_core.specs.Views.{View}
 use Rattle.wal_core.specs.Steps.{IsLive, State, Step, Moves, load_down}
@@ -9,22 +9,34 @@ use Rattle.wal_core.proofs.Lists.{at_same}
 use Rattle.step_laws.specs.Runs.{Runs}
 use Rattle.wal_turns.specs.Doing.{Ask, Backend, Machine}
 use Rattle.wal_turns.specs.Turned.{Turn, Moved, Waits, AllDone, IsDown, turned, turned_for, turned_of, machine_behind}
-use Rattle.wal_turns.specs.Standing.{IsTurnTold, HasBackend, IsRunning, RunsOn, StandsFor}
+use Rattle.wal_turns.specs.Standing.{HasLeft, IsTurnTold, HasBackend, IsRunning, RunsOn, StandsFor}
 use Rattle.wal_turns.proofs.Running.{Good, turn_good}
 
 module _ (m : Machine) (run : IsRunning m) (number : ℕ) where
   by_ask : (b : Backend) (v : View) → HasBackend m number b → IsLive m.state (number + 1) v
       → StandsFor b v → (x : Option Ask) → slice_get b.asks b.answered ≡ x
       → Good m number (turned_for m number b v x)
-  by_ask b v here live stands None is = (refl, run)
+  by_ask b v here live stands None is = (
+    (
+      refl,
+      λ c ask there left.
+          let same : b ≡ c = cc in
+          let left_here = subst (λ (x : Backend). HasLeft x ask) (sym same) left in
+          absurd (cc),
+    ),
+    run,
+  )
   by_ask b v here live stands (Some ask) is =
       turn_good m run number b here v live ask is (stands ask is)
 
   by_backend : (x : Option Backend) (y : mathlib.Core.Option.Option View)
       → slice_get m.backends number ≡ x → get_elem? (m.state).views (number + 1) ≡ y
       → Good m number (turned_of m number x y)
-  by_backend None y is at = (refl, run)
-  by_backend (Some b) none is at = (refl, run)
+  by_backend None y is at = ((refl, λ c ask there left. absurd (cc)), run)
+  by_backend (Some b) none is at =
+      let mine = run.views number b is in
+      let there = mine.1.0 in
+      absurd (some-ne-none mine.0 (sym there ∙ at))
   by_backend (Some b) (some v) is at =
       let mine = run.views number b is in
       let same : mine.0 ≡ v = at_same (m.state).views mine.0 v (number + 1) mine.1.0 at in
@@ -45,7 +57,7 @@ step_or_same : (m : Machine) (number : ℕ) (t : Turn) (n : Machine) → IsTurnT
     → (n.state ≡ m.state) ⊎ Step m.state n.state
 step_or_same m number (Moved e) n told = inr (Moves (number + 1) e told.0 told.1)
 step_or_same m number (Waits on value) n told = inl (ap (λ (x : Machine). x.state) told.0)
-step_or_same m number AllDone n told = inl (ap (λ (x : Machine). x.state) told)
+step_or_same m number AllDone n told = inl (ap (λ (x : Machine). x.state) told.0)
 step_or_same m number (IsDown faults) n told = inr (Moves (number + 1) load_down told.2.0 told.2.1)
 
 pub schedule_good : (schedule : List ℕ) (m : Machine) → IsRunning m

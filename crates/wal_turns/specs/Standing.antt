@@ -43,7 +43,7 @@ pub record IsWriterUp (size : ℕ) (w : Plain) : Type 0 where
   pub up : w.fault ≡ none
   pub awaits : AwaitsOne size w
 
--- the first words of a page were loaded, the last of them last
+-- the words that were loaded last, the latest first, are so many first words of a page, in order
 abbrev pub AreLoaded : ℕ → ℕ → List (ℕ × ℕ) → Type 0
 AreLoaded page zero staged = Unit {0}
 AreLoaded page (suc k) [] = ⊥
@@ -237,7 +237,8 @@ abbrev pub IsTurnTold : Machine → ℕ → Turn → Machine → Type 0
 IsTurnTold m number (Moved e) n = (met : ℕ) × Makes (number + 1) e met m.state n.state
 IsTurnTold m number (Waits on value) n =
     (n ≡ m) × (value ≡ slice_index (m.state).words on) × (down_word (m.state).words ≡ 0)
-IsTurnTold m number AllDone n = n ≡ m
+IsTurnTold m number AllDone n =
+    (n ≡ m) × ((b : Backend) (ask : Ask) → HasBackend m number b → HasLeft b ask → ⊥)
 IsTurnTold m number (IsDown faults) n = (faults ≢ 0) × (faults ≡ down_word (m.state).words)
     × ((met : ℕ) × Makes (number + 1) load_down met m.state n.state)
 
