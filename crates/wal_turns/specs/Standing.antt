@@ -43,7 +43,7 @@ pub record IsWriterUp (size : ℕ) (w : Plain) : Type 0 where
   pub up : w.fault ≡ none
   pub awaits : AwaitsOne size w
 
--- the words that were loaded last, the latest first, are so many first words of a page, in order
+-- the words that were loaded last, the latest first, are so many first words of a page
 abbrev pub AreLoaded : ℕ → ℕ → List (ℕ × ℕ) → Type 0
 AreLoaded page zero staged = Unit {0}
 AreLoaded page (suc k) [] = ⊥
