@@ -20,8 +20,8 @@ pub fn machines_begin_running()
 /// In a machine that runs the step that the order names for a backend may be made, so each turn is
 /// as it tells: a step of the kind that it names, made by the backend's pass; or the backend waits,
 /// or has no line left, and nothing changes; or the disk has failed, as the down word says. The
-/// machine runs on, so its state keeps the invariant. Behind any schedule the state is that of a run
-/// of at most as many steps, whichever calls of the device fail.
+/// machine runs on, so its state keeps the invariant. Behind any schedule the state is that of a
+/// run of at most as many steps, whichever calls of the device fail.
 pub fn turns_are_steps()
     ensures turn { (m : Machine) (number : ℕ) → IsRunning m
         → IsTurnTold m number (turned m number).0 (turned m number).1
