@@ -63,10 +63,14 @@ pub record IsNextWrite (setup : Setup) (segment page upto : ℕ) (bytes : List �
     pub whole : length bytes ≡ 8192
     pub loaded : IsPageLoaded ((l.writer).written / 8192) bytes l.staged
 
--- the segment under way, which is the one behind the last that is made, is made
-pub record IsNextCreate (segment : ℕ) (l : Lent) : Type 0 where
+-- the segment under way, which is the one behind the last that is made, is made where a byte of it
+-- is to be written next, and no other one waits for a sync
+pub record IsNextCreate (setup : Setup) (segment : ℕ) (l : Lent) : Type 0 where
   pub up : (l.writer).fault ≡ none
   pub next : segment ≡ (l.writer).made + 1
+  pub behind : segment * setup.segment_size ≤ (l.writer).written
+  pub asked : segment * setup.segment_size < l.known
+  pub alone : (l.writer).waiting ≡ none
 
 pub record IsNextSync (segment : ℕ) (l : Lent) : Type 0 where
   pub up : (l.writer).fault ≡ none
@@ -323,7 +327,7 @@ module _ (v : View) where
   MayStep publish_end = (at : ℕ) × ((v.mapping).stage ≡ Zeroing at 1024)
   MayStep publish_initialised_end = (at : ℕ) × ((v.mapping).stage ≡ Published at)
   MayStep release_mapping_turn = IsOpen (v.mapping).stage
-  MayStep (create segment outcome) = HasOut (IsNextCreate segment) × IsCallFault outcome
+  MayStep (create segment outcome) = HasOut (IsNextCreate setup_of segment) × IsCallFault outcome
   MayStep (write segment page upto bytes outcome) =
       HasOut (IsNextWrite setup_of segment page upto bytes) × IsCallFault outcome
   MayStep (sync segment outcome) = HasOut (IsNextSync segment) × IsCallFault outcome

@@ -72,10 +72,17 @@ module _ (m : Machine) (ask : Ask) where
         )
 
     next_create : IsSegmentSize size → LoadsOn size 1024 l
-        → (l.writer).made < segment_next size l.writer → IsNextCreate ((l.writer).made + 1) l
+        → (l.writer).made < segment_next size l.writer
+        → IsNextCreate (v.opening).setup ((l.writer).made + 1) l
     next_create valid on fresh =
         let due = create_due valid on fresh in
-        record { up = (on.writer_up).up; next = refl }
+        record {
+          up = (on.writer_up).up;
+          next = refl;
+          behind = due.0;
+          asked = due.1;
+          alone = due.2;
+        }
 
     creates_at : IsSegmentSize size → LoadsOn size 1024 l
         → (l.writer).made < segment_next size l.writer
