@@ -1,4 +1,5 @@
--- Every sound state shows which entries are whole, which are in flight, and what locks tell of them.
+-- Every sound state shows which entries are whole, which are in flight, and what locks tell of
+-- them.
 use Rattle.std.proofs.Common.{◌≡◌, ◌≢◌, ◌⊎◌, inl, inr, ⊎_elim, ℕ, zero, suc, ◌+◌, ◌<◌, ◌≤◌, cond, Bool, Contains, List, [], ◌∷◌, ◌++◌, Some, map, refl, sym, ap, ◌∙◌, subst, arith}
 use Rattle.std.proofs.lemmas.List.Elements.{Contains-append_cases, Contains-append_right, Contains-push_cases}
 use Rattle.std.proofs.lemmas.Option.{same_Some}
@@ -25,7 +26,7 @@ use Rattle.wal_core.proofs.Landing.{among_cases, none_lands}
 use Rattle.wal_core.proofs.Lists.{part_at}
 use Rattle.ring_laws.proofs.RingLaws.{copy-whole, last_word-ends}
 use Rattle.ring_laws.proofs.ShownLaws.{entries_are_copied}
-use Rattle.sound_laws.specs.Locks.{SomeView, HasInFlight, IsToldBy, LocksTellCopies, IsWhole, EntriesAreWholeOrInFlight}
+use Rattle.sound_laws.specs.Locks.{SomeView, HasInFlight, IsToldBy, LocksTellCopies, IsCopiedWhole, EntriesAreWholeOrInFlight}
 use Rattle.sound_laws.proofs.HolderLaws.{locks_have_holders}
 
 -- ---- an order's entries
@@ -99,6 +100,12 @@ flies_or_not e (x ∷ xs) = ⊎_elim
         mine c (ap (λ (y : View). (y.working).flight) same ∙ is)
     neither mine others (suc id) v c here is = others id v c here is
 
+-- whoever copies an entry has it in flight
+pub flies : (views : List View) (id : ℕ) (v : View) (c : Copy) → HasAt views id v
+    → (v.working).flight ≡ Copying c → HasAt (map flight_of views) id (Copying c)
+flies views id v c here is = subst (λ (f : Flight). HasAt (map flight_of views) id f) is
+    (part_at flight_of views id v here)
+
 -- ---- entries, and what locks tell of them
 
 module _ (opening : Opening) (words : List ℕ) (home : Option Plain) (views : List View)
@@ -115,9 +122,7 @@ module _ (opening : Opening) (words : List ℕ) (home : Option Plain) (views : L
   -- an entry in flight is one of the order
   of_order : (id : ℕ) (v : View) (c : Copy) → HasAt views id v → (v.working).flight ≡ Copying c
       → IsOfOrder size k.order c
-  of_order id v c here is = (k.ring).in_flight id c
-      (subst (λ (f : Flight). HasAt (map flight_of views) id f) is
-      (part_at flight_of views id v here))
+  of_order id v c here is = (k.ring).in_flight id c (flies views id v c here is)
 
   in_flight : (id : ℕ) (v : View) (c : Copy) → HasAt views id v → (v.working).flight ≡ Copying c
       → (e : Entry) → c.entry ≡ e → HasInFlight e v
@@ -129,21 +134,21 @@ module _ (opening : Opening) (words : List ℕ) (home : Option Plain) (views : L
   )
 
   whole_or_not : (e : Entry) → Contains k.order e
-      → IsWhole setup k.order words views e ⊎ SomeView views (HasInFlight e)
+      → (IsInNoFlight views e × IsCopiedWhole setup k.order words e)
+      ⊎ SomeView views (HasInFlight e)
   whole_or_not e has =
       let a = around e k.order has in ⊎_elim
       (λ (t : SomeView views (λ v. Copies e (v.working).flight)).
-      let f = t.3 in let o = of_order t.0 t.1 f.0 t.2 f.1 in
-      inr (
-        t.0,
-        t.1,
-        t.2,
-        in_flight t.0 t.1 f.0 t.2 f.1 e
-            (starts_once size (k.setup_is).size k.order chain o.front o.back (f.0).entry o.are a.0 a.1 e
-            a.2 f.2),
+      let f = t.3 in
+      let o = of_order t.0 t.1 f.0 t.2 f.1 in
+      let same = starts_once size (k.setup_is).size k.order chain o.front o.back (f.0).entry o.are
+      a.0 a.1 e a.2 f.2 in
+      inr (t.0, t.1, t.2, in_flight t.0 t.1 f.0 t.2 f.1 e same))
+      (λ (none : IsInNoFlight views e). inl (
+        none,
+        λ n owned.
+            (entries_are_copied opening words home views k).landed a.0 a.1 e n a.2 none owned,
       ))
-      (λ (none : IsInNoFlight views e). inl (λ n owned.
-      (entries_are_copied opening words home views k).landed a.0 a.1 e n a.2 none owned))
       (flies_or_not e views)
 
   pub entries_are_whole_or_in_flight : EntriesAreWholeOrInFlight setup k.order words views

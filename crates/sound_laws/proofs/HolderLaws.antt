@@ -9,7 +9,7 @@ use Rattle.wal_core.specs.Locked.{AreHeld, HasTurn, HasWriteTurn, IsMappingTurn,
 use Rattle.wal_core.specs.Sound.{IsSound}
 use Rattle.wal_core.proofs.Lists.{part_at, view_from}
 use Rattle.sound_laws.specs.Locks.{SomeView, HoldsLock, LocksHaveHolders, HasMappingTurn, HasTurnToWrite, HasWriterOut, TurnHasHolder, TurnsHaveHolders}
-use Rattle.sound_laws.specs.Positions.{IsWriter, KeepsWriter}
+use Rattle.sound_laws.specs.Positions.{IsTheWriter, KeepsWriter}
 
 -- whoever has the turn to write has the writer in hand, or it is at home
 module _ (turn holder : ℕ) (home : Option Plain) (writer : Plain) (id number : ℕ) where
@@ -18,10 +18,10 @@ module _ (turn holder : ℕ) (home : Option Plain) (writer : Plain) (id number :
       ⊎ ((home ≡ none) × (l : Lent) × (h ≡ Out l) × (l.writer ≡ writer)))
 
   has_writer : (h : Hold) → StandsTo turn holder home writer id number h → HasWriteTurn h → Had h
-  has_writer Idle stands has = absurd has
-  has_writer Turned stands has = (stands.0, stands.1, inl stands.2)
-  has_writer (Out l) stands has =
-      (stands.0, stands.1, inr (stands.2, l, refl, stands.3))
+  has_writer Idle at has = absurd has
+  has_writer Turned at has = (at.0, at.1, inl at.2)
+  has_writer (Out l) at has =
+      (at.0, at.1, inr (at.2, l, refl, at.3))
 
 module _ (opening : Opening) (words : List ℕ) (home : Option Plain) (views : List View)
     (k : IsSound opening words home views) where
@@ -119,7 +119,7 @@ module _ (opening : Opening) (words : List ℕ) (home : Option Plain) (views : L
       let s = subst (Stands id (v.reserving).number) is (stands id v here) in (s.2, s.3)
 
   -- the writer is at home, or whoever has the turn has it
-  pub writer_is : IsWriter home views k.writer
+  pub writer_is : IsTheWriter home views k.writer
   writer_is = dite (ℕ_discrete (write_turn words) 0) (λ free. inl (writing.free free))
       (λ taken. let h = turn_holder taken in
       ⊎_elim (λ t. inl t)
@@ -134,16 +134,15 @@ module _ (opening : Opening) (words : List ℕ) (home : Option Plain) (views : L
       λ gone. ⊎_elim
           (λ (t : home ≡ some k.writer). absurd (some-ne-none k.writer (sym t ∙ gone)))
           (λ (t : (home ≡ none) × SomeView views (KeepsWriter k.writer)).
-          let h = t.1 in let kept = h.3 in let out : HasWriterOut h.1 = (kept.0, kept.1) in
-          (h.0, h.1, h.2, (has_turn h.1 out, out)))
+          let h = t.1 in let kept = h.3 in (h.0, h.1, h.2, (kept.0, kept.1)))
           writer_is,
-      λ h. let out = h.3.1 in (is_out h.0 h.1 out.0 h.2 out.1).0,
+      λ h. let out = h.3 in (is_out h.0 h.1 out.0 h.2 out.1).0,
     );
-    out = λ id v here out. has_turn v out;
+    out = λ id v here out. let has = has_turn v out in (has, (writes id v here has).0);
   }
 
   -- there is one writer
-  pub is_writer : (w : Plain) → IsWriter home views w → w ≡ k.writer
+  pub is_writer : (w : Plain) → IsTheWriter home views w → w ≡ k.writer
   is_writer w is = ⊎_elim
       (λ (t : home ≡ some w). ⊎_elim
       (λ (u : home ≡ some k.writer). let same = sym t ∙ u in cc)

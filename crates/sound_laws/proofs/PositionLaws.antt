@@ -1,16 +1,17 @@
 -- Every sound state shows how its positions lie.
-use Rattle.std.proofs.Common.{◌≡◌, inl, ℕ, ◌<◌, ◌≤◌, List, map, sym, ap, ◌∙◌, subst, arith}
+use Rattle.std.proofs.Common.{◌≡◌, inl, ℕ, ◌<◌, ◌≤◌, List, sym, ap, ◌∙◌, subst, arith}
 use mathlib.Core.Option.{Option, some}
 use Rattle.segment_disk.specs.Tape.{state_now}
 use Rattle.wal_page.specs.EntryWords.{address_of_word, words_owned}
 use Rattle.wal_core.specs.Words.{Opening, written_word}
 use Rattle.wal_core.specs.Suited.{IfSuited}
-use Rattle.wal_core.specs.Views.{HasAt, Copy, Flight, Copying, Plain, View, flight_of, writing_of, told_of}
+use Rattle.wal_core.specs.Views.{HasAt, Copy, Copying, Plain, View, writing_of, told_of}
 use Rattle.wal_core.specs.Positioned.{ReadsBelow}
 use Rattle.wal_core.specs.Sound.{IsSound}
 use Rattle.wal_core.proofs.Lists.{part_at}
 use Rattle.wal_core.proofs.Tapes.{at_suited, told_suited}
 use Rattle.sound_laws.specs.Positions.{KnowsNoMore, PositionsAreOrdered}
+use Rattle.sound_laws.proofs.EntryLaws.{flies}
 use Rattle.sound_laws.proofs.HolderLaws.{is_writer, writer_is}
 
 module _ (opening : Opening) (words : List ℕ) (home : Option Plain) (views : List View)
@@ -34,10 +35,8 @@ module _ (opening : Opening) (words : List ℕ) (home : Option Plain) (views : L
       → (v.working).flight ≡ Copying c → c.copied ≤ n → n < words_owned size c.entry
       → written_word words ≤ address_of_word size c.entry n
   copied id v c n here is from owned =
-      let flies = subst (λ (f : Flight). HasAt (map flight_of views) id f) is
-      (part_at flight_of views id v here) in
       let low = (k.positions).written_low in
-      let next = (k.positions).copied id c flies (omega arith) in
+      let next = (k.positions).copied id c (flies views id v c here is) (omega arith) in
       omega arith
 
   -- below the written word the writer's disk reads as the log
@@ -54,6 +53,8 @@ module _ (opening : Opening) (words : List ℕ) (home : Option Plain) (views : L
     known = knows_no_more;
     flushed_low = (k.positions).flushed_low;
     somewhere = (k.writer, writer_is opening words home views k);
+    one_writer = λ w other is too. is_writer opening words home views k w is
+        ∙ sym (is_writer opening words home views k other too);
     written_low = λ w is. subst (λ (x : Plain). written_word words ≤ x.written)
         (sym (is_writer opening words home views k w is)) (k.positions).written_low;
     at_home = λ w at up.

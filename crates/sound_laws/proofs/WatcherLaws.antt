@@ -11,7 +11,7 @@ use Rattle.sound_laws.specs.Watches.{SeesCopied, WatchersSeeCopies}
 module _ (opening : Opening) (words : List ℕ) (home : Option Plain) (views : List View)
     (k : IsSound opening words home views) where
   sees_copied : (id other : ℕ) (v w : View) (c : Copy) → HasAt views id v → HasAt views other w
-      → (w.working).flight ≡ Copying c → SeesCopied opening.setup v c
+      → (w.working).flight ≡ Copying c → SeesCopied (opening.setup).segment_size v c
   sees_copied id other v w c here there is lock m n under visited owned low owned_too below =
       let bound = (k.watching).behind id other v.watching w.working
       (part_at watching_of views id v here) (part_at working_of views other w there) c lock is under

@@ -8,9 +8,9 @@ use Rattle.wal_core.specs.declared.setup.Setup.{Setup}
 use Rattle.wal_core.specs.Words.{lock_word, mapping_turn, write_turn}
 use Rattle.wal_core.specs.Views.{HasAt, AreSomeOf, Copy, Copying, Lent, Out, Plain, View}
 use Rattle.wal_core.specs.Locked.{HasTurn, HasWriteTurn}
-use Rattle.wal_core.specs.Shown.{HasLogWord}
+use Rattle.wal_core.specs.Shown.{HasLogWord, IsInNoFlight}
 
--- this holds of some view; and of no two
+-- this holds of some view; and it holds of no two
 abbrev pub SomeView : List View → (View → Type 0) → Type 0
 SomeView views P = (id : ℕ) × (v : View) × HasAt views id v × P v
 
@@ -20,6 +20,7 @@ OneAtMost views P = (id other : ℕ) (v w : View) → HasAt views id v → HasAt
 
 -- ---- the insertion locks
 
+-- a view holds this insertion lock
 abbrev pub HoldsLock : ℕ → View → Type 0
 HoldsLock lock v = Contains (v.working).locks lock
 
@@ -53,28 +54,33 @@ abbrev pub HasInFlight : Entry → View → Type 0
 HasInFlight e v = (c : Copy) × ((v.working).flight ≡ Copying c) × (c.entry ≡ e)
     × AreSomeOf c.locks (v.working).locks
 
-module _ (setup : Setup) (order : List Entry) (words : List ℕ) (views : List View) where
-  -- all words of an entry are copied: each is the log's where the ring has its page
-  abbrev pub IsWhole : Entry → Type 0
-  IsWhole e = (n : ℕ) → n < words_owned setup.segment_size e
-      → HasLogWord setup order words (address_of_word setup.segment_size e n)
+-- all words of an entry are copied: each is the log's where the ring has its page
+abbrev pub IsCopiedWhole : Setup → List Entry → List ℕ → Entry → Type 0
+IsCopiedWhole setup order words e = (n : ℕ) → n < words_owned setup.segment_size e
+    → HasLogWord setup order words (address_of_word setup.segment_size e n)
 
-  -- an entry of the order is whole or in flight in one view, and no other entry is in flight
-  pub record EntriesAreWholeOrInFlight : Type 0 where
-    pub each : (e : Entry) → Contains order e → IsWhole e ⊎ SomeView views (HasInFlight e)
-    pub by_one : (e : Entry) → OneAtMost views (HasInFlight e)
-    pub reserved : (id : ℕ) (v : View) (c : Copy) → HasAt views id v
-        → (v.working).flight ≡ Copying c → Contains order c.entry × HasInFlight c.entry v
-        × (c.copied ≤ words_owned setup.segment_size c.entry)
+-- an entry of the order is whole and in flight nowhere, or is in flight in one view; and no other
+-- entry is in flight
+pub record EntriesAreWholeOrInFlight (setup : Setup) (order : List Entry) (words : List ℕ)
+    (views : List View) : Type 0 where
+  pub each : (e : Entry) → Contains order e
+      → (IsInNoFlight views e × IsCopiedWhole setup order words e)
+      ⊎ SomeView views (HasInFlight e)
+  pub by_one : (e : Entry) → OneAtMost views (HasInFlight e)
+  pub reserved : (id : ℕ) (v : View) (c : Copy) → HasAt views id v
+      → (v.working).flight ≡ Copying c → Contains order c.entry × HasInFlight c.entry v
+      × (c.copied ≤ words_owned setup.segment_size c.entry)
 
 -- ---- the turns
 
+-- a view has the turn to map a page, and the turn to write
 abbrev pub HasMappingTurn : View → Type 0
 HasMappingTurn v = HasTurn (v.mapping).stage
 
 abbrev pub HasTurnToWrite : View → Type 0
 HasTurnToWrite v = HasWriteTurn (v.writing).hold
 
+-- a view has the writer in hand
 abbrev pub HasWriterOut : View → Type 0
 HasWriterOut v = (l : Lent) × ((v.writing).hold ≡ Out l)
 
@@ -84,11 +90,12 @@ pub record TurnHasHolder (turn : ℕ) (views : List View) (Has : View → Type 0
   pub told : (id : ℕ) (v : View) → HasAt views id v → Has v → turn ≡ (v.reserving).number + 1
   pub by_one : OneAtMost views Has
 
--- so of both turns; and the writer is away exactly where the one that has the turn to write has it
+-- each of the two turns has one holder at most, and the writer is away exactly where some view has
+-- it in hand, which has the turn to write
 pub record TurnsHaveHolders (words : List ℕ) (home : Option Plain) (views : List View) : Type 0
   where
     pub mapping : TurnHasHolder (mapping_turn words) views HasMappingTurn
     pub writing : TurnHasHolder (write_turn words) views HasTurnToWrite
-    pub away : (home ≡ none)
-        ↔ SomeView views (λ v. HasTurnToWrite v × HasWriterOut v)
-    pub out : (id : ℕ) (v : View) → HasAt views id v → HasWriterOut v → HasTurnToWrite v
+    pub away : (home ≡ none) ↔ SomeView views HasWriterOut
+    pub out : (id : ℕ) (v : View) → HasAt views id v → HasWriterOut v
+        → HasTurnToWrite v × (write_turn words ≡ (v.reserving).number + 1)

@@ -17,11 +17,11 @@ abbrev pub KeepsWriter : Plain → View → Type 0
 KeepsWriter writer v = (l : Lent) × ((v.writing).hold ≡ Out l) × (l.writer ≡ writer)
 
 -- the writer, at home or in a view's hand
-abbrev pub IsWriter : Option Plain → List View → Plain → Type 0
-IsWriter home views writer = (home ≡ some writer)
+abbrev pub IsTheWriter : Option Plain → List View → Plain → Type 0
+IsTheWriter home views writer = (home ≡ some writer)
     ⊎ ((home ≡ none) × SomeView views (KeepsWriter writer))
 
--- what a view knows of positions is not above the words: what it was promised, what the passes were
+-- what a view knows of positions is not above the words: what was promised to it and to the passes
 -- that it took in, and what it loaded
 pub record KnowsNoMore (words : List ℕ) (v : View) : Type 0 where
   pub promised : All (IsPromised (flushed_word words) (moment_word words)) (v.writing).promises
@@ -30,15 +30,17 @@ pub record KnowsNoMore (words : List ℕ) (v : View) : Type 0 where
   pub written_met : (v.writing).written ≤ written_word words
   pub flushed_met : (v.writing).flushed ≤ flushed_word words
 
--- what is durable is written, what is written the writer wrote, and that is reserved and copied;
+-- what is durable is written; what is written, the one writer wrote, and is reserved and copied;
 -- and below the written word the disk reads as the log, where it tells what it holds and held at
 -- the opening what a log may begin on
 pub record PositionsAreOrdered (opening : Opening) (order : List Entry) (words : List ℕ)
     (home : Option Plain) (views : List View) : Type 0 where
   pub known : (id : ℕ) (v : View) → HasAt views id v → KnowsNoMore words v
   pub flushed_low : flushed_word words ≤ written_word words
-  pub somewhere : (w : Plain) × IsWriter home views w
-  pub written_low : (w : Plain) → IsWriter home views w → written_word words ≤ w.written
+  pub somewhere : (w : Plain) × IsTheWriter home views w
+  pub one_writer : (w other : Plain) → IsTheWriter home views w → IsTheWriter home views other
+      → w ≡ other
+  pub written_low : (w : Plain) → IsTheWriter home views w → written_word words ≤ w.written
   pub at_home : (w : Plain) → home ≡ some w → down_word words ≡ 0
       → written_word words ≡ w.written
   pub reserved : written_word words
@@ -47,5 +49,5 @@ pub record PositionsAreOrdered (opening : Opening) (order : List Entry) (words :
       → (v.working).flight ≡ Copying c → c.copied ≤ n
       → n < words_owned (opening.setup).segment_size c.entry
       → written_word words ≤ address_of_word (opening.setup).segment_size c.entry n
-  pub reads : (w : Plain) → IsWriter home views w → IfSuited opening w
+  pub reads : (w : Plain) → IsTheWriter home views w → IfSuited opening w
       (λ t. ReadsBelow opening.setup order (written_word words) (state_now t))
