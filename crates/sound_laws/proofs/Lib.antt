@@ -1,0 +1,4 @@
+pub mod HolderLaws
+pub mod EntryLaws
+pub mod PositionLaws
+pub mod WatcherLaws
