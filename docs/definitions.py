@@ -15,7 +15,9 @@ PAGE = TOP / "docs" / "DEFINITIONS.md"
 SECOND_PART = "\n## The rest"
 
 CRATE = re.compile(r"^(\w+)[^:\n]*:", re.M)
-HEAD = re.compile(r"^(?:(?:abbrev|unfoldable|open) )*pub (?:(?:record|data) )?([A-Za-z_][\w-]*)(?= )", re.M)
+HEAD = re.compile(
+    r"^(?:(?:(?:abbrev|unfoldable|open) )*pub (?:(?:record|data) )?|  (?:unfoldable )?abbrev pub )([A-Za-z_][\w-]*)(?= )", re.M
+)
 IMPORT = re.compile(r"^\s*(?:pub )?(?:ghost )?use Rattle\.(\w+)\.specs\.([\w.]+)\.\{([^}]*)\};?", re.M)
 ROW = re.compile(r"^\| (`[^|]*?) \|.*\| ([^|]*?) \|$", re.M)
 WORD = re.compile(r"[A-Za-z_][\w-]*")
@@ -42,9 +44,9 @@ def definitions_in(path):
     names = imports_of(text) | {it[1]: Key(path.parts[-3], path.stem, it[1]) for it in heads}
     comment, found = "", {}
     for head, behind in zip(heads, [*heads[1:], None]):
-        above = re.search(r"((?:^--.*\n)+)\Z", text[: head.start()], re.M)
+        above = re.search(r"((?:^ *--.*\n)+)\Z", text[: head.start()], re.M)
         if above and above.start():
-            comment = " ".join(line[2:].strip() for line in above[1].splitlines())
+            comment = " ".join(line.strip()[2:].strip() for line in above[1].splitlines())
         body = text[head.start() : behind and behind.start()]
         found.setdefault(names[head[1]], (comment, {names[word] for word in WORD.findall(body) if word in names}))
     return found
