@@ -4,12 +4,12 @@ use Rattle.std.specs.List.{slice_split}
 use Rattle.decimal_numbers.specs.Numbers.{number_of}
 use Rattle.replay_schedule.specs.declared.item.Item.{Item}
 
--- among so many backends there is the item's, and it has a turn
+-- an item with a turn, of a backend that is there, among so many
 pub record IsPlayable (backends : ℕ) (item : Item) : Type 0 where
   pub there : item.backend < backends
   pub some : 0 < item.turns
 
--- where there are so many backends, and this one is among them, turns of it, at least one
+-- turns of a backend, where it is there, among so many, and has at least one
 abbrev pub item_from : ℕ → Option ℕ → Option ℕ → Option Item
 item_from backends None turns = None
 item_from backends (Some backend) None = None
@@ -27,6 +27,6 @@ item_with backends (backend ∷ turns ∷ []) =
     item_from backends (number_of (2 ^ 32 - 1) backend) (number_of 1000000 turns)
 item_with backends (backend ∷ turns ∷ part ∷ parts) = None
 
--- a word, `b` or `b*n`, where there are so many backends
+-- the item that a word spells, `b` or `b*n`, where there are so many backends
 abbrev pub item_of : ℕ → List ℕ → Option Item
 item_of backends word = item_with backends (slice_split (λ c. c == 42) word)

@@ -1,4 +1,5 @@
-//! What holds of each schedule that is read. The functions do nothing: their contracts are the laws.
+//! What holds of each schedule that is read. The functions do nothing: their contracts are the
+//! laws.
 
 ghost use Rattle.std.specs.Prelude.{ℕ, ◌<◌, ◌≤◌, All, IfOk, List, length};
 ghost use Rattle.replay_schedule.specs.Items.{IsPlayable};

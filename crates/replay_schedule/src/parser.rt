@@ -10,8 +10,8 @@ use std::alloc::Global;
 /// refused.
 ///
 /// `bytes` are those of the script behind its line `S`; `first_line` is the number of the line that
-/// they begin with, counted as the script's lines are, from 1. It takes one step for each item, not
-/// for each turn.
+/// they begin with, counted as the script's lines are, from 1; the numbers of all lines fit 32
+/// bits. It takes one step for each item, not for each turn.
 pub fn parse(
     alloc: Global,
     bytes: &[u8],
