@@ -1,0 +1,9 @@
+-- What is left of a text that is cut at a separator.
+use Rattle.std.specs.Prelude.{ℕ, List, [], Option, Some, None, ◌==◌}
+use Rattle.std.specs.Borrow.{Bor}
+use Rattle.std.specs.List.{slice_split}
+
+-- the parts of what stands behind a separator; none where no separator stood
+abbrev pub parts_left : ℕ → Option (Bor (List ℕ)) → List (List ℕ)
+parts_left separator None = []
+parts_left separator (Some text) = slice_split (λ c. c == separator) text.now
