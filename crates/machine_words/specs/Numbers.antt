@@ -1,0 +1,39 @@
+-- The numbers of the words that all share.
+use Rattle.std.specs.Prelude.{ℕ, ◌+◌, ◌*◌, ◌<◌, List}
+use Rattle.machine_words.specs.declared.word.Word.{Word}
+use Rattle.machine_words.specs.declared.word.Word.TheVariants.{Position, LastStart, Lock, MappingTurn, WriteTurn, InitialisedEnd, Written, Flushed, Moment, Down, BufferEnd, Ring}
+
+-- the words, and how many pages the ring has
+pub record WordsState : Type 0 where
+  pub pages : ℕ
+  pub words : List ℕ
+
+-- a word's number, with so many pages in the ring
+abbrev pub number_of_word : ℕ → Word → ℕ
+number_of_word pages Position = 0
+number_of_word pages LastStart = 1
+number_of_word pages (Lock lock) = 2 + lock
+number_of_word pages MappingTurn = 10
+number_of_word pages WriteTurn = 11
+number_of_word pages InitialisedEnd = 12
+number_of_word pages Written = 13
+number_of_word pages Flushed = 14
+number_of_word pages Moment = 15
+number_of_word pages Down = 16
+number_of_word pages (BufferEnd buffer) = 17 + buffer
+number_of_word pages (Ring place) = 17 + pages + place
+
+-- there is this word: a lock is one of eight, a buffer one of the ring's, and so is a word of it
+abbrev pub IsWord : ℕ → Word → Type 0
+IsWord pages Position = Unit {0}
+IsWord pages LastStart = Unit {0}
+IsWord pages (Lock lock) = lock < 8
+IsWord pages MappingTurn = Unit {0}
+IsWord pages WriteTurn = Unit {0}
+IsWord pages InitialisedEnd = Unit {0}
+IsWord pages Written = Unit {0}
+IsWord pages Flushed = Unit {0}
+IsWord pages Moment = Unit {0}
+IsWord pages Down = Unit {0}
+IsWord pages (BufferEnd buffer) = buffer < pages
+IsWord pages (Ring place) = place < pages * 1024

@@ -1,0 +1,10 @@
+//! The words that all backends of a log share, as plain numbers in one list: what a machine keeps of
+//! them that plays the backends turn by turn.
+#![tactic(auto)]
+
+mod first;
+mod word;
+mod words;
+
+pub use word::Word;
+pub use words::MachineWords;

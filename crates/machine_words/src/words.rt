@@ -1,0 +1,95 @@
+ghost use Rattle.std.specs.Prelude.{◌≡◌, ◌+◌, ◌<◌, length, set, slice_index, IfOk};
+ghost use Rattle.wal_core.specs.Words.{Opening};
+ghost use Rattle.wal_core.specs.Sound.{IsSetup};
+ghost use Rattle.wal_core.specs.Opened.{AreFirstWords};
+ghost use Rattle.machine_words.specs.Numbers.{IsWord, number_of_word};
+
+use crate::first::{FIRST_END, set_first_words};
+use crate::word::Word;
+use byte_position::PAGE_SIZE;
+use std::alloc::{AllocError, Global};
+use std::marker::Model;
+use wal_core::Setup;
+
+const PAGE_WORDS: usize = (PAGE_SIZE / 8) as usize;
+
+/// The words that all backends share, as plain numbers; contracts see the list of them, and how many
+/// pages the ring has.
+#[derive(Debug, Drop)]
+pub struct MachineWords {
+    pages: u32,
+    words: Vec<u64>,
+}
+
+impl Model for MachineWords {
+    ghost use Rattle.std.specs.Prelude.{◌≡◌, ◌+◌, ◌*◌, ◌≤◌, length};
+    ghost use Rattle.machine_words.specs.Numbers.{WordsState};
+
+    ghost Value = { WordsState };
+
+    ghost view = { λ w. record { pages = w.pages; words = w.words.items } };
+
+    ghost invariant = { λ w.
+        (w.pages ≤ 64) × (length w.words.items ≡ 17 + w.pages + w.pages * 1024) };
+}
+
+impl MachineWords {
+    /// The words of a log that holds nothing, whose ring holds the first pages, all zeros. `moment`
+    /// is the disk's at the opening.
+    pub fn first(alloc: Global, setup: Setup, moment: u64) -> Result<MachineWords, AllocError>
+        requires { IsSetup setup }
+        ensures pages { IfOk result (λ words. words.pages ≡ setup.ring_pages) }
+        ensures first { (opening : Opening) → opening.setup ≡ setup → opening.moment ≡ moment
+            → IfOk result (λ words. AreFirstWords opening words.words) }
+    {
+        let pages = setup.ring_pages as usize;
+        let mut words = vec![in alloc; 0; FIRST_END + pages + pages * PAGE_WORDS]?;
+        set_first_words(&mut words, pages, setup.segment_size, moment);
+        Ok(MachineWords {
+            pages: setup.ring_pages,
+            words,
+        })
+    }
+
+    /// A word's number now.
+    pub fn get(&self, word: Word) -> u64
+        requires { IsWord self.now.pages word }
+        ensures { result ≡ slice_index self.now.words (number_of_word self.now.pages word) }
+    {
+        self.words[self.place(word)]
+    }
+
+    /// Stores a number in a word.
+    pub fn set(&mut self, word: Word, number: u64)
+        requires { IsWord self.old.pages word }
+        ensures { self.new ≡ record self.old {
+          words = set self.old.words (number_of_word self.old.pages word) number;
+        } }
+    {
+        let place = self.place(word);
+        self.words[place] = number;
+    }
+
+    // Where a word stands in the list.
+    fn place(&self, word: Word) -> usize
+        requires { IsWord self.now.pages word }
+        ensures value { result ≡ number_of_word self.now.pages word }
+        ensures within { result < length self.now.words }
+    {
+        let first_of_ring = FIRST_END + self.pages as usize;
+        match word {
+            Word::Position => 0,
+            Word::LastStart => 1,
+            Word::Lock(lock) => 2 + lock as usize,
+            Word::MappingTurn => 10,
+            Word::WriteTurn => 11,
+            Word::InitialisedEnd => 12,
+            Word::Written => 13,
+            Word::Flushed => 14,
+            Word::Moment => 15,
+            Word::Down => 16,
+            Word::BufferEnd(buffer) => FIRST_END + buffer as usize,
+            Word::Ring(place) => first_of_ring + place as usize,
+        }
+    }
+}
