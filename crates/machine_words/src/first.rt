@@ -42,7 +42,8 @@ fn usable_bytes(segment_size: u64) -> u64
     requires { IsSegmentSize segment_size }
     ensures { result ≡ first_position segment_size }
 {
-    segment_size / PAGE_SIZE * (PAGE_SIZE - SHORT_HEADER_LEN) - (LONG_HEADER_LEN - SHORT_HEADER_LEN)
+    let pages = segment_size / PAGE_SIZE;
+    pages * (PAGE_SIZE - SHORT_HEADER_LEN) - (LONG_HEADER_LEN - SHORT_HEADER_LEN)
 }
 
 // The buffers hold the pages from one on, each in its own.

@@ -1,7 +1,7 @@
 //! Which word it is.
 
-/// One of the words that all backends share (PostgreSQL's xlog.c: the insert position, the insertion
-/// locks, the pages of the WAL buffers and the positions of XLogCtl).
+/// One of the words that all backends share (PostgreSQL's xlog.c: the insert position, the
+/// insertion locks, the pages of the WAL buffers and the positions of XLogCtl).
 #[derive(Clone, Copy, Debug, PartialEq, Eq)]
 pub enum Word {
     /// The byte position up to which records are reserved, and one more while it is locked.

@@ -13,8 +13,8 @@ use wal_core::Setup;
 
 const PAGE_WORDS: usize = (PAGE_SIZE / 8) as usize;
 
-/// The words that all backends share, as plain numbers; contracts see the list of them, and how many
-/// pages the ring has.
+/// The words that all backends share, as plain numbers; contracts see the list of them, and how
+/// many pages the ring has.
 #[derive(Debug, Drop)]
 pub struct MachineWords {
     pages: u32,
