@@ -1,4 +1,4 @@
-use machine_words::{MachineWords, Word};
+use machine_words::{MachineWords, Word, is_setup};
 use std::process::Abort;
 use std::test::Fail;
 use wal_core::Setup;
@@ -43,4 +43,27 @@ fn a_store_changes_its_word_alone(rt: HostRuntime) {
     assert_eq!(rt; words.get(Word::MappingTurn), 0);
     assert_eq!(rt; words.get(Word::Ring(0)), 9);
     assert_eq!(rt; words.get(Word::BufferEnd(4)), 130 * 8192);
+}
+
+#[test]
+fn a_ring_has_4_to_64_pages(rt: HostRuntime) {
+    let with_ring = |ring_pages| Setup {
+        ring_pages,
+        ..SETUP
+    };
+    assert!(rt; !is_setup(with_ring(3)));
+    assert!(rt; is_setup(with_ring(4)));
+    assert!(rt; is_setup(with_ring(64)));
+    assert!(rt; !is_setup(with_ring(65)));
+}
+
+#[test]
+fn segments_have_a_power_of_two_bytes(rt: HostRuntime) {
+    let with_size = |segment_size| Setup {
+        segment_size,
+        ..SETUP
+    };
+    assert!(rt; !is_setup(with_size(3 * 1_048_576)));
+    assert!(rt; is_setup(with_size(1 << 30)));
+    assert!(rt; !is_setup(with_size(1 << 31)));
 }

@@ -3,8 +3,10 @@
 #![tactic(auto)]
 
 mod first;
+mod setup;
 mod word;
 mod words;
 
+pub use setup::is_setup;
 pub use word::Word;
 pub use words::MachineWords;
