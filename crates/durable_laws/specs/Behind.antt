@@ -3,9 +3,11 @@ use Rattle.std.specs.Prelude.{◌≡◌, ℕ, List, map, set, slice_index}
 use mathlib.Core.Option.{Option}
 use Rattle.wal_page.specs.Order.{Entry}
 use Rattle.wal_core.specs.Words.{Opening, flushed_word, moment_word, down_word}
-use Rattle.wal_core.specs.Views.{Lent, Out, Plain, View, told_of}
+use Rattle.wal_core.specs.Views.{Flight, HasAt, Hold, Lent, Out, Plain, Told, View, Writing, told_of, writer_of}
+use Rattle.wal_core.specs.Locked.{IsWriteTurn}
+use Rattle.wal_core.specs.Positioned.{PositionsHold}
 use Rattle.wal_core.specs.Durable.{DurabilityHolds, IsStaged}
-use Rattle.wal_core.specs.Sound.{IsSound}
+use Rattle.wal_core.specs.Sound.{IsSetup, IsSound}
 use Rattle.wal_core.specs.Steps.{StepKind, create, home_behind, load_ring_word, store_position, sync, value_behind, view_behind, word_of_step, write}
 
 -- the step adds no entry and makes no call of the device
@@ -39,7 +41,38 @@ module _ (words : List ℕ) (home : Option Plain) (views : List View) (id : ℕ)
         (moment_word words_then) (down_word words_then) (home_behind v e home) writer
         (map told_of (set views id (view_behind v e met_then home)))
 
--- the same, where of a state that keeps the invariant the views alone become others
+-- what a call of the device rests on: what is durable holds, and so do the positions; and the view
+-- that makes it is there, with what is fixed, among those of which one may have the turn to write
+pub record CallsFrom : Type 0 where
+  pub opening : Opening
+  pub order : List Entry
+  pub flushed : ℕ
+  pub moment : ℕ
+  pub down : ℕ
+  pub home : Option Plain
+  pub writer : Plain
+  pub parts : List Told
+  pub id : ℕ
+  pub view : View
+  pub turn : ℕ
+  pub writers : List (ℕ × Hold)
+  pub written : ℕ
+  pub flights : List Flight
+  pub writings : List Writing
+  pub durable : DurabilityHolds opening order flushed moment down home writer parts
+  pub here : HasAt parts id (told_of view)
+  pub opening_is : view.opening ≡ opening
+  pub setup_is : IsSetup opening.setup
+  pub turn_is : IsWriteTurn turn home writer writers
+  pub among : HasAt writers id (writer_of view)
+  pub positions : PositionsHold opening order written flushed down home writer flights writings
+
+-- what is durable holds behind it, with the writer that the call leaves
+abbrev pub IsDurableBehind : CallsFrom → StepKind → ℕ → Plain → Type 0
+IsDurableBehind c e met writer = DurabilityHolds c.opening c.order c.flushed c.moment c.down c.home
+    writer (set c.parts c.id (told_of (view_behind c.view e met c.home)))
+
+-- what is durable in a state that keeps the invariant, where its views alone become others
 module _ (opening : Opening) (words : List ℕ) (home : Option Plain) (views : List View)
     (s : IsSound opening words home views) (changed : List View) where
   abbrev pub HasDurableWith : Type 0

@@ -32,7 +32,7 @@ PutsOwned size order segment (Write page bytes) = (n : ℕ) → n < 1024
 PutsOwned size order segment Sync = Unit {0}
 
 -- a promise made to a log: each crash from its moment on leaves all below the address that it
--- names, and no call before that moment wrote a word of an entry that came later
+-- names, and no call before that moment put anything but zeros where a later entry has a word
 pub record HoldsPromise (opening : Opening) (order : List Entry) (tape : Tape)
     (entries : List Entry) (p : FlushPromise) : Type 0 where
   pub kept : LeavesLawful opening.setup order p.upto p.moment tape

@@ -1,5 +1,5 @@
 -- The numbers of the words that all share.
-use Rattle.std.specs.Prelude.{ℕ, ◌+◌, ◌*◌, ◌<◌, List}
+use Rattle.std.specs.Prelude.{ℕ, ◌+◌, ◌*◌, ◌<◌, List, slice_index}
 use Rattle.machine_words.specs.declared.word.Word.{Word}
 use Rattle.machine_words.specs.declared.word.Word.TheVariants.{Position, LastStart, Lock, MappingTurn, WriteTurn, InitialisedEnd, Written, Flushed, Moment, Down, BufferEnd, Ring}
 
@@ -22,6 +22,10 @@ number_of_word pages Moment = 15
 number_of_word pages Down = 16
 number_of_word pages (BufferEnd buffer) = 17 + buffer
 number_of_word pages (Ring place) = 17 + pages + place
+
+-- the word of a name
+abbrev pub word_named : ℕ → List ℕ → Word → ℕ
+word_named pages words word = slice_index words (number_of_word pages word)
 
 -- there is this word: a lock is one of eight, a buffer one of the ring's, and so is a word of it
 abbrev pub IsWord : ℕ → Word → Type 0

@@ -3,6 +3,7 @@
 #![tactic(auto)]
 
 mod first;
+pub mod laws;
 mod setup;
 mod word;
 mod words;

@@ -1,8 +1,8 @@
-ghost use Rattle.std.specs.Prelude.{◌≡◌, ◌+◌, ◌<◌, length, set, slice_index, IfOk};
+ghost use Rattle.std.specs.Prelude.{◌≡◌, ◌+◌, ◌<◌, length, set, IfOk};
 ghost use Rattle.wal_core.specs.Words.{Opening};
 ghost use Rattle.wal_core.specs.Sound.{IsSetup};
 ghost use Rattle.wal_core.specs.Opened.{AreFirstWords};
-ghost use Rattle.machine_words.specs.Numbers.{IsWord, number_of_word};
+ghost use Rattle.machine_words.specs.Numbers.{IsWord, number_of_word, word_named};
 
 use crate::first::{FIRST_END, set_first_words};
 use crate::word::Word;
@@ -54,7 +54,7 @@ impl MachineWords {
     /// A word's number now.
     pub fn get(&self, word: Word) -> u64
         requires { IsWord self.now.pages word }
-        ensures { result ≡ slice_index self.now.words (number_of_word self.now.pages word) }
+        ensures { result ≡ word_named self.now.pages self.now.words word }
     {
         self.words[self.place(word)]
     }

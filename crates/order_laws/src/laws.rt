@@ -54,7 +54,8 @@ pub fn orders_grow_by_one_entry()
 {}
 
 /// What a pass has seen is reserved: the position without its lock bit, and the byte position of an
-/// address up to which the log is durable, where that is not above the reserved end.
+/// address up to which the log is durable, loaded or stored, where that is not above the reserved
+/// end.
 pub fn seen_positions_are_reserved()
     ensures load_position { (order : List Entry) (position prev : ℕ) (parts : List Reserving)
         (id : ℕ) (v : View) (home : Option Plain)

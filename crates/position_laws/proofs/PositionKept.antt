@@ -9,7 +9,7 @@ use Rattle.wal_page.specs.Order.{end_position, prev_of}
 use Rattle.wal_page.specs.EntryWords.{address_of_word}
 use Rattle.wal_core.specs.declared.setup.Setup.{Setup}
 use Rattle.wal_core.specs.Words.{end_form}
-use Rattle.wal_core.specs.Views.{HasAt, Place, Reserving, Watching, Copying, Flight, Plain, Hold, Idle, Turned, Out, Writing, View, flight_of, working_of, watching_of, writing_of}
+use Rattle.wal_core.specs.Views.{HasAt, Place, Reserving, Watching, Copying, Flight, Plain, Hold, Idle, Turned, Out, Lent, Writing, View, flight_of, working_of, watching_of, writing_of}
 use Rattle.wal_core.specs.Ordered.{OrderHolds, AtPlace}
 use Rattle.wal_core.specs.Locked.{AreHeld, StandsTo}
 use Rattle.wal_core.specs.Watched.{WatchHolds}
@@ -187,14 +187,30 @@ module _ (p : Positions) (id : ℕ) (v : View) (t : HasPositions p id v) where
   flushed_is_reserved =
       let k = t.holds in omega (arith, k.flushed_low, k.written_low, k.reserved)
 
+  -- the writer in hand is the one writer
+  is_writer : (l : Lent) → (v.writing).hold ≡ Out l → (l.writer).written ≡ (p.writer).written
+  is_writer l out = ap (λ (w : Plain). w.written) (stands (Out l) out).3
+
+  pub written_rises : MayStep v store_written → p.written ≤ value_behind v store_written p.written
+  written_rises may = subst (λ n. p.written ≤ n)
+      (sym (ap (number_lent v (λ l. (l.writer).written)) may.1 ∙ is_writer may.0 may.1))
+      (t.holds).written_low
+
+  pub flushed_rises : MayStep v store_flushed → p.flushed ≤ value_behind v store_flushed p.flushed
+  flushed_rises may =
+      let number : value_behind v store_flushed p.flushed ≡ (p.writer).written =
+      ap (number_lent v (λ l. l.hard)) may.1 ∙ (may.2).0 ∙ is_writer may.0 may.1 in
+      let k = t.holds in
+      let low : p.flushed ≤ (p.writer).written = omega (arith, k.flushed_low, k.written_low) in
+      subst (λ n. p.flushed ≤ n) (sym number) low
+
   pub hard_is_reserved : MayStep v store_flushed
       → number_lent v (λ l. l.hard) (v.writing).hold
       ≤ end_form setup (end_position setup.segment_size p.order)
   hard_is_reserved may =
       let number : number_lent v (λ l. l.hard) (v.writing).hold ≡ (may.0).hard =
       ap (number_lent v (λ l. l.hard)) may.1 in
-      let own : ((may.0).writer).written ≡ (p.writer).written =
-      ap (λ (w : Plain). w.written) (stands (Out may.0) may.1).3 in
+      let own = is_writer may.0 may.1 in
       omega (arith, number, (may.2).0, own, (t.holds).reserved)
 
   -- ---- the writer goes out, and comes home

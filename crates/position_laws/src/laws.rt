@@ -60,8 +60,12 @@ pub fn copies_only_go_on()
 {}
 
 /// The words of the positions only rise, and not above the writer's own; the flushed one not above
-/// the written one.
+/// the written one, so what is durable is reserved.
 pub fn positions_only_rise()
+    ensures written_rises { (p : Positions) (id : ℕ) (v : View) → HasPositions p id v
+        → MayStep v store_written → p.written ≤ value_behind v store_written p.written }
+    ensures flushed_rises { (p : Positions) (id : ℕ) (v : View) → HasPositions p id v
+        → MayStep v store_flushed → p.flushed ≤ value_behind v store_flushed p.flushed }
     ensures store_written { (p : Positions) (id : ℕ) (v : View) → HasPositions p id v
         → MayStep v store_written
         → HoldBehind (record p { written = value_behind v store_written p.written }) id v

@@ -1,8 +1,8 @@
-ghost use Rattle.std.specs.Prelude.{◌≡◌, ◌==◌, [], Some};
+ghost use Rattle.std.specs.Prelude.{◌≡◌, ◌≤◌, ◌==◌, [], Some};
 ghost use Rattle.std.specs.List.{slice_split};
 ghost use Rattle.replay_schedule.specs.Meaning.{after_item, after_line, after_word};
 ghost use Rattle.replay_schedule.specs.Reading.{GivesItems};
-ghost use Rattle.replay_schedule.specs.Turns.{turns_of};
+ghost use Rattle.replay_schedule.specs.Turns.{most_turns, turns_of};
 
 use crate::item::Item;
 use crate::parts::Parts;
@@ -16,6 +16,7 @@ const MOST_TURNS: u32 = 10_000_000;
 /// whose backend is not there, or with which the turns are more than 10,000,000.
 #[derive(Clone, Copy, Debug, PartialEq, Eq)]
 pub enum ScheduleError {
+    /// Memory ran out.
     Memory,
     /// `line` is the number of the item's line in the script.
     Refused { line: u32 },
@@ -72,7 +73,8 @@ impl Schedule {
 
     /// How many turns all items have: at most 10,000,000.
     pub fn turns(&self) -> u32
-        ensures { result ≡ turns_of self.now }
+        ensures value { result ≡ turns_of self.now }
+        ensures most { result ≤ most_turns }
     {
         self.turns
     }

@@ -52,13 +52,13 @@ PutsNone size e segment (Write page bytes) = (n : ℕ) → n < 1024
     → segment * size + page * 8192 + 8 * n < finish_of size e → word_of bytes.bytes n ≡ zero_word
 PutsNone size e segment Sync = Unit {0}
 
--- the calls between the opening and a moment write no word of an entry
+-- the calls between the opening and a moment put nothing but zeros where an entry lies
 abbrev pub IsUnwritten : ℕ → ℕ → Tape → ℕ → Entry → Type 0
 IsUnwritten size opened tape moment e =
     All (λ (c : Call). PutsNone size e c.segment c.kind) (drop opened (take moment tape.calls))
 
--- a promise made to a log since the opening: what it names is firm, and no entry that came later
--- was written before
+-- a promise made to a log since the opening: what it names is firm, and nothing but zeros was put
+-- before where an entry lies that came later
 pub record IsPromiseKept (opening : Opening) (order : List Entry) (tape : Tape)
     (entries : List Entry)
     (p : FlushPromise) : Type 0 where

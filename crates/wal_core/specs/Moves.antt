@@ -8,7 +8,7 @@ use Rattle.segment_disk.specs.Tape.{with_call, failed_call}
 use mathlib.Core.Option.{Option, none, some}
 use Rattle.wal_types.specs.declared.record.Record.{Record}
 use Rattle.wal_page.specs.Order.{Entry, position_behind}
-use Rattle.wal_core.specs.Words.{end_form}
+use Rattle.wal_core.specs.Words.{Opening, end_form}
 use Rattle.wal_core.specs.Views.{Place, Free, Locked, Loaded, Stored, Joined, Reserving, Copy, Flight, Landed, Copying, Working, is_among, Watching, Stage, Away, Taken, Looked, Ready, Zeroing, Published, Plain, Lent, Hold, Idle, Turned, Out, Writing, View}
 
 -- ---- a view with one part changed
@@ -83,17 +83,18 @@ no_writing = record {
   hold = Idle;
 }
 
-abbrev pub split_off : View → View
-split_off v = record {
-  opening = v.opening;
+-- a pass with this number and these spare ones, which has seen so much reserved and is about nothing
+abbrev pub fresh_view : Opening → (number spare spare_end seen : ℕ) → View
+fresh_view opening number spare spare_end seen = record {
+  opening = opening;
   reserving = record {
     live = true;
-    number = (v.reserving).spare;
-    spare = 0;
-    spare_end = 0;
+    number = number;
+    spare = spare;
+    spare_end = spare_end;
     entries = [];
     filled = [];
-    seen = (v.reserving).seen;
+    seen = seen;
     joined = [];
     place = Free;
   };
@@ -102,6 +103,9 @@ split_off v = record {
   mapping = record { confirmed = 0; stage = Away };
   writing = no_writing;
 }
+
+abbrev pub split_off : View → View
+split_off v = fresh_view v.opening (v.reserving).spare 0 0 (v.reserving).seen
 
 -- a pass's log, for the one that takes it in
 abbrev pub joined_of : View → Joined

@@ -1,9 +1,9 @@
 -- How a log begins that holds nothing: its words, its writer, and the view of its first pass.
-use Rattle.std.specs.Prelude.{◌≡◌, ℕ, ◌+◌, ◌*◌, ◌/◌, ◌<◌, ◌≤◌, true, List, [], length, slice_index, IfSome}
+use Rattle.std.specs.Prelude.{◌≡◌, ℕ, ◌+◌, ◌*◌, ◌/◌, ◌<◌, ◌≤◌, List, [], length, slice_index, IfSome}
 use mathlib.Core.Option.{none}
 use Rattle.wal_core.specs.Words.{Opening, position_word, initialised_word, written_word, flushed_word, moment_word, down_word, end_word, word_of_ring, word_count, log_start}
-use Rattle.wal_core.specs.Views.{Away, Free, Landed, Plain, View}
-use Rattle.wal_core.specs.Moves.{no_writing}
+use Rattle.wal_core.specs.Views.{Plain, View}
+use Rattle.wal_core.specs.Moves.{fresh_view}
 use Rattle.wal_core.specs.Paged.{HoldsPage}
 use Rattle.wal_core.specs.Sound.{IsSetup}
 
@@ -41,21 +41,4 @@ pub record IsFirstWriter (opening : Opening) (writer : Plain) : Type 0 where
 
 -- the first pass: its number is 0, and it may give all others away
 abbrev pub first_view : Opening → View
-first_view opening = record {
-  opening = opening;
-  reserving = record {
-    live = true;
-    number = 0;
-    spare = 1;
-    spare_end = (opening.setup).passes;
-    entries = [];
-    filled = [];
-    seen = 0;
-    joined = [];
-    place = Free;
-  };
-  working = record { locks = []; flight = Landed };
-  watching = record { end = 0; visited = 0; bound = 0 };
-  mapping = record { confirmed = 0; stage = Away };
-  writing = no_writing;
-}
+first_view opening = fresh_view opening 0 1 (opening.setup).passes 0

@@ -16,7 +16,7 @@ use Rattle.wal_core.specs.Sound.{IsSound}
 use Rattle.wal_core.proofs.Lists.{part_at}
 use Rattle.wal_turns.specs.Doing.{Ask, Inserts, Commits, Flushes, Purpose, Doing, Begins, Tries, Reserves, Looks, Copies, Maps, GivesTurn, Tells, Releases, FlushBegins, LoadsPosition, LoadsFlushed, LoadsMoment, Visits, TakesTurn, LoadsDown, TakesOut, LoadsPage, Creates, Writes, SyncsFull, SyncsLast, StoresWritten, StoresMoment, StoresFlushed, SetsDown, PutsBack, GivesWriteTurn, Machine}
 use Rattle.wal_turns.specs.Turned.{can_step, looks_down, event_named, reserve_event, map_event, fits, lock_tried}
-use Rattle.wal_turns.specs.Standing.{IsRunning, KnowsDown, IsWriterUp, AwaitsOne, UpFor, segment_next, StandsAt}
+use Rattle.wal_turns.specs.Standing.{IsRunning, KnowsDown, IsWriterUp, AwaitsOne, UpFor, segment_next, StandsToDo}
 use Rattle.wal_turns.proofs.Poses.{Goes}
 use Rattle.wal_turns.proofs.SegmentSteps.{next-near}
 use Rattle.wal_turns.proofs.InsertPlaces.{IsPlaceWhole, begins_goes, tries_goes, reserves_goes, looks_goes, copies_goes}
@@ -140,7 +140,7 @@ module _ (m : Machine) (run : IsRunning m) (number : ℕ) (v : View)
       ⊎_elim (λ (met : (v.writing).down_met ≢ 0). met (told_here.down_met met ∙ up))
       (λ (put : (v.writing).down_set ≢ 0). put (told_here.down_set put ∙ up)) knows
 
-  takes_out_now : (purpose : Purpose) → down_word words ≡ 0 → StandsAt v (TakesOut purpose) ask
+  takes_out_now : (purpose : Purpose) → down_word words ≡ 0 → StandsToDo v (TakesOut purpose) ask
       → Goes m ask (TakesOut purpose) v
   takes_out_now purpose up stands =
       let there = (to_writer_of v.opening sound HasTurned
@@ -151,7 +151,7 @@ module _ (m : Machine) (run : IsRunning m) (number : ℕ) (v : View)
 
   -- ---- the step goes
 
-  pub goes : (doing : Doing) → UpFor doing (down_word words) → StandsAt v doing ask
+  pub goes : (doing : Doing) → UpFor doing (down_word words) → StandsToDo v doing ask
       → can_step m v ask doing ≡ true → (looks_down m v ask doing ≡ true → down_word words ≡ 0)
       → Goes m ask doing v
   goes Begins at_out s can up = begins_goes m ask v (knows_no_down (up refl)) s
@@ -225,14 +225,14 @@ module _ (m : Machine) (run : IsRunning m) (number : ℕ) (v : View)
       subst (λ (o : Opening). AwaitsOne (o.setup).segment_size w) own
       (subst (AwaitsOne size) same (holds (subst (λ (x : Plain). x.fault ≡ none) (sym same) up)))
 
-  home_puts_back : (purpose : Purpose) (failed : Bool) → StandsAt v (PutsBack purpose failed) ask
+  home_puts_back : (purpose : Purpose) (failed : Bool) → StandsToDo v (PutsBack purpose failed) ask
       → HomeBy slot_in
   home_puts_back purpose false s =
       home_put s.0 (hold_of purpose ask (Out s.0) v s.1) (λ up. (s.2.0).awaits)
   home_puts_back purpose true s = home_put s.0.0 (hold_of purpose ask (Out s.0.0) v s.0.1)
       (λ up. let failed = s.0.2.1 in absurd (cc))
 
-  pub homes : (doing : Doing) → StandsAt v doing ask → HomeBy (event_named m v ask doing)
+  pub homes : (doing : Doing) → StandsToDo v doing ask → HomeBy (event_named m v ask doing)
   homes Begins s = run.at_home
   homes (Tries n) s = either_home (eqb (lock_word words (lock_tried v n)) 0)
       (take_lock (lock_tried v n)) (load_lock (lock_tried v n) 0) run.at_home run.at_home

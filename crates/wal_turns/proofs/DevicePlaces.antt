@@ -8,11 +8,11 @@ use Rattle.byte_position.specs.Geometry.{IsSegmentSize, pages_of}
 use Rattle.byte_position.proofs.SegmentSizes.{segment_size_in_pages}
 use Rattle.segment_disk.specs.Tape.{create_call, sync_call, write_call}
 use Rattle.wal_core.specs.Views.{Lent, Out, View}
-use Rattle.wal_core.specs.Moves.{Outcome, Done, Failed, after_create, after_write, after_sync}
+use Rattle.wal_core.specs.Moves.{Outcome, Done, Failed, after_create, after_write, after_sync, is_done}
 use Rattle.wal_core.specs.Steps.{StepKind, MayStep, IsNextCreate, IsNextWrite, create, write, sync, word_of_step, view_behind}
 use Rattle.wal_turns.specs.Doing.{Ask, Purpose, ForLine, Doing, Creates, Writes, SyncsFull, SyncsLast, StoresWritten, SetsDown, Machine}
-use Rattle.wal_turns.specs.Turned.{outcome, is_call_done, behind_call, page_or_end, segment_or, page_staged, of_lent}
-use Rattle.wal_turns.specs.Standing.{AwaitsSync, LoadsOn, WritesFor, segment_next, StandsAt}
+use Rattle.wal_turns.specs.Turned.{outcome, behind_call, page_or_end, segment_or, page_staged, of_lent}
+use Rattle.wal_turns.specs.Standing.{AwaitsSync, LoadsOn, WritesFor, segment_next, StandsToDo}
 use Rattle.wal_turns.proofs.Poses.{Goes, StandsNext, bool_cases}
 use Rattle.wal_turns.proofs.FlushPlaces.{hold_of, in_hand, of_hold, page_or_end_stands, writes_on, writes_still}
 use Rattle.wal_turns.proofs.Loads.{bytes-length, bytes-words}
@@ -41,7 +41,7 @@ module _ (m : Machine) (ask : Ask) where
         let e = event o in
         let met = slice_index (m.state).words (word_of_step here e) in
         let w = view_behind here e met (m.state).home in
-        MayStep here e × StandsNext (behind_call here w ask met (is_call_done o) purpose next) ask w
+        MayStep here e × StandsNext (behind_call here w ask met (is_done o) purpose next) ask w
 
     still : (d : Lent) → WritesFor (in_hand m ask d v) purpose ask (Out d)
     still d = writes_still m ask purpose l v base d
@@ -51,7 +51,7 @@ module _ (m : Machine) (ask : Ask) where
     rose = omega (arith, told)
 
     failed_by : (d : Lent) → (d.writer).fault ≡ some ((m.opening).faults + 1)
-        → StandsAt (in_hand m ask d v) (SetsDown purpose) ask
+        → StandsToDo (in_hand m ask d v) (SetsDown purpose) ask
     failed_by d is =
         let next : (m.opening).faults + 1 ≡ suc (m.opening).faults = omega arith in
         (d, still d, ((m.opening).faults, is ∙ ap (λ (n : ℕ). some n) next))
@@ -160,13 +160,13 @@ module _ (m : Machine) (ask : Ask) where
         by_outcome (λ (o : Outcome).
         let e = event o in
         let w = view_behind here e met (m.state).home in
-        MayStep here e × StandsNext (behind_call here w ask met (is_call_done o) purpose
+        MayStep here e × StandsNext (behind_call here w ask met (is_done o) purpose
         (cond (eqb (of_lent w (λ k. (k.writer).written) % size) 0)
-        (SyncsFull purpose) (page_or_end here w ask met (is_call_done o) purpose))) ask w) here
+        (SyncsFull purpose) (page_or_end here w ask met (is_done o) purpose))) ask w) here
         (((l, refl, may), inl rose), failed_by (behind fails) refl) (
           ((l, refl, may), tt),
           bool_cases
-              (λ (b : Bool). StandsAt (in_hand m ask (behind Done) v) (cond b (SyncsFull purpose)
+              (λ (b : Bool). StandsToDo (in_hand m ask (behind Done) v) (cond b (SyncsFull purpose)
               (page_or_end here (in_hand m ask (behind Done) v) ask met true purpose)) ask)
               (eqb (upto % size) 0)
               (λ full. (behind Done, still (behind Done), ((on.writer_up).up, (segment, refl))))
@@ -198,8 +198,8 @@ module _ (m : Machine) (ask : Ask) where
         by_outcome (λ (o : Outcome).
         let w = view_behind here (sync segment o) met (m.state).home in
         MayStep here (sync segment o) × StandsNext (behind_call here w ask met
-        (is_call_done o) purpose
-        (page_or_end here w ask met (is_call_done o) purpose)) ask w) here (
+        (is_done o) purpose
+        (page_or_end here w ask met (is_done o) purpose)) ask w) here (
           ((l, refl, record { up = waits.0; waits = may }), inl rose),
           failed_by
               (behind fails) refl,
@@ -240,7 +240,7 @@ module _ (m : Machine) (ask : Ask) where
     pub creates_goes : (purpose : Purpose) → IsSegmentSize ((v.opening).setup).segment_size
         → ((l : Lent) → (v.writing).hold ≡ Out l
         → segment_next ((v.opening).setup).segment_size l.writer ≤ (l.writer).made + 1)
-        → StandsAt v (Creates purpose) ask → Goes m ask (Creates purpose) v
+        → StandsToDo v (Creates purpose) ask → Goes m ask (Creates purpose) v
     creates_goes purpose valid near stands =
         let l = stands.0 in
         let is = hold_of purpose ask (Out l) v stands.1 in
@@ -249,20 +249,20 @@ module _ (m : Machine) (ask : Ask) where
         (near l is))
 
     pub writes_goes : (purpose : Purpose) → IsSegmentSize ((v.opening).setup).segment_size
-        → StandsAt v (Writes purpose) ask → Goes m ask (Writes purpose) v
+        → StandsToDo v (Writes purpose) ask → Goes m ask (Writes purpose) v
     writes_goes purpose valid stands =
         let l = stands.0 in
         of_hold (Goes m ask (Writes purpose)) (Out l) v (hold_of purpose ask (Out l) v stands.1)
         (writes_at purpose l v (again purpose l stands.1) told valid stands.2.0 stands.2.1)
 
-    pub syncs_full_goes : (purpose : Purpose) → StandsAt v (SyncsFull purpose) ask
+    pub syncs_full_goes : (purpose : Purpose) → StandsToDo v (SyncsFull purpose) ask
         → Goes m ask (SyncsFull purpose) v
     syncs_full_goes purpose stands =
         let l = stands.0 in
         of_hold (Goes m ask (SyncsFull purpose)) (Out l) v (hold_of purpose ask (Out l) v stands.1)
         (syncs_full_at purpose l v (again purpose l stands.1) told stands.2)
 
-    pub syncs_last_goes : StandsAt v SyncsLast ask → Goes m ask SyncsLast v
+    pub syncs_last_goes : StandsToDo v SyncsLast ask → Goes m ask SyncsLast v
     syncs_last_goes stands =
         let l = stands.0 in
         of_hold (Goes m ask SyncsLast) (Out l) v (hold_of ForLine ask (Out l) v stands.1)

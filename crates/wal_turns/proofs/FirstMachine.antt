@@ -14,7 +14,7 @@ use Rattle.step_laws.proofs.OpeningLaws.{logs_begin}
 use Rattle.step_laws.proofs.PassSteps.{splits_keep}
 use Rattle.wal_turns.specs.Doing.{Ask, Backend, Machine}
 use Rattle.wal_turns.specs.Turned.{line_start}
-use Rattle.wal_turns.specs.Standing.{IsLine, IsRunning, StandsAt, StandsFor, UpFor}
+use Rattle.wal_turns.specs.Standing.{IsLine, IsRunning, StandsToDo, StandsFor, UpFor}
 use Rattle.wal_turns.specs.Begun.{MayBeginRunning, first_backend, first_machine, splitting_view, views_split_off}
 use Rattle.wal_turns.proofs.NextUp.{up_start}
 use Rattle.wal_turns.proofs.Running.{all_got, begin_stands}
@@ -101,7 +101,7 @@ module _ (opening : Opening) where
           → StandsFor (first_backend asks) (split_off (splitting_view opening j))
       stands_first asks writable j ask left = subst
           (λ (x : Rattle.std.specs.Prelude.Option Ask).
-          StandsAt (split_off (splitting_view opening j)) (line_start x) ask) (sym left)
+          StandsToDo (split_off (splitting_view opening j)) (line_start x) ask) (sym left)
           (begin_stands ask (split_off (splitting_view opening j))
           (all_got IsLine asks 0 ask writable left) (inl (record {
             place = refl;

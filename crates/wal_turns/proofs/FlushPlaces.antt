@@ -6,11 +6,11 @@ use Rattle.std.proofs.lemmas.Bool.{ltb-true, eqb-false}
 use mathlib.Core.Option.{Option, none, some}
 use Rattle.wal_core.specs.Words.{Opening, end_form}
 use Rattle.wal_core.specs.Views.{Free, Flight, Landed, Copying, Away, Plain, Lent, Hold, Idle, Turned as HasTurned, Out, View, Working}
-use Rattle.wal_core.specs.Moves.{with_hold, after_set_down, hardened, lent}
+use Rattle.wal_core.specs.Moves.{with_hold, after_set_down, hardened, lent, is_done}
 use Rattle.wal_core.specs.Steps.{IsResting, word_of_step, view_behind, fault_number, load_flushed, load_lock, load_ring_word, slot_out}
 use Rattle.wal_turns.specs.Doing.{Ask, Purpose, ForLine, ForPage, FlushBegins, LoadsPosition, LoadsFlushed, LoadsMoment, Visits, TakesTurn, LoadsDown, TakesOut, LoadsPage, Creates, Writes, SyncsLast, StoresWritten, StoresMoment, StoresFlushed, SetsDown, PutsBack, GivesWriteTurn, Machine}
-use Rattle.wal_turns.specs.Turned.{can_step, goes_on, page_or_end, is_some_segment, asked_end, is_segment_new, is_call_done, outcome}
-use Rattle.wal_turns.specs.Standing.{IsPosed, IsLeft, KnowsDown, IsWriterUp, LoadsOn, IsSyncedFor, IsFailed, AreLoaded, WritesFor, StandsAt}
+use Rattle.wal_turns.specs.Turned.{can_step, goes_on, page_or_end, is_some_segment, asked_end, is_segment_new, outcome}
+use Rattle.wal_turns.specs.Standing.{IsPosed, IsLeft, KnowsDown, IsWriterUp, LoadsOn, IsSyncedFor, IsFailed, AreLoaded, WritesFor, StandsToDo}
 use Rattle.wal_turns.proofs.Poses.{Goes, StandsNext, bool_cases}
 use Rattle.wal_turns.proofs.InsertPlaces.{resting_posed}
 use Rattle.wal_turns.proofs.MapPlaces.{ltb-false}
@@ -60,7 +60,7 @@ module _ (m : Machine) (ask : Ask) where
   abbrev words : List ℕ
   words = (m.state).words
 
-  pub flush_begins_goes : (v : View) → (KnowsDown v → ⊥) → StandsAt v FlushBegins ask
+  pub flush_begins_goes : (v : View) → (KnowsDown v → ⊥) → StandsToDo v FlushBegins ask
       → Goes m ask FlushBegins v
   flush_begins_goes v up stands = (
     tt,
@@ -79,10 +79,10 @@ module _ (m : Machine) (ask : Ask) where
       → (w.writing).hold ≡ (v.writing).hold → IsPosed Free [] Landed Away Idle w
   at_rest_on v w p like hold = posed_on [] Landed Idle Idle v w p like (hold ∙ p.hold_is)
 
-  pub loads_position_goes : (v : View) → StandsAt v LoadsPosition ask → Goes m ask LoadsPosition v
+  pub loads_position_goes : (v : View) → StandsToDo v LoadsPosition ask → Goes m ask LoadsPosition v
   loads_position_goes v stands = (tt, at_rest_on v _ stands (refl, refl, refl, refl) refl)
 
-  pub loads_flushed_goes : (v : View) → StandsAt v LoadsFlushed ask → Goes m ask LoadsFlushed v
+  pub loads_flushed_goes : (v : View) → StandsToDo v LoadsFlushed ask → Goes m ask LoadsFlushed v
   loads_flushed_goes v stands =
       let met = slice_index words 14 in
       let w = view_behind v load_flushed met (m.state).home in
@@ -94,12 +94,12 @@ module _ (m : Machine) (ask : Ask) where
             (leb (asked_end v) met) (λ reached. rest) (λ before. (rest, omega arith)),
       )
 
-  pub loads_moment_goes : (v : View) → StandsAt v LoadsMoment ask → Goes m ask LoadsMoment v
+  pub loads_moment_goes : (v : View) → StandsToDo v LoadsMoment ask → Goes m ask LoadsMoment v
   loads_moment_goes v stands =
       (tt, inl (resting_posed _ (at_rest_on v _ stands (refl, refl, refl, refl) refl)))
 
   pub visits_goes : (purpose : Purpose) (lock : ℕ) (v : View)
-      → StandsAt v (Visits purpose lock) ask → Goes m ask (Visits purpose lock) v
+      → StandsToDo v (Visits purpose lock) ask → Goes m ask (Visits purpose lock) v
   visits_goes purpose lock v stands =
       let e = load_lock lock
       (end_form (v.opening).setup (v.reserving).seen) in
@@ -114,7 +114,7 @@ module _ (m : Machine) (ask : Ask) where
             (λ more. let apart = eqb-false _ _ more in let low = stands.1 in (still, omega arith)),
       )
 
-  pub takes_turn_goes : (purpose : Purpose) (v : View) → StandsAt v (TakesTurn purpose) ask
+  pub takes_turn_goes : (purpose : Purpose) (v : View) → StandsToDo v (TakesTurn purpose) ask
       → can_step m v ask (TakesTurn purpose) ≡ true → Goes m ask (TakesTurn purpose) v
   takes_turn_goes purpose v stands can = (
     hold_of purpose ask Idle v stands,
@@ -125,7 +125,7 @@ module _ (m : Machine) (ask : Ask) where
         refl),
   )
 
-  pub loads_down_goes : (purpose : Purpose) (v : View) → StandsAt v (LoadsDown purpose) ask
+  pub loads_down_goes : (purpose : Purpose) (v : View) → StandsToDo v (LoadsDown purpose) ask
       → Goes m ask (LoadsDown purpose) v
   loads_down_goes purpose v stands = (
     tt,
@@ -141,9 +141,9 @@ module _ (m : Machine) (ask : Ask) where
   pub page_or_end_stands : (purpose : Purpose) (l : Lent) (u v : View) (met : ℕ) (done : Bool)
       → IsWriterUp ((v.opening).setup).segment_size l.writer
       → WritesFor (in_hand l v) purpose ask (Out l)
-      → StandsAt (in_hand l v) (page_or_end u (in_hand l v) ask met done purpose) ask
+      → StandsToDo (in_hand l v) (page_or_end u (in_hand l v) ask met done purpose) ask
   page_or_end_stands ForLine l u v met done up base = bool_cases
-      (λ (b : Bool). StandsAt w (cond b (LoadsPage ForLine 0) (cond
+      (λ (b : Bool). StandsToDo w (cond b (LoadsPage ForLine 0) (cond
       (is_some_segment w (l.writer).waiting) SyncsLast (StoresWritten ForLine))) ask)
       (ltb (l.writer).written l.known)
       (λ left. (
@@ -163,12 +163,12 @@ module _ (m : Machine) (ask : Ask) where
       w : View
       w = in_hand l v
 
-      by_waiting : (x : Option ℕ) → (l.writer).waiting ≡ x → StandsAt (in_hand l v)
+      by_waiting : (x : Option ℕ) → (l.writer).waiting ≡ x → StandsToDo (in_hand l v)
           (cond (is_some_segment (in_hand l v) x) SyncsLast (StoresWritten ForLine)) ask
       by_waiting none is = (l, base, (up.up, is))
       by_waiting (some segment) is = (l, base, (up.up, (segment, is)))
   page_or_end_stands (ForPage lock end) l u v met done up base = bool_cases
-      (λ (b : Bool). StandsAt (in_hand l v) (cond b (LoadsPage (ForPage lock end) 0)
+      (λ (b : Bool). StandsToDo (in_hand l v) (cond b (LoadsPage (ForPage lock end) 0)
       (StoresWritten (ForPage lock end))) ask)
       (ltb (l.writer).written l.known)
       (λ left. (
@@ -187,18 +187,18 @@ module _ (m : Machine) (ask : Ask) where
 
   pub takes_out_goes : (purpose : Purpose) (v : View) (writer : Plain)
       → (m.state).home ≡ some writer → IsWriterUp ((v.opening).setup).segment_size writer
-      → StandsAt v (TakesOut purpose) ask → Goes m ask (TakesOut purpose) v
+      → StandsToDo v (TakesOut purpose) ask → Goes m ask (TakesOut purpose) v
   takes_out_goes purpose v writer at_home up stands =
       let l = lent writer v in (
         hold_of purpose ask HasTurned v stands,
         subst
             (λ (home : Option Plain). let w = view_behind v slot_out
             (slice_index words 11) home in
-            StandsAt w (page_or_end v w ask (slice_index words 11)
-            (is_call_done (outcome m v ask)) purpose)
+            StandsToDo w (page_or_end v w ask (slice_index words 11)
+            (is_done (outcome m v ask)) purpose)
             ask) (sym at_home)
             (page_or_end_stands purpose l v v (slice_index words 11)
-            (is_call_done (outcome m v ask)) up
+            (is_done (outcome m v ask)) up
             (writes_on purpose ask HasTurned (Out l) v (in_hand l v) stands
             (refl, refl, refl, refl) refl)),
       )
@@ -280,7 +280,7 @@ module _ (m : Machine) (ask : Ask) where
         by_purpose (ForPage lock end) done still = ((l, refl, tt), (_, still, (done, refl)))
 
   pub loads_page_goes : (purpose : Purpose) (k : ℕ) (v : View)
-      → StandsAt v (LoadsPage purpose k) ask
+      → StandsToDo v (LoadsPage purpose k) ask
       → Goes m ask (LoadsPage purpose k) v
   loads_page_goes purpose k v stands =
       let l = stands.0.0 in
@@ -290,7 +290,7 @@ module _ (m : Machine) (ask : Ask) where
       (loads_page_at purpose l v (writes_on purpose ask (Out l) (Out l) v (in_hand l v) base
       (refl, refl, refl, refl) refl) k stands.0.2 stands.1)
 
-  pub sets_down_goes : (purpose : Purpose) (v : View) → StandsAt v (SetsDown purpose) ask
+  pub sets_down_goes : (purpose : Purpose) (v : View) → StandsToDo v (SetsDown purpose) ask
       → Goes m ask (SetsDown purpose) v
   sets_down_goes purpose v stands =
       let l = stands.0 in
@@ -299,7 +299,7 @@ module _ (m : Machine) (ask : Ask) where
       (sets_down_at purpose l v (writes_on purpose ask (Out l) (Out l) v (in_hand l v) stands.1
       (refl, refl, refl, refl) refl) stands.2)
 
-  pub stores_written_goes : (purpose : Purpose) (v : View) → StandsAt v (StoresWritten purpose) ask
+  pub stores_written_goes : (purpose : Purpose) (v : View) → StandsToDo v (StoresWritten purpose) ask
       → Goes m ask (StoresWritten purpose) v
   stores_written_goes purpose v stands =
       let l = stands.0 in
@@ -311,7 +311,7 @@ module _ (m : Machine) (ask : Ask) where
       synced_too : (p : Purpose) (u : View) (k : Lent) → IsSyncedFor u p k → IsSyncedFor u p k
       synced_too p u k is = is
 
-  pub stores_moment_goes : (v : View) → StandsAt v StoresMoment ask → Goes m ask StoresMoment v
+  pub stores_moment_goes : (v : View) → StandsToDo v StoresMoment ask → Goes m ask StoresMoment v
   stores_moment_goes v stands =
       let l = stands.0 in
       let d : Lent = hardened l in
@@ -325,7 +325,7 @@ module _ (m : Machine) (ask : Ask) where
         ),
       )
 
-  pub stores_flushed_goes : (v : View) → StandsAt v StoresFlushed ask → Goes m ask StoresFlushed v
+  pub stores_flushed_goes : (v : View) → StandsToDo v StoresFlushed ask → Goes m ask StoresFlushed v
   stores_flushed_goes v stands =
       let l = stands.0 in
       of_hold (Goes m ask StoresFlushed) (Out l) v (hold_of ForLine ask (Out l) v stands.1) (
@@ -342,7 +342,7 @@ module _ (m : Machine) (ask : Ask) where
       )
 
   pub puts_back_goes : (purpose : Purpose) (failed : Bool) (v : View)
-      → StandsAt v (PutsBack purpose failed) ask → Goes m ask (PutsBack purpose failed) v
+      → StandsToDo v (PutsBack purpose failed) ask → Goes m ask (PutsBack purpose failed) v
   puts_back_goes purpose false v stands =
       let l = stands.0 in (
         (l, hold_of purpose ask (Out l) v stands.1, inl ((stands.2.0).up, stands.2.1)),
@@ -360,7 +360,7 @@ module _ (m : Machine) (ask : Ask) where
       )
 
   pub gives_write_turn_goes : (purpose : Purpose) (failed : Bool) (v : View)
-      → StandsAt v (GivesWriteTurn purpose failed) ask
+      → StandsToDo v (GivesWriteTurn purpose failed) ask
       → Goes m ask (GivesWriteTurn purpose failed) v
   gives_write_turn_goes ForLine false v stands = (
     hold_of ForLine ask HasTurned v stands,

@@ -13,10 +13,10 @@ use Rattle.byte_position.proofs.EndAddresses.{end_address_of-mono_lt}
 use Rattle.byte_position.proofs.Words.{end_address_of-mod_word}
 use Rattle.wal_types.specs.declared.record.Record.{Record}
 use Rattle.record_spelling.specs.Spelling.{IsWritable}
-use Rattle.wal_core.specs.Moves.{entry_reserved}
+use Rattle.wal_core.specs.Moves.{entry_reserved, is_done}
 use Rattle.wal_turns.specs.Doing.{Ask, Inserts, Commits, Flushes, Begins, Tries, Reserves, Looks, Copies, Maps, Releases, Machine}
-use Rattle.wal_turns.specs.Turned.{can_step, fits, lock_tried, next_of, goes_on, is_call_done, outcome}
-use Rattle.wal_turns.specs.Standing.{IsPosed, IsRecord, IsUnder, IsLeft, IsMet, IsReserving, KnowsDown, StandsAt}
+use Rattle.wal_turns.specs.Turned.{can_step, fits, lock_tried, next_of, goes_on, outcome}
+use Rattle.wal_turns.specs.Standing.{IsPosed, IsRecord, IsUnder, IsLeft, IsMet, IsReserving, KnowsDown, StandsToDo}
 use Rattle.wal_turns.proofs.Poses.{Goes, StandsNext, bool_cases, of_posed, posed}
 
 pub posed_at_rest : (v : View) → IsResting v → IsPosed Free [] Landed Away Idle v
@@ -51,7 +51,7 @@ module _ (m : Machine) (ask : Ask) where
   abbrev words : List ℕ
   words = (m.state).words
 
-  pub begins_goes : (v : View) → (KnowsDown v → ⊥) → StandsAt v Begins ask → Goes m ask Begins v
+  pub begins_goes : (v : View) → (KnowsDown v → ⊥) → StandsToDo v Begins ask → Goes m ask Begins v
   begins_goes v up stands = (
     tt,
     ⊎_elim
@@ -82,7 +82,7 @@ module _ (m : Machine) (ask : Ask) where
       (load_lock lock 0) in
       let w = view_behind rest e (slice_index words (word_of_step rest e)) (m.state).home in
       MayStep rest e × StandsNext (next_of rest w ask (slice_index words (word_of_step rest e))
-      (is_call_done (outcome m rest ask)) (Tries n)) ask w)
+      (is_done (outcome m rest ask)) (Tries n)) ask w)
       (eqb met 0)
       (λ free. (
         low,
@@ -126,7 +126,7 @@ module _ (m : Machine) (ask : Ask) where
             ))),
       ))
 
-  pub tries_goes : (n : ℕ) (v : View) → StandsAt v (Tries n) ask → Goes m ask (Tries n) v
+  pub tries_goes : (n : ℕ) (v : View) → StandsToDo v (Tries n) ask → Goes m ask (Tries n) v
   tries_goes n v stands = of_posed (Goes m ask (Tries n)) Free [] Landed Away Idle v stands.0
       (tries_at n v stands.1)
 
@@ -136,7 +136,7 @@ module _ (m : Machine) (ask : Ask) where
   at_reserving lock p v = posed p (lock ∷ []) Landed Away Idle v
 
   stands_reserving : (lock : ℕ) (p : Place) (v : View) → IsReserving v ask p → IsRecord ask
-      → StandsAt (at_reserving lock p v) (Reserves lock) ask
+      → StandsToDo (at_reserving lock p v) (Reserves lock) ask
   stands_reserving lock p v so insert =
       ((p, is_posed p (lock ∷ []) Landed Away Idle v, so), insert)
 
@@ -148,7 +148,7 @@ module _ (m : Machine) (ask : Ask) where
       let at = position_word words in (
         (refl, eqb-true _ _ can),
         subst
-            (λ (c : Bool). StandsAt (cond c (at_reserving lock (Locked at) v) u)
+            (λ (c : Bool). StandsToDo (cond c (at_reserving lock (Locked at) v) u)
             (Reserves lock) ask)
             (sym (eq-eqb at at refl)) (stands_reserving lock (Locked at) v tt insert),
       )
@@ -272,7 +272,7 @@ module _ (m : Machine) (ask : Ask) where
       stores_position_at lock at prev v valid whole insert so
 
   pub reserves_goes : (lock : ℕ) (v : View) → IsSegmentSize ((v.opening).setup).segment_size
-      → IsPlaceWhole (v.reserving).place → StandsAt v (Reserves lock) ask
+      → IsPlaceWhole (v.reserving).place → StandsToDo v (Reserves lock) ask
       → can_step m v ask (Reserves lock) ≡ true → Goes m ask (Reserves lock) v
   reserves_goes lock v valid whole stands can =
       let p = stands.0.0 in
@@ -312,7 +312,7 @@ module _ (m : Machine) (ask : Ask) where
       )
 
   pub looks_goes : (lock : ℕ) (v : View) → 0 < ((v.opening).setup).ring_pages
-      → StandsAt v (Looks lock) ask → Goes m ask (Looks lock) v
+      → StandsToDo v (Looks lock) ask → Goes m ask (Looks lock) v
   looks_goes lock v some_page stands =
       let c = stands.0.0 in
       of_posed (Goes m ask (Looks lock)) Free (lock ∷ []) (Copying c) Away Idle v stands.0.1
@@ -351,7 +351,7 @@ module _ (m : Machine) (ask : Ask) where
       )
 
   pub copies_goes : (lock : ℕ) (v : View) → IsSegmentSize ((v.opening).setup).segment_size
-      → StandsAt v (Copies lock) ask → Goes m ask (Copies lock) v
+      → StandsToDo v (Copies lock) ask → Goes m ask (Copies lock) v
   copies_goes lock v valid stands =
       let c = stands.0.0 in
       of_posed (Goes m ask (Copies lock)) Free (lock ∷ []) (Copying c) Away Idle v stands.0.1

@@ -9,8 +9,8 @@ use Rattle.wal_core.specs.Moves.{landed, standing, without_lock}
 use Rattle.wal_core.specs.Paged.{IsOpen}
 use Rattle.wal_core.specs.Steps.{MayStep, IsResting, load_written, zero_ring_word, publish_end, release, word_of_step, view_behind}
 use Rattle.wal_turns.specs.Doing.{Ask, Inserts, Commits, Flushes, Maps, GivesTurn, Tells, Releases, Machine}
-use Rattle.wal_turns.specs.Turned.{can_step, own_end, goes_on, behind_insert}
-use Rattle.wal_turns.specs.Standing.{IsPosed, IsRecord, IsUnder, IsLeft, IsAllCopied, MapsOn, StandsAt}
+use Rattle.wal_turns.specs.Turned.{can_step, next_page_end, goes_on, behind_insert}
+use Rattle.wal_turns.specs.Standing.{IsPosed, IsRecord, IsUnder, IsLeft, IsAllCopied, MapsOn, StandsToDo}
 use Rattle.wal_turns.proofs.Poses.{Goes, StandsNext, bool_cases, of_posed, posed}
 use Rattle.wal_turns.proofs.InsertPlaces.{is_posed}
 
@@ -26,7 +26,7 @@ module _ (m : Machine) (ask : Ask) where
 
   module _ (lock : ℕ) (c : Copy) (v : View) (under : IsUnder lock c)
       (left : IsLeft ((v.opening).setup).segment_size c) (insert : IsRecord ask) where
-    stands_mapping : (s : Stage) → MapsOn v s → StandsAt (at_map lock c s v) (Maps lock) ask
+    stands_mapping : (s : Stage) → MapsOn v s → StandsToDo (at_map lock c s v) (Maps lock) ask
     stands_mapping s so =
         ((s, (c, is_posed Free (lock ∷ []) (Copying c) s Idle v, under, left), so), insert)
 
@@ -35,7 +35,7 @@ module _ (m : Machine) (ask : Ask) where
     takes_turn_at can = (
       refl,
       subst
-          (λ (b : Bool). StandsAt (cond b (at_map lock c Taken v) (at_map lock c Away v))
+          (λ (b : Bool). StandsToDo (cond b (at_map lock c Taken v) (at_map lock c Away v))
           (Maps lock)
           ask) (sym can) (stands_mapping Taken tt),
     )
@@ -60,7 +60,7 @@ module _ (m : Machine) (ask : Ask) where
               (cond (ltb (met + pages * 8192) (at + 8192))
               (goes_on (GivesTurn lock (some (at + 8192 - pages * 8192)))) (goes_on
               (Maps lock)))) ask w)
-              (leb (own_end u) at)
+              (leb (next_page_end u) at)
               (λ own. ((Ready at met, (c, pose, under, left), tt), insert))
               (λ ahead. bool_cases
               (λ (b : Bool). StandsNext
@@ -79,7 +79,7 @@ module _ (m : Machine) (ask : Ask) where
         bool_cases
         (λ (b : Bool).
         let e = cond b zero_ring_word publish_end in
-        MayStep u e × StandsAt (view_behind u e (slice_index words (word_of_step u e))
+        MayStep u e × StandsToDo (view_behind u e (slice_index words (word_of_step u e))
         (m.state).home)
         (Maps lock) ask)
         (ltb count 1024)
@@ -168,7 +168,7 @@ module _ (m : Machine) (ask : Ask) where
       ),
     )
 
-  pub maps_goes : (lock : ℕ) (v : View) → StandsAt v (Maps lock) ask
+  pub maps_goes : (lock : ℕ) (v : View) → StandsToDo v (Maps lock) ask
       → can_step m v ask (Maps lock) ≡ true → Goes m ask (Maps lock) v
   maps_goes lock v stands can =
       let s = stands.0.0 in
@@ -178,7 +178,7 @@ module _ (m : Machine) (ask : Ask) where
       Free (lock ∷ []) (Copying c) s Idle v copies.1
       (maps_at lock c v copies.2 copies.3 stands.1 s stands.0.2) can
 
-  pub gives_turn_goes : (lock : ℕ) (end : Option ℕ) (v : View) → StandsAt v (GivesTurn lock end) ask
+  pub gives_turn_goes : (lock : ℕ) (end : Option ℕ) (v : View) → StandsToDo v (GivesTurn lock end) ask
       → Goes m ask (GivesTurn lock end) v
   gives_turn_goes lock end v stands =
       let s = stands.0.0 in
@@ -187,7 +187,7 @@ module _ (m : Machine) (ask : Ask) where
       of_posed (Goes m ask (GivesTurn lock end)) Free (lock ∷ []) (Copying c) s Idle v copies.1
       (gives_turn_at lock c v copies.2 copies.3 stands.1 s end stands.0.2)
 
-  pub tells_goes : (lock end : ℕ) (v : View) → StandsAt v (Tells lock end) ask
+  pub tells_goes : (lock end : ℕ) (v : View) → StandsToDo v (Tells lock end) ask
       → Goes m ask (Tells lock end) v
   tells_goes lock end v stands =
       let c = stands.0.0 in
@@ -249,7 +249,7 @@ module _ (m : Machine) (ask : Ask) where
             (m.state).home) (at_rest lock (Copying c) v lands),
       )
 
-  pub releases_goes : (lock : ℕ) (full : Bool) (v : View) → StandsAt v (Releases lock full) ask
+  pub releases_goes : (lock : ℕ) (full : Bool) (v : View) → StandsToDo v (Releases lock full) ask
       → Goes m ask (Releases lock full) v
   releases_goes lock true v stands =
       of_posed (Goes m ask (Releases lock true)) Free (lock ∷ []) Landed Away Idle v stands

@@ -5,7 +5,7 @@ use mathlib.Core.Option.{none, some}
 use Rattle.std.specs.Prelude.{Some, None}
 use Rattle.wal_core.specs.Views.{Place, Free, Locked, Loaded, Stored, Stage, Away, Taken, Looked, Ready, Zeroing, Published, View}
 use Rattle.wal_turns.specs.Doing.{Ask, Inserts, Commits, Flushes, Purpose, ForLine, ForPage, Doing, Begins, Tries, Reserves, Looks, Copies, Maps, GivesTurn, Tells, Releases, FlushBegins, LoadsPosition, LoadsFlushed, LoadsMoment, Visits, TakesTurn, LoadsDown, TakesOut, LoadsPage, Creates, Writes, SyncsFull, SyncsLast, StoresWritten, StoresMoment, StoresFlushed, SetsDown, PutsBack, GivesWriteTurn}
-use Rattle.wal_turns.specs.Turned.{Next, goes_on, answers, next_of, page_or_end, behind_reserving, behind_mapping, behind_insert, behind_call, line_start, has_page_left, is_some_segment, waiting_segment, fits, own_end, lock_tried, is_whole, next_address, asked_end, is_segment_new, of_lent}
+use Rattle.wal_turns.specs.Turned.{Next, goes_on, answers, next_of, page_or_end, behind_reserving, behind_mapping, behind_insert, behind_call, line_start, has_page_left, is_some_segment, waiting_segment, fits, next_page_end, lock_tried, is_whole, next_address, asked_end, is_segment_new, of_lent}
 use Rattle.wal_turns.specs.Standing.{UpFor}
 
 abbrev pub UpNext : Next → ℕ → Type 0
@@ -61,7 +61,7 @@ module _ (v w : View) (ask : Ask) (met : ℕ) (done : Bool) (d : ℕ) where
   up_mapping lock (Looked at) =
       let pages = ((v.opening).setup).ring_pages in
       let later = goes_on (GivesTurn lock (some (at + 8192 - pages * 8192))) in
-      either (leb (own_end v) at) (goes_on (GivesTurn lock none))
+      either (leb (next_page_end v) at) (goes_on (GivesTurn lock none))
       (cond (ltb (met + pages * 8192) (at + 8192)) later (goes_on (Maps lock))) d
       (record { up = tt })
       (either (ltb (met + pages * 8192) (at + 8192)) later (goes_on (Maps lock)) d
@@ -88,7 +88,7 @@ module _ (v w : View) (ask : Ask) (met : ℕ) (done : Bool) (d : ℕ) where
       (either (eqb (n + 1) 8) (goes_on Begins) (goes_on (Tries (n + 1))) d (record { up = tt })
       (record { up = tt }))
   up_next (Reserves lock) given = up_reserving lock (v.reserving).place
-  up_next (Looks lock) given = either (eqb met (own_end v)) (goes_on (Copies lock))
+  up_next (Looks lock) given = either (eqb met (next_page_end v)) (goes_on (Copies lock))
       (goes_on (Maps lock)) d (record { up = tt }) (record { up = tt })
   up_next (Copies lock) given = either (is_whole w) (goes_on (Releases lock false))
       (cond (eqb (next_address w % 8192) 0) (goes_on (Looks lock)) (goes_on (Copies lock))) d

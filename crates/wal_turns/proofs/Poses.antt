@@ -2,9 +2,10 @@
 use Rattle.std.proofs.Common.{◌≡◌, ℕ, Bool, true, false, List, slice_index, refl, sym, subst}
 use Rattle.wal_core.specs.Views.{Place, Flight, Stage, Hold, View}
 use Rattle.wal_core.specs.Steps.{MayStep, word_of_step, view_behind}
+use Rattle.wal_core.specs.Moves.{is_done}
 use Rattle.wal_turns.specs.Doing.{Ask, Doing, Machine}
-use Rattle.wal_turns.specs.Turned.{Next, goes_on, answers, event_named, next_of, outcome, is_call_done}
-use Rattle.wal_turns.specs.Standing.{IsPosed, MayBegin, StandsAt}
+use Rattle.wal_turns.specs.Turned.{Next, goes_on, answers, event_named, next_of, outcome}
+use Rattle.wal_turns.specs.Standing.{IsPosed, MayBegin, StandsToDo}
 
 pub bool_cases : (P : Bool → Type 0) (b : Bool) → (b ≡ true → P true) → (b ≡ false → P false)
     → P b
@@ -37,7 +38,7 @@ of_posed P place locks flight stage hold v e holds = subst
 
 -- how a view stands behind its step
 abbrev pub StandsNext : Next → Ask → View → Type 0
-StandsNext (goes_on doing) ask w = StandsAt w doing ask
+StandsNext (goes_on doing) ask w = StandsToDo w doing ask
 StandsNext (answers full) ask w = MayBegin w
 
 module _ (m : Machine) (ask : Ask) where
@@ -47,4 +48,4 @@ module _ (m : Machine) (ask : Ask) where
       let e = event_named m v ask doing in
       let met = slice_index (m.state).words (word_of_step v e) in
       let w = view_behind v e met (m.state).home in
-      MayStep v e × StandsNext (next_of v w ask met (is_call_done (outcome m v ask)) doing) ask w
+      MayStep v e × StandsNext (next_of v w ask met (is_done (outcome m v ask)) doing) ask w

@@ -9,9 +9,10 @@ use Rattle.wal_core.specs.Steps.{StepKind, MayStep, Makes, State, Moves, IsLive,
 use Rattle.wal_core.proofs.Lists.{at_else, at_place, part_at}
 use Rattle.wal_core.proofs.WordLists.{word_again}
 use Rattle.step_laws.proofs.EveryStep.{step_keeps}
+use Rattle.wal_core.specs.Moves.{is_done}
 use Rattle.wal_turns.specs.Doing.{Ask, Inserts, Commits, Flushes, Doing, Backend, Machine}
-use Rattle.wal_turns.specs.Turned.{Turn, Waits, Next, goes_on, answers, can_step, looks_down, event_named, next_of, outcome, is_call_done, with_answer, with_next, tells_full, line_start, state_stepped, moved_on, fallen, word_waited, turned_by}
-use Rattle.wal_turns.specs.Standing.{IsRunning, HasBackend, HasLeft, IsLine, IsTurnTold, MayBegin, StandsAt, StandsFor, UpFor}
+use Rattle.wal_turns.specs.Turned.{Turn, Waits, Next, goes_on, answers, can_step, looks_down, event_named, next_of, outcome, with_answer, with_next, tells_full, line_start, state_stepped, moved_on, fallen, word_waited, turned_by}
+use Rattle.wal_turns.specs.Standing.{IsRunning, HasBackend, HasLeft, IsLine, IsTurnTold, MayBegin, StandsToDo, StandsFor, UpFor}
 use Rattle.wal_turns.proofs.Poses.{StandsNext, bool_cases}
 use Rattle.wal_turns.proofs.FlushPlaces.{hold_of}
 use Rattle.wal_turns.proofs.NextUp.{UpNext, next_up, up_start}
@@ -41,7 +42,7 @@ all_got P xs i x all e = subst P
 
 -- ---- a backend behind its step
 
-pub begin_stands : (a : Ask) (w : View) → IsLine a → MayBegin w → StandsAt w (line_start (Some a)) a
+pub begin_stands : (a : Ask) (w : View) → IsLine a → MayBegin w → StandsToDo w (line_start (Some a)) a
 begin_stands (Inserts value) w writable may = (may, writable)
 begin_stands (Commits value) w writable may = (may, writable)
 begin_stands Flushes w writable may = may
@@ -49,13 +50,13 @@ begin_stands Flushes w writable may = may
 answer_stands : (b : Backend) (w : View) → All IsLine b.asks → MayBegin w
     → StandsFor (with_answer b) w
 answer_stands b w lines may ask left = subst
-    (λ (x : Rattle.std.specs.Prelude.Option Ask). StandsAt w (line_start x) ask) (sym left)
+    (λ (x : Rattle.std.specs.Prelude.Option Ask). StandsToDo w (line_start x) ask) (sym left)
     (begin_stands ask w (all_got IsLine b.asks (b.answered + 1) ask lines left) may)
 
 next_stands : (b : Backend) (ask : Ask) (w : View) → All IsLine b.asks → HasLeft b ask
     → (next : Next) → StandsNext next ask w → StandsFor (with_next next b) w
 next_stands b ask w lines left (goes_on doing) stands other is =
-    let same : ask ≡ other = cc in subst (StandsAt w doing) same stands
+    let same : ask ≡ other = cc in subst (StandsToDo w doing) same stands
 next_stands b ask w lines left (answers full) stands other is =
     answer_stands b w lines stands other is
 
@@ -75,7 +76,7 @@ Good m number x = IsTurnTold m number x.0 x.1 × IsRunning x.1
 
 module _ (m : Machine) (run : IsRunning m) (number : ℕ) (b : Backend) (here : HasBackend m number b)
     (v : View) (live : IsLive m.state (number + 1) v) (ask : Ask) (left : HasLeft b ask)
-    (stands : StandsAt v b.doing ask) where
+    (stands : StandsToDo v b.doing ask) where
   abbrev words : List ℕ
   words = (m.state).words
 
@@ -167,7 +168,7 @@ module _ (m : Machine) (run : IsRunning m) (number : ℕ) (b : Backend) (here : 
         up_by d.doing (down_word (later e).words) (λ purpose takes.
         down_kept e may j old.0 h.0 old.1
         (hold_of purpose a HasTurned old.0
-        (subst (λ (x : Doing). StandsAt old.0 x a) takes (old.2 a has)))
+        (subst (λ (x : Doing). StandsToDo old.0 x a) takes (old.2 a has)))
         ∙ subst (λ (x : Doing). UpFor x (down_word words)) takes up_there))
         (set_cases m.backends number j c d is);
   }
@@ -186,7 +187,7 @@ module _ (m : Machine) (run : IsRunning m) (number : ℕ) (b : Backend) (here : 
   moves can up =
       let e = event_named m v ask b.doing in
       let met = slice_index words (word_of_step v e) in
-      let done = is_call_done (outcome m v ask) in
+      let done = is_done (outcome m v ask) in
       let next = next_of v (behind e) ask met done b.doing in
       let lines = run.lines number b here in
       let g = goes m run number v live ask b.doing

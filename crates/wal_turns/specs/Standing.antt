@@ -23,9 +23,8 @@ IsRecord (Commits value) = IsWritable value
 IsRecord Flushes = ⊥
 
 abbrev pub IsLine : Ask → Type 0
-IsLine (Inserts value) = IsWritable value
-IsLine (Commits value) = IsWritable value
 IsLine Flushes = Unit {0}
+IsLine other = IsRecord other
 
 -- ---- the writer
 
@@ -163,42 +162,42 @@ module _ (v : View) where
   StandsToGive purpose ask true =
       WritesFor purpose ask HasTurned × ((v.writing).down_set ≢ 0)
 
-  abbrev pub StandsAt : Doing → Ask → Type 0
-  StandsAt Begins ask = MayBegin × IsRecord ask
-  StandsAt (Tries n) ask = IsPosed Free [] Landed Away Idle v × IsRecord ask
-  StandsAt (Reserves lock) ask = ((p : Place) × IsPosed p (lock ∷ []) Landed Away Idle v
+  abbrev pub StandsToDo : Doing → Ask → Type 0
+  StandsToDo Begins ask = MayBegin × IsRecord ask
+  StandsToDo (Tries n) ask = IsPosed Free [] Landed Away Idle v × IsRecord ask
+  StandsToDo (Reserves lock) ask = ((p : Place) × IsPosed p (lock ∷ []) Landed Away Idle v
       × IsReserving ask p) × IsRecord ask
-  StandsAt (Looks lock) ask = CopiesUnder lock Away Idle (IsLeft size) × IsRecord ask
-  StandsAt (Copies lock) ask = CopiesUnder lock Away Idle (λ c.
+  StandsToDo (Looks lock) ask = CopiesUnder lock Away Idle (IsLeft size) × IsRecord ask
+  StandsToDo (Copies lock) ask = CopiesUnder lock Away Idle (λ c.
       IsLeft size c × IsMet size (v.mapping).confirmed c) × IsRecord ask
-  StandsAt (Maps lock) ask = ((s : Stage) × CopiesUnder lock s Idle (IsLeft size) × MapsOn s)
+  StandsToDo (Maps lock) ask = ((s : Stage) × CopiesUnder lock s Idle (IsLeft size) × MapsOn s)
       × IsRecord ask
-  StandsAt (GivesTurn lock end) ask = ((s : Stage) × CopiesUnder lock s Idle (IsLeft size)
+  StandsToDo (GivesTurn lock end) ask = ((s : Stage) × CopiesUnder lock s Idle (IsLeft size)
       × IsOpen s) × IsRecord ask
-  StandsAt (Tells lock end) ask = CopiesUnder lock Away Idle (IsLeft size) × IsRecord ask
-  StandsAt (Releases lock full) ask = StandsToRelease lock ask full
-  StandsAt FlushBegins ask = MayBegin
-  StandsAt LoadsPosition ask = IsPosed Free [] Landed Away Idle v
-  StandsAt LoadsFlushed ask = IsPosed Free [] Landed Away Idle v
-  StandsAt LoadsMoment ask = IsPosed Free [] Landed Away Idle v
-  StandsAt (Visits purpose lock) ask = WritesFor purpose ask Idle × (lock < 8)
-  StandsAt (TakesTurn purpose) ask = WritesFor purpose ask Idle
-  StandsAt (LoadsDown purpose) ask = WritesFor purpose ask HasTurned
-  StandsAt (TakesOut purpose) ask = WritesFor purpose ask HasTurned
-  StandsAt (LoadsPage purpose k) ask = HasWriter purpose ask (LoadsOn size k) × (k < 1024)
-  StandsAt (Creates purpose) ask = HasWriter purpose ask (λ l.
+  StandsToDo (Tells lock end) ask = CopiesUnder lock Away Idle (IsLeft size) × IsRecord ask
+  StandsToDo (Releases lock full) ask = StandsToRelease lock ask full
+  StandsToDo FlushBegins ask = MayBegin
+  StandsToDo LoadsPosition ask = IsPosed Free [] Landed Away Idle v
+  StandsToDo LoadsFlushed ask = IsPosed Free [] Landed Away Idle v
+  StandsToDo LoadsMoment ask = IsPosed Free [] Landed Away Idle v
+  StandsToDo (Visits purpose lock) ask = WritesFor purpose ask Idle × (lock < 8)
+  StandsToDo (TakesTurn purpose) ask = WritesFor purpose ask Idle
+  StandsToDo (LoadsDown purpose) ask = WritesFor purpose ask HasTurned
+  StandsToDo (TakesOut purpose) ask = WritesFor purpose ask HasTurned
+  StandsToDo (LoadsPage purpose k) ask = HasWriter purpose ask (LoadsOn size k) × (k < 1024)
+  StandsToDo (Creates purpose) ask = HasWriter purpose ask (λ l.
       LoadsOn size 1024 l × ((l.writer).made < segment_next size l.writer))
-  StandsAt (Writes purpose) ask = HasWriter purpose ask (λ l.
+  StandsToDo (Writes purpose) ask = HasWriter purpose ask (λ l.
       LoadsOn size 1024 l × (segment_next size l.writer ≤ (l.writer).made))
-  StandsAt (SyncsFull purpose) ask = HasWriter purpose ask AwaitsSync
-  StandsAt SyncsLast ask = HasWriter ForLine ask AwaitsSync
-  StandsAt (StoresWritten purpose) ask = HasWriter purpose ask (IsSyncedFor purpose)
-  StandsAt StoresMoment ask = HasWriter ForLine ask (λ l. IsSynced l × IsStored l)
-  StandsAt StoresFlushed ask = HasWriter ForLine ask (λ l.
+  StandsToDo (SyncsFull purpose) ask = HasWriter purpose ask AwaitsSync
+  StandsToDo SyncsLast ask = HasWriter ForLine ask AwaitsSync
+  StandsToDo (StoresWritten purpose) ask = HasWriter purpose ask (IsSyncedFor purpose)
+  StandsToDo StoresMoment ask = HasWriter ForLine ask (λ l. IsSynced l × IsStored l)
+  StandsToDo StoresFlushed ask = HasWriter ForLine ask (λ l.
       IsSynced l × IsStored l × (l.hard ≡ (l.writer).written))
-  StandsAt (SetsDown purpose) ask = HasWriter purpose ask IsFailed
-  StandsAt (PutsBack purpose failed) ask = StandsToPut purpose ask failed
-  StandsAt (GivesWriteTurn purpose failed) ask = StandsToGive purpose ask failed
+  StandsToDo (SetsDown purpose) ask = HasWriter purpose ask IsFailed
+  StandsToDo (PutsBack purpose failed) ask = StandsToPut purpose ask failed
+  StandsToDo (GivesWriteTurn purpose failed) ask = StandsToGive purpose ask failed
 
 -- ---- a machine that runs
 
@@ -207,7 +206,7 @@ abbrev pub HasLeft : Backend → Ask → Type 0
 HasLeft b ask = slice_get b.asks b.answered ≡ Some ask
 
 abbrev pub StandsFor : Backend → View → Type 0
-StandsFor b v = (ask : Ask) → HasLeft b ask → StandsAt v b.doing ask
+StandsFor b v = (ask : Ask) → HasLeft b ask → StandsToDo v b.doing ask
 
 -- who is to take the writer out knows of no failed disk: the down word is 0
 abbrev pub UpFor : Doing → ℕ → Type 0

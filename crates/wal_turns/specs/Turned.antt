@@ -10,8 +10,8 @@ use Rattle.wal_page.specs.EntryWords.{address_of_word, words_owned}
 use Rattle.wal_core.specs.declared.setup.Setup.{Setup}
 use Rattle.wal_core.specs.Words.{position_word, lock_word, mapping_turn, write_turn, down_word, log_limit, end_form}
 use Rattle.wal_core.specs.Views.{Place, Free, Locked, Loaded, Stored, Flight, Landed, Copying, Stage, Away, Taken, Looked, Ready, Zeroing, Published, Lent, Hold, Idle, Turned as HasTurned, Out, View}
-use Rattle.wal_core.specs.Moves.{Outcome, Done as CallDone, Failed}
-use Rattle.wal_core.specs.Steps.{StepKind, State, load_position, take_write_turn, slot_out, slot_in, release_write_turn, lock_position, load_prev, store_prev, store_position, give_position_back, load_lock, take_lock, advance, release, load_buffer_end, store_ring_word, load_ring_word, load_written, load_flushed, load_moment, load_down, store_written, store_moment, store_flushed, set_down, take_mapping_turn, load_initialised_end, clear_end, zero_ring_word, publish_end, publish_initialised_end, release_mapping_turn, create, write, sync, word_of_step, value_behind, view_behind, home_behind}
+use Rattle.wal_core.specs.Moves.{Outcome, Done as CallDone, Failed, is_done}
+use Rattle.wal_core.specs.Steps.{StepKind, State, load_position, take_write_turn, slot_out, slot_in, release_write_turn, lock_position, load_prev, store_prev, store_position, give_position_back, load_lock, take_lock, advance, release, load_buffer_end, store_ring_word, load_ring_word, load_written, load_flushed, load_moment, load_down, store_written, store_moment, store_flushed, set_down, take_mapping_turn, load_initialised_end, clear_end, zero_ring_word, publish_end, publish_initialised_end, release_mapping_turn, create, write, sync, buffer_of, number_lent, word_of_step, value_behind, view_behind, home_behind}
 use Rattle.wal_turns.specs.Doing.{Ask, Inserts, Commits, Flushes, Purpose, ForLine, ForPage, Doing, Begins, Tries, Reserves, Looks, Copies, Maps, GivesTurn, Tells, Releases, FlushBegins, LoadsPosition, LoadsFlushed, LoadsMoment, Visits, TakesTurn, LoadsDown, TakesOut, LoadsPage, Creates, Writes, SyncsFull, SyncsLast, StoresWritten, StoresMoment, StoresFlushed, SetsDown, PutsBack, GivesWriteTurn, Backend, Machine}
 
 -- what a turn tells: the step that was made; the word that holds it up, with its value; that all
@@ -47,8 +47,8 @@ module _ (v : View) where
       whole_in (Copying c) = c.copied == words_owned size c.entry
 
   -- where the page of its next word ends
-  abbrev pub own_end : ℕ
-  own_end = (next_address / 8192 + 1) * 8192
+  abbrev pub next_page_end : ℕ
+  next_page_end = (next_address / 8192 + 1) * 8192
 
   -- up to where it asks for: the end of its last record, or the log's start
   abbrev pub asked_end : ℕ
@@ -64,12 +64,7 @@ module _ (v : View) where
 
   -- of the writer in hand
   abbrev pub of_lent : (Lent → ℕ) → ℕ
-  of_lent f = lent_in (v.writing).hold
-    where
-      lent_in : Hold → ℕ
-      lent_in Idle = 0
-      lent_in HasTurned = 0
-      lent_in (Out l) = f l
+  of_lent f = number_lent v f (v.writing).hold
 
   -- the page under way, its segment and its number there, and up to where it is written
   abbrev pub page_under_way : ℕ
@@ -151,10 +146,6 @@ abbrev pub call_outcome : List ℕ → ℕ → ℕ → Outcome
 call_outcome failing faults moment =
     if is_listed failing (moment + 1) then Failed (faults + 1) (some false) else CallDone
 
-abbrev pub is_call_done : Outcome → Bool
-is_call_done CallDone = true
-is_call_done (Failed faults counted) = false
-
 -- ---- the step that the order names
 
 module _ (m : Machine) (v : View) (ask : Ask) where
@@ -170,7 +161,7 @@ module _ (m : Machine) (v : View) (ask : Ask) where
       if lock_word words (lock_tried v n) == 0 then take_lock (lock_tried v n)
       else load_lock (lock_tried v n) 0
   event_named (Reserves lock) = reserve_event v words ask lock (v.reserving).place
-  event_named (Looks lock) = load_buffer_end (next_address v / 8192 % (setup v).ring_pages)
+  event_named (Looks lock) = load_buffer_end (buffer_of (setup v) (next_address v))
   event_named (Copies lock) = store_ring_word
   event_named (Maps lock) = map_event v (v.mapping).stage
   event_named (GivesTurn lock end) = release_mapping_turn
@@ -265,7 +256,7 @@ module _ (v w : View) (ask : Ask) (met : ℕ) (done : Bool) where
   -- the page that its buffer holds ends above written, and is to be written first
   abbrev pub behind_written : ℕ → ℕ → Next
   behind_written lock at =
-      if nat_le (own_end v) at then goes_on (GivesTurn lock none)
+      if nat_le (next_page_end v) at then goes_on (GivesTurn lock none)
       else (if nat_lt (met + (setup v).ring_pages * 8192) (at + 8192)
       then goes_on (GivesTurn lock (some (at + 8192 - (setup v).ring_pages * 8192)))
       else goes_on (Maps lock))
@@ -300,7 +291,7 @@ module _ (v w : View) (ask : Ask) (met : ℕ) (done : Bool) where
   next_of (Tries n) = if met == 0 then goes_on (Reserves (lock_tried v n))
       else (if n + 1 == 8 then goes_on Begins else goes_on (Tries (n + 1)))
   next_of (Reserves lock) = behind_reserving lock (v.reserving).place
-  next_of (Looks lock) = if met == own_end v then goes_on (Copies lock) else goes_on (Maps lock)
+  next_of (Looks lock) = if met == next_page_end v then goes_on (Copies lock) else goes_on (Maps lock)
   next_of (Copies lock) = if is_whole w then goes_on (Releases lock false)
       else (if next_address w % 8192 == 0 then goes_on (Looks lock) else goes_on (Copies lock))
   next_of (Maps lock) = behind_mapping lock (v.mapping).stage
@@ -374,7 +365,7 @@ module _ (m : Machine) (number : ℕ) (b : Backend) (v : View) (ask : Ask) where
   moved_on e =
       let met = slice_index (m.state).words (word_of_step v e) in
       let next = next_of v (view_behind v e met (m.state).home) ask met
-      (is_call_done (outcome m v ask)) b.doing in (
+      (is_done (outcome m v ask)) b.doing in (
         Moved e,
         record m {
           state = state_stepped (number + 1) v e m.state;

@@ -1,4 +1,4 @@
-use Rattle.position_laws.proofs.PositionKept.{store_written_keeps, store_moment_keeps, store_flushed_keeps, set_down_keeps, flushed_is_reserved}
+use Rattle.position_laws.proofs.PositionKept.{store_written_keeps, store_moment_keeps, store_flushed_keeps, set_down_keeps, flushed_is_reserved, written_rises, flushed_rises}
 use Rattle.position_laws.proofs.laws.positions_only_rise.Goals as goal
 
 pub returns-clause-store_written : goal.returns-clause-store_written
@@ -15,3 +15,9 @@ returns-clause-set_down c = set_down_keeps
 
 pub returns-clause-reserved : goal.returns-clause-reserved
 returns-clause-reserved c = flushed_is_reserved
+
+pub returns-clause-written_rises : goal.returns-clause-written_rises
+returns-clause-written_rises c = written_rises
+
+pub returns-clause-flushed_rises : goal.returns-clause-flushed_rises
+returns-clause-flushed_rises c = flushed_rises
