@@ -83,7 +83,8 @@ no_writing = record {
   hold = Idle;
 }
 
--- a pass with this number and these spare ones, which has seen so much reserved and is about nothing
+-- a pass with this number and these spare ones, which has seen so much reserved and is about
+-- nothing
 abbrev pub fresh_view : Opening → (number spare spare_end seen : ℕ) → View
 fresh_view opening number spare spare_end seen = record {
   opening = opening;

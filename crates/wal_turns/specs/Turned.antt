@@ -291,7 +291,8 @@ module _ (v w : View) (ask : Ask) (met : ℕ) (done : Bool) where
   next_of (Tries n) = if met == 0 then goes_on (Reserves (lock_tried v n))
       else (if n + 1 == 8 then goes_on Begins else goes_on (Tries (n + 1)))
   next_of (Reserves lock) = behind_reserving lock (v.reserving).place
-  next_of (Looks lock) = if met == next_page_end v then goes_on (Copies lock) else goes_on (Maps lock)
+  next_of (Looks lock) =
+      if met == next_page_end v then goes_on (Copies lock) else goes_on (Maps lock)
   next_of (Copies lock) = if is_whole w then goes_on (Releases lock false)
       else (if next_address w % 8192 == 0 then goes_on (Looks lock) else goes_on (Copies lock))
   next_of (Maps lock) = behind_mapping lock (v.mapping).stage
