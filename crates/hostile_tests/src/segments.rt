@@ -66,15 +66,8 @@ fn commit_tells<R: Abort + Threads + Wait + Sync>(
 }
 
 #[test]
-fn a_damaged_byte_is_told_with_its_place_and_kind(rt: HostRuntime) -> Result<(), Fail> {
+fn the_first_pages_header_is_told_at_the_page(rt: HostRuntime) -> Result<(), Fail> {
     let alloc = rt.alloc();
-    commit_tells(
-        &rt,
-        alloc,
-        2,
-        &[0x04],
-        b"pgwal: damaged at 0/00100000: nolong\n",
-    )?;
     commit_tells(
         &rt,
         alloc,
@@ -82,26 +75,6 @@ fn a_damaged_byte_is_told_with_its_place_and_kind(rt: HostRuntime) -> Result<(),
         &[0x14],
         b"pgwal: damaged at 0/00100000: magic\n",
     )?;
-    commit_tells(
-        &rt,
-        alloc,
-        40,
-        &[23],
-        b"pgwal: damaged at 0/00100028: length\n",
-    )?;
-    commit_tells(
-        &rt,
-        alloc,
-        57,
-        &[22],
-        b"pgwal: damaged at 0/00100028: rmgr\n",
-    )?;
-    commit_tells(&rt, alloc, 70, &[1], b"pgwal: damaged at 0/00100028: crc\n")
-}
-
-#[test]
-fn the_first_pages_header_is_told_at_the_page(rt: HostRuntime) -> Result<(), Fail> {
-    let alloc = rt.alloc();
     commit_tells(
         &rt,
         alloc,

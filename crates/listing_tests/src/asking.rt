@@ -1,6 +1,6 @@
 //! Command lines that are no command: some ask for help.
 
-use command_line::{help_text, version_text};
+use command_line::help_text;
 use played_commands::{on_empty_disk, play};
 use std::test::Fail;
 
@@ -10,7 +10,9 @@ fn help_goes_to_standard_output(rt: HostRuntime) -> Result<(), Fail> {
     let setting = on_empty_disk(alloc, b"C 700 0\n")?;
     let asked = play(&rt, alloc, &["dump", "--help"], setting)?;
     assert_eq!(rt; asked.ended.status, 2);
-    assert_eq!(rt; asked.out.taken(), help_text().as_bytes());
+    let text = asked.out.taken();
+    assert!(rt; text.starts_with(b"pgwal writes a write-ahead log in PostgreSQL 16's format"));
+    assert_eq!(rt; text, help_text().as_bytes());
     assert_eq!(rt; asked.err.taken(), b"pgwal: usage\n".as_slice());
     Ok(())
 }
@@ -21,7 +23,7 @@ fn the_version_goes_to_standard_output(rt: HostRuntime) -> Result<(), Fail> {
     let setting = on_empty_disk(alloc, b"")?;
     let asked = play(&rt, alloc, &["--version"], setting)?;
     assert_eq!(rt; asked.ended.status, 2);
-    assert_eq!(rt; asked.out.taken(), version_text().as_bytes());
+    assert_eq!(rt; asked.out.taken(), b"pgwal 0.1\n".as_slice());
     assert_eq!(rt; asked.err.taken(), b"pgwal: usage\n".as_slice());
     Ok(())
 }
