@@ -64,6 +64,17 @@ records 3 commits 3 bytes 120 end 0/001000A0 segments 1'
   equal 'and leaves it as it is' $? 0
 }
 
+a_replay_lists_what_its_crash_leaves() {
+  fresh
+  equal 'a replay: its backends and its log' \
+    "$(printf 'C 1 0\nB\nC 2 0\nS\n1*100000 0*100000\n' | "$program" replay --seg $size --crash old)" \
+'backend 0 lines 1 of 1
+backend 1 lines 1 of 1
+rmgr: Transaction len (rec/tot):     34/    34, tx:          2, lsn: 0/00100028, prev 0/00000000, desc: COMMIT data 0000000000000000
+rmgr: Transaction len (rec/tot):     34/    34, tx:          1, lsn: 0/00100050, prev 0/00100028, desc: COMMIT data 0000000000000000'
+  equal 'a replay makes no folder' "$(ls -d pg_wal 2>/dev/null)" ''
+}
+
 closed_streams_fail() {
   fresh
   echo 'I 1 10 00 8123*5a' | run --list >&-
@@ -178,6 +189,7 @@ the_largest_length_takes_no_memory() {
 }
 
 a_run_tells_its_commits
+a_replay_lists_what_its_crash_leaves
 closed_streams_fail
 full_output_fails
 two_runs_in_one_folder

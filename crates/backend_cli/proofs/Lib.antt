@@ -22,3 +22,8 @@ pub mod AnswerLoops
 pub mod ScriptReading
 pub mod MomentLaws
 pub mod DumpingLaws
+pub mod TurnLaws
+pub mod ReplayScripts
+pub mod BackendLines
+pub mod MachineWriter
+pub mod ReplayLaws

@@ -14,3 +14,5 @@ pub mod Printing
 pub mod Prepared
 pub mod Concluding
 pub mod Obeying
+pub mod Replaying
+pub mod Begun

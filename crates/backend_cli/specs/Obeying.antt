@@ -4,13 +4,14 @@ use Rattle.serial_log.specs.History.{capacity_of}
 use Rattle.backend_cli.specs.declared.outcome.Outcome.{Outcome}
 use Rattle.backend_cli.specs.declared.outcome.Outcome.TheVariants.{OutOfMemory, Usage}
 use Rattle.backend_cli.specs.declared.told.Told.{Told}
-use Rattle.command_words.specs.declared.commands.Command.TheVariants.{Run, Dump}
+use Rattle.command_words.specs.declared.commands.Command.TheVariants.{Run, Replay, Dump}
 use Rattle.command_line.specs.declared.asking.Request.{Request}
 use Rattle.command_line.specs.declared.asking.Request.TheVariants.{Command, Help, Version, Nothing}
 use Rattle.command_line.specs.Texts.{help, version}
 use Rattle.backend_cli.specs.Outside.{Outside, IsUntouched, Took}
 use Rattle.backend_cli.specs.Run.{RunHolds}
 use Rattle.backend_cli.specs.Dumping.{DumpHolds}
+use Rattle.backend_cli.specs.Replaying.{ReplayHolds}
 
 -- want of memory before the command is known: no counted call of the disk is made, nothing is read
 -- or printed, and nothing told
@@ -52,6 +53,8 @@ Obeys Version outside outcome lists = IsExplained version outside outcome lists
 Obeys (Command (Run options)) outside outcome lists =
     RunHolds outside options.geometry (capacity_of options.geometry options.cap_segments)
     options.list outcome lists
+Obeys (Command (Replay options)) outside outcome lists =
+    ReplayHolds outside options outcome lists
 Obeys (Command (Dump options)) outside outcome lists = DumpHolds outside options outcome lists
 
 -- the same of a disk, or memory ran out before the command was known, and then the very disk comes
@@ -67,7 +70,13 @@ AsksRun Nothing = ⊥
 AsksRun Help = ⊥
 AsksRun Version = ⊥
 AsksRun (Command (Run options)) = Unit {0}
+AsksRun (Command (Replay options)) = ⊥
 AsksRun (Command (Dump options)) = ⊥
+
+-- a replay is asked for
+abbrev pub AsksReplay : Request → Type 0
+AsksReplay (Command (Replay options)) = Unit {0}
+AsksReplay others = ⊥
 
 -- no command is asked for
 abbrev pub AsksNoCommand : Request → Type 0

@@ -65,6 +65,13 @@ outside_of source_before source_after tape moment faults disk disk_now
       sink_after = sink_faults sink_now;
     }
 
+-- the same of a command that has no disk at hand, whose tape, moment and count of faults are these
+abbrev pub outside_with : {O : Type 0} → SourceView → SourceView → Option Tape → (moment faults : ℕ)
+    → (O → Option (List ℕ)) → (O → ℕ) → O → O → Outside
+outside_with source_before source_after tape moment faults taken sink_faults sink sink_now =
+    outside_of source_before source_after (λ (n : ℕ). tape) (λ n. moment) (λ n. faults) 0 0
+    taken sink_faults sink sink_now
+
 -- no counted call of the disk was made, and nothing was printed
 pub record IsUntouched (outside : Outside) : Type 0 where
   pub tape_same : outside.tape_after ≡ outside.tape_before

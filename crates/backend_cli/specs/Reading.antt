@@ -39,10 +39,15 @@ ReadsScript before after bytes = ReadsBytes (script_limit + 1) before after byte
 abbrev pub ReadsAll : SourceView → SourceView → Result (Vec ℕ Global) ReadFailure → Type 0
 ReadsAll before after result = ReadsUpto (script_limit + 1) before after result
 
--- the script that a source handed out has this meaning
+-- the script that a source handed out has this meaning, where scripts mean what `by` says
+abbrev pub ScriptMeansBy : {X : Type 0} → (List ℕ → Result X Refusal) → SourceView → SourceView
+    → Result X Refusal → Type 0
+ScriptMeansBy by before after meaning =
+    (bytes : List ℕ) × ReadsScript before after bytes × (by bytes ≡ meaning)
+
+-- the script of a run
 abbrev pub ScriptMeans : SourceView → SourceView → Result (List (List AskedLine)) Refusal → Type 0
-ScriptMeans before after meaning =
-    (bytes : List ℕ) × ReadsScript before after bytes × (meaning_of bytes ≡ meaning)
+ScriptMeans before after meaning = ScriptMeansBy meaning_of before after meaning
 
 -- bytes were read off a source, no more than were asked for, and the source did not fail
 pub record HasRead (most : ℕ) (before now : SourceView) (bytes : List ℕ) : Type 0 where

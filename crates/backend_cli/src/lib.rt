@@ -9,6 +9,7 @@ mod play;
 mod printing;
 mod program;
 mod reading;
+mod replay;
 mod run;
 mod told;
 

@@ -4,11 +4,12 @@ ghost use Rattle.command_line.specs.Asking.{AsksInRange, asks};
 ghost use Rattle.command_line.specs.Texts.{help, version};
 ghost use Rattle.backend_cli.specs.Outcome.{status_of, outcome_text};
 ghost use Rattle.backend_cli.specs.Outside.{SourceView, Took, outside_of, source_view};
-ghost use Rattle.backend_cli.specs.Obeying.{AsksNoCommand, AsksRun, IsExplained, Obeys, ObeysInMemory};
+ghost use Rattle.backend_cli.specs.Obeying.{AsksNoCommand, AsksReplay, AsksRun, IsExplained, Obeys, ObeysInMemory};
 ghost use Rattle.backend_cli.specs.declared.outcome.Outcome.{Outcome};
 
 use crate::dump::list;
 use crate::outcome::Outcome;
+use crate::replay::replay;
 use crate::run::{Finished, run};
 use crate::told::ToldLists;
 use command_line::{Request, asked, help_text, version_text};
@@ -68,6 +69,7 @@ fn obey<S: Source, O: Sink, D: Disk, G: Gate>(
     ensures as_handed_in { AsksRun request → result.outcome ≡ Outcome.OutOfMemory
         → result.disk ≡ disk }
     ensures no_command { AsksNoCommand request → result.disk ≡ disk }
+    ensures replayed { AsksReplay request → result.disk ≡ disk }
 {
     match &request {
         Request::Nothing => Finished {
@@ -85,6 +87,7 @@ fn obey<S: Source, O: Sink, D: Disk, G: Gate>(
             ).unwrap();
             run(alloc, shape, options.list, script, disk, out, gate)
         }
+        Request::Command(Command::Replay(options)) => replay(alloc, options, script, disk, out),
         Request::Command(Command::Dump(options)) => list(alloc, options, disk, out),
     }
 }
@@ -108,6 +111,8 @@ fn obey_words<S: Source, O: Sink, D: Disk, G: Gate>(
         → result.outcome ≡ Outcome.OutOfMemory → result.disk ≡ disk }
     ensures no_command { AsksNoCommand (asks (map (λ w. string_bytes w) words.now))
         → result.disk ≡ disk }
+    ensures replayed { AsksReplay (asks (map (λ w. string_bytes w) words.now))
+        → result.disk ≡ disk }
 {
     match asked(alloc, words) {
         Ok(request) => obey(alloc, request, script, disk, out, gate),
@@ -122,7 +127,8 @@ fn obey_words<S: Source, O: Sink, D: Disk, G: Gate>(
 /// Does what the words of a command line ask for.
 ///
 /// `words` begin with the program's name. Standard output goes to `out`; `err` takes the line of a
-/// status that is not 0. The threads of `rt` are not used yet: there is one backend.
+/// status that is not 0. The threads of `rt` are not used yet: a run has one backend, and a replay
+/// has its backends' turns one after another.
 pub fn pgwal<R: Threads + Wait + Sync, S: Source, O: Sink, E: Sink, D: Disk + Send, G: Gate + Sync>(
     _rt: &R,
     alloc: Global,
@@ -135,9 +141,10 @@ pub fn pgwal<R: Threads + Wait + Sync, S: Source, O: Sink, E: Sink, D: Disk + Se
 ) -> Ended<D>
     // The status and its line on `err` are those of one outcome; for it the command's promises
     // hold: of `run` told, gapless, crash, no late receipt, whole, printed, and how it ends; of
-    // `dump` listed; of words that ask for help its text, and of others that are no command
-    // nothing. Or memory ran out before the command was known, with the disk as it came, and
-    // nothing read or printed.
+    // `replay` the machine behind its schedule, what the crash leaves, and the lines and the
+    // listing of it; of `dump` listed; of words that ask for help its text, and of others that are
+    // no command nothing. Or memory ran out before the command was known, with the disk as it came,
+    // and nothing read or printed.
     ensures obeys { (outcome : Outcome) × (result.status ≡ status_of outcome)
         × Took (E.taken err.old) (E.taken err.new) (E.faults err.old) (E.faults err.new)
         (joined (outcome_text outcome))
@@ -151,6 +158,9 @@ pub fn pgwal<R: Threads + Wait + Sync, S: Source, O: Sink, E: Sink, D: Disk + Se
         → result.disk ≡ disk }
     // So do words that are no command.
     ensures no_command { AsksNoCommand (asks (map (λ w. string_bytes w) words.now))
+        → result.disk ≡ disk }
+    // So does a replay, however it ends.
+    ensures replayed { AsksReplay (asks (map (λ w. string_bytes w) words.now))
         → result.disk ≡ disk }
 {
     let Finished {

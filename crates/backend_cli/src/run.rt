@@ -43,8 +43,8 @@ struct Prepared {
     lists: Vec<Vec<Told>>,
 }
 
-// The system id of each log that this program writes.
-const SYSTEM_ID: u64 = 1;
+/// The system id of each log that this program writes.
+pub(crate) const SYSTEM_ID: u64 = 1;
 
 fn lines_of<S: Source>(alloc: Global, source: &mut S) -> Result<Vec<Line>, Outcome>
     ensures { ReadsLines

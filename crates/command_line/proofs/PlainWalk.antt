@@ -12,7 +12,7 @@ use Rattle.clap.specs.Walk.{Walk, at_row, bundle_met, has_row, idle, more_values
 use Rattle.clap.specs.declared.builder.value_parser.Reading.TheVariants as reading
 use Rattle.clap.specs.declared.parser.matches.ValueSource.TheVariants.{CommandLine}
 use Rattle.command_line.specs.Syntax.{declared_command}
-use Rattle.command_line.specs.Plain.{Letter, Switch, SwitchLetter, Valued, begins_with_hyphen, block_letter, block_option, cap_option, end_letter, end_option, fork_letter, fork_option, fullpage_letter_alone, fullpage_switch, letter_of, lettered_option, lettered_switch, limit_letter, limit_option, list_switch, option_name, quiet_letter_alone, quiet_switch, relation_letter, relation_option, ring_option, rmgr_letter, rmgr_option, seg_option, start_letter, start_option, switch_letter_of, switch_name, xid_letter, xid_option}
+use Rattle.command_line.specs.Plain.{Letter, Switch, SwitchLetter, Valued, begins_with_hyphen, block_letter, block_option, cap_option, crash_option, end_letter, end_option, fork_letter, fork_option, fullpage_letter, fullpage_switch, letter_of, lettered_option, lettered_switch, limit_letter, limit_option, list_switch, option_name, quiet_letter, quiet_switch, relation_letter, relation_option, ring_option, rmgr_letter, rmgr_option, seg_option, start_letter, start_option, switch_letter_of, switch_name, xid_letter, xid_option}
 
 abbrev pub level : Shape
 level = (built declared_command).top
@@ -74,6 +74,7 @@ pub opens : (o : Valued) (rows : List Row) (pending : Option (Text × List Text)
 opens seg_option rows pending into h = ap (λ kinds. or_else kinds []) h.sound
 opens ring_option rows pending into h = ap (λ kinds. or_else kinds []) h.sound
 opens cap_option rows pending into h = ap (λ kinds. or_else kinds []) h.sound
+opens crash_option rows pending into h = ap (λ kinds. or_else kinds []) h.sound
 opens rmgr_option rows pending into h = ap (λ kinds. or_else kinds []) h.sound
 opens xid_option rows pending into h = ap (λ kinds. or_else kinds []) h.sound
 opens relation_option rows pending into h = ap (λ kinds. or_else kinds []) h.sound
@@ -88,6 +89,7 @@ unfolding walked
 opened seg_option rows pending into h = ap (awaiting (codes "seg")) h.rows_are
 opened ring_option rows pending into h = ap (awaiting (codes "ring")) h.rows_are
 opened cap_option rows pending into h = ap (awaiting (codes "cap")) h.rows_are
+opened crash_option rows pending into h = ap (awaiting (codes "crash")) h.rows_are
 opened rmgr_option rows pending into h = ap (awaiting (codes "rmgr")) h.rows_are
 opened xid_option rows pending into h = ap (awaiting (codes "xid")) h.rows_are
 opened relation_option rows pending into h = ap (awaiting (codes "relation")) h.rows_are
@@ -135,6 +137,7 @@ pub value_passes : (o : Valued) (value : Text) (rows : List Row) → IsPlainWord
 value_passes seg_option value rows plain = rw (plain.dashes, plain.long, plain.short) refl
 value_passes ring_option value rows plain = rw (plain.dashes, plain.long, plain.short) refl
 value_passes cap_option value rows plain = rw (plain.dashes, plain.long, plain.short) refl
+value_passes crash_option value rows plain = rw (plain.dashes, plain.long, plain.short) refl
 value_passes rmgr_option value rows plain = rw (plain.dashes, plain.long, plain.short) refl
 value_passes xid_option value rows plain = rw (plain.dashes, plain.long, plain.short) refl
 value_passes relation_option value rows plain = rw (plain.dashes, plain.long, plain.short) refl
@@ -149,6 +152,7 @@ unfolding walked
 value_taken seg_option value rows plain = rw (plain.dashes, plain.long, plain.short) refl
 value_taken ring_option value rows plain = rw (plain.dashes, plain.long, plain.short) refl
 value_taken cap_option value rows plain = rw (plain.dashes, plain.long, plain.short) refl
+value_taken crash_option value rows plain = rw (plain.dashes, plain.long, plain.short) refl
 value_taken rmgr_option value rows plain = rw (plain.dashes, plain.long, plain.short) refl
 value_taken xid_option value rows plain = rw (plain.dashes, plain.long, plain.short) refl
 value_taken relation_option value rows plain = rw (plain.dashes, plain.long, plain.short) refl
@@ -162,6 +166,7 @@ pub value_settles : (o : Valued) (value : Text) (rows : List Row) → has_row (o
 value_settles seg_option value rows absent = record { rows_are = new_row (codes "seg") value rows absent; sound = rw absent refl }
 value_settles ring_option value rows absent = record { rows_are = new_row (codes "ring") value rows absent; sound = rw absent refl }
 value_settles cap_option value rows absent = record { rows_are = new_row (codes "cap") value rows absent; sound = rw absent refl }
+value_settles crash_option value rows absent = record { rows_are = new_row (codes "crash") value rows absent; sound = rw absent refl }
 value_settles rmgr_option value rows absent = record { rows_are = new_row (codes "rmgr") value rows absent; sound = rw absent refl }
 value_settles xid_option value rows absent = record { rows_are = new_row (codes "xid") value rows absent; sound = rw absent refl }
 value_settles relation_option value rows absent = record { rows_are = new_row (codes "relation") value rows absent; sound = rw absent refl }
@@ -198,18 +203,18 @@ switch_taken quiet_switch rows pending into h absent =
 -- and the letter of one
 pub switch_letter_passes : (o : SwitchLetter) (rows : List Row) (pending : Option (Text × List Text)) (into : List Row) → Settles rows pending into → has_row (switch_name (lettered_switch o)) into ≡ false → turn_fault level [] (between rows pending) (45 ∷ switch_letter_of o ∷ []) ≡ []
 unfolding flags_fault chars encode_utf8 bundle_met
-switch_letter_passes fullpage_letter_alone rows pending into h absent =
+switch_letter_passes fullpage_letter rows pending into h absent =
     let fresh : has_row (codes "fullpage") (settled_rows rules pending rows) ≡ false = subst (λ (l : List Row). has_row (codes "fullpage") l ≡ false) (sym h.rows_are) absent in
     rw (h.sound, fresh) refl
-switch_letter_passes quiet_letter_alone rows pending into h absent =
+switch_letter_passes quiet_letter rows pending into h absent =
     let fresh : has_row (codes "quiet") (settled_rows rules pending rows) ≡ false = subst (λ (l : List Row). has_row (codes "quiet") l ≡ false) (sym h.rows_are) absent in
     rw (h.sound, fresh) refl
 
 pub switch_letter_taken : (o : SwitchLetter) (rows : List Row) (pending : Option (Text × List Text)) (into : List Row) → Settles rows pending into → has_row (switch_name (lettered_switch o)) into ≡ false → walked rules [] (between rows pending) (45 ∷ switch_letter_of o ∷ []) ≡ between (into ++ row_with (switch_name (lettered_switch o)) (codes "true") ∷ []) None
 unfolding walked bundle_met chars encode_utf8
-switch_letter_taken fullpage_letter_alone rows pending into h absent =
+switch_letter_taken fullpage_letter rows pending into h absent =
     ap (λ (l : List Row). between (with_values (codes "fullpage") reading.AsWritten CommandLine (codes "true" ∷ []) (without (codes "fullpage") l)) None) h.rows_are
     ∙ ap (λ (l : List Row). between l None) (new_row (codes "fullpage") (codes "true") into absent)
-switch_letter_taken quiet_letter_alone rows pending into h absent =
+switch_letter_taken quiet_letter rows pending into h absent =
     ap (λ (l : List Row). between (with_values (codes "quiet") reading.AsWritten CommandLine (codes "true" ∷ []) (without (codes "quiet") l)) None) h.rows_are
     ∙ ap (λ (l : List Row). between l None) (new_row (codes "quiet") (codes "true") into absent)

@@ -15,7 +15,7 @@ use Rattle.command_words.specs.declared.commands.Command.{Command as Task}
 use Rattle.command_line.specs.declared.asking.Request.TheVariants.{Command}
 use Rattle.command_line.specs.Asking.{asks, given_in, is_set, request_of}
 use Rattle.command_line.specs.Syntax.{declared_command}
-use Rattle.command_line.specs.Plain.{Switch, Use, Valued, are_plain, are_plain_behind, begins_with_hyphen, block_letter, block_option, cap_option, end_letter, end_option, fork_letter, fork_option, fullpage_letter_alone, fullpage_switch, given_by, is_switched, letter_of, lettered, lettered_option, lettered_switch, limit_letter, limit_option, list_switch, option_name, pair_given, quiet_letter_alone, quiet_switch, relation_letter, relation_option, ring_option, rmgr_letter, rmgr_option, seg_option, start_letter, start_option, switch_letter_of, switch_name, switched, switched_by_letter, value_for, valued, words_of_uses, xid_letter, xid_option}
+use Rattle.command_line.specs.Plain.{Switch, Use, Valued, are_plain, are_plain_behind, begins_with_hyphen, block_letter, block_option, cap_option, crash_option, end_letter, end_option, fork_letter, fork_option, fullpage_letter, fullpage_switch, given_by, is_switched, letter_of, lettered, lettered_option, lettered_switch, limit_letter, limit_option, list_switch, option_name, pair_given, quiet_letter, quiet_switch, relation_letter, relation_option, ring_option, rmgr_letter, rmgr_option, seg_option, start_letter, start_option, switch_letter_of, switch_name, switched, switched_by_letter, value_for, valued, words_of_uses, xid_letter, xid_option}
 use Rattle.command_line.proofs.PlainWalk.{IsPlainWord, Settles, absent_row, between, is_plain_word, letter_opened, letter_opens, level, opened, opens, row_with, rules, switch_letter_passes, switch_letter_taken, switch_passes, switch_taken, value_passes, value_settles, value_taken}
 use Rattle.command_line.proofs.Requests.{asks-taken, none_entered}
 use Rattle.clap.specs.declared.parser.matches.ValueSource.TheVariants.{DefaultValue}
@@ -48,6 +48,7 @@ no_option_row : (o : Valued) (command : Text) (pairs : List (Text × Text)) → 
 no_option_row seg_option command pairs absent = no_row (codes "seg") pairs absent
 no_option_row ring_option command pairs absent = no_row (codes "ring") pairs absent
 no_option_row cap_option command pairs absent = no_row (codes "cap") pairs absent
+no_option_row crash_option command pairs absent = no_row (codes "crash") pairs absent
 no_option_row rmgr_option command pairs absent = no_row (codes "rmgr") pairs absent
 no_option_row xid_option command pairs absent = no_row (codes "xid") pairs absent
 no_option_row relation_option command pairs absent = no_row (codes "relation") pairs absent
@@ -296,6 +297,7 @@ no_topic [] = refl
 no_topic (valued seg_option value ∷ uses) = no_topic uses
 no_topic (valued ring_option value ∷ uses) = no_topic uses
 no_topic (valued cap_option value ∷ uses) = no_topic uses
+no_topic (valued crash_option value ∷ uses) = no_topic uses
 no_topic (valued rmgr_option value ∷ uses) = no_topic uses
 no_topic (valued xid_option value ∷ uses) = no_topic uses
 no_topic (valued relation_option value ∷ uses) = no_topic uses
@@ -315,8 +317,8 @@ no_topic (lettered fork_letter value ∷ uses) = no_topic uses
 no_topic (lettered start_letter value ∷ uses) = no_topic uses
 no_topic (lettered end_letter value ∷ uses) = no_topic uses
 no_topic (lettered limit_letter value ∷ uses) = no_topic uses
-no_topic (switched_by_letter fullpage_letter_alone ∷ uses) = no_topic uses
-no_topic (switched_by_letter quiet_letter_alone ∷ uses) = no_topic uses
+no_topic (switched_by_letter fullpage_letter ∷ uses) = no_topic uses
+no_topic (switched_by_letter quiet_letter ∷ uses) = no_topic uses
 
 -- the words given, where the defaults stand behind those of the words
 all_given : (command : Text) (uses : List Use) → given_in (fold with_default (rows_behind command (map pair_given uses)) rules) ≡ given_by command uses
@@ -328,6 +330,7 @@ all_given command uses =
     let seg_is : first_of (codes "seg") (fold with_default rows rules) ≡ value_for (codes "seg") pairs = first_kept_by_all (codes "seg") rules rows refl ∙ first_of-pairs (codes "seg") pairs in
     let ring_is : first_of (codes "ring") (fold with_default rows rules) ≡ value_for (codes "ring") pairs = first_kept_by_all (codes "ring") rules rows refl ∙ first_of-pairs (codes "ring") pairs in
     let cap_is : first_of (codes "cap") (fold with_default rows rules) ≡ value_for (codes "cap") pairs = first_kept_by_all (codes "cap") rules rows refl ∙ first_of-pairs (codes "cap") pairs in
+    let crash_is : first_of (codes "crash") (fold with_default rows rules) ≡ value_for (codes "crash") pairs = first_kept_by_all (codes "crash") rules rows refl ∙ first_of-pairs (codes "crash") pairs in
     let list_is : is_set (codes "list") (fold with_default rows rules) ≡ is_switched (codes "list") pairs = switch_kept_by_all (codes "list") rules rows refl ∙ ap is_on (first_of-pairs (codes "list") pairs) in
     let rmgr_is : first_of (codes "rmgr") (fold with_default rows rules) ≡ value_for (codes "rmgr") pairs = first_kept_by_all (codes "rmgr") rules rows refl ∙ first_of-pairs (codes "rmgr") pairs in
     let xid_is : first_of (codes "xid") (fold with_default rows rules) ≡ value_for (codes "xid") pairs = first_kept_by_all (codes "xid") rules rows refl ∙ first_of-pairs (codes "xid") pairs in
@@ -339,7 +342,7 @@ all_given command uses =
     let end_is : first_of (codes "end") (fold with_default rows rules) ≡ value_for (codes "end") pairs = first_kept_by_all (codes "end") rules rows refl ∙ first_of-pairs (codes "end") pairs in
     let limit_is : first_of (codes "limit") (fold with_default rows rules) ≡ value_for (codes "limit") pairs = first_kept_by_all (codes "limit") rules rows refl ∙ first_of-pairs (codes "limit") pairs in
     let quiet_is : is_set (codes "quiet") (fold with_default rows rules) ≡ is_switched (codes "quiet") pairs = switch_kept_by_all (codes "quiet") rules rows refl ∙ ap is_on (first_of-pairs (codes "quiet") pairs) in
-    rw (command_is, topic_is, seg_is, ring_is, cap_is, list_is, rmgr_is, xid_is, relation_is, block_is, fork_is, fullpage_is, start_is, end_is, limit_is, quiet_is) refl
+    rw (command_is, topic_is, seg_is, ring_is, cap_is, crash_is, list_is, rmgr_is, xid_is, relation_is, block_is, fork_is, fullpage_is, start_is, end_is, limit_is, quiet_is) refl
 
 none_of : (a b c d e : Kinds) → a ≡ [] → b ≡ [] → c ≡ [] → d ≡ [] → e ≡ [] → or_else a (or_else b (or_else c (or_else d e))) ≡ []
 none_of a b c d e none_a none_b none_c none_d none_e = rw (none_a, none_b, none_c, none_d) none_e

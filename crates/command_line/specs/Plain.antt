@@ -11,6 +11,7 @@ pub data Valued : Type 0 where
   seg_option : Valued
   ring_option : Valued
   cap_option : Valued
+  crash_option : Valued
   rmgr_option : Valued
   xid_option : Valued
   relation_option : Valued
@@ -31,6 +32,7 @@ abbrev pub option_name : Valued → Text
 option_name seg_option = codes "seg"
 option_name ring_option = codes "ring"
 option_name cap_option = codes "cap"
+option_name crash_option = codes "crash"
 option_name rmgr_option = codes "rmgr"
 option_name xid_option = codes "xid"
 option_name relation_option = codes "relation"
@@ -79,20 +81,20 @@ lettered_option start_letter = start_option
 lettered_option end_letter = end_option
 lettered_option limit_letter = limit_option
 
--- the same of those without a value
+-- the options without a value that have a letter, 119 for `w`
 pub data SwitchLetter : Type 0 where
-  fullpage_letter_alone : SwitchLetter
-  quiet_letter_alone : SwitchLetter
+  fullpage_letter : SwitchLetter
+  quiet_letter : SwitchLetter
 
 -- the letter
 abbrev pub switch_letter_of : SwitchLetter → ℕ
-switch_letter_of fullpage_letter_alone = 119
-switch_letter_of quiet_letter_alone = 113
+switch_letter_of fullpage_letter = 119
+switch_letter_of quiet_letter = 113
 
 -- and its option
 abbrev pub lettered_switch : SwitchLetter → Switch
-lettered_switch fullpage_letter_alone = fullpage_switch
-lettered_switch quiet_letter_alone = quiet_switch
+lettered_switch fullpage_letter = fullpage_switch
+lettered_switch quiet_letter = quiet_switch
 
 -- an option as it is given, by its name or its letter
 pub data Use : Type 0 where
@@ -157,6 +159,7 @@ given_by command uses =
       ring = value_for (codes "ring") pairs;
       cap = value_for (codes "cap") pairs;
       list = is_switched (codes "list") pairs;
+      crash = value_for (codes "crash") pairs;
       rmgr = value_for (codes "rmgr") pairs;
       xid = value_for (codes "xid") pairs;
       relation = value_for (codes "relation") pairs;

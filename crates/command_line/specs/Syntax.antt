@@ -25,11 +25,14 @@ list_rule = record (long_rule (codes "list")) { action = Some SetTrue }
 abbrev pub word_rules : List Rule
 word_rules = new_rule (codes "command") ∷ new_rule (codes "topic") ∷ []
 
--- the segments' size, which both commands take, and what `run` takes
-abbrev pub run_rules : List Rule
-run_rules =
-    long_rule (codes "seg") ∷ long_rule (codes "ring") ∷ long_rule (codes "cap")
-    ∷ list_rule ∷ []
+-- the log's shape: the segments' size, which all commands take, and what `run` and `replay` take
+abbrev pub shape_rules : List Rule
+shape_rules =
+    long_rule (codes "seg") ∷ long_rule (codes "ring") ∷ long_rule (codes "cap") ∷ []
+
+-- what `run` alone takes, and what `replay` alone
+abbrev pub script_rules : List Rule
+script_rules = list_rule ∷ long_rule (codes "crash") ∷ []
 
 -- what `dump` takes: -r, -x and -w
 abbrev pub record_rules : List Rule
@@ -51,7 +54,8 @@ extent_rules =
 
 -- all of them
 abbrev pub declared_rules : List Rule
-declared_rules = word_rules ++ run_rules ++ record_rules ++ block_rules ++ extent_rules
+declared_rules =
+    word_rules ++ shape_rules ++ script_rules ++ record_rules ++ block_rules ++ extent_rules
 
 -- the command before it has any: `--help` and `--version` come with it
 abbrev pub start_command : App

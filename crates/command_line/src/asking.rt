@@ -1,4 +1,4 @@
-ghost use Rattle.std.specs.Prelude.{◌≡◌, IfOk, IsErr, map, string_bytes, option_map};
+ghost use Rattle.std.specs.Prelude.{◌≡◌, ◌↔◌, IfOk, IsErr, map, string_bytes, option_map};
 ghost use Rattle.clap.specs.Words.{first_of, found_of, rows_of};
 ghost use Rattle.command_words.specs.Given.{given_of, text_of};
 ghost use Rattle.command_line.specs.Asking.{AsksInRange, asks, given_in, is_set, request_by, request_of};
@@ -12,9 +12,11 @@ use std::alloc::{AllocError, Global};
 /// What a command line asks for.
 #[derive(Clone, Copy, Debug)]
 pub enum Request {
+    /// A command, with what its options say.
     Command(Command),
     /// The text that explains the commands.
     Help,
+    /// The line that tells the program's version.
     Version,
     /// The words are no command line.
     Nothing,
@@ -47,7 +49,7 @@ fn request_of(given: &GivenWords) -> Request
 }
 
 fn request_by(kind: ErrorKind) -> Result<Request, AllocError>
-    ensures memory { kind ≡ ErrorKind.OutOfMemory → IsErr result }
+    ensures memory { IsErr result ↔ (kind ≡ ErrorKind.OutOfMemory) }
     ensures request { IfOk result (λ request. request ≡ request_by kind) }
     ensures in_range { IfOk result AsksInRange }
 {
@@ -69,6 +71,7 @@ fn given_words<'a>(matches: &ArgMatches<'a>) -> GivenWords<'a>
         ring: word_of(matches, "ring"),
         cap: word_of(matches, "cap"),
         list: is_set(matches, "list"),
+        crash: word_of(matches, "crash"),
         rmgr: word_of(matches, "rmgr"),
         xid: word_of(matches, "xid"),
         relation: word_of(matches, "relation"),

@@ -2,9 +2,9 @@
 
 ghost use Rattle.std.specs.Prelude.{◌≡◌, IfOk, fold};
 ghost use Rattle.clap.specs.Words.{app_of, with_rule};
-ghost use Rattle.command_line.specs.Syntax.{block_rules, declared_command, extent_rules, list_rule, long_rule, option_rule, record_rules, run_rules, switch_rule};
+ghost use Rattle.command_line.specs.Syntax.{block_rules, declared_command, extent_rules, list_rule, long_rule, option_rule, record_rules, script_rules, shape_rules, switch_rule};
 
-use crate::texts::VERSION;
+use crate::texts::version_text;
 use clap::{Arg, ArgAction, Command};
 use std::alloc::{AllocError, Global};
 
@@ -13,22 +13,32 @@ use std::alloc::{AllocError, Global};
 pub(crate) fn declared<'a>(alloc: Global) -> Result<Command<'a>, AllocError>
     ensures { IfOk result (λ c. app_of c ≡ declared_command) }
 {
-    let command = Command::new(alloc, "pgwal").version(VERSION);
+    // That a version is declared makes `--version` a request; `clap` itself prints nothing.
+    let command = Command::new(alloc, "pgwal").version(version_text());
     let command = command.arg(Arg::new(alloc, "command"))?;
     let command = command.arg(Arg::new(alloc, "topic"))?;
-    let command = with_run_options(alloc, command)?;
+    let command = with_shape_options(alloc, command)?;
+    let command = with_script_options(alloc, command)?;
     let command = with_record_options(alloc, command)?;
     let command = with_block_options(alloc, command)?;
     with_extent_options(alloc, command)
 }
 
-fn with_run_options<'a>(alloc: Global, command: Command<'a>) -> Result<Command<'a>, AllocError>
-    ensures { IfOk result (λ c. app_of c ≡ fold with_rule (app_of command.entry) run_rules) }
+// The options that say what shape the log has.
+fn with_shape_options<'a>(alloc: Global, command: Command<'a>) -> Result<Command<'a>, AllocError>
+    ensures { IfOk result (λ c. app_of c ≡ fold with_rule (app_of command.entry) shape_rules) }
 {
     let command = with_long_option(alloc, command, "seg")?;
     let command = with_long_option(alloc, command, "ring")?;
-    let command = with_long_option(alloc, command, "cap")?;
-    with_list(alloc, command)
+    with_long_option(alloc, command, "cap")
+}
+
+// The option that `run` alone takes, and the one that `replay` alone takes.
+fn with_script_options<'a>(alloc: Global, command: Command<'a>) -> Result<Command<'a>, AllocError>
+    ensures { IfOk result (λ c. app_of c ≡ fold with_rule (app_of command.entry) script_rules) }
+{
+    let command = with_list(alloc, command)?;
+    with_long_option(alloc, command, "crash")
 }
 
 fn with_list<'a>(alloc: Global, command: Command<'a>) -> Result<Command<'a>, AllocError>

@@ -3,8 +3,6 @@
 ghost use Rattle.std.specs.Prelude.{◌≡◌};
 ghost use Rattle.command_line.specs.Texts.{help, version};
 
-pub(crate) const VERSION: &str = "0.1";
-
 const VERSION_LINE: &str = "pgwal 0.1
 ";
 
@@ -19,6 +17,19 @@ pgwal run [--seg N] [--ring N] [--cap N] [--list]
     --list     prints a line for each line of the script
     Example: an insert and a commit
         printf 'I 700 10 00 aabb\\nC 700 0\\n' | pgwal run --list
+
+pgwal replay [--seg N] [--ring N] [--cap N] [--crash old|new|odd]
+    Plays the script on standard input turn by turn on a machine of its own, prints how many of
+    its lines each backend has done, and lists the log that a crash of the machine's disk leaves.
+    The script has the lines of several backends, with a line B between two of them, and behind
+    a line S the schedule, in which N*T gives backend N the next T turns.
+    --seg N, --ring N, --cap N
+                          as for run
+    --crash old|new|odd   what is left of the words written since a sync: the durable word (old),
+                          the one written last (new, where it is not given), or that one of words
+                          of odd number in their page and the durable one of the others (odd)
+    Example: of two backends the second commits first
+        printf 'C 1 0\\nB\\nC 2 0\\nS\\n1*100000 0*100000\\n' | pgwal replay --crash old
 
 pgwal dump [--seg N] [FILTER]..
     Lists the log in the folder pg_wal: a line for each record that all filters keep.
@@ -41,7 +52,7 @@ pgwal help, -h or --help prints this text, -V or --version the program's version
 Status:
     0  all is done
     1  memory ran out
-    2  the command line is faulty, or asks for help
+    2  the command line is faulty, or asks for help or the version
     3  a line of the script is refused
     4  the disk failed
     5  the log is full

@@ -5,9 +5,10 @@ use Rattle.std.specs.Str.{bytes_eq}
 use Rattle.listing_filter.specs.Keeping.{everything_from}
 use Rattle.listing_filter.specs.Names.{fork_named}
 use Rattle.listing_filter.specs.declared.Filter.{Filter}
-use Rattle.command_words.specs.Meanings.{block_number_of, cap_segments_of, limit_of, lsn_of, manager_of, relation_of, ring_pages_of, segment_size_of, xid_of}
+use Rattle.command_words.specs.Meanings.{block_number_of, cap_segments_of, crash_of, limit_of, lsn_of, manager_of, relation_of, ring_pages_of, segment_size_of, xid_of}
 use Rattle.command_words.specs.declared.commands.Command.{Command}
-use Rattle.command_words.specs.declared.commands.Command.TheVariants.{Run, Dump}
+use Rattle.command_words.specs.declared.commands.Command.TheVariants.{Run, Dump, Replay}
+use Rattle.command_words.specs.declared.commands.CrashPick.TheVariants.{New}
 use Rattle.command_words.specs.declared.given.GivenWords.{GivenWords}
 
 -- the words given: of the command's name, of what stands behind it, and of each option
@@ -18,6 +19,7 @@ pub record Given : Type 0 where
   pub ring : Option (List ℕ)
   pub cap : Option (List ℕ)
   pub list : Bool
+  pub crash : Option (List ℕ)
   pub rmgr : Option (List ℕ)
   pub xid : Option (List ℕ)
   pub relation : Option (List ℕ)
@@ -42,6 +44,7 @@ given_of words = record {
   ring = text_of words.ring;
   cap = text_of words.cap;
   list = words.list;
+  crash = text_of words.crash;
   rmgr = text_of words.rmgr;
   xid = text_of words.xid;
   relation = text_of words.relation;
@@ -83,9 +86,9 @@ default_ring_pages = 64
 abbrev pub default_cap_segments : ℕ
 default_cap_segments = 64
 
--- an option is given that only `run` takes
-abbrev pub gives_run : Given → Bool
-gives_run g = is_some g.ring || is_some g.cap || g.list
+-- an option is given that only `run` or `replay` takes
+abbrev pub gives_run_or_replay : Given → Bool
+gives_run_or_replay g = is_some g.ring || is_some g.cap || g.list || is_some g.crash
 
 -- one that says which records are listed
 abbrev pub gives_selection : Given → Bool
@@ -101,17 +104,37 @@ gives_extent g = is_some g.start || is_some g.end || is_some g.limit || g.quiet
 abbrev pub gives_dump : Given → Bool
 gives_dump g = gives_selection g || gives_extent g
 
--- what `run` is asked to do, with its own options alone
-abbrev pub run_of : Given → Option Command
-run_of g = if is_some g.topic || gives_dump g then None else do
+-- the log's shape, which `run` and `replay` share: the segments' size, the ring's pages, and how
+-- many segments it may fill
+abbrev pub shape_of : Given → Option (ℕ × ℕ × ℕ)
+shape_of g = do
   size ← or_default default_segment_size segment_size_of g.seg
   ring_pages ← or_default default_ring_pages ring_pages_of g.ring
   cap_segments ← or_default default_cap_segments cap_segments_of g.cap
+  Some (size, ring_pages, cap_segments)
+
+-- what `run` is asked to do, with its own options alone
+abbrev pub run_of : Given → Option Command
+run_of g = if is_some g.topic || gives_dump g || is_some g.crash then None else do
+  shape ← shape_of g
   Some (Run (record {
-    geometry = size;
-    ring_pages = ring_pages;
-    cap_segments = cap_segments;
+    geometry = shape.0;
+    ring_pages = shape.1;
+    cap_segments = shape.2;
     list = g.list;
+  }))
+
+-- what `replay` is asked to do, with its own options alone; a crash leaves what was written last
+-- where nothing else is given
+abbrev pub replay_of : Given → Option Command
+replay_of g = if is_some g.topic || gives_dump g || g.list then None else do
+  shape ← shape_of g
+  crash ← or_default New crash_of g.crash
+  Some (Replay (record {
+    geometry = shape.0;
+    ring_pages = shape.1;
+    cap_segments = shape.2;
+    crash = crash;
   }))
 
 -- a filter with the rules on a record's manager, transaction and images
@@ -150,7 +173,7 @@ filter_of size g = do
 
 -- what `dump` is asked to do, with its own options alone
 abbrev pub dump_of : Given → Option Command
-dump_of g = if is_some g.topic || gives_run g then None else do
+dump_of g = if is_some g.topic || gives_run_or_replay g then None else do
   size ← or_default default_segment_size segment_size_of g.seg
   filter ← filter_of size g
   Some (Dump (record { geometry = size; filter = filter }))
@@ -160,15 +183,20 @@ abbrev pub named : Option (List ℕ) → Given → Option Command
 named None g = None
 named (Some name) g =
     if bytes_eq name (codes "run") then run_of g
-    else (if bytes_eq name (codes "dump") then dump_of g else None)
+    else (if bytes_eq name (codes "replay") then replay_of g
+    else (if bytes_eq name (codes "dump") then dump_of g else None))
 
 -- the command that the words make, with its own options alone
 abbrev pub command_of : Given → Option Command
 command_of g = named g.command g
 
--- a run's ring has 4 to 64 pages, and its log fills 1 to 4096 segments
+-- a log's ring has 4 to 64 pages, and it fills 1 to 4096 segments
+abbrev pub IsShapeInRange : ℕ → ℕ → Type 0
+IsShapeInRange ring_pages cap_segments =
+    (4 ≤ ring_pages) × (ring_pages ≤ 64) × (1 ≤ cap_segments) × (cap_segments ≤ 4096)
+
+-- the log of a run or a replay has such a shape
 abbrev pub IsInRange : Command → Type 0
-IsInRange (Run options) =
-    (4 ≤ options.ring_pages) × (options.ring_pages ≤ 64)
-    × (1 ≤ options.cap_segments) × (options.cap_segments ≤ 4096)
+IsInRange (Run options) = IsShapeInRange options.ring_pages options.cap_segments
+IsInRange (Replay options) = IsShapeInRange options.ring_pages options.cap_segments
 IsInRange (Dump options) = Unit {0}

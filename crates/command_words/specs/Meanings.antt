@@ -2,7 +2,10 @@
 use Rattle.std.specs.Prelude.{ℕ, ◌+◌, ◌-◌, ◌*◌, ◌^◌, ◌&&◌, List, [], ◌∷◌, Option, Some, None, ◌==◌, codes, drop, if◌then◌else◌, length, map, nat_le, option_and_then, option_map, take}
 use Rattle.std.specs.Int.Digits.{number_from_digits}
 use Rattle.std.specs.List.{list_all}
+use Rattle.std.specs.Str.{bytes_eq}
 use Rattle.byte_position.specs.Geometry.{is_segment_size}
+use Rattle.command_words.specs.declared.commands.CrashPick.{CrashPick}
+use Rattle.command_words.specs.declared.commands.CrashPick.TheVariants.{Old, New, Odd}
 use Rattle.decimal_numbers.specs.Hexadecimal.{hexadecimal_digit, is_hexadecimal_digit}
 use Rattle.decimal_numbers.specs.Numbers.{number_of}
 use Rattle.listing_filter.specs.Names.{is_same_name, own_manager_of}
@@ -27,6 +30,13 @@ ring_pages_of word = number_within 4 64 word
 -- `--cap`: how many segments
 abbrev pub cap_segments_of : List ℕ → Option ℕ
 cap_segments_of word = number_within 1 4096 word
+
+-- `--crash`: which words of the disk a crash leaves, in exact case
+abbrev pub crash_of : List ℕ → Option CrashPick
+crash_of word =
+    if bytes_eq word (codes "old") then Some Old
+    else (if bytes_eq word (codes "new") then Some New
+    else (if bytes_eq word (codes "odd") then Some Odd else None))
 
 -- `--limit`: how many records, from 1
 abbrev pub limit_of : List ℕ → Option ℕ

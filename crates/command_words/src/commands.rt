@@ -13,6 +13,30 @@ pub struct RunOptions {
     pub list: bool,
 }
 
+/// The image that a crash leaves, of those that it may leave: a word is undecided where its page
+/// was written since its segment's last sync.
+#[derive(Clone, Copy, Debug)]
+pub enum CrashPick {
+    /// Each undecided word is the durable one.
+    Old,
+    /// Each is the last write's.
+    New,
+    /// Words of odd index in their page are the last write's, the others durable.
+    Odd,
+}
+
+/// What `replay` is asked to do.
+#[derive(Clone, Copy, Debug)]
+pub struct ReplayOptions {
+    pub geometry: Geometry,
+    /// How many pages the log's ring has.
+    pub ring_pages: u32,
+    /// How many segments the log may fill.
+    pub cap_segments: u32,
+    /// Which words of the disk the crash leaves.
+    pub crash: CrashPick,
+}
+
 /// What `dump` is asked to do.
 #[derive(Clone, Copy, Debug)]
 pub struct DumpOptions {
@@ -26,6 +50,8 @@ pub struct DumpOptions {
 pub enum Command {
     /// Runs a script.
     Run(RunOptions),
+    /// Plays a script of several backends turn by turn, and lists the log that a crash leaves.
+    Replay(ReplayOptions),
     /// Lists the log.
     Dump(DumpOptions),
 }

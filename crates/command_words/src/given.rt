@@ -1,10 +1,12 @@
 ghost use Rattle.std.specs.Prelude.{◌≡◌, ◌||◌, IfSome, is_some, option_map};
-ghost use Rattle.command_words.specs.Meanings.{block_number_of, cap_segments_of, limit_of, lsn_of, manager_of, relation_of, ring_pages_of, segment_size_of, xid_of};
-ghost use Rattle.command_words.specs.Given.{IsInRange, command_of, default_segment_size, dump_of, filter_of, gives_dump, gives_extent, gives_run, gives_selection, given_of, lacks_relation, or_default, run_of, settled, text_of, with_block_rules, with_extent, with_record_rules};
+ghost use Rattle.command_words.specs.Meanings.{block_number_of, cap_segments_of, crash_of, limit_of, lsn_of, manager_of, relation_of, ring_pages_of, segment_size_of, xid_of};
+ghost use Rattle.command_words.specs.declared.commands.CrashPick.TheVariants.{New};
+ghost use Rattle.command_words.specs.Given.{IsInRange, IsShapeInRange, command_of, default_segment_size, dump_of, filter_of, gives_dump, gives_extent, gives_run_or_replay, gives_selection, given_of, lacks_relation, or_default, replay_of, run_of, settled, shape_of, text_of, with_block_rules, with_extent, with_record_rules};
 
-use crate::commands::{Command, DumpOptions, RunOptions};
+use crate::commands::{Command, CrashPick, DumpOptions, ReplayOptions, RunOptions};
 use crate::meanings::{
-    block_number, cap_segments, fork, limit, lsn, manager, relation, ring_pages, segment_size, xid,
+    block_number, cap_segments, crash, fork, limit, lsn, manager, relation, ring_pages,
+    segment_size, xid,
 };
 use byte_position::Geometry;
 use listing_filter::Filter;
@@ -23,19 +25,35 @@ pub struct GivenWords<'a> {
     pub command: Option<&'a str>,
     /// What stands behind the command's name: `help` alone takes it.
     pub topic: Option<&'a str>,
+    /// The segments' size in bytes.
     pub seg: Option<&'a str>,
+    /// How many pages the log's ring has.
     pub ring: Option<&'a str>,
+    /// How many segments the log may fill.
     pub cap: Option<&'a str>,
+    /// Whether a line is printed for each line told: `run` alone takes it.
     pub list: bool,
+    /// Which words of the disk a crash leaves: `replay` alone takes it.
+    pub crash: Option<&'a str>,
+    /// The manager of the records that are listed.
     pub rmgr: Option<&'a str>,
+    /// Their transaction.
     pub xid: Option<&'a str>,
+    /// The relation of a block that they have.
     pub relation: Option<&'a str>,
+    /// The block's number in that relation.
     pub block: Option<&'a str>,
+    /// The block's fork.
     pub fork: Option<&'a str>,
+    /// Whether they have a page's image.
     pub fullpage: bool,
+    /// The address from which on records are listed.
     pub start: Option<&'a str>,
+    /// The address below which they end.
     pub end: Option<&'a str>,
+    /// How many are listed at most.
     pub limit: Option<&'a str>,
+    /// Whether nothing is printed.
     pub quiet: bool,
 }
 
@@ -48,6 +66,7 @@ impl GivenWords<'_> {
     {
         match self.command? {
             "run" => self.run(),
+            "replay" => self.replay(),
             "dump" => self.dump(),
             _ => None,
         }
@@ -57,12 +76,10 @@ impl GivenWords<'_> {
         ensures command { result ≡ run_of (given_of self.now) }
         ensures in_range { IfSome result IsInRange }
     {
-        if self.topic.is_some() || self.gives_dump() {
+        if self.topic.is_some() || self.gives_dump() || self.crash.is_some() {
             return None;
         }
-        let geometry = self.geometry()?;
-        let ring_pages = settled(self.ring.map(ring_pages))?.unwrap_or(DEFAULT_RING_PAGES);
-        let cap_segments = settled(self.cap.map(cap_segments))?.unwrap_or(DEFAULT_CAP_SEGMENTS);
+        let (geometry, ring_pages, cap_segments) = self.shape()?;
         Some(Command::Run(RunOptions {
             geometry,
             ring_pages,
@@ -71,11 +88,28 @@ impl GivenWords<'_> {
         }))
     }
 
+    fn replay(&self) -> Option<Command>
+        ensures command { result ≡ replay_of (given_of self.now) }
+        ensures in_range { IfSome result IsInRange }
+    {
+        if self.topic.is_some() || self.gives_dump() || self.list {
+            return None;
+        }
+        let (geometry, ring_pages, cap_segments) = self.shape()?;
+        let crash = self.crash()?;
+        Some(Command::Replay(ReplayOptions {
+            geometry,
+            ring_pages,
+            cap_segments,
+            crash,
+        }))
+    }
+
     fn dump(&self) -> Option<Command>
         ensures command { result ≡ dump_of (given_of self.now) }
         ensures in_range { IfSome result IsInRange }
     {
-        if self.topic.is_some() || self.gives_run() {
+        if self.topic.is_some() || self.gives_run_or_replay() {
             return None;
         }
         let geometry = self.geometry()?;
@@ -83,11 +117,11 @@ impl GivenWords<'_> {
         Some(Command::Dump(DumpOptions { geometry, filter }))
     }
 
-    // Whether an option is given that only `run` takes.
-    fn gives_run(&self) -> bool
-        ensures { result ≡ gives_run (given_of self.now) }
+    // Whether an option is given that only `run` or `replay` takes.
+    fn gives_run_or_replay(&self) -> bool
+        ensures { result ≡ gives_run_or_replay (given_of self.now) }
     {
-        self.ring.is_some() || self.cap.is_some() || self.list
+        self.ring.is_some() || self.cap.is_some() || self.list || self.crash.is_some()
     }
 
     // Whether an option is given that only `dump` takes.
@@ -116,12 +150,32 @@ impl GivenWords<'_> {
         self.start.is_some() || self.end.is_some() || self.limit.is_some() || self.quiet
     }
 
+    // The log's shape: its segments' size, its ring's pages, and how many segments it may fill.
+    fn shape(&self) -> Option<(Geometry, u32, u32)>
+        ensures value { result ≡ shape_of (given_of self.now) }
+        ensures in_range { IfSome result (λ shape. IsShapeInRange shape.1 shape.2) }
+    {
+        let geometry = self.geometry()?;
+        let ring_pages = settled(self.ring.map(ring_pages))?.unwrap_or(DEFAULT_RING_PAGES);
+        let cap_segments = settled(self.cap.map(cap_segments))?.unwrap_or(DEFAULT_CAP_SEGMENTS);
+        Some((geometry, ring_pages, cap_segments))
+    }
+
     fn geometry(&self) -> Option<Geometry>
         ensures { result ≡ or_default default_segment_size segment_size_of (text_of self.now.seg) }
     {
         match self.seg {
             Some(word) => segment_size(word),
             None => Geometry::new(DEFAULT_SEGMENT_SIZE),
+        }
+    }
+
+    fn crash(&self) -> Option<CrashPick>
+        ensures { result ≡ or_default New crash_of (text_of self.now.crash) }
+    {
+        match self.crash {
+            Some(word) => crash(word),
+            None => Some(CrashPick::New),
         }
     }
 

@@ -2,8 +2,9 @@
 
 ghost use Rattle.std.specs.Prelude.{◌≡◌, ◌<◌, ◌≤◌, IfSome, codes, is_some, option_map};
 ghost use Rattle.listing_filter.specs.Names.{fork_named, is_same_name};
-ghost use Rattle.command_words.specs.Meanings.{block_number_of, cap_segments_of, cut_at_slash, hexadecimal_of, limit_of, lsn_of, manager_of, number_behind_custom, number_within, object_of, relation_of, ring_pages_of, segment_size_of, xid_of};
+ghost use Rattle.command_words.specs.Meanings.{block_number_of, cap_segments_of, crash_of, cut_at_slash, hexadecimal_of, limit_of, lsn_of, manager_of, number_behind_custom, number_within, object_of, relation_of, ring_pages_of, segment_size_of, xid_of};
 
+use crate::commands::CrashPick;
 use byte_position::Geometry;
 use decimal_numbers::{hexadecimal_digit, number};
 use wal_types::{Lsn, Rel, Xid};
@@ -57,6 +58,18 @@ pub fn cap_segments(word: &str) -> Option<u32>
 {
     let segments = number_within(word, 1, MAX_CAP_SEGMENTS)?;
     Some(segments as u32)
+}
+
+/// Which words of the disk a crash leaves, as the word of `--crash` says: `old`, `new` or `odd`.
+pub fn crash(word: &str) -> Option<CrashPick>
+    ensures { result ≡ crash_of word.now }
+{
+    match word {
+        "old" => Some(CrashPick::Old),
+        "new" => Some(CrashPick::New),
+        "odd" => Some(CrashPick::Odd),
+        _ => None,
+    }
 }
 
 /// How many records the word of `--limit` means: 1 or more.

@@ -2,4 +2,20 @@
 #![tactic(auto)]
 
 #[cfg(test)]
+mod checking;
+#[cfg(test)]
+mod played;
+#[cfg(test)]
+mod random;
+#[cfg(test)]
+mod records;
+#[cfg(test)]
+mod reserved;
+#[cfg(test)]
+mod schedule;
+#[cfg(test)]
+mod schedules;
+#[cfg(test)]
+mod turns;
+#[cfg(test)]
 mod words;

@@ -1,4 +1,4 @@
-ghost use Rattle.std.specs.Prelude.{◌≡◌, ◌+◌, ◌<◌, length, set, IfOk};
+ghost use Rattle.std.specs.Prelude.{◌≡◌, ◌+◌, ◌<◌, ◌^◌, length, set, IfOk};
 ghost use Rattle.wal_core.specs.Words.{Opening};
 ghost use Rattle.wal_core.specs.Sound.{IsSetup};
 ghost use Rattle.wal_core.specs.Opened.{AreFirstWords};
@@ -56,7 +56,7 @@ impl MachineWords {
         requires { IsWord self.now.pages word }
         ensures { result ≡ word_named self.now.pages self.now.words word }
     {
-        self.words[self.place(word)]
+        self.words[self.number_of(word)]
     }
 
     /// Stores a number in a word.
@@ -66,15 +66,16 @@ impl MachineWords {
           words = set self.old.words (number_of_word self.old.pages word) number;
         } }
     {
-        let place = self.place(word);
+        let place = self.number_of(word);
         self.words[place] = number;
     }
 
-    // Where a word stands in the list.
-    fn place(&self, word: Word) -> usize
+    /// A word's number: where it stands in the list.
+    pub fn number_of(&self, word: Word) -> usize
         requires { IsWord self.now.pages word }
         ensures value { result ≡ number_of_word self.now.pages word }
         ensures within { result < length self.now.words }
+        ensures low { result < 2 ^ 17 }
     {
         let first_of_ring = FIRST_END + self.pages as usize;
         match word {

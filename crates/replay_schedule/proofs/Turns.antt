@@ -78,11 +78,15 @@ items_are_playable backends first_line bytes =
     let Is = IsPlayable backends in
     schedule-keeps backends (All Is) (λ items item holds playable fits. All-append Is items (item ∷ []) holds (All-cons Is item [] playable (All-nil Is))) first_line bytes (All-nil Is)
 
-pub backends_are_there : (backends first_line : ℕ) (bytes : List ℕ) → IfOk (schedule_of backends first_line bytes) (λ items. All (λ backend. backend < backends) (backends_in_turn items))
-backends_are_there backends first_line bytes =
+-- each turn is one of a backend that is there
+pub lines_are_of_backends : (backends line : ℕ) (texts : List (List ℕ)) → IfOk (after_lines backends line [] texts) (λ items. All (λ backend. backend < backends) (backends_in_turn items))
+lines_are_of_backends backends line texts =
     let Is = λ (backend : ℕ). backend < backends in
-    schedule-keeps backends (λ items. All Is (backends_in_turn items))
+    after_lines-keep backends (λ items. All Is (backends_in_turn items))
     (λ items item holds playable fits. subst (All Is) (sym (flat_map-append (λ (i : Item). replicate i.turns i.backend) items (item ∷ [])))
     (All-append Is (backends_in_turn items) (replicate item.turns item.backend ++ []) holds
     (All-append Is (replicate item.turns item.backend) [] (All-replicate Is item.turns item.backend playable.there) (All-nil Is))))
-    first_line bytes (All-nil Is)
+    line [] texts (All-nil Is)
+
+pub backends_are_there : (backends first_line : ℕ) (bytes : List ℕ) → IfOk (schedule_of backends first_line bytes) (λ items. All (λ backend. backend < backends) (backends_in_turn items))
+backends_are_there backends first_line bytes = lines_are_of_backends backends first_line (slice_split (λ c. eqb c 10) bytes)

@@ -1,5 +1,5 @@
 -- What is left of a text that is cut at a separator.
-use Rattle.std.specs.Prelude.{ℕ, List, [], Option, Some, None, ◌==◌}
+use Rattle.std.specs.Prelude.{ℕ, ◌+◌, List, [], Option, Some, None, length, ◌==◌}
 use Rattle.std.specs.Borrow.{Bor}
 use Rattle.std.specs.List.{slice_split}
 
@@ -7,3 +7,8 @@ use Rattle.std.specs.List.{slice_split}
 abbrev pub parts_left : ℕ → Option (Bor (List ℕ)) → List (List ℕ)
 parts_left separator None = []
 parts_left separator (Some text) = slice_split (λ c. c == separator) text.now
+
+-- how many bytes are left of a text, its next separator among them; none where no separator stood
+abbrev pub bytes_left : Option (Bor (List ℕ)) → ℕ
+bytes_left None = 0
+bytes_left (Some text) = length text.now + 1

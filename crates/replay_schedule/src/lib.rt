@@ -9,4 +9,5 @@ mod schedule;
 
 pub use item::Item;
 pub use parser::parse;
+pub use parts::{Parts, cut};
 pub use schedule::{Schedule, ScheduleError};

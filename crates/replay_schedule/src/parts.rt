@@ -1,12 +1,12 @@
-ghost use Rattle.std.specs.Prelude.{◌≡◌, ◌∷◌, ◌==◌};
+ghost use Rattle.std.specs.Prelude.{◌≡◌, ◌≤◌, ◌∷◌, ◌==◌, length};
 ghost use Rattle.std.specs.List.{slice_split};
-ghost use Rattle.replay_schedule.specs.Parts.{parts_left};
+ghost use Rattle.replay_schedule.specs.Parts.{bytes_left, parts_left};
 
 use std::marker::Model;
 
 /// The parts of a text between its separators, from the left; contracts see those that are left.
 #[derive(Drop)]
-pub(crate) struct Parts<'a> {
+pub struct Parts<'a> {
     separator: u8,
     // None behind the last part.
     rest: Option<&'a [u8]>,
@@ -22,7 +22,8 @@ impl<'a> Model for Parts<'a> {
 }
 
 impl<'a> Parts<'a> {
-    pub(crate) fn of(text: &'a [u8], separator: u8) -> Parts<'a>
+    /// All parts of a text: one more than it has separators.
+    pub fn of(text: &'a [u8], separator: u8) -> Parts<'a>
         ensures { result ≡ slice_split (λ c. c == separator) text.now }
     {
         Parts {
@@ -48,10 +49,11 @@ impl<'a> Iterator for Parts<'a> {
     }
 }
 
-// The first part, and what stands behind its separator where it has one.
-fn cut(text: &[u8], separator: u8) -> (&[u8], Option<&[u8]>)
-    ensures { slice_split (λ c. c == separator) text.now
+/// The first part, and what stands behind its separator where it has one.
+pub fn cut(text: &[u8], separator: u8) -> (&[u8], Option<&[u8]>)
+    ensures parts { slice_split (λ c. c == separator) text.now
         ≡ result.0.now ∷ parts_left separator result.1 }
+    ensures fewer { bytes_left result.1 ≤ length text.now }
 {
     match text.iter().position(|&byte| byte == separator) {
         Some(end) => (&text[..end], Some(&text[end + 1..])),

@@ -54,8 +54,8 @@ impl Model for Schedule {
 }
 
 impl Schedule {
-    // A schedule of no turns.
-    pub(crate) fn empty(alloc: Global) -> Schedule
+    /// A schedule of no turns.
+    pub fn empty(alloc: Global) -> Schedule
         ensures { result ≡ [] }
     {
         Schedule {

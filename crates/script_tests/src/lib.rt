@@ -6,6 +6,8 @@ mod meanings;
 #[cfg(test)]
 mod numbers;
 #[cfg(test)]
+mod replays;
+#[cfg(test)]
 mod scripts;
 #[cfg(test)]
 mod words;

@@ -1,6 +1,7 @@
 //! What the word of each option means, at its edges.
 use command_words::{
-    block_number, cap_segments, fork, limit, lsn, manager, relation, ring_pages, segment_size, xid,
+    CrashPick, block_number, cap_segments, crash, fork, limit, lsn, manager, relation, ring_pages,
+    segment_size, xid,
 };
 use wal_types::{Lsn, Rel, Xid};
 
@@ -55,6 +56,15 @@ fn forks_are_named_in_exact_case(rt: HostRuntime) {
     assert_eq!(rt; fork("vm"), Some(2));
     assert_eq!(rt; fork("init"), Some(3));
     assert_eq!(rt; fork("Main"), None);
+}
+
+#[test]
+fn crashes_are_named_in_exact_case(rt: HostRuntime) {
+    assert!(rt; matches!(crash("old"), Some(CrashPick::Old)));
+    assert!(rt; matches!(crash("new"), Some(CrashPick::New)));
+    assert!(rt; matches!(crash("odd"), Some(CrashPick::Odd)));
+    assert!(rt; crash("Odd").is_none());
+    assert!(rt; crash("").is_none());
 }
 
 #[test]

@@ -1,6 +1,6 @@
 //! What command lines ask for.
 use command_line::{Request, asked};
-use command_words::Command;
+use command_words::{Command, CrashPick};
 use listing_filter::Filter;
 use std::alloc::{AllocError, Global};
 use std::test::Fail;
@@ -36,6 +36,30 @@ fn shape(alloc: Global, words: &[&str]) -> Result<Option<(u32, u32)>, AllocError
     })
 }
 
+// The log's shape, and what a crash leaves, where a replay is asked for.
+fn replay(
+    alloc: Global,
+    words: &[&str],
+) -> Result<Option<(u64, u32, u32, &'static str)>, AllocError> {
+    Ok(match request(alloc, words)? {
+        Request::Command(Command::Replay(options)) => Some((
+            options.geometry.segment_size(),
+            options.ring_pages,
+            options.cap_segments,
+            picked(options.crash),
+        )),
+        _ => None,
+    })
+}
+
+fn picked(crash: CrashPick) -> &'static str {
+    match crash {
+        CrashPick::Old => "durable",
+        CrashPick::New => "last",
+        CrashPick::Odd => "mixed",
+    }
+}
+
 // What is listed, where a listing is asked for.
 fn filter(alloc: Global, words: &[&str]) -> Result<Option<Filter>, AllocError> {
     Ok(match request(alloc, words)? {
@@ -54,6 +78,7 @@ fn extent(alloc: Global, words: &[&str]) -> Result<Option<(Option<u64>, bool)>, 
 fn kind(alloc: Global, words: &[&str]) -> Result<&'static str, AllocError> {
     Ok(match request(alloc, words)? {
         Request::Command(Command::Run(_)) => "run",
+        Request::Command(Command::Replay(_)) => "replay",
         Request::Command(Command::Dump(_)) => "dump",
         Request::Help => "help",
         Request::Version => "version",
@@ -87,6 +112,52 @@ fn runs_take_a_ring_and_a_cap(rt: HostRuntime) -> Result<(), Fail> {
     assert!(rt; is_refused(alloc, &["pgwal", "run", "--ring", "3"])?);
     assert!(rt; is_refused(alloc, &["pgwal", "run", "--cap", "0"])?);
     assert!(rt; is_refused(alloc, &["pgwal", "dump", "--ring", "4"])?);
+    Ok(())
+}
+
+#[test]
+fn replays_take_a_shape_and_a_crash(rt: HostRuntime) -> Result<(), Fail> {
+    let alloc = rt.alloc();
+    let all = [
+        "pgwal",
+        "--crash=old",
+        "replay",
+        "--seg",
+        "1048576",
+        "--ring",
+        "4",
+        "--cap",
+        "1",
+    ];
+    let plain = Some((16 * MEBIBYTE, 64, 64, "last"));
+    let mixed = Some((16 * MEBIBYTE, 64, 64, "mixed"));
+    assert_eq!(rt; replay(alloc, &["pgwal", "replay"])?, plain);
+    assert_eq!(rt;
+        replay(alloc, &["pgwal", "replay", "--crash", "new"])?,
+        plain
+    );
+    assert_eq!(rt;
+        replay(alloc, &["pgwal", "replay", "--crash", "odd"])?,
+        mixed
+    );
+    assert_eq!(rt; replay(alloc, &all)?, Some((MEBIBYTE, 4, 1, "durable")));
+    Ok(())
+}
+
+#[test]
+fn faulty_replays_ask_for_nothing(rt: HostRuntime) -> Result<(), Fail> {
+    let alloc = rt.alloc();
+    let twice = ["pgwal", "replay", "--crash", "old", "--crash", "old"];
+    assert!(rt; is_refused(alloc, &["pgwal", "replay", "--crash", "OLD"])?);
+    assert!(rt; is_refused(alloc, &["pgwal", "replay", "--crash"])?);
+    assert!(rt; is_refused(alloc, &twice)?);
+    assert!(rt; is_refused(alloc, &["pgwal", "replay", "--ring", "3"])?);
+    assert!(rt; is_refused(alloc, &["pgwal", "replay", "--list"])?);
+    assert!(rt; is_refused(alloc, &["pgwal", "replay", "--xid", "1"])?);
+    assert!(rt; is_refused(alloc, &["pgwal", "replay", "-q"])?);
+    assert!(rt; is_refused(alloc, &["pgwal", "replay", "fast"])?);
+    assert!(rt; is_refused(alloc, &["pgwal", "run", "--crash", "old"])?);
+    assert!(rt; is_refused(alloc, &["pgwal", "dump", "--crash", "new"])?);
     Ok(())
 }
 

@@ -3,7 +3,11 @@ pub mod Cuts
 pub mod Fits
 pub mod FittingBlocks
 pub mod Pairs
+pub mod ReplayLaws
+pub mod Replays
+pub mod ScheduledTurns
 pub mod Scripts
+pub mod SeveralBackends
 pub mod Steps
 pub mod Words
 pub mod Writing

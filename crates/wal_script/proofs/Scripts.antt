@@ -20,7 +20,7 @@ with_front-push front number asked (Ok lines) = ap (λ (ls : List AskedLine). Ok
 with_front-push front number asked (Err refusal) = refl
 
 -- one line more at the end
-AreLinesOf_push : (askeds : List AskedLine) (lines : List Line) (asked : AskedLine) (line : Line) → AreLinesOf askeds lines → line.number ≡ asked.number → IsActionOf asked.asked line.action → AreLinesOf (askeds ++ asked ∷ []) (lines ++ line ∷ [])
+pub AreLinesOf_push : (askeds : List AskedLine) (lines : List Line) (asked : AskedLine) (line : Line) → AreLinesOf askeds lines → line.number ≡ asked.number → IsActionOf asked.asked line.action → AreLinesOf (askeds ++ asked ∷ []) (lines ++ line ∷ [])
 AreLinesOf_push [] [] asked line are number does = (number, does, tt)
 AreLinesOf_push [] (other ∷ lines) asked line are number does = absurd are
 AreLinesOf_push (first ∷ askeds) [] asked line are number does = absurd are

@@ -110,7 +110,7 @@ JudgesBody-commit fields value result is judges =
 
 -- ---- lines
 
-abbrev MeansWritable : LineMeaning → Type 0
+abbrev pub MeansWritable : LineMeaning → Type 0
 MeansWritable passes = Unit {0}
 MeansWritable (asks asked) = AsksWritable asked
 MeansWritable (refuses fault) = Unit {0}
@@ -123,7 +123,7 @@ flush_writable : (fields : List (List ℕ)) → MeansWritable (asks_as (λ asked
 flush_writable [] = tt
 flush_writable (field ∷ rest) = tt
 
-line_with_writable : (fields : List (List ℕ)) → MeansWritable (line_with fields)
+pub line_with_writable : (fields : List (List ℕ)) → MeansWritable (line_with fields)
 line_with_writable [] = tt
 line_with_writable (word ∷ fields) =
     let backends = if is_text word (codes "B") then refuses faults.Backends else refuses faults.Word in

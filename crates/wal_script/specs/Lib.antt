@@ -7,4 +7,6 @@ pub mod Asked
 pub mod Bodies
 pub mod Meaning
 pub mod Reading
+pub mod Replay
+pub mod ReplayReading
 pub mod Writable

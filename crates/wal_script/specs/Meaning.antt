@@ -126,16 +126,22 @@ lines_meaning number (line ∷ lines) =
 abbrev pub script_limit : ℕ
 script_limit = 67108864
 
--- the lines of one backend; a script beyond its limit is refused at the line of its first byte
--- too many
-abbrev pub backend_meaning : List ℕ → Result (List AskedLine) Refusal
-backend_meaning script =
-    if nat_lt script_limit (length script)
-    then Err (record {
+-- a script beyond its limit is refused at the line of its first byte too many
+abbrev pub too_long : List ℕ → Refusal
+too_long script =
+    record {
       line = count_by (λ c. c == 10) (take script_limit script) + 1;
       fault = faults.Length;
-    })
-    else lines_meaning 1 (lines_of script)
+    }
+
+-- what a script means where it is within its limit
+abbrev pub within_limit : {X : Type 0} → List ℕ → Result X Refusal → Result X Refusal
+within_limit script meaning =
+    if nat_lt script_limit (length script) then Err (too_long script) else meaning
+
+-- the lines of one backend
+abbrev pub backend_meaning : List ℕ → Result (List AskedLine) Refusal
+backend_meaning script = within_limit script (lines_meaning 1 (lines_of script))
 
 abbrev pub one_backend : Result (List AskedLine) Refusal → Result (List (List AskedLine)) Refusal
 one_backend (Ok lines) = Ok (lines ∷ [])

@@ -18,7 +18,7 @@ use Rattle.wal_script.specs.Bodies.{AreLinesOf, IsActionOf, IsBodyOf}
 use Rattle.wal_script.specs.Meaning.{LineMeaning, passes, asks, refuses, assembly_fault}
 
 -- a script that is refused so means that refusal
-abbrev pub RefusesScript : ParseError → Result (List AskedLine) Refusal → Type 0
+abbrev pub RefusesScript : {X : Type 0} → ParseError → Result X Refusal → Type 0
 RefusesScript errors.Memory meaning = Unit {0}
 RefusesScript (errors.Refused refusal) meaning = meaning ≡ Err refusal
 

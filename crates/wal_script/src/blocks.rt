@@ -8,8 +8,8 @@ use crate::hexadecimal::data;
 use crate::images::image;
 use crate::line::ScriptFault;
 use crate::line_error::LineError;
-use crate::text::Pieces;
 use decimal_numbers::number;
+use replay_schedule::Parts;
 use std::alloc::Global;
 use wal_types::{Block, BlockList, Rel};
 
@@ -24,19 +24,19 @@ struct Fork {
 }
 
 /// The references of the fields that are left, numbered in their order.
-pub(crate) fn blocks(alloc: Global, fields: Pieces) -> Result<BlockList, LineError>
+pub(crate) fn blocks(alloc: Global, fields: Parts) -> Result<BlockList, LineError>
     ensures { Judges result (references_from 0 fields.entry) }
 {
     let mut blocks = Vec::new(alloc);
     let mut id: u8 = 0;
     for field in fields {
-        blocks.push(block(alloc, id, Pieces::of(field, b':'))?)?;
+        blocks.push(block(alloc, id, Parts::of(field, b':'))?)?;
         id = id.saturating_add(1);
     }
     Ok(BlockList::of(blocks))
 }
 
-fn block(alloc: Global, id: u8, mut parts: Pieces) -> Result<Block, LineError>
+fn block(alloc: Global, id: u8, mut parts: Parts) -> Result<Block, LineError>
     ensures { Judges result (block_with id parts.entry) }
 {
     let rel = parts.next().ok_or(ScriptFault::Block)?;
@@ -47,7 +47,7 @@ fn block(alloc: Global, id: u8, mut parts: Pieces) -> Result<Block, LineError>
     if parts.next().is_some() {
         return Err(LineError::Fault(ScriptFault::Block));
     }
-    let rel = relation(Pieces::of(rel, b'/'))?;
+    let rel = relation(Parts::of(rel, b'/'))?;
     let fork = fork_of(fork).ok_or(ScriptFault::Block)?;
     let blk = number(blk, MAX_BLOCK_NUMBER).ok_or(ScriptFault::Number)? as u32;
     Ok(Block {
@@ -61,7 +61,7 @@ fn block(alloc: Global, id: u8, mut parts: Pieces) -> Result<Block, LineError>
     })
 }
 
-fn relation(mut parts: Pieces) -> Result<Rel, LineError>
+fn relation(mut parts: Parts) -> Result<Rel, LineError>
     ensures { Judges result (relation_with parts.entry) }
 {
     let spc = parts.next().ok_or(ScriptFault::Block)?;

@@ -10,13 +10,13 @@ ghost use Rattle.wal_script.specs.declared.line.ScriptFault.TheVariants as fault
 use crate::hexadecimal::{byte, data};
 use crate::line::ScriptFault;
 use crate::line_error::LineError;
-use crate::text::Pieces;
 use decimal_numbers::{number, time};
+use replay_schedule::Parts;
 use std::alloc::Global;
 use wal_types::Bytes;
 
 // The next field as a number of at most `most`.
-fn next_number(fields: &mut Pieces, most: u64) -> Result<u64, LineError>
+fn next_number(fields: &mut Parts, most: u64) -> Result<u64, LineError>
     ensures read { JudgesAs
         (λ n. record { value = n; rest = fields.new }) result
         (next_as (number_of most) faults.Number fields.old) }
@@ -27,7 +27,7 @@ fn next_number(fields: &mut Pieces, most: u64) -> Result<u64, LineError>
 }
 
 /// The next field as a number of 32 bits.
-pub(crate) fn next_u32(fields: &mut Pieces) -> Result<u32, LineError>
+pub(crate) fn next_u32(fields: &mut Parts) -> Result<u32, LineError>
     ensures { JudgesAs
         (λ n. record { value = n; rest = fields.new }) result
         (next_as (number_of (2 ^ 32 - 1)) faults.Number fields.old) }
@@ -36,7 +36,7 @@ pub(crate) fn next_u32(fields: &mut Pieces) -> Result<u32, LineError>
 }
 
 /// The next field as a number of 8 bits.
-pub(crate) fn next_u8(fields: &mut Pieces) -> Result<u8, LineError>
+pub(crate) fn next_u8(fields: &mut Parts) -> Result<u8, LineError>
     ensures { JudgesAs
         (λ n. record { value = n; rest = fields.new }) result
         (next_as (number_of 255) faults.Number fields.old) }
@@ -45,7 +45,7 @@ pub(crate) fn next_u8(fields: &mut Pieces) -> Result<u8, LineError>
 }
 
 /// The next field as a time.
-pub(crate) fn next_time(fields: &mut Pieces) -> Result<u64, LineError>
+pub(crate) fn next_time(fields: &mut Parts) -> Result<u64, LineError>
     ensures { JudgesAs
         (λ t. record { value = t; rest = fields.new }) result
         (next_as time_of faults.Number fields.old) }
@@ -55,7 +55,7 @@ pub(crate) fn next_time(fields: &mut Pieces) -> Result<u64, LineError>
 }
 
 /// The next field as a byte in two hexadecimal digits.
-pub(crate) fn next_byte(fields: &mut Pieces) -> Result<u8, LineError>
+pub(crate) fn next_byte(fields: &mut Parts) -> Result<u8, LineError>
     ensures { JudgesAs
         (λ b. record { value = b; rest = fields.new }) result
         (next_as byte_spelled faults.Hex fields.old) }
@@ -65,7 +65,7 @@ pub(crate) fn next_byte(fields: &mut Pieces) -> Result<u8, LineError>
 }
 
 /// The next field as data.
-pub(crate) fn next_data(alloc: Global, fields: &mut Pieces) -> Result<Bytes, LineError>
+pub(crate) fn next_data(alloc: Global, fields: &mut Parts) -> Result<Bytes, LineError>
     ensures { JudgesAs
         (λ bytes. record { value = bytes; rest = fields.new }) result
         (next_as data_of faults.Hex fields.old) }
@@ -75,7 +75,7 @@ pub(crate) fn next_data(alloc: Global, fields: &mut Pieces) -> Result<Bytes, Lin
 }
 
 /// No field is left.
-pub(crate) fn no_more(mut fields: Pieces) -> Result<(), LineError>
+pub(crate) fn no_more(mut fields: Parts) -> Result<(), LineError>
     ensures { Judges result (no_more fields.entry) }
 {
     match fields.next() {

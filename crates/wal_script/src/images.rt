@@ -7,8 +7,9 @@ ghost use Rattle.wal_script.specs.Reading.{Judges};
 use crate::hexadecimal::byte;
 use crate::line::ScriptFault;
 use crate::line_error::LineError;
-use crate::text::{Pieces, is_dash};
+use crate::text::is_dash;
 use decimal_numbers::number;
+use replay_schedule::Parts;
 use std::alloc::Global;
 use wal_types::{Bytes, Image};
 
@@ -28,11 +29,11 @@ pub(crate) fn image(alloc: Global, field: &[u8]) -> Result<Option<Image>, LineEr
     if is_dash(field) {
         return Ok(None);
     }
-    Ok(Some(page_image(alloc, Pieces::of(field, b'+'))?))
+    Ok(Some(page_image(alloc, Parts::of(field, b'+'))?))
 }
 
 // The image of `OFFSET+LENGTH+hh`.
-fn page_image(alloc: Global, mut parts: Pieces) -> Result<Image, LineError>
+fn page_image(alloc: Global, mut parts: Parts) -> Result<Image, LineError>
     ensures { Judges result (page_image_with parts.entry) }
 {
     let hole_offset = parts.next().ok_or(ScriptFault::Image)?;

@@ -1,11 +1,41 @@
 //! What holds of each script that is read. The functions do nothing: their contracts are the laws.
 
-ghost use Rattle.std.specs.Prelude.{ℕ, All, IfOk, List};
+ghost use Rattle.std.specs.Prelude.{ℕ, ◌<◌, ◌≤◌, All, IfOk, List, length};
+ghost use Rattle.replay_schedule.specs.Turns.{backends_in_turn, most_turns};
 ghost use Rattle.wal_script.specs.Meaning.{backend_meaning};
+ghost use Rattle.wal_script.specs.Replay.{most_backends, replay_meaning};
 ghost use Rattle.wal_script.specs.Writable.{AsksWritable};
 
 /// Each record of a script's lines can be written.
 pub fn lines_are_writable()
     ensures { (script : List ℕ)
         → IfOk (backend_meaning script) (λ lines. All (λ line. AsksWritable line.asked) lines) }
+{}
+
+/// A replay has from 1 to 64 backends.
+pub fn some_backends_are_there()
+    ensures { (script : List ℕ)
+        → IfOk (replay_meaning script) (λ m.
+        (0 < length m.backends) × (length m.backends ≤ most_backends)) }
+{}
+
+/// Each record of each backend's lines can be written.
+pub fn backends_are_writable()
+    ensures { (script : List ℕ)
+        → IfOk (replay_meaning script) (λ m.
+        All (All (λ line. AsksWritable line.asked)) m.backends) }
+{}
+
+/// Each turn of the schedule is one of a backend that is there.
+pub fn turns_are_of_backends()
+    ensures { (script : List ℕ)
+        → IfOk (replay_meaning script) (λ m.
+        All (λ backend. backend < length m.backends) (backends_in_turn m.schedule)) }
+{}
+
+/// A replay has at most 10,000,000 turns.
+pub fn turns_are_within()
+    ensures { (script : List ℕ)
+        → IfOk (replay_meaning script) (λ m.
+        length (backends_in_turn m.schedule) ≤ most_turns) }
 {}

@@ -1,6 +1,7 @@
 //! Scripts of inserts, commits and flushes, read into lines.
 #![tactic(auto)]
 
+mod backends;
 mod blocks;
 mod fields;
 mod hexadecimal;
@@ -10,7 +11,9 @@ mod line;
 mod line_error;
 mod parser;
 mod records;
+mod replay;
 mod text;
 
 pub use line::{Action, Line, Refusal, ScriptFault};
 pub use parser::{ParseError, SCRIPT_LIMIT, parse};
+pub use replay::{Replay, parse_replay};

@@ -39,6 +39,8 @@ pub enum ScriptFault {
     Image,
     /// A backend more than there may be.
     Backends,
+    /// An item of the schedule is none, its backend is not there, or the turns are too many.
+    Schedule,
     /// No manager has the record's number.
     BadManager,
     /// The record would end its segment.
@@ -65,6 +67,7 @@ impl ScriptFault {
             ScriptFault::Block => "block",
             ScriptFault::Image => "image",
             ScriptFault::Backends => "backends",
+            ScriptFault::Schedule => "schedule",
             ScriptFault::BadManager => "bad manager",
             ScriptFault::Switch => "switch",
             ScriptFault::BadBlock => "bad block",

@@ -1,13 +1,14 @@
-ghost use Rattle.std.specs.Prelude.{◌≡◌, ◌+◌, ◌≤◌, ◌==◌, length, count_by};
+ghost use Rattle.std.specs.Prelude.{◌≡◌, ◌+◌, ◌<◌, ◌≤◌, ◌==◌, ◌∷◌, IfErr, IfOk, length, count_by};
 ghost use Rattle.wal_script.specs.Text.{lines_of};
-ghost use Rattle.wal_script.specs.Meaning.{line_with, line_of, lines_meaning, backend_meaning};
+ghost use Rattle.wal_script.specs.declared.parser.ParseError.TheVariants.{Refused};
+ghost use Rattle.wal_script.specs.Meaning.{line_with, line_of, lines_meaning, backend_meaning, script_limit, too_long};
 ghost use Rattle.wal_script.specs.Reading.{DoesAny, DoesLine, GivesLines, LineGives};
 
 use crate::fields::no_more;
 use crate::line::{Action, Line, Refusal, ScriptFault};
 use crate::line_error::LineError;
 use crate::records::{commit, insert};
-use crate::text::Pieces;
+use replay_schedule::Parts;
 use std::alloc::{AllocError, AllocFailed, Global};
 
 /// How many bytes a script may have.
@@ -51,13 +52,24 @@ pub fn parse(alloc: Global, script: &[u8]) -> Result<Vec<Line>, ParseError>
     requires { length script.now ≤ SCRIPT_LIMIT + 1 }
     ensures { GivesLines result (backend_meaning script.now) }
 {
+    within_limit(script)?;
+    lines(alloc, script)
+}
+
+/// Refuses a script beyond its limit, at the line of its first byte too many.
+pub(crate) fn within_limit(script: &[u8]) -> Result<(), ParseError>
+    requires { length script.now ≤ SCRIPT_LIMIT + 1 }
+    ensures above { IfErr result (λ error.
+        (script_limit < length script.now) × (error ≡ Refused (too_long script.now))) }
+    ensures within { IfOk result (λ _. length script.now ≤ script_limit) }
+{
     if script.len() > SCRIPT_LIMIT {
         return Err(ParseError::Refused(Refusal {
             line: line_feeds(&script[..SCRIPT_LIMIT]) + 1,
             fault: ScriptFault::Length,
         }));
     }
-    lines(alloc, script)
+    Ok(())
 }
 
 // How many lines end within a text.
@@ -76,7 +88,7 @@ fn lines(alloc: Global, script: &[u8]) -> Result<Vec<Line>, ParseError>
 {
     let mut lines = Vec::new(alloc);
     let mut number = 0;
-    for line in Pieces::of(script, b'\n') {
+    for line in Parts::of(script, b'\n') {
         number += 1;
         if let Some(action) = action_of(alloc, line).map_err(|cause| cause.at(number))? {
             lines.push(Line { number, action })?;
@@ -91,22 +103,32 @@ fn action_of(alloc: Global, line: &[u8]) -> Result<Option<Action>, LineError>
 {
     match line {
         [] | [b'#', ..] => Ok(None),
-        _ => Ok(Some(action(alloc, Pieces::of(line, b' '))?)),
+        _ => Ok(Some(action(alloc, Parts::of(line, b' '))?)),
     }
 }
 
 // What a line's fields ask for; the first that is wrong, from the left, is its fault.
-fn action(alloc: Global, mut fields: Pieces) -> Result<Action, LineError>
+fn action(alloc: Global, mut fields: Parts) -> Result<Action, LineError>
     ensures { LineGives DoesLine result (line_with fields.entry) }
 {
     match fields.next() {
-        Some(b"I") => Ok(Action::Insert(insert(alloc, fields)?)),
-        Some(b"C") => Ok(Action::Commit(commit(alloc, fields)?)),
-        Some(b"F") => {
+        Some(word) => action_by(alloc, word, fields),
+        None => Err(LineError::Fault(ScriptFault::Word)),
+    }
+}
+
+/// What a line asks for by its first field and those behind it.
+pub(crate) fn action_by(alloc: Global, word: &[u8], fields: Parts) -> Result<Action, LineError>
+    ensures { LineGives DoesLine result (line_with (word.now ∷ fields.entry)) }
+{
+    match word {
+        b"I" => Ok(Action::Insert(insert(alloc, fields)?)),
+        b"C" => Ok(Action::Commit(commit(alloc, fields)?)),
+        b"F" => {
             no_more(fields)?;
             Ok(Action::Flush)
         }
-        Some(b"B") => Err(LineError::Fault(ScriptFault::Backends)),
+        b"B" => Err(LineError::Fault(ScriptFault::Backends)),
         _ => Err(LineError::Fault(ScriptFault::Word)),
     }
 }

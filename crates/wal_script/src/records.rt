@@ -7,8 +7,8 @@ ghost use Rattle.wal_script.specs.Reading.{Judges, JudgesBody};
 use crate::blocks::blocks;
 use crate::fields::{next_byte, next_data, next_time, next_u8, next_u32, no_more};
 use crate::line_error::LineError;
-use crate::text::Pieces;
 use record_spelling::Body;
+use replay_schedule::Parts;
 use std::alloc::{AllocError, Global};
 use wal_types::{BlockList, Bytes, Record, Xid};
 
@@ -16,7 +16,7 @@ use wal_types::{BlockList, Bytes, Record, Xid};
 const TRANSACTION_MANAGER: u8 = 1;
 
 /// The record of a line `I`, assembled.
-pub(crate) fn insert(alloc: Global, fields: Pieces) -> Result<Body, LineError>
+pub(crate) fn insert(alloc: Global, fields: Parts) -> Result<Body, LineError>
     ensures { JudgesBody result (insert_of fields.entry) }
 {
     let value = record_of_insert(alloc, fields)?;
@@ -24,7 +24,7 @@ pub(crate) fn insert(alloc: Global, fields: Pieces) -> Result<Body, LineError>
 }
 
 // The record that the fields behind `I` spell.
-fn record_of_insert(alloc: Global, mut fields: Pieces) -> Result<Record, LineError>
+fn record_of_insert(alloc: Global, mut fields: Parts) -> Result<Record, LineError>
     ensures { Judges result (record_spelled fields.entry) }
 {
     let xid = next_u32(&mut fields)?;
@@ -51,7 +51,7 @@ fn assembled(alloc: Global, value: &Record) -> Result<Body, LineError>
 }
 
 /// The record of a line `C`, assembled.
-pub(crate) fn commit(alloc: Global, fields: Pieces) -> Result<Body, LineError>
+pub(crate) fn commit(alloc: Global, fields: Parts) -> Result<Body, LineError>
     ensures { JudgesBody result (commit_of fields.entry) }
 {
     let value = record_of_commit(alloc, fields)?;
@@ -59,7 +59,7 @@ pub(crate) fn commit(alloc: Global, fields: Pieces) -> Result<Body, LineError>
 }
 
 // The record that the fields behind `C` spell.
-fn record_of_commit(alloc: Global, mut fields: Pieces) -> Result<Record, LineError>
+fn record_of_commit(alloc: Global, mut fields: Parts) -> Result<Record, LineError>
     ensures { Judges result (commit_of fields.entry) }
 {
     let xid = next_u32(&mut fields)?;

@@ -31,7 +31,7 @@ got_image f (x ∷ xs) (suc i) y e =
     (rest.0, rest.1, rest.2, omega arith)
 
 module _ (opening : Opening) where
-  spares : (n : ℕ) → ((splitting_view opening n).reserving).spare ≡ n + 1
+  pub spares : (n : ℕ) → ((splitting_view opening n).reserving).spare ≡ n + 1
   spares zero = refl
   spares (suc n) = let before = spares n in omega arith
 
@@ -43,7 +43,7 @@ module _ (opening : Opening) where
   lives zero = refl
   lives (suc n) = lives n
 
-  split_count : (n : ℕ) → length (views_split_off opening n) ≡ n
+  pub split_count : (n : ℕ) → length (views_split_off opening n) ≡ n
   split_count zero = refl
   split_count (suc n) =
       let before = split_count n in
@@ -51,7 +51,7 @@ module _ (opening : Opening) where
       (splitting_view opening n) ∷ []) in
       omega arith
 
-  split_at : (n j : ℕ) → j < n
+  pub split_at : (n j : ℕ) → j < n
       → HasAt (views_split_off opening n) j (split_off (splitting_view opening j))
   split_at zero j low = absurd (omega arith)
   split_at (suc n) j low = elim (cases_lt j n) [

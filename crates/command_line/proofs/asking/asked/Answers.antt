@@ -22,5 +22,5 @@ returns-in-Err-clause-asks c =
     let kinds : (kind_of c.in-Err.error ≡ OutOfMemory) ⊎ IsAmong (kind_of c.in-Err.error) (fault_of declared_command words) =
     subst (λ (a : App). HasKind (fault_of a words) c.in-Err.error) is_declared (c.in-Err.ensures.kinds (ap is_simple_and_free is_declared ∙ is_free)) in
     asks-refused_or_memory words (kind_of c.in-Err.error) c.request_by.result kinds
-    (λ none. c.request_by.ensures.memory (c.kind.ensures ∙ none))
+    (λ none. c.request_by.ensures.memory.1 (c.kind.ensures ∙ none))
     (IfOk-weaker c.request_by.result _ _ (λ request is. is ∙ ap request_by c.kind.ensures) c.request_by.ensures.request)

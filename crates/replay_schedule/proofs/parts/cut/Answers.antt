@@ -3,10 +3,10 @@ use Rattle.std.proofs.lemmas.List.{take_rest}
 use Rattle.replay_schedule.proofs.Cuts.{slice_split-at_first, slice_split-lacking}
 use Rattle.replay_schedule.proofs.parts.cut.Goals as goal
 
-pub returns-in-Some : goal.returns-in-Some
-returns-in-Some c =
+pub returns-in-Some-clause-parts : goal.returns-in-Some-clause-parts
+returns-in-Some-clause-parts c =
     let text = c.args.text.now in
     rw (take_rest text (c.in-Some.end + 1)) (slice_split-at_first c.args.separator text c.in-Some.end (search rules) (search rules) (search rules))
 
-pub returns-in-None : goal.returns-in-None
-returns-in-None c = slice_split-lacking c.args.separator c.args.text.now (search rules)
+pub returns-in-None-clause-parts : goal.returns-in-None-clause-parts
+returns-in-None-clause-parts c = slice_split-lacking c.args.separator c.args.text.now (search rules)

@@ -1,0 +1,26 @@
+use Rattle.std.proofs.Common.{◌≡◌, ◌≤◌, List, length, sym, subst, ap, ◌∙◌}
+use Rattle.std.proofs.lemmas.List.{drop_all}
+use Rattle.replay_schedule.specs.declared.item.Item.{Item}
+use Rattle.replay_schedule.specs.Turns.{backends_in_turn}
+use Rattle.wal_turns.specs.Turned.{machine_behind}
+use Rattle.machine_core.specs.Cores.{core_of}
+use Rattle.machine_core.specs.Playing.{PlaysMachine}
+use Rattle.backend_cli.proofs.TurnLaws.{next_item}
+use Rattle.backend_cli.proofs.replay.take_all_turns.Goals as goal
+
+pub loop-item-preserved : goal.loop-item-preserved
+loop-item-preserved c = record {
+  plays = λ m k.
+      let so_far = c.loop-item.invariant.plays m k in
+      let had = c.take_turns.ensures.plays so_far.0 so_far.1 in
+      (_, had, next_item (machine_behind m (backends_in_turn c.args.schedule.now)) so_far.0 c.args.schedule.now c.items-item-items.result.now c.loop-item.item-index _ c.items-item-items.ensures c.loop-item-test.true so_far.2);
+  played = c.take_turns.ensures.played;
+}
+
+pub returns-clause-plays : goal.returns-clause-plays
+returns-clause-plays c = λ m k.
+    let so_far = c.loop-item.invariant.plays m k in
+    let many : length c.args.schedule.now ≤ c.loop-item.item-index = subst (λ (items : List Item). length items ≤ c.loop-item.item-index) c.items-item-items.ensures c.loop-item-test.false in
+    let end : so_far.0 ≡ machine_behind m (backends_in_turn c.args.schedule.now) =
+    ap (λ (items : List Item). machine_behind so_far.0 (backends_in_turn items)) (sym (drop_all c.loop-item.item-index c.args.schedule.now many)) ∙ so_far.2 in
+    subst (PlaysMachine (core_of c.loop-item.core)) end so_far.1

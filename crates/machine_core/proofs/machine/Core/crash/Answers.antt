@@ -1,0 +1,48 @@
+-- The image that a crash leaves is one of the machine's own disk.
+use Rattle.std.proofs.Common.{List, length, IfSome, subst, sym, arith}
+use Rattle.std.proofs.lemmas.List.{take_all}
+use Rattle.segment_disk.specs.declared.disk.Call.{Call}
+use Rattle.segment_disk.specs.declared.memory.disk.MemDisk.{MemDisk}
+use Rattle.segment_disk.specs.DiskImage.{LeftAt}
+use Rattle.segment_disk.specs.First.{first_state}
+use Rattle.segment_disk.specs.MemDisk.{first_image}
+use Rattle.segment_disk.specs.Picks.{IsPicked, choice_of}
+use Rattle.segment_disk.specs.Tape.{after_calls, state_at, state_now}
+use Rattle.wal_core.specs.Views.{Plain}
+use Rattle.wal_turns.specs.Doing.{Machine}
+use Rattle.machine_turns.specs.Writer.{state_of}
+use Rattle.machine_core.specs.Cores.{HasWriter, core_of}
+use Rattle.machine_core.specs.Playing.{PlaysMachine}
+use Rattle.machine_core.proofs.Cores.{if_ok, writer_is_core's}
+use Rattle.machine_core.proofs.machine.Core.crash.Goals as goal
+
+pub returns-clause-left : goal.returns-clause-left
+returns-clause-left c =
+    let core = core_of c.args.self.now in
+    let plain = (state_of c.args.self.now.writer).plain in
+    if_ok c.crash.result
+    (λ (disk : MemDisk). IfSome plain.tape (λ tape. LeftAt tape plain.moment (first_image disk)))
+    (λ (disk : MemDisk). (m : Machine) (w : Plain) → PlaysMachine core m → HasWriter m w
+    → IfSome w.tape (λ tape. LeftAt tape (length tape.calls) (first_image disk)))
+    (λ disk left m w k has. subst
+    (λ (x : Plain). IfSome x.tape (λ tape. LeftAt tape (length tape.calls) (first_image disk)))
+    (sym (writer_is_core's core m k w has)) left) c.crash.ensures.left
+
+pub returns-clause-picked : goal.returns-clause-picked
+returns-clause-picked c =
+    let core = core_of c.args.self.now in
+    let plain = (state_of c.args.self.now.writer).plain in
+    if_ok c.crash.result
+    (λ (disk : MemDisk). IfSome plain.tape (λ tape.
+    IsPicked (choice_of c.args.pick) (state_at tape plain.moment) (first_image disk)))
+    (λ (disk : MemDisk). (m : Machine) (w : Plain) → PlaysMachine core m → HasWriter m w
+    → IfSome w.tape (λ tape.
+    IsPicked (choice_of c.args.pick) (state_now tape) (first_image disk)))
+    (λ disk picked m w k has. subst
+    (λ (x : Plain). IfSome x.tape (λ tape.
+    IsPicked (choice_of c.args.pick) (state_now tape) (first_image disk)))
+    (sym (writer_is_core's core m k w has))
+    (subst (λ (calls : List Call). IsPicked (choice_of c.args.pick)
+    (after_calls (first_state c.args.self.now.writer.disk.first.items) calls) (first_image disk))
+    (take_all (length c.args.self.now.writer.disk.calls.made.items)
+    c.args.self.now.writer.disk.calls.made.items (omega arith)) picked)) c.crash.ensures.picked

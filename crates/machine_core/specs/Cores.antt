@@ -1,0 +1,96 @@
+-- A core as plain data, and the machine as which it begins.
+use Rattle.std.specs.Prelude.{◌≡◌, ◌⊎◌, ℕ, ◌+◌, false, List, [], ◌∷◌, length, slice_get, Some}
+use mathlib.Core.Option.{some}
+use Rattle.segment_disk.specs.Tape.{empty_state}
+use Rattle.wal_core.specs.declared.setup.Setup.{Setup}
+use Rattle.wal_core.specs.Words.{Opening}
+use Rattle.wal_core.specs.Opened.{AreFirstWords, IsFirstWriter}
+use Rattle.wal_core.specs.Views.{HasAt, Lent, Out, Plain, View}
+use Rattle.wal_turns.specs.Begun.{first_machine}
+use Rattle.wal_turns.specs.Doing.{Ask, Machine}
+use Rattle.machine_turns.specs.declared.lane.Lane.{Lane}
+use Rattle.machine_turns.specs.declared.script.Line.{Line}
+use Rattle.machine_turns.specs.declared.view.Flight.TheVariants.{Landed}
+use Rattle.machine_turns.specs.declared.view.Hold.TheVariants.{Idle}
+use Rattle.machine_turns.specs.declared.view.Place.TheVariants.{Free}
+use Rattle.machine_turns.specs.declared.view.Stage.TheVariants.{Away}
+use Rattle.machine_turns.specs.declared.view.PlainView.{PlainView}
+use Rattle.machine_turns.specs.Lanes.{start_of_line}
+use Rattle.machine_turns.specs.Scripts.{rooms_of_lines}
+use Rattle.machine_turns.specs.Writer.{HasCallRoom, state_of}
+use Rattle.machine_core.specs.declared.machine.Core.{Core}
+use Rattle.machine_core.specs.Playing.{CoreState, PlaysMachine}
+
+-- a core's plain data
+abbrev pub core_of : Core → CoreState
+core_of core = record {
+  setup = core.shape;
+  words = core.words;
+  writer = state_of core.writer;
+  lanes = core.lanes.items;
+  full = core.full;
+}
+
+-- a core's writer keeps to its disk, and its plain data are those of some machine that runs
+abbrev pub IsPlayed : Core → Type 0
+IsPlayed core = HasCallRoom core.writer × ((m : Machine) × PlaysMachine (core_of core) m)
+
+-- ---- how a core begins
+
+-- nothing was found, on a disk that counted nothing
+abbrev pub first_opening : Setup → Opening
+first_opening setup = record { setup = setup; found = []; moment = 0; faults = 0 }
+
+-- a backend with these lines, whose pass has this number, is about nothing
+abbrev pub first_plain_view : (size number : ℕ) → PlainView
+first_plain_view size number = record {
+  number = number;
+  place = Free;
+  seen = 0;
+  last_end = size;
+  flight = Landed;
+  watching = record { end = 0; visited = 0; bound = 0 };
+  stage = Away;
+  hold = Idle;
+}
+
+abbrev pub first_lane : (size number : ℕ) → List Line → Lane
+first_lane size number script = record {
+  view = first_plain_view size number;
+  script = script;
+  copied = 0;
+  answered = 0;
+  doing = start_of_line (slice_get script 0);
+}
+
+-- one for each script, from a pass's number on
+abbrev pub first_lanes : (size number : ℕ) → List (List Line) → List Lane
+first_lanes size number [] = []
+first_lanes size number (script ∷ scripts) =
+    first_lane size number script ∷ first_lanes size (number + 1) scripts
+
+-- how many bytes the records of all scripts take up
+abbrev pub rooms_of_scripts : List (List Line) → ℕ
+rooms_of_scripts [] = 0
+rooms_of_scripts (script ∷ scripts) = rooms_of_lines script + rooms_of_scripts scripts
+
+-- the machine as which plain data begin, where their scripts ask for these lines
+abbrev pub machine_begun : CoreState → List (List Ask) → Machine
+machine_begun core asks = first_machine (first_opening core.setup) (core.words).words
+    (core.writer).plain (core.writer).failing asks
+
+-- the log holds nothing, and nor does the disk
+pub record HasBegun (setup : Setup) (failing : List ℕ) (core : CoreState) : Type 0 where
+  pub setup_is : core.setup ≡ setup
+  pub words : AreFirstWords (first_opening setup) (core.words).words
+  pub writer : IsFirstWriter (first_opening setup) (core.writer).plain
+  pub tape : ((core.writer).plain).tape
+      ≡ Rattle.std.specs.Prelude.Some (record { at_first = empty_state; calls = [] })
+  pub failing_is : (core.writer).failing ≡ failing
+
+-- ---- the disk
+
+-- this is the machine's writer, at home or in a view's hand
+abbrev pub HasWriter : Machine → Plain → Type 0
+HasWriter m w = ((m.state).home ≡ some w) ⊎ ((id : ℕ) × (v : View) × (l : Lent)
+    × HasAt (m.state).views id v × ((v.writing).hold ≡ Out l) × (l.writer ≡ w))

@@ -1,0 +1,5 @@
+pub mod PlainData
+pub mod Lines
+pub mod Playing
+pub mod Following
+pub mod Cores

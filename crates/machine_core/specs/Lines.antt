@@ -1,0 +1,53 @@
+-- Lines with their records assembled, and what they ask for.
+use Rattle.std.specs.Prelude.{◌≡◌, ℕ, List, [], ◌∷◌, slice_get, Some}
+use Rattle.wal_types.specs.declared.record.Record.{Record}
+use Rattle.record_spelling.specs.Spelling.{Assembled, IsWritable, assembled}
+use Rattle.wal_turns.specs.Doing.{Ask, Inserts, Commits, Flushes}
+use Rattle.machine_turns.specs.declared.script.Line.{Line}
+use Rattle.machine_turns.specs.declared.script.Line.TheVariants.{Insert, Commit, Flush}
+
+-- a record that can be written, assembled
+abbrev pub IsBody : Record → Assembled → Type 0
+IsBody value body = (body ≡ assembled value) × IsWritable value
+
+-- a line does what is asked for
+abbrev pub IsLineFor : Ask → Line → Type 0
+IsLineFor (Inserts value) (Insert body) = IsBody value body
+IsLineFor (Inserts value) (Commit body) = ⊥
+IsLineFor (Inserts value) Flush = ⊥
+IsLineFor (Commits value) (Insert body) = ⊥
+IsLineFor (Commits value) (Commit body) = IsBody value body
+IsLineFor (Commits value) Flush = ⊥
+IsLineFor Flushes (Insert body) = ⊥
+IsLineFor Flushes (Commit body) = ⊥
+IsLineFor Flushes Flush = Unit {0}
+
+-- something is asked for that a line does
+abbrev pub IsAsked : Line → Type 0
+IsAsked line = (ask : Ask) × IsLineFor ask line
+
+-- each does, in order
+abbrev pub AreLinesFor : List Ask → List Line → Type 0
+AreLinesFor [] [] = Unit {0}
+AreLinesFor [] (line ∷ lines) = ⊥
+AreLinesFor (ask ∷ asks) [] = ⊥
+AreLinesFor (ask ∷ asks) (line ∷ lines) = IsLineFor ask line × AreLinesFor asks lines
+
+-- and so for each backend
+abbrev pub AreScriptsFor : List (List Ask) → List (List Line) → Type 0
+AreScriptsFor [] [] = Unit {0}
+AreScriptsFor [] (lines ∷ scripts) = ⊥
+AreScriptsFor (asks ∷ others) [] = ⊥
+AreScriptsFor (asks ∷ others) (lines ∷ scripts) =
+    AreLinesFor asks lines × AreScriptsFor others scripts
+
+-- a line inserts this record
+abbrev pub InsertsRecord : Record → Line → Type 0
+InsertsRecord value (Insert body) = IsBody value body
+InsertsRecord value (Commit body) = IsBody value body
+InsertsRecord value Flush = ⊥
+
+-- the line with this number does
+abbrev pub HasRecord : List Line → ℕ → Record → Type 0
+HasRecord script number value =
+    (line : Line) × (slice_get script number ≡ Some line) × InsertsRecord value line

@@ -1,0 +1,100 @@
+//! What a core begins with.
+
+ghost use Rattle.std.specs.Prelude.{◌≡◌, ◌+◌, ◌<◌, ◌≤◌, ◌^◌, All, IfOk, min, length};
+ghost use Rattle.byte_position.specs.Position.{end_address_of};
+ghost use Rattle.wal_core.specs.Words.{log_limit, log_start};
+ghost use Rattle.machine_turns.specs.Scripts.{rooms_of_lines};
+ghost use Rattle.machine_core.specs.Cores.{first_lane, first_lanes, first_plain_view, rooms_of_scripts};
+ghost use Rattle.machine_core.specs.Lines.{IsAsked};
+
+use machine_turns::{
+    Doing, Flight, Hold, Lane, Line, LogShape, Place, PlainView, Script, Stage, Watching,
+};
+use std::alloc::{AllocError, Global};
+
+/// A lane for each script, whose passes have the numbers from 1 on.
+pub(crate) fn lanes_of(
+    alloc: Global,
+    shape: &LogShape,
+    scripts: Vec<Script>,
+) -> Result<Vec<Lane>, AllocError>
+    requires few { length scripts.items < 65536 }
+    ensures { IfOk result (λ lanes. lanes.items
+        ≡ first_lanes shape.now.segment_size 1 scripts.items) }
+{
+    let mut lanes = Vec::with_capacity(alloc, scripts.len())?;
+    let mut number = 1;
+    for script in scripts {
+        lanes.push(first_lane(shape, number, script))?;
+        number += 1;
+    }
+    Ok(lanes)
+}
+
+// A backend that is about nothing, at its first line.
+fn first_lane(shape: &LogShape, number: u32, script: Script) -> Lane
+    ensures { result ≡ first_lane shape.now.segment_size number script }
+{
+    let doing = match script.lines().first() {
+        Some(Line::Flush) => Doing::FlushBegins,
+        _ => Doing::Begins,
+    };
+    Lane {
+        view: first_view(shape, number),
+        script,
+        copied: 0,
+        answered: 0,
+        doing,
+    }
+}
+
+fn first_view(shape: &LogShape, number: u32) -> PlainView
+    ensures { result ≡ first_plain_view shape.now.segment_size number }
+{
+    PlainView {
+        number,
+        place: Place::Free,
+        seen: 0,
+        last_end: shape.geometry().segment_size(),
+        flight: Flight::Landed,
+        watching: Watching {
+            end: 0,
+            visited: 0,
+            bound: 0,
+        },
+        stage: Stage::Away,
+        hold: Hold::Idle,
+    }
+}
+
+/// The address that the log will not pass: where it ends once the records of all scripts are
+/// written, or where it is full.
+pub(crate) fn log_end(shape: &LogShape, scripts: &[Script]) -> u64
+    ensures end { result ≡ end_address_of shape.now.segment_size
+        (min (log_start shape.now + rooms_of_scripts scripts.now) (log_limit shape.now)) }
+    ensures low { result < 2 ^ 45 }
+    ensures begun { shape.now.segment_size ≤ result }
+    // Each record was assembled of one that can be written.
+    ensures asked { All (All IsAsked) scripts.now }
+{
+    let limit = shape.limit();
+    let mut position = shape.start();
+    for script in scripts {
+        position = after_lines(position, script.lines(), limit);
+    }
+    shape.geometry().to_end_lsn(position).0
+}
+
+// The byte position behind the records of some lines, at most where the log is full.
+fn after_lines(position: u64, lines: &[Line], limit: u64) -> u64
+    requires within { position ≤ limit }
+    requires low { limit < 2 ^ 43 }
+    ensures position { result ≡ min (position + rooms_of_lines lines.now) limit }
+    ensures asked { All IsAsked lines.now }
+{
+    let mut position = position;
+    for line in lines {
+        position = (position + line.room()).min(limit);
+    }
+    position
+}

@@ -1,0 +1,12 @@
+//! The machine of many backends, played turn by turn over plain data (the replay of a schedule).
+#![tactic(auto)]
+
+mod beginning;
+pub mod laws;
+mod machine;
+
+pub use machine::{Core, CoreErr};
+pub use machine_turns::{
+    Doing, Event, Flight, Hold, Line, Place, PlainView, Purpose, Script, Stage, Turn, Watching,
+};
+pub use machine_words::Word;

@@ -1,0 +1,165 @@
+//! The turns of a flush but for those with the writer in hand (PostgreSQL's xlog.c, XLogFlush,
+//! WaitXLogInsertionsToFinish).
+
+ghost use Rattle.std.specs.Prelude.{◌≡◌, ◌<◌, ◌^◌};
+ghost use Rattle.machine_turns.specs.Left.{Leaves};
+ghost use Rattle.machine_turns.specs.Flushing.{at_flush_begins, at_gives_write_turn, at_loads_down, at_loads_flushed, at_loads_moment, at_loads_position, at_puts_back, at_takes_turn, at_visits, behind_writing, seen_too};
+
+use crate::doing::{Doing, Made, Next, Purpose};
+use crate::event::Event;
+use crate::insert::LOCKS;
+use crate::shape::LogShape;
+use crate::view::{Hold, PlainView};
+use machine_words::{MachineWords, Word};
+use wal_types::Lsn;
+
+impl PlainView {
+    // A byte position is seen reserved.
+    pub(crate) fn see(&mut self, position: u64)
+        ensures { self.new ≡ seen_too position self.old }
+    {
+        self.seen = self.seen.max(position);
+    }
+
+    pub(crate) fn flush_begins(&self, shape: &LogShape, words: &MachineWords) -> Made
+        ensures { Leaves result self.now words.now words.now
+            (at_flush_begins shape.now words.now.words self.now) }
+    {
+        Made::then(Event::LoadDown, Doing::LoadsPosition)
+    }
+
+    pub(crate) fn loads_position(&mut self, shape: &LogShape, words: &MachineWords) -> Made
+        ensures { Leaves result self.new words.now words.now
+            (at_loads_position shape.now words.now.words self.old) }
+    {
+        let met = words.get(Word::Position);
+        // Without the lock bit.
+        self.see(met - met % 2);
+        Made::then(Event::LoadPosition, Doing::LoadsFlushed)
+    }
+
+    pub(crate) fn loads_flushed(&mut self, shape: &LogShape, words: &MachineWords) -> Made
+        ensures { Leaves result self.new words.now words.now
+            (at_loads_flushed shape.now words.now.words self.old) }
+    {
+        let met = words.get(Word::Flushed);
+        self.see(shape.geometry().position_of(Lsn(met)));
+        let next = if self.last_end <= met {
+            Doing::LoadsMoment
+        } else {
+            Doing::Visits {
+                purpose: Purpose::Line,
+                lock: 0,
+            }
+        };
+        Made::then(Event::LoadFlushed, next)
+    }
+
+    pub(crate) fn loads_moment(&self, shape: &LogShape, words: &MachineWords) -> Made
+        ensures { Leaves result self.now words.now words.now
+            (at_loads_moment shape.now words.now.words self.now) }
+    {
+        Made {
+            event: Event::LoadMoment,
+            next: Next::Answers { full: false },
+        }
+    }
+
+    pub(crate) fn visits(
+        &mut self,
+        shape: &LogShape,
+        words: &MachineWords,
+        purpose: Purpose,
+        lock: u32,
+    ) -> Made
+        requires lock { lock < 8 }
+        requires seen { self.old.seen < 2 ^ 60 }
+        ensures { Leaves result self.new words.now words.now
+            (at_visits shape.now words.now.words self.old purpose lock) }
+    {
+        let met = words.get(Word::Lock(lock));
+        let end = shape.geometry().to_end_lsn(self.seen).0;
+        self.watch(lock, end, met);
+        let next = if lock + 1 == LOCKS {
+            Doing::TakesTurn { purpose }
+        } else {
+            Doing::Visits {
+                purpose,
+                lock: lock + 1,
+            }
+        };
+        Made::then(Event::LoadLock { lock }, next)
+    }
+
+    pub(crate) fn takes_turn(
+        &mut self,
+        shape: &LogShape,
+        words: &mut MachineWords,
+        purpose: Purpose,
+    ) -> Made
+        requires { self.old.number < 65536 }
+        ensures { Leaves result self.new words.old words.new
+            (at_takes_turn shape.now words.old.words self.old purpose) }
+    {
+        words.set(Word::WriteTurn, u64::from(self.number) + 1);
+        self.hold = Hold::Turned;
+        Made::then(Event::TakeWriteTurn, Doing::LoadsDown { purpose })
+    }
+
+    pub(crate) fn loads_down(
+        &self,
+        shape: &LogShape,
+        words: &MachineWords,
+        purpose: Purpose,
+    ) -> Made
+        ensures { Leaves result self.now words.now words.now
+            (at_loads_down shape.now words.now.words self.now purpose) }
+    {
+        Made::then(Event::LoadDown, Doing::TakesOut { purpose })
+    }
+
+    pub(crate) fn puts_back(
+        &mut self,
+        shape: &LogShape,
+        words: &MachineWords,
+        purpose: Purpose,
+        failed: bool,
+    ) -> Made
+        ensures { Leaves result self.new words.now words.now
+            (at_puts_back shape.now words.now.words self.old purpose failed) }
+    {
+        self.hold = Hold::Turned;
+        Made::then(
+            Event::PutWriterBack,
+            Doing::GivesWriteTurn { purpose, failed },
+        )
+    }
+
+    pub(crate) fn gives_write_turn(
+        &mut self,
+        shape: &LogShape,
+        words: &mut MachineWords,
+        purpose: Purpose,
+        failed: bool,
+    ) -> Made
+        ensures { Leaves result self.new words.old words.new
+            (at_gives_write_turn shape.now words.old.words self.old purpose failed) }
+    {
+        words.set(Word::WriteTurn, 0);
+        self.hold = Hold::Idle;
+        Made {
+            event: Event::ReleaseWriteTurn,
+            next: behind_writing(purpose, failed),
+        }
+    }
+}
+
+// Behind the writing the line is answered, or an insert goes on with its page.
+fn behind_writing(purpose: Purpose, failed: bool) -> Next
+    ensures { result ≡ behind_writing purpose failed }
+{
+    match purpose {
+        Purpose::Page { lock, .. } if !failed => Next::GoesOn(Doing::Looks { lock }),
+        _ => Next::Answers { full: false },
+    }
+}

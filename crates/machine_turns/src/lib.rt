@@ -1,0 +1,23 @@
+//! A backend's turns on plain data: what each place of the order of steps makes of the words, the
+//! writer and the backend's own view, without a copy of any of them.
+#![tactic(auto)]
+
+mod doing;
+mod event;
+mod flush;
+mod insert;
+mod lane;
+mod mapping;
+mod script;
+mod shape;
+mod view;
+mod writer;
+mod writing;
+
+pub use doing::{Doing, Made, Next, Purpose};
+pub use event::{Event, Turn};
+pub use lane::Lane;
+pub use script::{Line, Script};
+pub use shape::LogShape;
+pub use view::{Flight, Hold, Place, PlainView, Stage, Watching};
+pub use writer::MachineWriter;

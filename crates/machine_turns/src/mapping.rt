@@ -1,0 +1,167 @@
+//! The turns that map a page, and those before pages are written for it (PostgreSQL's xlog.c,
+//! AdvanceXLInsertBuffer).
+
+ghost use Rattle.std.specs.Prelude.{◌≡◌, ◌+◌, ◌*◌, ◌/◌, ◌%◌, ◌<◌, ◌≤◌, ◌^◌, slice_index};
+ghost use Rattle.machine_turns.specs.Left.{Leaves, next_in};
+ghost use Rattle.machine_turns.specs.Mapping.{at_gives_turn, at_maps, at_tells, behind_turn, behind_written};
+ghost use Rattle.machine_turns.specs.Lanes.{IsLowStage};
+
+use crate::doing::{Doing, Made, Purpose};
+use crate::event::Event;
+use crate::shape::LogShape;
+use crate::view::{PlainView, Stage};
+use byte_position::PAGE_SIZE;
+use machine_words::{MachineWords, Word};
+
+const PAGE_WORDS: u32 = 1024;
+
+impl PlainView {
+    pub(crate) fn maps(&mut self, shape: &LogShape, words: &mut MachineWords, lock: u32) -> Made
+        requires pages { words.old.pages ≡ shape.now.ring_pages }
+        requires number { self.old.number < 65536 }
+        requires stage { IsLowStage self.old.stage }
+        requires next { next_in self.old.flight < 2 ^ 60 }
+        requires written { slice_index words.old.words 13 < 2 ^ 60 }
+        ensures { Leaves result self.new words.old words.new
+            (at_maps shape.now words.old.words self.old lock) }
+    {
+        match self.stage {
+            Stage::Away => {
+                words.set(Word::MappingTurn, u64::from(self.number) + 1);
+                self.stage = Stage::Taken;
+                Made::then(Event::TakeMappingTurn, Doing::Maps { lock })
+            }
+            Stage::Taken => {
+                let at = words.get(Word::InitialisedEnd);
+                self.stage = Stage::Looked { at };
+                Made::then(Event::LoadInitialisedEnd, Doing::Maps { lock })
+            }
+            Stage::Looked { at } => {
+                let written = words.get(Word::Written);
+                self.stage = Stage::Ready { at };
+                Made::then(
+                    Event::LoadWritten,
+                    self.behind_written(shape, lock, at, written),
+                )
+            }
+            Stage::Ready { at } => {
+                words.set(Word::BufferEnd(buffer_at(shape, at)), 0);
+                self.stage = Stage::Zeroing { at, count: 0 };
+                Made::then(Event::ClearEnd, Doing::Maps { lock })
+            }
+            Stage::Zeroing { at, count } => self.zeroes(shape, words, lock, at, count),
+            Stage::Published { at } => {
+                words.set(Word::InitialisedEnd, at + PAGE_SIZE);
+                self.stage = Stage::Taken;
+                let next = Doing::GivesTurn { lock, end: None };
+                Made::then(Event::PublishInitialisedEnd, next)
+            }
+        }
+    }
+
+    // The page's next word is zeroed; behind the last one its end is published.
+    fn zeroes(
+        &mut self,
+        shape: &LogShape,
+        words: &mut MachineWords,
+        lock: u32,
+        at: u64,
+        count: u32,
+    ) -> Made
+        requires pages { words.old.pages ≡ shape.now.ring_pages }
+        requires stage { self.old.stage ≡ Stage.Zeroing at count }
+        requires low { at < 2 ^ 60 }
+        requires few { count ≤ 1024 }
+        ensures { Leaves result self.new words.old words.new
+            (at_maps shape.now words.old.words self.old lock) }
+    {
+        let buffer = buffer_at(shape, at);
+        if count < PAGE_WORDS {
+            words.set(Word::Ring(buffer * PAGE_WORDS + count), 0);
+            self.stage = Stage::Zeroing {
+                at,
+                count: count + 1,
+            };
+            return Made::then(Event::ZeroRingWord, Doing::Maps { lock });
+        }
+        words.set(Word::BufferEnd(buffer), at + PAGE_SIZE);
+        self.stage = Stage::Published { at };
+        Made::then(Event::PublishEnd, Doing::Maps { lock })
+    }
+
+    // The page at an address is to be mapped, and so far the log is written.
+    fn behind_written(&self, shape: &LogShape, lock: u32, at: u64, written: u64) -> Doing
+        requires at { at < 2 ^ 60 }
+        requires written { written < 2 ^ 60 }
+        requires next { next_in self.now.flight < 2 ^ 60 }
+        ensures { result ≡ behind_written shape.now self.now lock at written }
+    {
+        let ring = u64::from(shape.ring_pages()) * PAGE_SIZE;
+        if self.page_end() <= at {
+            Doing::GivesTurn { lock, end: None }
+        } else if written + ring < at + PAGE_SIZE {
+            Doing::GivesTurn {
+                lock,
+                end: Some(at + PAGE_SIZE - ring),
+            }
+        } else {
+            Doing::Maps { lock }
+        }
+    }
+
+    pub(crate) fn gives_turn(
+        &mut self,
+        shape: &LogShape,
+        words: &mut MachineWords,
+        lock: u32,
+        end: Option<u64>,
+    ) -> Made
+        ensures { Leaves result self.new words.old words.new
+            (at_gives_turn shape.now words.old.words self.old lock end) }
+    {
+        words.set(Word::MappingTurn, 0);
+        self.stage = Stage::Away;
+        Made::then(Event::ReleaseMappingTurn, behind_turn(lock, end))
+    }
+
+    // All below the next word to copy is copied.
+    pub(crate) fn tells(
+        &self,
+        shape: &LogShape,
+        words: &mut MachineWords,
+        lock: u32,
+        end: u64,
+    ) -> Made
+        requires lock { lock < 8 }
+        requires next { next_in self.now.flight < 2 ^ 60 }
+        ensures { Leaves result self.now words.old words.new
+            (at_tells shape.now words.old.words self.now lock end) }
+    {
+        let upto = self.flight.next();
+        words.set(Word::Lock(lock), upto + 1);
+        let purpose = Purpose::Page { lock, end };
+        Made::then(
+            Event::Advance { lock, upto },
+            Doing::Visits { purpose, lock: 0 },
+        )
+    }
+}
+
+// The buffer of the page at an address.
+fn buffer_at(shape: &LogShape, at: u64) -> u32
+    ensures value { result ≡ at / 8192 % shape.now.ring_pages }
+    ensures within { result < shape.now.ring_pages }
+    ensures low { result < 64 }
+{
+    (at / PAGE_SIZE % u64::from(shape.ring_pages())) as u32
+}
+
+// What comes behind the turn to map a page.
+fn behind_turn(lock: u32, end: Option<u64>) -> Doing
+    ensures { result ≡ behind_turn lock end }
+{
+    match end {
+        None => Doing::Looks { lock },
+        Some(end) => Doing::Tells { lock, end },
+    }
+}

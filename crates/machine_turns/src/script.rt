@@ -1,0 +1,81 @@
+//! What backends are to do.
+
+ghost use Rattle.std.specs.Prelude.{◌≡◌, ◌≤◌, IfSome, option_map};
+ghost use Rattle.record_spelling.specs.Spelling.{RecordOf};
+ghost use Rattle.machine_turns.specs.Lanes.{is_commit};
+ghost use Rattle.machine_turns.specs.Scripts.{body_of, room_of_line};
+
+use record_spelling::Body;
+use std::marker::Model;
+
+/// What a line asks for, with its record assembled.
+#[derive(Debug, Drop)]
+pub enum Line {
+    /// Insert this record.
+    Insert(Body),
+    /// Insert this commit's record, then flush to its end.
+    Commit(Body),
+    /// Flush to the end of the backend's last record, or to the log's start where it has none.
+    Flush,
+}
+
+impl Line {
+    /// The record that it inserts.
+    pub(crate) fn body(&self) -> Option<&Body>
+        ensures { option_map (λ body. body.now) result ≡ body_of self.now }
+    {
+        match self {
+            Line::Insert(body) | Line::Commit(body) => Some(body),
+            Line::Flush => None,
+        }
+    }
+
+    /// Whether it is a commit's.
+    pub(crate) fn is_commit(&self) -> bool
+        ensures { result ≡ is_commit self.now }
+    {
+        matches!(self, Line::Commit(_))
+    }
+
+    /// How many bytes of the log its record takes up; 0 where it inserts none.
+    pub fn room(&self) -> u64
+        ensures room { result ≡ room_of_line self.now }
+        ensures most { result ≤ 1048576 }
+        // Its record was assembled of one that can be written.
+        ensures known { IfSome (body_of self.now) RecordOf }
+    {
+        match self {
+            Line::Insert(body) | Line::Commit(body) => u64::from(body.room()),
+            Line::Flush => 0,
+        }
+    }
+}
+
+/// The lines of one backend, in order; contracts see the list of them.
+#[derive(Debug, Drop)]
+pub struct Script {
+    lines: Vec<Line>,
+}
+
+impl Model for Script {
+    ghost use Rattle.std.specs.Prelude.{List};
+    ghost use Rattle.machine_turns.specs.declared.script.Line.{Line};
+
+    ghost Value = { List Line };
+
+    ghost view = { λ s. s.lines.items };
+}
+
+impl Script {
+    pub fn of(lines: Vec<Line>) -> Script
+        ensures { result ≡ lines.items }
+    {
+        Script { lines }
+    }
+
+    pub fn lines(&self) -> &[Line]
+        ensures { result.now ≡ self.now }
+    {
+        &self.lines
+    }
+}

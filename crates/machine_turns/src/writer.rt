@@ -1,0 +1,219 @@
+//! The machine's writer: what is written of the log, on a disk in memory.
+
+ghost use Rattle.std.specs.Prelude.{◌≡◌, ◌+◌, ◌-◌, ◌*◌, ◌/◌, ◌<◌, ◌≤◌, ◌^◌, [], IfOk, IfSome, Some};
+ghost use Rattle.segment_disk.specs.First.{first_state};
+ghost use Rattle.segment_disk.specs.MemDisk.{first_image, tape_of};
+ghost use Rattle.segment_disk.specs.DiskImage.{LeftAt};
+ghost use Rattle.segment_disk.specs.Picks.{IsPicked, choice_of};
+ghost use Rattle.segment_disk.specs.Tape.{state_at};
+ghost use Rattle.machine_turns.specs.Writer.{IsCreateDue, IsFreshWriter, HasCallRoom, IsSyncDue, IsWriteDue, created, maybe, page_at, page_written, segment_at, state_of, succeeds, synced, with_word};
+ghost use Rattle.machine_turns.specs.Writing.{segment_waiting};
+
+use crate::shape::LogShape;
+use byte_position::{Geometry, PAGE_SIZE};
+use segment_disk::{Disk, MemDisk, Memory, Pick};
+use std::alloc::Global;
+
+const WORD: usize = 8;
+
+/// What is written of a log, on a disk in memory that has room for all calls which the log can
+/// need, and the page that is loaded for a write (PostgreSQL's xlog.c, XLogWrite).
+///
+/// `end` is the address that the log will not pass. Each write raises the written address, and at
+/// most one sync follows it: so there are at most two calls for each byte of the log, and one for
+/// each segment.
+#[derive(Drop)]
+pub struct MachineWriter {
+    disk: MemDisk,
+    geometry: Geometry,
+    end: u64,
+    written: u64,
+    made: u64,
+    waiting: Option<u64>,
+    fault: Option<u64>,
+    page: [u8; 8192],
+}
+
+impl MachineWriter {
+    /// A writer of a log that holds nothing yet. `fail` lists the counted calls that fail, by their
+    /// numbers from 1.
+    pub fn new(
+        alloc: Global,
+        shape: &LogShape,
+        end: u64,
+        fail: Vec<u64>,
+    ) -> Result<MachineWriter, Memory>
+        requires begun { shape.now.segment_size ≤ end }
+        requires low { end < 2 ^ 45 }
+        ensures first { IfOk result (λ w.
+            IsFreshWriter shape.now.segment_size end fail.items (state_of w)) }
+        ensures kept { IfOk result (λ w. HasCallRoom w) }
+    {
+        let geometry = shape.geometry();
+        let (segments, calls) = room_for(geometry, end)?;
+        Ok(MachineWriter {
+            disk: MemDisk::new(alloc, segments, calls, fail, Vec::new(alloc))?,
+            geometry,
+            end,
+            written: geometry.segment_size(),
+            made: 0,
+            waiting: None,
+            fault: None,
+            page: [0; 8192],
+        })
+    }
+
+    /// Up to where the log is written.
+    pub fn written(&self) -> u64
+        ensures { result ≡ (state_of self.now).plain.written }
+    {
+        self.written
+    }
+
+    /// The last segment made, 0 where none is.
+    pub fn made(&self) -> u64
+        ensures { result ≡ (state_of self.now).plain.made }
+    {
+        self.made
+    }
+
+    /// How many calls of the disk were counted.
+    pub fn moment(&self) -> u64
+        ensures { result ≡ (state_of self.now).plain.moment }
+    {
+        self.disk.moment()
+    }
+
+    /// The segment of which writes wait for a sync.
+    pub fn waiting(&self) -> Option<u64>
+        ensures { maybe result ≡ (state_of self.now).plain.waiting }
+    {
+        self.waiting
+    }
+
+    /// The same, 0 where no writes wait.
+    pub fn segment_waiting(&self) -> u64
+        ensures { result ≡ segment_waiting (state_of self.now).plain.waiting }
+    {
+        self.waiting.unwrap_or(0)
+    }
+
+    /// The disk's count of faults when it failed.
+    pub fn fault(&self) -> Option<u64>
+        ensures { maybe result ≡ (state_of self.now).plain.fault }
+    {
+        self.fault
+    }
+
+    /// The page under way, by its number from the log's address 0.
+    pub fn page(&self) -> u64
+        ensures { result ≡ page_at (state_of self.now) }
+    {
+        self.written / PAGE_SIZE
+    }
+
+    /// The segment of the page under way.
+    pub fn segment(&self) -> u64
+        ensures { result ≡ segment_at (state_of self.now) }
+    {
+        self.page() / u64::from(self.geometry.pages())
+    }
+
+    /// A word of the page under way is loaded.
+    pub fn load(&mut self, k: u32, word: u64)
+        requires few { k < 1024 }
+        requires kept { HasCallRoom self.old }
+        ensures writer { state_of self.new ≡ with_word (state_of self.old) k word }
+        ensures kept { HasCallRoom self.new }
+    {
+        let at = WORD * k as usize;
+        self.page[at..at + WORD].copy_from_slice(&word.to_le_bytes());
+    }
+
+    /// Makes the next segment. Answers whether the call succeeded.
+    pub fn create(&mut self) -> bool
+        requires due { IsCreateDue (state_of self.old) }
+        requires kept { HasCallRoom self.old }
+        ensures done { result ≡ succeeds (state_of self.old) }
+        ensures writer { state_of self.new ≡ created (state_of self.old) }
+        ensures kept { HasCallRoom self.new }
+    {
+        let segment = self.made + 1;
+        let done = self.disk.create(self.geometry, segment).is_ok();
+        if done {
+            self.made = segment;
+        } else {
+            self.fault = Some(self.disk.faults());
+        }
+        done
+    }
+
+    /// Writes the page that is loaded, which is whole up to an address. Answers whether the call
+    /// succeeded.
+    pub fn write_page(&mut self, upto: u64) -> bool
+        requires due { IsWriteDue (state_of self.old) upto }
+        requires kept { HasCallRoom self.old }
+        ensures done { result ≡ succeeds (state_of self.old) }
+        ensures writer { state_of self.new ≡ page_written (state_of self.old) upto }
+        ensures kept { HasCallRoom self.new }
+    {
+        let segment = self.segment();
+        let page = (self.page() % u64::from(self.geometry.pages())) as u32;
+        let done = self
+            .disk
+            .write_page(self.geometry, segment, page, &self.page)
+            .is_ok();
+        self.waiting = Some(segment);
+        if done {
+            self.written = upto;
+        } else {
+            self.fault = Some(self.disk.faults());
+        }
+        done
+    }
+
+    /// Syncs the segment of which writes wait for it. Answers whether the call succeeded.
+    pub fn sync(&mut self, segment: u64) -> bool
+        requires due { IsSyncDue (state_of self.old) segment }
+        requires kept { HasCallRoom self.old }
+        ensures done { result ≡ succeeds (state_of self.old) }
+        ensures writer { state_of self.new ≡ synced (state_of self.old) segment }
+        ensures kept { HasCallRoom self.new }
+    {
+        let done = self.disk.sync(self.geometry, segment).is_ok();
+        if done {
+            self.waiting = None;
+        } else {
+            self.fault = Some(self.disk.faults());
+        }
+        done
+    }
+
+    /// The disk that a crash leaves now, with the words that the pick says.
+    pub fn crash(&self, alloc: Global, pick: Pick) -> Result<MemDisk, Memory>
+        ensures left { IfOk result (λ disk. IfSome (state_of self.now).plain.tape (λ tape.
+            LeftAt tape (state_of self.now).plain.moment (first_image disk))) }
+        ensures picked { IfOk result (λ disk. IfSome (state_of self.now).plain.tape (λ tape.
+            IsPicked (choice_of pick) (state_at tape (state_of self.now).plain.moment)
+            (first_image disk))) }
+        ensures tape { IfOk result (λ disk. tape_of disk
+            ≡ Some (record { at_first = first_state disk.first.items; calls = [] })) }
+    {
+        self.disk.crash(alloc, self.disk.moment(), pick)
+    }
+}
+
+// How many segments and calls a log can need that does not pass this address.
+fn room_for(geometry: Geometry, end: u64) -> Result<(u32, u32), Memory>
+    requires begun { geometry ≤ end }
+    requires low { end < 2 ^ 45 }
+    ensures segments { IfOk result (λ room. end ≤ geometry * (room.0 + 1)) }
+    ensures calls { IfOk result (λ room. room.0 + 2 * (end - geometry) ≤ room.1) }
+{
+    let segments = end / geometry.segment_size();
+    let calls = segments + 2 * (end - geometry.segment_size());
+    if calls > u64::from(u32::MAX) {
+        return Err(Memory);
+    }
+    Ok((segments as u32, calls as u32))
+}

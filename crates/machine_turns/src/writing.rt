@@ -1,0 +1,285 @@
+//! The turns with the writer in hand: page by page the words are loaded, the segment is made where
+//! it is new, the page is written, and a segment that is full is synced (PostgreSQL's xlog.c,
+//! XLogWrite).
+
+ghost use Rattle.std.specs.Prelude.{◌≡◌, ◌<◌, if◌then◌else◌};
+ghost use Rattle.machine_turns.specs.Left.{Leaves};
+ghost use Rattle.machine_turns.specs.Writer.{IsCreateDue, HasCallRoom, IsSyncDue, IsWriteDue, created, page_written, state_of, synced};
+ghost use Rattle.machine_turns.specs.Writing.{at_creates, at_loads_page, at_sets_down, at_stores_flushed, at_stores_moment, at_stores_written, at_syncs_full, at_syncs_last, at_takes_out, at_writes, known_in, page_or_end, segment_waiting, upto_next, writer_at_loads_page};
+
+use crate::doing::{Doing, Made, Purpose};
+use crate::event::Event;
+use crate::insert::{LOCKS, ring_place};
+use crate::shape::LogShape;
+use crate::view::{Hold, PlainView};
+use crate::writer::MachineWriter;
+use byte_position::PAGE_SIZE;
+use machine_words::{MachineWords, Word};
+use wal_types::Lsn;
+
+const PAGE_WORDS: u64 = 1024;
+
+impl Hold {
+    // Below this address all is known to be copied.
+    fn known(&self) -> u64
+        ensures { result ≡ known_in self.now }
+    {
+        match *self {
+            Hold::Out { known } => known,
+            Hold::Idle | Hold::Turned => 0,
+        }
+    }
+}
+
+impl PlainView {
+    pub(crate) fn takes_out(
+        &mut self,
+        shape: &LogShape,
+        words: &MachineWords,
+        writer: &MachineWriter,
+        purpose: Purpose,
+    ) -> Made
+        ensures { Leaves result self.new words.now words.now
+            (at_takes_out shape.now words.now.words self.old (state_of writer.now) purpose) }
+    {
+        let known = if self.watching.visited == LOCKS {
+            self.watching.bound
+        } else {
+            0
+        };
+        self.hold = Hold::Out { known };
+        Made::then(Event::TakeWriterOut, page_or_end(purpose, known, writer))
+    }
+
+    pub(crate) fn loads_page(
+        &self,
+        shape: &LogShape,
+        words: &MachineWords,
+        writer: &mut MachineWriter,
+        purpose: Purpose,
+        loaded: u32,
+    ) -> Made
+        requires pages { words.now.pages ≡ shape.now.ring_pages }
+        requires loaded { loaded < 1024 }
+        requires kept { HasCallRoom writer.old }
+        ensures left { Leaves result self.now words.now words.now
+            (at_loads_page shape.now words.now.words self.now (state_of writer.old) purpose
+            loaded) }
+        ensures writer { state_of writer.new ≡ writer_at_loads_page shape.now words.now.words
+            self.now (state_of writer.old) loaded }
+        ensures kept { HasCallRoom writer.new }
+    {
+        let number = writer.page() * PAGE_WORDS + u64::from(loaded);
+        let word = words.get(Word::Ring(ring_place(shape, number)));
+        writer.load(loaded, word);
+        let next = if u64::from(loaded) + 1 < PAGE_WORDS {
+            Doing::LoadsPage {
+                purpose,
+                loaded: loaded + 1,
+            }
+        } else if writer.made() < writer.segment() {
+            Doing::Creates { purpose }
+        } else {
+            Doing::Writes { purpose }
+        };
+        Made::then(Event::LoadRingWord { number }, next)
+    }
+
+    pub(crate) fn creates(
+        &self,
+        shape: &LogShape,
+        words: &MachineWords,
+        writer: &mut MachineWriter,
+        purpose: Purpose,
+    ) -> Made
+        requires due { IsCreateDue (state_of writer.old) }
+        requires kept { HasCallRoom writer.old }
+        ensures left { Leaves result self.now words.now words.now
+            (at_creates shape.now words.now.words self.now (state_of writer.old) purpose) }
+        ensures writer { state_of writer.new ≡ created (state_of writer.old) }
+        ensures kept { HasCallRoom writer.new }
+    {
+        let segment = writer.made() + 1;
+        let done = writer.create();
+        let next = behind_call(done, purpose, Doing::Writes { purpose });
+        Made::then(Event::Create { segment, done }, next)
+    }
+
+    pub(crate) fn writes(
+        &self,
+        shape: &LogShape,
+        words: &MachineWords,
+        writer: &mut MachineWriter,
+        purpose: Purpose,
+    ) -> Made
+        requires size { (state_of writer.old).size ≡ shape.now.segment_size }
+        requires due { IsWriteDue (state_of writer.old)
+            (upto_next shape.now words.now.words self.now (state_of writer.old)) }
+        requires kept { HasCallRoom writer.old }
+        ensures left { Leaves result self.now words.now words.now
+            (at_writes shape.now words.now.words self.now (state_of writer.old) purpose) }
+        ensures writer { state_of writer.new ≡ page_written (state_of writer.old)
+            (upto_next shape.now words.now.words self.now (state_of writer.old)) }
+        ensures kept { HasCallRoom writer.new }
+    {
+        let known = self.hold.known();
+        let segment = writer.segment();
+        let page = writer.page();
+        let upto = known.min(page * PAGE_SIZE + PAGE_SIZE);
+        let done = writer.write_page(upto);
+        let next = if upto % shape.geometry().segment_size() == 0 {
+            Doing::SyncsFull { purpose }
+        } else {
+            page_or_end(purpose, known, writer)
+        };
+        let event = Event::Write {
+            segment,
+            page: (page % u64::from(shape.geometry().pages())) as u32,
+            upto,
+            done,
+        };
+        Made::then(event, behind_call(done, purpose, next))
+    }
+
+    pub(crate) fn syncs_full(
+        &self,
+        shape: &LogShape,
+        words: &MachineWords,
+        writer: &mut MachineWriter,
+        purpose: Purpose,
+    ) -> Made
+        requires due { IsSyncDue (state_of writer.old)
+            (segment_waiting (state_of writer.old).plain.waiting) }
+        requires kept { HasCallRoom writer.old }
+        ensures left { Leaves result self.now words.now words.now
+            (at_syncs_full shape.now words.now.words self.now (state_of writer.old) purpose) }
+        ensures writer { state_of writer.new
+            ≡ synced (state_of writer.old) (segment_waiting (state_of writer.old).plain.waiting) }
+        ensures kept { HasCallRoom writer.new }
+    {
+        let segment = writer.segment_waiting();
+        let done = writer.sync(segment);
+        let next = page_or_end(purpose, self.hold.known(), writer);
+        Made::then(
+            Event::Sync { segment, done },
+            behind_call(done, purpose, next),
+        )
+    }
+
+    pub(crate) fn syncs_last(
+        &self,
+        shape: &LogShape,
+        words: &MachineWords,
+        writer: &mut MachineWriter,
+    ) -> Made
+        requires due { IsSyncDue (state_of writer.old)
+            (segment_waiting (state_of writer.old).plain.waiting) }
+        requires kept { HasCallRoom writer.old }
+        ensures left { Leaves result self.now words.now words.now
+            (at_syncs_last shape.now words.now.words self.now (state_of writer.old)) }
+        ensures writer { state_of writer.new
+            ≡ synced (state_of writer.old) (segment_waiting (state_of writer.old).plain.waiting) }
+        ensures kept { HasCallRoom writer.new }
+    {
+        let purpose = Purpose::Line;
+        let segment = writer.segment_waiting();
+        let done = writer.sync(segment);
+        let next = behind_call(done, purpose, Doing::StoresWritten { purpose });
+        Made::then(Event::Sync { segment, done }, next)
+    }
+
+    pub(crate) fn stores_written(
+        &self,
+        shape: &LogShape,
+        words: &mut MachineWords,
+        writer: &MachineWriter,
+        purpose: Purpose,
+    ) -> Made
+        ensures { Leaves result self.now words.old words.new
+            (at_stores_written shape.now words.old.words self.now (state_of writer.now) purpose) }
+    {
+        words.set(Word::Written, writer.written());
+        let next = match purpose {
+            Purpose::Line => Doing::StoresMoment,
+            Purpose::Page { .. } => Doing::PutsBack {
+                purpose,
+                failed: false,
+            },
+        };
+        Made::then(Event::StoreWritten, next)
+    }
+
+    pub(crate) fn stores_moment(
+        &self,
+        shape: &LogShape,
+        words: &mut MachineWords,
+        writer: &MachineWriter,
+    ) -> Made
+        ensures { Leaves result self.now words.old words.new
+            (at_stores_moment shape.now words.old.words self.now (state_of writer.now)) }
+    {
+        words.set(Word::Moment, writer.moment());
+        Made::then(Event::StoreMoment, Doing::StoresFlushed)
+    }
+
+    pub(crate) fn stores_flushed(
+        &mut self,
+        shape: &LogShape,
+        words: &mut MachineWords,
+        writer: &MachineWriter,
+    ) -> Made
+        ensures { Leaves result self.new words.old words.new
+            (at_stores_flushed shape.now words.old.words self.old (state_of writer.now)) }
+    {
+        let written = writer.written();
+        words.set(Word::Flushed, written);
+        self.see(shape.geometry().position_of(Lsn(written)));
+        let next = Doing::PutsBack {
+            purpose: Purpose::Line,
+            failed: false,
+        };
+        Made::then(Event::StoreFlushed, next)
+    }
+
+    pub(crate) fn sets_down(
+        &self,
+        shape: &LogShape,
+        words: &mut MachineWords,
+        writer: &MachineWriter,
+        purpose: Purpose,
+    ) -> Made
+        ensures { Leaves result self.now words.old words.new
+            (at_sets_down shape.now words.old.words self.now (state_of writer.now) purpose) }
+    {
+        words.set(Word::Down, writer.fault().unwrap_or(0));
+        let next = Doing::PutsBack {
+            purpose,
+            failed: true,
+        };
+        Made::then(Event::SetDown, next)
+    }
+}
+
+// Behind the page written last: the next one, or the end of the writing.
+fn page_or_end(purpose: Purpose, known: u64, writer: &MachineWriter) -> Doing
+    ensures { result ≡ page_or_end purpose known (state_of writer.now) }
+{
+    if writer.written() < known {
+        return Doing::LoadsPage { purpose, loaded: 0 };
+    }
+    match purpose {
+        Purpose::Line if writer.waiting().is_some() => Doing::SyncsLast,
+        _ => Doing::StoresWritten { purpose },
+    }
+}
+
+// Behind a call of the device: what comes next, or the disk has failed.
+fn behind_call(done: bool, purpose: Purpose, next: Doing) -> Doing
+    ensures { result ≡ (if done then next else Doing.SetsDown purpose) }
+{
+    if done {
+        next
+    } else {
+        Doing::SetsDown { purpose }
+    }
+}

@@ -1,0 +1,41 @@
+//! A machine that is played.
+
+use machine_core::{Core, CoreErr, Script, Turn};
+use std::alloc::Global;
+use std::marker::Model;
+use wal_core::Setup;
+
+/// A core that is as turns leave it, which is what its next turn rests on.
+#[derive(Drop)]
+pub struct Played {
+    core: Core,
+}
+
+impl Model for Played {
+    ghost use Rattle.machine_core.specs.declared.machine.Core.{Core};
+    ghost use Rattle.machine_core.specs.Cores.{IsPlayed};
+
+    ghost Value = { Core };
+
+    ghost view = { λ p. p.core };
+
+    ghost invariant = { λ p. IsPlayed p.core };
+}
+
+impl Played {
+    /// A machine that begins with these scripts, on a disk that fails at these calls.
+    pub fn new(
+        alloc: Global,
+        setup: Setup,
+        scripts: Vec<Script>,
+        fail: Vec<u64>,
+    ) -> Result<Played, CoreErr> {
+        Ok(Played {
+            core: Core::new(alloc, setup, scripts, fail)?,
+        })
+    }
+
+    pub fn turn(&mut self, backend: u32) -> Turn {
+        self.core.turn(backend)
+    }
+}

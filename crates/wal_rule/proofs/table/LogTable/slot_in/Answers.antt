@@ -1,0 +1,11 @@
+use Rattle.std.proofs.Common.{arith}
+use Rattle.wal_rule.proofs.Allowed.{comes_in}
+use Rattle.wal_rule.proofs.table.LogTable.slot_in.Goals as goal
+
+pub load-requires : goal.load-requires
+load-requires g c = (
+  c.requires.table,
+  omega (arith, c.args.self.now.wide),
+  comes_in g.D.Disk.tape g.D.Disk.moment _ _ _ _ _ c.requires.live c.requires.out.0 c.requires.out.1
+      c.requires.out.2 c.requires.out.3,
+)

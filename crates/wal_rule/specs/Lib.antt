@@ -1,0 +1,4 @@
+pub mod Seats
+pub mod Founded
+pub mod Ruled
+pub mod Passes

@@ -1,0 +1,32 @@
+-- A pass of a table: its view, and the numbers that it keeps at run time.
+use Rattle.std.specs.Prelude.{◌≡◌, ℕ, List, [], ◌∷◌}
+use Rattle.atomic_table.specs.Seated.{TableId}
+use Rattle.wal_rule.specs.declared.pass.Pass.{Pass}
+use Rattle.wal_rule.specs.Seats.{SeatView, no_view}
+
+-- the first of some views
+abbrev pub first_among : List SeatView → SeatView
+first_among [] = no_view
+first_among (v ∷ views) = v
+
+-- what a pass knows and is about
+abbrev pub view_of_pass : Pass → SeatView
+view_of_pass pass = first_among (pass.badge).views
+
+-- a view's number and its spare ones are these
+pub record HasNumbers (number spare spare_end : ℕ) (v : SeatView) : Type 0 where
+  pub own : number ≡ (v.reserving).number
+  pub low : spare ≡ (v.reserving).spare
+  pub high : spare_end ≡ (v.reserving).spare_end
+
+-- a pass has a seat of this table, and the numbers of its view
+pub record IsPassOf (table : TableId) (pass : Pass) : Type 0 where
+  pub of_table : (pass.badge).table_id ≡ table
+  pub seated : (pass.badge).views ≡ view_of_pass pass ∷ []
+  pub numbers : HasNumbers pass.number pass.spare pass.spare_end (view_of_pass pass)
+
+-- two passes have the same numbers
+pub record SamePass (old new : Pass) : Type 0 where
+  pub own : new.number ≡ old.number
+  pub low : new.spare ≡ old.spare
+  pub high : new.spare_end ≡ old.spare_end

@@ -1,0 +1,98 @@
+// A pass: a seat between two calls, with its numbers.
+ghost use Rattle.std.specs.Prelude.{◌≡◌, ◌<◌, [], true};
+ghost use Rattle.atomic_table.specs.Seated.{TableId};
+ghost use Rattle.wal_rule.specs.Passes.{HasNumbers, IsPassOf, SamePass, view_of_pass};
+ghost use Rattle.wal_rule.specs.Seats.{IsAtRest, seat_after_join, seat_after_split, seat_split_off};
+
+use crate::seats::PassView;
+use crate::table::{LogSeat, LogTable};
+use atomic_table::Badge;
+use segment_disk::Disk;
+use std::mem;
+
+/// What one backend steps with: a seat that holds no slot, its number, and the numbers from `spare`
+/// up to `spare_end` that it may give to others. Its type does not name the disk's.
+#[derive(Drop)]
+pub struct Pass {
+    pub badge: Badge<PassView>,
+    pub number: u32,
+    pub spare: u32,
+    pub spare_end: u32,
+}
+
+impl Pass {
+    /// A seat becomes a pass, with the numbers that its view has.
+    pub fn of_seat<D>(seat: LogSeat<D>, number: u32, spare: u32, spare_end: u32) -> Pass
+        requires none_held { seat.me.1 ≡ [] }
+        requires numbers { HasNumbers number spare spare_end seat.me.0 }
+        ensures pass { IsPassOf seat.table_id result }
+        ensures view { view_of_pass result ≡ seat.me.0 }
+    {
+        Pass {
+            badge: seat.into_badge(),
+            number,
+            spare,
+            spare_end,
+        }
+    }
+
+    /// The seat, for the steps of a call; the pass is none until it is put back.
+    pub fn seat<D>(&mut self) -> LogSeat<D>
+        requires { (table : TableId) × IsPassOf table self.old }
+        ensures seat { (result.table_id ≡ self.old.badge.table_id)
+            × (result.me ≡ (view_of_pass self.old, [])) }
+        ensures numbers { SamePass self.old self.new }
+    {
+        mem::replace(&mut self.badge, Badge::blank()).into_seat()
+    }
+
+    /// The seat goes back into its pass, with the same numbers.
+    pub fn put_back<D>(&mut self, seat: LogSeat<D>)
+        requires none_held { seat.me.1 ≡ [] }
+        requires numbers { HasNumbers self.old.number self.old.spare self.old.spare_end seat.me.0 }
+        ensures pass { IsPassOf seat.table_id self.new }
+        ensures view { view_of_pass self.new ≡ seat.me.0 }
+        ensures numbers { SamePass self.old self.new }
+    {
+        self.badge = seat.into_badge();
+    }
+
+    /// A pass for another backend, with the least of the spare numbers.
+    pub fn split<D: Disk>(&mut self, table: &LogTable<D>) -> Pass
+        requires pass { IsPassOf table.now.table.shared.table_id self.old }
+        requires live { (view_of_pass self.old).reserving.live ≡ true }
+        requires spare { self.old.spare < self.old.spare_end }
+        ensures left { IsPassOf table.now.table.shared.table_id self.new
+            × (view_of_pass self.new ≡ seat_after_split (view_of_pass self.old)) }
+        ensures right { IsPassOf table.now.table.shared.table_id result
+            × (view_of_pass result ≡ seat_split_off (view_of_pass self.old)) }
+    {
+        let number = self.spare;
+        let mut seat = self.seat();
+        let other = table.split(&mut seat);
+        self.spare = number + 1;
+        self.put_back(seat);
+        Pass::of_seat(other, number, 0, 0)
+    }
+
+    /// Takes another backend's pass in, which is about nothing: its log, what it knows, and its
+    /// spare numbers where this one has none.
+    pub fn join<D: Disk>(&mut self, table: &LogTable<D>, mut other: Pass)
+        requires pass { IsPassOf table.now.table.shared.table_id self.old
+            × IsPassOf table.now.table.shared.table_id other }
+        requires live { ((view_of_pass self.old).reserving.live ≡ true)
+            × ((view_of_pass other).reserving.live ≡ true) }
+        requires rests { IsAtRest (view_of_pass other) }
+        ensures pass { IsPassOf table.now.table.shared.table_id self.new }
+        ensures view { view_of_pass self.new
+            ≡ seat_after_join (view_of_pass self.old) (view_of_pass other) }
+    {
+        let mut seat = self.seat();
+        table.join(&mut seat, other.seat());
+        if self.spare >= self.spare_end {
+            self.spare = other.spare;
+            self.spare_end = other.spare_end;
+        }
+        self.put_back(seat);
+    }
+}

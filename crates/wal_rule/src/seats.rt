@@ -1,0 +1,53 @@
+// What a pass knows, which is nothing at run time, and what the table is told once.
+ghost use Rattle.std.specs.Prelude.{◌≡◌};
+ghost use Rattle.wal_rule.specs.Founded.{disk_of_founding, empty_log_opening, opening_of};
+ghost use Rattle.wal_rule.specs.Seats.{SeatView};
+
+use segment_disk::Disk;
+use std::marker::{Model, PhantomData};
+use std::snapshot::Snapshot;
+use wal_core::Setup;
+
+/// What a pass knows and is about: the machine's view, but for what the disk held at first.
+#[derive(Drop)]
+pub struct PassView {
+    marker: PhantomData<u8>,
+    pub ghost known: { SeatView },
+}
+
+impl Model for PassView {
+    ghost use Rattle.std.specs.Borrow.{ftrue};
+    ghost use Rattle.wal_rule.specs.Seats.{SeatView};
+
+    ghost Value = { SeatView };
+
+    ghost view = { λ v. v.known };
+
+    ghost also_owns = { λ _. ftrue };
+}
+
+/// What is fixed of a table: how its log was set up, and its disk's moment, count of faults and
+/// content when it was opened. The log held nothing then.
+#[derive(Drop)]
+pub struct Founding<D> {
+    pub setup: Setup,
+    pub moment: u64,
+    pub faults: u64,
+    pub disk: Snapshot<D>,
+}
+
+impl<D: Disk> Founding<D> {
+    /// What is to be fixed of a table for a log on this disk. It makes no device call.
+    pub fn of(setup: Setup, disk: &D) -> Founding<D>
+        ensures opening { opening_of result
+            ≡ empty_log_opening setup (D.moment disk.now) (D.faults disk.now) }
+        ensures disk { disk_of_founding result ≡ disk.now }
+    {
+        Founding {
+            setup,
+            moment: disk.moment(),
+            faults: disk.faults(),
+            disk: Snapshot::of(disk),
+        }
+    }
+}

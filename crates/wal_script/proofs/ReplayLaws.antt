@@ -1,0 +1,137 @@
+-- What holds of each replay's script that is read.
+use Rattle.std.proofs.Common.{ℕ, ◌+◌, ◌<◌, ◌≤◌, List, [], ◌∷◌, ◌++◌, length, true, false, Option, Some, None, Result, Ok, Err, All, codes, eqb, ltb, ltb-true, length-append, arith}
+use Rattle.std.specs.Prelude.{IfOk, if◌then◌else◌}
+use Rattle.std.proofs.lemmas.Bool.{cond_both}
+use Rattle.std.proofs.lemmas.List.Elements.{All-nil, All-cons, All-append}
+use Rattle.replay_schedule.specs.declared.item.Item.{Item}
+use Rattle.replay_schedule.specs.Meaning.{after_lines}
+use Rattle.replay_schedule.specs.Turns.{backends_in_turn, most_turns}
+use Rattle.replay_schedule.proofs.Turns.{lines_are_of_backends}
+use Rattle.wal_script.specs.declared.line.Refusal.{Refusal}
+use Rattle.wal_script.specs.declared.line.ScriptFault.TheVariants as faults
+use Rattle.wal_script.specs.Asked.{AskedLine}
+use Rattle.wal_script.specs.Meaning.{line_with, passes, asks, refuses, script_limit}
+use Rattle.wal_script.specs.Replay.{ReplayLine, of_backend, begins, ends, ScheduleLines, BackendsMeaning, ReplayMeaning, alone, most_backends, backends_from, backends_with, items_or_fault, replay_line_of, replay_line_with, replay_meaning, replay_with, schedule_with, with_schedule}
+use Rattle.wal_script.specs.Text.{is_text, fields_of, lines_of}
+use Rattle.wal_script.specs.Writable.{AsksWritable}
+use Rattle.wal_script.proofs.ScheduledTurns.{AreWithin, lines_within}
+use Rattle.wal_script.proofs.Writing.{MeansWritable, line_with_writable}
+
+-- ---- lines
+
+abbrev IsWritableLine : ReplayLine → Type 0
+IsWritableLine (of_backend meaning) = MeansWritable meaning
+IsWritableLine (begins is_alone) = Unit {0}
+IsWritableLine ends = Unit {0}
+
+alone_writable : (line : ReplayLine) (fields : List (List ℕ)) → IsWritableLine line → IsWritableLine (alone line fields)
+alone_writable line [] writable = writable
+alone_writable line (field ∷ fields) writable = tt
+
+replay_line_with_writable : (fields : List (List ℕ)) → IsWritableLine (replay_line_with fields)
+replay_line_with_writable [] = tt
+replay_line_with_writable (word ∷ fields) =
+    let other = of_backend (line_with (word ∷ fields)) in
+    let end = if is_text word (codes "S") then alone ends fields else other in
+    cond_both (is_text word (codes "B")) (begins (eqb (length fields) 0)) end IsWritableLine (λ _. tt)
+    (λ _. cond_both (is_text word (codes "S")) (alone ends fields) other IsWritableLine (λ _. alone_writable ends fields tt) (λ _. line_with_writable (word ∷ fields)))
+
+replay_line_of_writable : (text : List ℕ) → IsWritableLine (replay_line_of text)
+replay_line_of_writable [] = tt
+replay_line_of_writable (c ∷ cs) =
+    cond_both (eqb c 35) (of_backend passes) (replay_line_with (fields_of (c ∷ cs))) IsWritableLine (λ _. tt) (λ _. replay_line_with_writable (fields_of (c ∷ cs)))
+
+-- ---- the backends
+
+abbrev AreWritable : List AskedLine → Type 0
+AreWritable lines = All (λ line. AsksWritable line.asked) lines
+
+-- what holds of backends that were read
+record AreFit (m : BackendsMeaning) : Type 0 where
+  some : 0 < length m.backends
+  most : length m.backends ≤ most_backends
+  writable : All AreWritable m.backends
+
+AreFit-pushed : (before : List (List AskedLine)) (lines : List AskedLine) (schedule : Option ScheduleLines) → length before < most_backends → All AreWritable before → AreWritable lines → AreFit (record { backends = before ++ lines ∷ []; schedule = schedule })
+AreFit-pushed before lines schedule room before_writable lines_writable = record {
+  some = omega (arith, length-append before (lines ∷ []));
+  most = omega (arith, room, length-append before (lines ∷ []));
+  writable = All-append AreWritable before (lines ∷ []) before_writable (All-cons AreWritable lines [] lines_writable (All-nil AreWritable));
+}
+
+backends_with_fit : (number : ℕ) (before : List (List AskedLine)) (lines : List AskedLine) (line : ReplayLine) (texts : List (List ℕ)) (others : List (List AskedLine) → List AskedLine → Result BackendsMeaning Refusal) → length before < most_backends → All AreWritable before → AreWritable lines → IsWritableLine line → ((so_far : List (List AskedLine)) (latest : List AskedLine) → length so_far < most_backends → All AreWritable so_far → AreWritable latest → IfOk (others so_far latest) AreFit) → IfOk (backends_with number before lines line texts others) AreFit
+backends_with_fit number before lines (of_backend passes) texts others room before_writable lines_writable writable fit = fit before lines room before_writable lines_writable
+backends_with_fit number before lines (of_backend (asks asked)) texts others room before_writable lines_writable writable fit =
+    let line : AskedLine = record { number = number; asked = asked } in
+    let Is = λ (l : AskedLine). AsksWritable l.asked in
+    fit before (lines ++ line ∷ []) room before_writable (All-append Is lines (line ∷ []) lines_writable (All-cons Is line [] writable (All-nil Is)))
+backends_with_fit number before lines (of_backend (refuses fault)) texts others room before_writable lines_writable writable fit = tt
+backends_with_fit number before lines (begins false) texts others room before_writable lines_writable writable fit =
+    cond_both (ltb (length before + 1) most_backends) (Err (record { line = number; fault = faults.Count })) (Err (record { line = number; fault = faults.Backends })) (λ read. IfOk read AreFit) (λ _. tt) (λ _. tt)
+backends_with_fit number before lines (begins true) texts others room before_writable lines_writable writable fit =
+    cond_both (ltb (length before + 1) most_backends) (others (before ++ lines ∷ []) []) (Err (record { line = number; fault = faults.Backends })) (λ read. IfOk read AreFit)
+    (λ holds. fit (before ++ lines ∷ []) [] (omega (arith, ltb-true (length before + 1) most_backends holds, length-append before (lines ∷ []))) (AreFit-pushed before lines None room before_writable lines_writable).writable (All-nil (λ l. AsksWritable l.asked)))
+    (λ _. tt)
+backends_with_fit number before lines ends texts others room before_writable lines_writable writable fit =
+    AreFit-pushed before lines (Some (record { number = number; texts = texts })) room before_writable lines_writable
+
+backends_from_fit : (number : ℕ) (before : List (List AskedLine)) (lines : List AskedLine) (texts : List (List ℕ)) → length before < most_backends → All AreWritable before → AreWritable lines → IfOk (backends_from number before lines texts) AreFit
+backends_from_fit number before lines [] room before_writable lines_writable = AreFit-pushed before lines None room before_writable lines_writable
+backends_from_fit number before lines (text ∷ texts) room before_writable lines_writable =
+    backends_with_fit number before lines (replay_line_of text) texts (λ so_far latest. backends_from (number + 1) so_far latest texts) room before_writable lines_writable (replay_line_of_writable text)
+    (λ so_far latest. backends_from_fit (number + 1) so_far latest texts)
+
+-- ---- the schedule
+
+-- what holds of a schedule that was read for so many backends
+record AreTaken (backends : ℕ) (items : List Item) : Type 0 where
+  there : All (λ backend. backend < backends) (backends_in_turn items)
+  within : length (backends_in_turn items) ≤ most_turns
+
+items_or_fault_taken : (backends : ℕ) (items : Result (List Item) ℕ) → IfOk items (λ read. All (λ backend. backend < backends) (backends_in_turn read)) → IfOk items AreWithin → IfOk (items_or_fault items) (AreTaken backends)
+items_or_fault_taken backends (Ok items) there within = record { there = there; within = within }
+items_or_fault_taken backends (Err line) there within = tt
+
+schedule_with_taken : (backends : ℕ) (schedule : Option ScheduleLines) → IfOk (schedule_with backends schedule) (AreTaken backends)
+schedule_with_taken backends None = record { there = All-nil (λ backend. backend < backends); within = omega arith }
+schedule_with_taken backends (Some lines) =
+    items_or_fault_taken backends (after_lines backends (lines.number + 1) [] lines.texts) (lines_are_of_backends backends (lines.number + 1) lines.texts) (lines_within backends (lines.number + 1) [] lines.texts (omega arith))
+
+-- ---- all of it
+
+with_schedule_keeps : (backends : List (List AskedLine)) (items : Result (List Item) Refusal) (P : ReplayMeaning → Type 0) → IfOk items (λ read. P (record { backends = backends; schedule = read })) → IfOk (with_schedule backends items) P
+with_schedule_keeps backends (Ok items) P holds = holds
+with_schedule_keeps backends (Err refusal) P holds = tt
+
+-- what holds of each replay whose backends are fit and whose turns can be taken
+module _ (P : ReplayMeaning → Type 0) (holds : (m : BackendsMeaning) (items : List Item) → AreFit m → AreTaken (length m.backends) items → P (record { backends = m.backends; schedule = items })) where
+  by_items : (m : BackendsMeaning) → AreFit m → (items : Result (List Item) Refusal) → IfOk items (AreTaken (length m.backends)) → IfOk items (λ read. P (record { backends = m.backends; schedule = read }))
+  by_items m fit (Ok items) taken = holds m items fit taken
+  by_items m fit (Err refusal) taken = tt
+
+  by_backends : (read : Result BackendsMeaning Refusal) → IfOk read AreFit → IfOk (replay_with read) P
+  by_backends (Ok m) fit =
+      let items = schedule_with (length m.backends) m.schedule in
+      with_schedule_keeps m.backends items P (by_items m fit items (schedule_with_taken (length m.backends) m.schedule))
+  by_backends (Err refusal) fit = tt
+
+  limited : (limit : ℕ) (refusal : Refusal) (script : List ℕ) → IfOk (if ltb limit (length script) then Err refusal else replay_with (backends_from 1 [] [] (lines_of script))) P
+  limited limit refusal script =
+      let meaning = replay_with (backends_from 1 [] [] (lines_of script)) in
+      cond_both (ltb limit (length script)) (Err refusal) meaning (λ read. IfOk read P) (λ _. tt)
+      (λ _. by_backends (backends_from 1 [] [] (lines_of script)) (backends_from_fit 1 [] [] (lines_of script) (omega arith) (All-nil AreWritable) (All-nil (λ l. AsksWritable l.asked))))
+
+  of_replay : (script : List ℕ) → IfOk (replay_meaning script) P
+  of_replay script = limited script_limit _ script
+
+pub some_backends_are_there : (script : List ℕ) → IfOk (replay_meaning script) (λ m. (0 < length m.backends) × (length m.backends ≤ most_backends))
+some_backends_are_there = of_replay (λ m. (0 < length m.backends) × (length m.backends ≤ most_backends)) (λ m items fit taken. (fit.some, fit.most))
+
+pub backends_are_writable : (script : List ℕ) → IfOk (replay_meaning script) (λ m. All (All (λ line. AsksWritable line.asked)) m.backends)
+backends_are_writable = of_replay (λ m. All AreWritable m.backends) (λ m items fit taken. fit.writable)
+
+pub turns_are_of_backends : (script : List ℕ) → IfOk (replay_meaning script) (λ m. All (λ backend. backend < length m.backends) (backends_in_turn m.schedule))
+turns_are_of_backends = of_replay (λ m. All (λ backend. backend < length m.backends) (backends_in_turn m.schedule)) (λ m items fit taken. taken.there)
+
+pub turns_are_within : (script : List ℕ) → IfOk (replay_meaning script) (λ m. length (backends_in_turn m.schedule) ≤ most_turns)
+turns_are_within = of_replay (λ m. AreWithin m.schedule) (λ m items fit taken. taken.within)

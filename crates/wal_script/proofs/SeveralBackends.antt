@@ -1,0 +1,126 @@
+-- Reading the lines of several backends from the first on.
+use Rattle.std.proofs.Common.{◌≡◌, ℕ, ◌+◌, ◌<◌, Bool, true, false, List, [], ◌∷◌, ◌++◌, length, cond, Option, Some, None, Result, Ok, Err, ltb, ltb-true, refl, sym, subst, arith}
+use Rattle.std.specs.Global.{Vec}
+use Rattle.wal_script.specs.declared.line.Action.{Action}
+use Rattle.wal_script.specs.declared.line.Line.{Line}
+use Rattle.wal_script.specs.declared.line.Refusal.{Refusal}
+use Rattle.wal_script.specs.declared.line.ScriptFault.{ScriptFault}
+use Rattle.wal_script.specs.declared.line.ScriptFault.TheVariants as faults
+use Rattle.wal_script.specs.Asked.{Asked, AskedLine}
+use Rattle.wal_script.specs.Bodies.{AreLinesOf, IsActionOf}
+use Rattle.wal_script.specs.Meaning.{passes, asks}
+use Rattle.wal_script.specs.Replay.{ReplayLine, of_backend, begins, ends, BackendsMeaning, most_backends, backends_with, backends_from, replay_line_of}
+use Rattle.wal_script.specs.ReplayReading.{AreBackendsOf, begin_fault}
+use Rattle.wal_script.proofs.Scripts.{AreLinesOf_push}
+
+-- there are as many backends
+pub AreBackendsOf-length : (askeds : List (List AskedLine)) (backends : List (Vec Line)) → AreBackendsOf askeds backends → length askeds ≡ length backends
+AreBackendsOf-length [] [] are = refl
+AreBackendsOf-length [] (lines ∷ backends) are = absurd are
+AreBackendsOf-length (asked ∷ askeds) [] are = absurd are
+AreBackendsOf-length (asked ∷ askeds) (lines ∷ backends) are = omega (arith, AreBackendsOf-length askeds backends are.1)
+
+-- one backend more at the end
+AreBackendsOf_push : (askeds : List (List AskedLine)) (backends : List (Vec Line)) (asked : List AskedLine) (lines : Vec Line) → AreBackendsOf askeds backends → AreLinesOf asked lines.items → AreBackendsOf (askeds ++ asked ∷ []) (backends ++ lines ∷ [])
+AreBackendsOf_push [] [] asked lines are does = (does, tt)
+AreBackendsOf_push [] (other ∷ backends) asked lines are does = absurd are
+AreBackendsOf_push (first ∷ askeds) [] asked lines are does = absurd are
+AreBackendsOf_push (first ∷ askeds) (other ∷ backends) asked lines are does = (are.0, AreBackendsOf_push askeds backends asked lines are.1 does)
+
+-- where the next backend may begin, there is room for it
+room_of : (room is_alone : Bool) → cond room (cond is_alone None (Some faults.Count)) (Some faults.Backends) ≡ None → room ≡ true
+room_of true is_alone may = refl
+room_of false is_alone may = absurd cc
+
+pub begins_in_room : (backends : ℕ) (is_alone : Bool) → begin_fault backends is_alone ≡ None → backends < most_backends
+begins_in_room backends is_alone may = ltb-true backends most_backends (room_of (ltb backends most_backends) is_alone may)
+
+-- the backends and lines so far do what was read, and with the meaning of the texts from a number
+-- on it is that of all
+pub record AreReadUpto (before : List (Vec Line)) (lines : List Line) (number : ℕ) (texts : List (List ℕ)) (meaning : Result BackendsMeaning Refusal) : Type 0 where
+  pub askeds : List (List AskedLine)
+  pub asked : List AskedLine
+  pub backends_are : AreBackendsOf askeds before
+  pub lines_are : AreLinesOf asked lines
+  pub whole : backends_from number askeds asked texts ≡ meaning
+
+module _ (before : List (Vec Line)) (lines : List Line) (number : ℕ) (text : List ℕ) (texts : List (List ℕ)) (meaning : Result BackendsMeaning Refusal) (upto : AreReadUpto before lines number (text ∷ texts) meaning) where
+  abbrev others : List (List AskedLine) → List AskedLine → Result BackendsMeaning Refusal
+  others so_far latest = backends_from (number + 1) so_far latest texts
+
+  by_line : (read : ReplayLine) → replay_line_of text ≡ read → backends_with number upto.askeds upto.asked read texts others ≡ meaning
+  by_line read is = subst (λ (line : ReplayLine). backends_with number upto.askeds upto.asked line texts others ≡ meaning) is upto.whole
+
+  pub AreReadUpto-pass : replay_line_of text ≡ of_backend passes → AreReadUpto before lines (number + 1) texts meaning
+  AreReadUpto-pass is = record {
+    askeds = upto.askeds;
+    asked = upto.asked;
+    backends_are = upto.backends_are;
+    lines_are = upto.lines_are;
+    whole = by_line (of_backend passes) is;
+  }
+
+  pub AreReadUpto-ask : (action : Action) (asked : Asked) → replay_line_of text ≡ of_backend (asks asked) → IsActionOf asked action → AreReadUpto before (lines ++ (record { number = number; action = action }) ∷ []) (number + 1) texts meaning
+  AreReadUpto-ask action asked is does =
+      let line : AskedLine = record { number = number; asked = asked } in
+      record {
+        askeds = upto.askeds;
+        asked = upto.asked ++ line ∷ [];
+        backends_are = upto.backends_are;
+        lines_are = AreLinesOf_push upto.asked lines line (record { number = number; action = action }) upto.lines_are refl does;
+        whole = by_line (of_backend (asks asked)) is;
+      }
+
+module _ (before : List (Vec Line)) (lines : Vec Line) (number : ℕ) (text : List ℕ) (texts : List (List ℕ)) (meaning : Result BackendsMeaning Refusal) (upto : AreReadUpto before lines.items number (text ∷ texts) meaning) where
+  abbrev next : Result BackendsMeaning Refusal
+  next = backends_from (number + 1) (upto.askeds ++ upto.asked ∷ []) [] texts
+
+  abbrev refused : ScriptFault → Result BackendsMeaning Refusal
+  refused fault = Err (record { line = number; fault = fault })
+
+  abbrev judged : Bool → Bool → Result BackendsMeaning Refusal
+  judged room is_alone = cond room (cond is_alone next (refused faults.Count)) (refused faults.Backends)
+
+  abbrev MeansBy : Option ScriptFault → Result BackendsMeaning Refusal → Type 0
+  MeansBy None read = read ≡ next
+  MeansBy (Some fault) read = read ≡ refused fault
+
+  by_fault : (room is_alone : Bool) → MeansBy (cond room (cond is_alone None (Some faults.Count)) (Some faults.Backends)) (judged room is_alone)
+  by_fault true true = refl
+  by_fault true false = refl
+  by_fault false is_alone = refl
+
+  at_begin : (is_alone : Bool) (fault : Option ScriptFault) → replay_line_of text ≡ begins is_alone → begin_fault (length before + 1) is_alone ≡ fault → MeansBy fault meaning
+  at_begin is_alone fault is fault_is =
+      let room = ltb (length before + 1) most_backends in
+      let means : judged room is_alone ≡ meaning = subst (λ (n : ℕ). judged (ltb (n + 1) most_backends) is_alone ≡ meaning) (AreBackendsOf-length upto.askeds before upto.backends_are) (by_line before lines.items number text texts meaning upto (begins is_alone) is) in
+      subst (λ (f : Option ScriptFault). MeansBy f meaning) fault_is (subst (MeansBy (begin_fault (length before + 1) is_alone)) means (by_fault room is_alone))
+
+  pub AreReadUpto-begin : (is_alone : Bool) → replay_line_of text ≡ begins is_alone → begin_fault (length before + 1) is_alone ≡ None → AreReadUpto (before ++ lines ∷ []) [] (number + 1) texts meaning
+  AreReadUpto-begin is_alone is room = record {
+    askeds = upto.askeds ++ upto.asked ∷ [];
+    asked = [];
+    backends_are = AreBackendsOf_push upto.askeds before upto.asked lines upto.backends_are upto.lines_are;
+    lines_are = tt;
+    whole = sym (at_begin is_alone None is room);
+  }
+
+  pub refused_begin : (is_alone : Bool) (fault : ScriptFault) → replay_line_of text ≡ begins is_alone → begin_fault (length before + 1) is_alone ≡ Some fault → meaning ≡ Err (record { line = number; fault = fault })
+  refused_begin is_alone fault = at_begin is_alone (Some fault)
+
+  pub at_end : (read : List (Vec Line)) → replay_line_of text ≡ ends → read ≡ before ++ lines ∷ [] → (m : BackendsMeaning) × (meaning ≡ Ok m) × AreBackendsOf m.backends read × (m.schedule ≡ Some (record { number = number; texts = texts }))
+  at_end read is backends = (
+    record { backends = upto.askeds ++ upto.asked ∷ []; schedule = Some (record { number = number; texts = texts }) },
+    sym (by_line before lines.items number text texts meaning upto ends is),
+    subst (AreBackendsOf (upto.askeds ++ upto.asked ∷ [])) (sym backends) (AreBackendsOf_push upto.askeds before upto.asked lines upto.backends_are upto.lines_are),
+    refl,
+  )
+
+-- behind the script's last line
+pub behind_last : (before : List (Vec Line)) (lines : Vec Line) (number : ℕ) (meaning : Result BackendsMeaning Refusal) → AreReadUpto before lines.items number [] meaning → (read : List (Vec Line)) → read ≡ before ++ lines ∷ [] → (m : BackendsMeaning) × (meaning ≡ Ok m) × AreBackendsOf m.backends read × (m.schedule ≡ None)
+behind_last before lines number meaning upto read backends = (
+  record { backends = upto.askeds ++ upto.asked ∷ []; schedule = None },
+  sym upto.whole,
+  subst (AreBackendsOf (upto.askeds ++ upto.asked ∷ [])) (sym backends) (AreBackendsOf_push upto.askeds before upto.asked lines upto.backends_are upto.lines_are),
+  refl,
+)

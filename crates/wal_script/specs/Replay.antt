@@ -1,0 +1,111 @@
+-- What the script of a replay means: lines for each of several backends, and a schedule.
+use Rattle.std.specs.Prelude.{ℕ, ◌+◌, Bool, List, [], ◌∷◌, ◌++◌, length, Option, Some, None, Result, Ok, Err, codes, ◌==◌, nat_lt, if◌then◌else◌}
+use Rattle.replay_schedule.specs.declared.item.Item.{Item}
+use Rattle.replay_schedule.specs.Meaning.{after_lines}
+use Rattle.wal_script.specs.declared.line.Refusal.{Refusal}
+use Rattle.wal_script.specs.declared.line.ScriptFault.TheVariants as faults
+use Rattle.wal_script.specs.Asked.{AskedLine}
+use Rattle.wal_script.specs.Text.{is_text, lines_of, fields_of}
+use Rattle.wal_script.specs.Meaning.{LineMeaning, passes, asks, refuses, line_with, within_limit}
+
+-- what one line means: what one of a backend's lines does, that the next backend begins if no field
+-- stands behind the `B`, or that the schedule begins
+pub data ReplayLine : Type 0 where
+  of_backend : LineMeaning → ReplayLine
+  begins : (is_alone : Bool) → ReplayLine
+  ends : ReplayLine
+
+-- a line with no further field
+abbrev pub alone : ReplayLine → List (List ℕ) → ReplayLine
+alone line [] = line
+alone line (field ∷ fields) = of_backend (refuses faults.Count)
+
+-- a line by its first field
+abbrev pub replay_line_with : List (List ℕ) → ReplayLine
+replay_line_with [] = of_backend (refuses faults.Word)
+replay_line_with (word ∷ fields) =
+    if is_text word (codes "B") then begins (length fields == 0)
+    else (if is_text word (codes "S") then alone ends fields
+    else of_backend (line_with (word ∷ fields)))
+
+-- an empty line and one that begins with `#` are passed over
+abbrev pub replay_line_of : List ℕ → ReplayLine
+replay_line_of [] = of_backend passes
+replay_line_of (c ∷ cs) =
+    if c == 35 then of_backend passes else replay_line_with (fields_of (c ∷ cs))
+
+-- the number of a line `S`, and the lines behind it
+pub record ScheduleLines : Type 0 where
+  pub number : ℕ
+  pub texts : List (List ℕ)
+
+-- the lines of each backend, and what a line `S` ends them with
+pub record BackendsMeaning : Type 0 where
+  pub backends : List (List AskedLine)
+  pub schedule : Option ScheduleLines
+
+-- how many backends there may be
+abbrev pub most_backends : ℕ
+most_backends = 64
+
+-- a line by its number, behind the backends before its own and its own's lines before it: `others`
+-- is what the lines behind it, `texts`, mean. A `B` fails by the number of backends before it does by
+-- its fields
+abbrev pub backends_with : ℕ → List (List AskedLine) → List AskedLine → ReplayLine → List (List ℕ)
+    → (List (List AskedLine) → List AskedLine → Result BackendsMeaning Refusal)
+    → Result BackendsMeaning Refusal
+backends_with number before lines (of_backend passes) texts others = others before lines
+backends_with number before lines (of_backend (asks asked)) texts others =
+    others before (lines ++ (record { number = number; asked = asked }) ∷ [])
+backends_with number before lines (of_backend (refuses fault)) texts others =
+    Err (record { line = number; fault = fault })
+backends_with number before lines (begins is_alone) texts others =
+    if nat_lt (length before + 1) most_backends
+    then (if is_alone then others (before ++ lines ∷ []) []
+    else Err (record { line = number; fault = faults.Count }))
+    else Err (record { line = number; fault = faults.Backends })
+backends_with number before lines ends texts others =
+    Ok (record {
+      backends = before ++ lines ∷ [];
+      schedule = Some (record { number = number; texts = texts });
+    })
+
+-- lines from a number on, behind such backends and lines, up to a line `S` or the first that is
+-- refused
+abbrev pub backends_from : ℕ → List (List AskedLine) → List AskedLine → List (List ℕ)
+    → Result BackendsMeaning Refusal
+backends_from number before lines [] =
+    Ok (record { backends = before ++ lines ∷ []; schedule = None })
+backends_from number before lines (text ∷ texts) =
+    backends_with number before lines (replay_line_of text) texts
+    (λ so_far latest. backends_from (number + 1) so_far latest texts)
+
+-- what a replay does: the lines of each backend, and who has the next turns
+pub record ReplayMeaning : Type 0 where
+  pub backends : List (List AskedLine)
+  pub schedule : List Item
+
+-- the items of a schedule; one that is refused is so at its line
+abbrev pub items_or_fault : Result (List Item) ℕ → Result (List Item) Refusal
+items_or_fault (Ok items) = Ok items
+items_or_fault (Err line) = Err (record { line = line; fault = faults.Schedule })
+
+-- the schedule for so many backends behind a line `S`; without one it is empty
+abbrev pub schedule_with : ℕ → Option ScheduleLines → Result (List Item) Refusal
+schedule_with backends None = Ok []
+schedule_with backends (Some lines) =
+    items_or_fault (after_lines backends (lines.number + 1) [] lines.texts)
+
+abbrev pub with_schedule : List (List AskedLine) → Result (List Item) Refusal
+    → Result ReplayMeaning Refusal
+with_schedule backends (Ok items) = Ok (record { backends = backends; schedule = items })
+with_schedule backends (Err refusal) = Err refusal
+
+abbrev pub replay_with : Result BackendsMeaning Refusal → Result ReplayMeaning Refusal
+replay_with (Ok m) = with_schedule m.backends (schedule_with (length m.backends) m.schedule)
+replay_with (Err refusal) = Err refusal
+
+-- the meaning of a replay's script, or its first refusal
+abbrev pub replay_meaning : List ℕ → Result ReplayMeaning Refusal
+replay_meaning script =
+    within_limit script (replay_with (backends_from 1 [] [] (lines_of script)))

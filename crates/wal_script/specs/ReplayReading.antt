@@ -1,0 +1,105 @@
+-- What a reader of a replay's script returns, beside what the script means: want of memory is no
+-- part of the meaning.
+use Rattle.std.specs.Prelude.{◌≡◌, ℕ, ◌+◌, ◌<◌, ◌≤◌, Bool, IfSome, if◌then◌else◌, length, nat_lt, List, [], ◌∷◌, Option, Some, None, Result, Ok, Err}
+use Rattle.std.specs.Global.{Vec}
+use Rattle.replay_schedule.specs.declared.item.Item.{Item}
+use Rattle.replay_schedule.specs.declared.schedule.ScheduleError.{ScheduleError}
+use Rattle.replay_schedule.specs.declared.schedule.ScheduleError.TheVariants as schedule_errors
+use Rattle.replay_schedule.specs.Parts.{bytes_left, parts_left}
+use Rattle.wal_script.specs.declared.backends.Backends.{Backends}
+use Rattle.wal_script.specs.declared.backends.ScheduleText.{ScheduleText}
+use Rattle.wal_script.specs.declared.backends.Step.{Step}
+use Rattle.wal_script.specs.declared.backends.Step.TheVariants as steps
+use Rattle.wal_script.specs.declared.line.Line.{Line}
+use Rattle.wal_script.specs.declared.line.Refusal.{Refusal}
+use Rattle.wal_script.specs.declared.line.ScriptFault.{ScriptFault}
+use Rattle.wal_script.specs.declared.line.ScriptFault.TheVariants as faults
+use Rattle.wal_script.specs.declared.line_error.LineError.{LineError}
+use Rattle.wal_script.specs.declared.line_error.LineError.TheVariants as causes
+use Rattle.wal_script.specs.declared.parser.ParseError.{ParseError}
+use Rattle.wal_script.specs.declared.parser.ParseError.TheVariants as errors
+use Rattle.wal_script.specs.declared.replay.Replay.{Replay}
+use Rattle.wal_script.specs.Asked.{Asked, AskedLine}
+use Rattle.wal_script.specs.Bodies.{AreLinesOf, IsActionOf}
+use Rattle.wal_script.specs.Meaning.{asks, passes, refuses}
+use Rattle.wal_script.specs.Reading.{RefusesScript}
+use Rattle.wal_script.specs.Replay.{ReplayLine, of_backend, begins, ends, ScheduleLines, BackendsMeaning, ReplayMeaning, most_backends}
+
+-- each backend's lines do what is asked of it, in order, and there are as many backends
+abbrev pub AreBackendsOf : List (List AskedLine) → List (Vec Line) → Type 0
+AreBackendsOf [] [] = Unit {0}
+AreBackendsOf (asked ∷ others) (lines ∷ backends) =
+    AreLinesOf asked lines.items × AreBackendsOf others backends
+AreBackendsOf asked others = ⊥
+
+-- a replay does what a script means
+abbrev pub DoesReplay : Replay → Result ReplayMeaning Refusal → Type 0
+DoesReplay replay meaning =
+    (asked : ReplayMeaning) × (meaning ≡ Ok asked)
+    × AreBackendsOf asked.backends replay.backends.items × (asked.schedule ≡ replay.schedule)
+
+-- a script's replay does what it means, and its refusal is what it means; nothing is said where
+-- memory ran out
+abbrev pub GivesReplay : Result Replay ParseError → Result ReplayMeaning Refusal → Type 0
+GivesReplay (Ok replay) meaning = DoesReplay replay meaning
+GivesReplay (Err error) meaning = RefusesScript error meaning
+
+-- a step does what a line means
+abbrev pub DoesStep : Step → ReplayLine → Type 0
+DoesStep steps.Pass meaning = meaning ≡ of_backend passes
+DoesStep (steps.Ask action) meaning =
+    (asked : Asked) × (meaning ≡ of_backend (asks asked)) × IsActionOf asked action
+DoesStep (steps.Begin is_alone) meaning = meaning ≡ begins is_alone
+DoesStep steps.End meaning = meaning ≡ ends
+
+-- a line that is refused so means that fault
+abbrev pub RefusesStep : LineError → ReplayLine → Type 0
+RefusesStep causes.Memory meaning = Unit {0}
+RefusesStep (causes.Fault fault) meaning = meaning ≡ of_backend (refuses fault)
+
+-- what was read of a line does what it means, and its fault is what it means
+abbrev pub StepGives : Result Step LineError → ReplayLine → Type 0
+StepGives (Ok step) meaning = DoesStep step meaning
+StepGives (Err error) meaning = RefusesStep error meaning
+
+-- why the next backend does not begin behind so many
+abbrev pub begin_fault : ℕ → Bool → Option ScriptFault
+begin_fault backends is_alone =
+    if nat_lt backends most_backends then (if is_alone then None else Some faults.Count)
+    else Some faults.Backends
+
+-- the lines of what stands behind a line `S`
+abbrev pub schedule_lines : Option ScheduleText → Option ScheduleLines
+schedule_lines None = None
+schedule_lines (Some schedule) =
+    Some (record { number = schedule.number; texts = parts_left 10 schedule.text })
+
+-- what was read up to a line `S` does what is meant
+abbrev pub DoesBackends : Backends → Result BackendsMeaning Refusal → Type 0
+DoesBackends read meaning =
+    (asked : BackendsMeaning) × (meaning ≡ Ok asked)
+    × AreBackendsOf asked.backends read.lines.items
+    × (asked.schedule ≡ schedule_lines read.schedule)
+
+-- there are from one to 64 backends, and no more is left than there was, each line counted as a
+-- byte
+pub record HasReadBackends (size : ℕ) (read : Backends) : Type 0 where
+  pub some : 0 < length read.lines.items
+  pub most : length read.lines.items ≤ most_backends
+  pub left : IfSome read.schedule (λ schedule.
+      schedule.number + bytes_left schedule.text ≤ size + 1)
+
+abbrev pub GivesBackends : Result Backends ParseError → Result BackendsMeaning Refusal → Type 0
+GivesBackends (Ok read) meaning = DoesBackends read meaning
+GivesBackends (Err error) meaning = RefusesScript error meaning
+
+-- a schedule is the items that are meant, and its refusal is what is meant
+abbrev pub GivesSchedule : Result (List Item) ParseError → Result (List Item) Refusal → Type 0
+GivesSchedule (Ok items) meaning = meaning ≡ Ok items
+GivesSchedule (Err error) meaning = RefusesScript error meaning
+
+-- why a script was not read, from why its schedule was not
+abbrev pub schedule_error : ScheduleError → ParseError
+schedule_error schedule_errors.Memory = errors.Memory
+schedule_error (schedule_errors.Refused line) =
+    errors.Refused (record { line = line; fault = faults.Schedule })

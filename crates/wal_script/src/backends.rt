@@ -1,0 +1,128 @@
+//! The lines of several backends, parted by lines `B`, up to a line `S` or the script's end.
+
+ghost use Rattle.std.specs.Prelude.{◌≡◌, [], ◌+◌, ◌≤◌, IfOk, length};
+ghost use Rattle.wal_script.specs.Replay.{backends_from, replay_line_of, replay_line_with};
+ghost use Rattle.wal_script.specs.ReplayReading.{GivesBackends, HasReadBackends, StepGives, begin_fault};
+ghost use Rattle.wal_script.specs.Text.{lines_of};
+
+use crate::fields::no_more;
+use crate::line::{Action, Line, ScriptFault};
+use crate::line_error::LineError;
+use crate::parser::{ParseError, SCRIPT_LIMIT, action_by};
+use replay_schedule::{Parts, cut};
+use std::alloc::Global;
+
+// How many backends a script may have.
+const MOST_BACKENDS: usize = 64;
+
+/// What stands behind a line `S`.
+#[derive(Clone, Copy)]
+pub(crate) struct ScheduleText<'a> {
+    /// The number of that line.
+    pub number: u32,
+    /// None where the script ends with that line.
+    pub text: Option<&'a [u8]>,
+}
+
+/// What was read of a script up to a line `S`, or up to its end where it has none.
+#[derive(Drop)]
+pub(crate) struct Backends<'a> {
+    /// The lines of each backend.
+    pub lines: Vec<Vec<Line>>,
+    pub schedule: Option<ScheduleText<'a>>,
+}
+
+/// What one line does.
+#[derive(Drop)]
+enum Step {
+    /// Nothing: it is empty or a comment.
+    Pass,
+    /// It asks this of its backend.
+    Ask(Action),
+    /// The next backend begins, if no field stands behind the letter.
+    Begin { is_alone: bool },
+    /// The backends end.
+    End,
+}
+
+/// The lines of each backend, and where its schedule stands; or the script's first refusal.
+pub(crate) fn read_backends(alloc: Global, script: &[u8]) -> Result<Backends, ParseError>
+    requires { length script.now ≤ SCRIPT_LIMIT }
+    ensures read { GivesBackends result (backends_from 1 [] [] (lines_of script.now)) }
+    ensures within { IfOk result (HasReadBackends (length script.now)) }
+{
+    let mut before = Vec::new(alloc);
+    let mut lines = Vec::new(alloc);
+    let mut number = 0;
+    let mut rest = Some(script);
+    while let Some(text) = rest {
+        let (line, behind) = cut(text, b'\n');
+        rest = behind;
+        number += 1;
+        match read_line(alloc, line).map_err(|cause| cause.at(number))? {
+            Step::Pass => {}
+            Step::Ask(action) => lines.push(Line { number, action })?,
+            Step::Begin { is_alone } => {
+                if let Some(fault) = begin_fault(before.len() + 1, is_alone) {
+                    return Err(LineError::Fault(fault).at(number));
+                }
+                before.push(lines)?;
+                lines = Vec::new(alloc);
+            }
+            Step::End => {
+                before.push(lines)?;
+                let schedule = Some(ScheduleText { number, text: rest });
+                return Ok(Backends {
+                    lines: before,
+                    schedule,
+                });
+            }
+        }
+    }
+    before.push(lines)?;
+    Ok(Backends {
+        lines: before,
+        schedule: None,
+    })
+}
+
+// Why the next backend does not begin behind so many: the letter fails before its fields do.
+fn begin_fault(backends: usize, is_alone: bool) -> Option<ScriptFault>
+    ensures { result ≡ begin_fault backends is_alone }
+{
+    if backends >= MOST_BACKENDS {
+        Some(ScriptFault::Backends)
+    } else if is_alone {
+        None
+    } else {
+        Some(ScriptFault::Count)
+    }
+}
+
+// What a line does.
+fn read_line(alloc: Global, line: &[u8]) -> Result<Step, LineError>
+    ensures { StepGives result (replay_line_of line.now) }
+{
+    match line {
+        [] | [b'#', ..] => Ok(Step::Pass),
+        _ => read_fields(alloc, Parts::of(line, b' ')),
+    }
+}
+
+// What a line does by its fields.
+fn read_fields(alloc: Global, mut fields: Parts) -> Result<Step, LineError>
+    ensures { StepGives result (replay_line_with fields.entry) }
+{
+    match fields.next() {
+        Some(b"B") => {
+            let is_alone = fields.next().is_none();
+            Ok(Step::Begin { is_alone })
+        }
+        Some(b"S") => {
+            no_more(fields)?;
+            Ok(Step::End)
+        }
+        Some(word) => Ok(Step::Ask(action_by(alloc, word, fields)?)),
+        None => Err(LineError::Fault(ScriptFault::Word)),
+    }
+}
