@@ -16,7 +16,7 @@ SECOND_PART = "\n## The rest"
 
 CRATE = re.compile(r"^(\w+)[^:\n]*:", re.M)
 HEAD = re.compile(
-    r"^(?:(?:(?:abbrev|unfoldable|open) )*pub (?:(?:record|data) )?|  (?:(?:unfoldable )?abbrev pub|pub record) )([A-Za-z_][\w-]*)(?= )", re.M
+    r"^(?:(?:(?:abbrev|unfoldable|open) )*pub (?:(?:record|data) )?|(?:  ){1,2}(?:(?:unfoldable )?abbrev pub|pub record) )([A-Za-z_][\w-]*)(?= )", re.M
 )
 IMPORT = re.compile(r"^\s*(?:pub )?(?:ghost )?use Rattle\.(\w+)\.specs\.([\w.]+)\.\{([^}]*)\};?", re.M)
 ROW = re.compile(r"^\| (`[^|]*?) \|.*\| ([^|]*?) \|$", re.M)

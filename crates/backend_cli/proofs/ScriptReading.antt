@@ -1,10 +1,15 @@
 -- What a script that was read from a source means.
-use Rattle.std.proofs.Common.{◌≡◌, ℕ, ◌+◌, List, [], ◌∷◌, Option, Some, None, Result, Ok, Err, IfSome, sym, ap, ◌∙◌}
+use Rattle.std.proofs.Common.{◌≡◌, ℕ, ◌+◌, List, Option, Some, None, Result, IfSome, sym, ap, ◌∙◌}
 use Rattle.wal_script.specs.Asked.{AskedLine}
 use Rattle.wal_script.specs.declared.line.Refusal.{Refusal}
+use Rattle.wal_script.specs.declared.parser.ParseError.{ParseError}
+use Rattle.wal_script.specs.declared.parser.ParseError.TheVariants as errors
 use Rattle.wal_script.specs.Meaning.{backend_meaning, one_backend, meaning_of, script_limit}
+use Rattle.wal_script.specs.Reading.{RefusesScript}
+use Rattle.backend_cli.specs.Outcome.{outcome_unparsed}
 use Rattle.backend_cli.specs.Outside.{SourceView}
-use Rattle.backend_cli.specs.Reading.{IsFront, ScriptMeans}
+use Rattle.backend_cli.specs.Prepared.{IsUnpreparedBy}
+use Rattle.backend_cli.specs.Reading.{IsFront, ReadsScript, ScriptMeans}
 use Rattle.backend_cli.proofs.ScriptLaws.{meaning_of_front}
 
 -- a front of what a source had left, up to one byte past the limit, means what all of it means
@@ -15,9 +20,13 @@ front_means (Some bytes) script meaning is means = sym (meaning_of_front bytes) 
 pub read_script_means : (before after : SourceView) (meaning : Result (List (List AskedLine)) Refusal) → ScriptMeans before after meaning → IfSome before.left (λ bytes. meaning_of bytes ≡ meaning)
 read_script_means before after meaning means = front_means before.left means.0 meaning means.1.is_front means.2
 
--- what was parsed is the script
-pub means_lines : (script parsed : List ℕ) (lines : List AskedLine) → parsed ≡ script → backend_meaning parsed ≡ Ok lines → meaning_of script ≡ Ok (lines ∷ [])
-means_lines script parsed lines same means = ap one_backend (ap backend_meaning (sym same) ∙ means)
+-- a script that is refused as one backend's is so as a run's
+pub refuses_run : (error : ParseError) (script : List ℕ) → RefusesScript error (backend_meaning script) → RefusesScript error (meaning_of script)
+refuses_run errors.Memory script refuses = tt
+refuses_run (errors.Refused refusal) script refuses = ap one_backend refuses
 
-pub means_refusal : (script parsed : List ℕ) (refusal : Refusal) → parsed ≡ script → backend_meaning parsed ≡ Err refusal → meaning_of script ≡ Err refusal
-means_refusal script parsed refusal same means = ap one_backend (ap backend_meaning (sym same) ∙ means)
+-- a script that has no meaning ends the command so
+module _ {X : Type 0} (by : List ℕ → Result X Refusal) (before after : SourceView) where
+  pub ends_unparsed : (error : ParseError) (script : List ℕ) → ReadsScript before after script → RefusesScript error (by script) → IsUnpreparedBy by before after (outcome_unparsed error)
+  ends_unparsed errors.Memory script reads refuses = reads.faults_same
+  ends_unparsed (errors.Refused refusal) script reads refuses = (script, reads, refuses)

@@ -3,11 +3,25 @@ use Rattle.std.specs.Prelude.{ℕ, List, [], ◌∷◌, codes}
 use Rattle.std.specs.Fmt.{decimal}
 use Rattle.wal_types.specs.LsnText.{lsn_text}
 use Rattle.wal_script.specs.Names.{fault_name}
+use Rattle.wal_script.specs.declared.parser.ParseError.{ParseError}
+use Rattle.wal_script.specs.declared.parser.ParseError.TheVariants as errors
 use Rattle.wal_reader.specs.Names.{damage_name}
 use Rattle.wal_reader.specs.declared.found.Stopped.{Stopped as LogStop}
 use Rattle.wal_reader.specs.declared.found.Stopped.TheVariants as stops
 use Rattle.backend_cli.specs.declared.outcome.Outcome.{Outcome}
 use Rattle.backend_cli.specs.declared.outcome.Outcome.TheVariants.{Done, OutOfMemory, Usage, SourceFault, ScriptRefused, NotEmpty, DiskFault, Stopped, LogFull, SinkFault}
+use Rattle.backend_cli.specs.declared.reading.ReadFailure.{ReadFailure}
+use Rattle.backend_cli.specs.declared.reading.ReadFailure.TheVariants as failures
+
+-- how a command ends whose script could not be read
+abbrev pub outcome_unread : ReadFailure → Outcome
+outcome_unread failures.Memory = OutOfMemory
+outcome_unread failures.Source = SourceFault
+
+-- and one whose script has no meaning, or memory ran out
+abbrev pub outcome_unparsed : ParseError → Outcome
+outcome_unparsed errors.Memory = OutOfMemory
+outcome_unparsed (errors.Refused refusal) = ScriptRefused refusal
 
 -- the exit status
 abbrev pub status_of : Outcome → ℕ

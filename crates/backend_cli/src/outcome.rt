@@ -3,9 +3,10 @@ ghost use Rattle.wal_types.specs.LsnText.{lsn_text};
 ghost use Rattle.waldump_text.specs.Put.{Puts, joined};
 ghost use Rattle.backend_cli.specs.Outcome.{status_of, outcome_text};
 
+use crate::reading::ReadFailure;
 use segment_disk::Sink;
 use wal_reader::Stopped;
-use wal_script::Refusal;
+use wal_script::{ParseError, Refusal};
 use wal_types::Lsn;
 use waldump_text::{SinkFault, put_all};
 
@@ -28,6 +29,34 @@ pub enum Outcome {
     /// A line found the log full.
     LogFull,
     SinkFault,
+}
+
+impl From<ReadFailure> for Outcome {
+    ghost use Rattle.std.specs.Prelude.{◌≡◌};
+    ghost use Rattle.backend_cli.specs.Outcome.{outcome_unread};
+
+    ghost from_gives = { λ failure outcome. outcome ≡ outcome_unread failure };
+
+    fn from(failure: ReadFailure) -> Outcome {
+        match failure {
+            ReadFailure::Memory => Outcome::OutOfMemory,
+            ReadFailure::Source => Outcome::SourceFault,
+        }
+    }
+}
+
+impl From<ParseError> for Outcome {
+    ghost use Rattle.std.specs.Prelude.{◌≡◌};
+    ghost use Rattle.backend_cli.specs.Outcome.{outcome_unparsed};
+
+    ghost from_gives = { λ error outcome. outcome ≡ outcome_unparsed error };
+
+    fn from(error: ParseError) -> Outcome {
+        match error {
+            ParseError::Memory => Outcome::OutOfMemory,
+            ParseError::Refused(refusal) => Outcome::ScriptRefused(refusal),
+        }
+    }
 }
 
 impl Outcome {

@@ -19,7 +19,7 @@ ghost use Rattle.backend_cli.specs.Reading.{ScriptMeansBy};
 ghost use Rattle.backend_cli.specs.Replaying.{HasSinkCause, PutsBefore, ReplayEnds, ReplayHolds, backend_line, backend_lines, outcome_with, pick_of, setup_of};
 
 use crate::outcome::Outcome;
-use crate::reading::{ReadFailure, read_script};
+use crate::reading::read_script;
 use crate::run::{Finished, SYSTEM_ID};
 use crate::told::ToldLists;
 use byte_position::Geometry;
@@ -30,7 +30,7 @@ use segment_disk::{Disk, MemDisk, Pick, Sink, Source};
 use std::alloc::{AllocError, Global};
 use wal_core::Setup;
 use wal_reader::ReadErr;
-use wal_script::{Action, Line, ParseError, Replay, parse_replay};
+use wal_script::{Action, Line, Replay, parse_replay};
 use wal_types::Lsn;
 use waldump_text::{DumpErr, Filter, SinkFault, dump, put_all};
 
@@ -47,16 +47,8 @@ fn read_replay<S: Source>(alloc: Global, source: &mut S) -> Result<Replay, Outco
         (source_view S.left S.handed S.ends_told S.faults source.old)
         (source_view S.left S.handed S.ends_told S.faults source.new) result }
 {
-    let script = match read_script(alloc, source) {
-        Ok(script) => script,
-        Err(ReadFailure::Memory) => return Err(Outcome::OutOfMemory),
-        Err(ReadFailure::Source) => return Err(Outcome::SourceFault),
-    };
-    match parse_replay(alloc, &script) {
-        Ok(replay) => Ok(replay),
-        Err(ParseError::Memory) => Err(Outcome::OutOfMemory),
-        Err(ParseError::Refused(refusal)) => Err(Outcome::ScriptRefused(refusal)),
-    }
+    let script = read_script(alloc, source)?;
+    Ok(parse_replay(alloc, &script)?)
 }
 
 fn machine_line(line: Line) -> MachineLine

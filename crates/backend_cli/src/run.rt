@@ -16,13 +16,13 @@ use crate::outcome::Outcome;
 use crate::play::play;
 use crate::printing::{Summary, put_told_lines};
 use crate::program::Gate;
-use crate::reading::{ReadFailure, read_script};
+use crate::reading::read_script;
 use crate::told::{Told, ToldLists};
 use byte_position::Geometry;
 use segment_disk::{Disk, Sink, Source};
 use serial_log::{Log, LogMemory, OpenFailure, Shape};
 use std::alloc::{AllocError, Global};
-use wal_script::{Line, ParseError, parse};
+use wal_script::{Line, parse};
 use waldump_text::SinkFault;
 
 /// How a command ended: its outcome, the disk, and what its lines were told.
@@ -51,16 +51,8 @@ fn lines_of<S: Source>(alloc: Global, source: &mut S) -> Result<Vec<Line>, Outco
         (source_view S.left S.handed S.ends_told S.faults source.old)
         (source_view S.left S.handed S.ends_told S.faults source.new) result }
 {
-    let script = match read_script(alloc, source) {
-        Ok(script) => script,
-        Err(ReadFailure::Memory) => return Err(Outcome::OutOfMemory),
-        Err(ReadFailure::Source) => return Err(Outcome::SourceFault),
-    };
-    match parse(alloc, &script) {
-        Ok(lines) => Ok(lines),
-        Err(ParseError::Memory) => Err(Outcome::OutOfMemory),
-        Err(ParseError::Refused(refusal)) => Err(Outcome::ScriptRefused(refusal)),
-    }
+    let script = read_script(alloc, source)?;
+    Ok(parse(alloc, &script)?)
 }
 
 // Takes all room for a script's lines.

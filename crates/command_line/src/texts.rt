@@ -21,8 +21,9 @@ pgwal run [--seg N] [--ring N] [--cap N] [--list]
 pgwal replay [--seg N] [--ring N] [--cap N] [--crash old|new|odd]
     Plays the script on standard input turn by turn on a machine of its own, prints how many of
     its lines each backend has done, and lists the log that a crash of the machine's disk leaves.
-    The script has the lines of several backends, with a line B between two of them, and behind
-    a line S the schedule, in which N*T gives backend N the next T turns.
+    The script has the lines of at most 64 backends, with a line B between two of them, and behind
+    a line S the schedule: an item N gives backend N, from 0 on, the next turn, and N*COUNT the
+    next 1 to 1000000 turns; all items together have at most 10000000 turns.
     --seg N, --ring N, --cap N
                           as for run
     --crash old|new|odd   what is left of the words written since a sync: the durable word (old),

@@ -7,9 +7,8 @@ ghost use Rattle.machine_turns.specs.Scripts.{rooms_of_lines};
 ghost use Rattle.machine_core.specs.Cores.{first_lane, first_lanes, first_plain_view, rooms_of_scripts};
 ghost use Rattle.machine_core.specs.Lines.{IsAsked};
 
-use machine_turns::{
-    Doing, Flight, Hold, Lane, Line, LogShape, Place, PlainView, Script, Stage, Watching,
-};
+use machine_turns::{Doing, Flight, Hold, Lane, Line, Place, PlainView, Script, Stage, Watching};
+use machine_words::LogShape;
 use std::alloc::{AllocError, Global};
 
 /// A lane for each script, whose passes have the numbers from 1 on.

@@ -18,8 +18,8 @@ ghost use Rattle.machine_core.specs.PlainData.{plain_view, turn_of};
 ghost use Rattle.machine_core.specs.Playing.{PlaysMachine};
 
 use crate::beginning::{lanes_of, log_end};
-use machine_turns::{Lane, LogShape, MachineWriter, PlainView, Script, Turn};
-use machine_words::{MachineWords, Word};
+use machine_turns::{Lane, MachineWriter, PlainView, Script, Turn};
+use machine_words::{LogShape, MachineWords, Word};
 use segment_disk::{MemDisk, Memory, Pick};
 use std::alloc::{AllocError, Global};
 use wal_core::Setup;

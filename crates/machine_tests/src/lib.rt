@@ -2,13 +2,13 @@
 #![tactic(auto)]
 
 #[cfg(test)]
-mod checking;
-#[cfg(test)]
 mod played;
 #[cfg(test)]
 mod random;
 #[cfg(test)]
 mod records;
+#[cfg(test)]
+mod refused;
 #[cfg(test)]
 mod reserved;
 #[cfg(test)]

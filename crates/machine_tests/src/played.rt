@@ -1,10 +1,12 @@
 //! A machine that tests play.
 
+ghost use Rattle.wal_core.specs.Sound.{IsSetup};
 ghost use Rattle.machine_words.specs.Numbers.{IsWord};
 
 use machine_core::{Core, CoreErr, PlainView, Script, Turn, Word};
+use machine_words::is_setup;
 use segment_disk::{MemDisk, Memory, Pick};
-use std::alloc::Global;
+use std::alloc::{AllocError, Global};
 use std::marker::Model;
 use wal_core::Setup;
 
@@ -12,17 +14,21 @@ use wal_core::Setup;
 #[derive(Drop)]
 pub struct Played {
     core: Core,
+    setup: Setup,
 }
 
 impl Model for Played {
     ghost use Rattle.machine_core.specs.declared.machine.Core.{Core};
     ghost use Rattle.machine_core.specs.Cores.{IsPlayed};
+    ghost use Rattle.std.specs.Prelude.{◌≡◌};
+    ghost use Rattle.wal_core.specs.Sound.{IsSetup};
 
     ghost Value = { Core };
 
     ghost view = { λ p. p.core };
 
-    ghost invariant = { λ p. IsPlayed p.core };
+    ghost invariant = { λ p. IsPlayed p.core × IsSetup p.setup
+        × (p.core.words.pages ≡ (p.setup).ring_pages) };
 }
 
 impl Played {
@@ -33,8 +39,12 @@ impl Played {
         scripts: Vec<Script>,
         fail: Vec<u64>,
     ) -> Result<Played, CoreErr> {
+        if !is_setup(setup) {
+            return Err(CoreErr::BadSetup);
+        }
         Ok(Played {
             core: Core::new(alloc, setup, scripts, fail)?,
+            setup,
         })
     }
 
@@ -68,6 +78,42 @@ impl Played {
         requires { IsWord 4 word }
     {
         self.core.word(word)
+    }
+
+    pub fn setup(&self) -> Setup
+        ensures { IsSetup result }
+    {
+        self.setup
+    }
+
+    /// All words that the backends share, by their numbers.
+    pub fn words(&self, alloc: Global) -> Result<Vec<u64>, AllocError> {
+        let mut words = self.first_words(alloc)?;
+        for buffer in 0..self.setup.ring_pages {
+            words.push(self.core.word(Word::BufferEnd(buffer)))?;
+        }
+        for place in 0..self.setup.ring_pages * 1024 {
+            words.push(self.core.word(Word::Ring(place)))?;
+        }
+        Ok(words)
+    }
+
+    // The words up to the first buffer's end.
+    fn first_words(&self, alloc: Global) -> Result<Vec<u64>, AllocError> {
+        let mut words = Vec::with_capacity(alloc, 17 + self.setup.ring_pages as usize * 1025)?;
+        words.push(self.core.word(Word::Position))?;
+        words.push(self.core.word(Word::LastStart))?;
+        for lock in 0..8 {
+            words.push(self.core.word(Word::Lock(lock)))?;
+        }
+        words.push(self.core.word(Word::MappingTurn))?;
+        words.push(self.core.word(Word::WriteTurn))?;
+        words.push(self.core.word(Word::InitialisedEnd))?;
+        words.push(self.core.word(Word::Written))?;
+        words.push(self.core.word(Word::Flushed))?;
+        words.push(self.core.word(Word::Moment))?;
+        words.push(self.core.word(Word::Down))?;
+        Ok(words)
     }
 
     pub fn crash(&self, alloc: Global, pick: Pick) -> Result<MemDisk, Memory> {

@@ -3,6 +3,7 @@
 ghost use Rattle.std.specs.Prelude.{◌≡◌, ◌%◌, ◌<◌, ◌^◌};
 
 use byte_position::Geometry;
+use machine_checks::Reserved;
 use machine_core::Line;
 use record_spelling::Body;
 use std::alloc::Global;
@@ -12,36 +13,24 @@ use wal_types::Lsn;
 
 const FIRST_ADDRESS: u64 = 1 << 20;
 
-/// The log's words from segment 1 on, as far as records are reserved, and how many bytes these take
-/// up in all.
+/// The records that were reserved, and the log's words from segment 1 on, as far as they go.
 #[derive(Drop)]
 pub struct LogWords {
-    words: Vec<u64>,
-    rooms: u64,
+    pub order: Vec<Reserved>,
+    pub words: Vec<u64>,
 }
 
 impl LogWords {
     pub fn new(alloc: Global) -> LogWords {
         LogWords {
+            order: Vec::new(alloc),
             words: Vec::new(alloc),
-            rooms: 0,
         }
     }
 
-    /// How many bytes the records take up.
-    pub fn rooms(&self) -> u64 {
-        self.rooms
-    }
-
     /// The address behind the last record.
-    pub fn end(&self) -> u64 {
+    fn end(&self) -> u64 {
         FIRST_ADDRESS.wrapping_add((self.words.len() as u64).wrapping_mul(8))
-    }
-
-    /// The word at an address, 0 behind the last record.
-    pub fn at(&self, address: u64) -> u64 {
-        let number = address.wrapping_sub(FIRST_ADDRESS) / 8;
-        self.words.get(number as usize).copied().unwrap_or(0)
     }
 
     /// The record of a line, which starts at a byte position behind one that starts at `prev`.
@@ -49,7 +38,10 @@ impl LogWords {
         let (Line::Insert(body) | Line::Commit(body)) = line else {
             return Err(Fail::from("a line with a record"));
         };
-        self.rooms = self.rooms.wrapping_add(u64::from(body.room()));
+        if start % 8 != 0 || start > 1 << 40 {
+            return Err(Fail::from("a place of whole words"));
+        }
+        self.order.push(reserved(body, start, prev)?)?;
         for pair in words_of(alloc, body, start, prev)? {
             let (address, word) = pair;
             if address != self.end() {
@@ -61,11 +53,26 @@ impl LogWords {
     }
 }
 
+fn reserved(body: &Body, start: u64, prev: u64) -> Result<Reserved, Fail>
+    requires { start < 2 ^ 50 }
+{
+    Ok(Reserved {
+        start,
+        end: start.wrapping_add(u64::from(body.room())),
+        address: geometry()?.to_lsn(start).0,
+        prev,
+    })
+}
+
+fn geometry() -> Result<Geometry, Fail> {
+    Ok(Geometry::new(1 << 20).ok_or("1 MiB is a segment's size")?)
+}
+
 // A record's words at its place, with their addresses.
-fn words_of(alloc: Global, body: &Body, start: u64, prev: u64) -> Result<Vec<(u64, u64)>, Fail> {
-    if start % 8 != 0 || start > 1 << 40 {
-        return Err(Fail::from("a place of whole words"));
-    }
+fn words_of(alloc: Global, body: &Body, start: u64, prev: u64) -> Result<Vec<(u64, u64)>, Fail>
+    requires whole { start % 8 ≡ 0 }
+    requires low { start < 2 ^ 50 }
+{
     let mut placed = placed(body, start, prev)?;
     let mut words = Vec::new(alloc);
     for _ in 0..body.room() {
@@ -81,7 +88,6 @@ fn placed<'a>(body: &'a Body, start: u64, prev: u64) -> Result<Placed<'a>, Fail>
     requires whole { start % 8 ≡ 0 }
     requires low { start < 2 ^ 50 }
 {
-    let geometry = Geometry::new(1 << 20).ok_or("1 MiB is a segment's size")?;
     let _room = body.room();
-    Ok(Placed::new(geometry, 1, body, start, Lsn(prev)))
+    Ok(Placed::new(geometry()?, 1, body, start, Lsn(prev)))
 }

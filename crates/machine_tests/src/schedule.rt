@@ -1,10 +1,10 @@
 //! A schedule under way, with what it reserved.
 
-use crate::checking::fault_of;
 use crate::played::Played;
 use crate::random::{BACKENDS, LINES, Planned, Random, planned_lines, scripts_of};
 use crate::records::{Found, SETUP, records_left};
 use crate::reserved::LogWords;
+use machine_checks::{BackendNow, Moment, Part, fault_of};
 use machine_core::{Event, Flight, Turn};
 use segment_disk::Pick;
 use std::alloc::Global;
@@ -34,6 +34,18 @@ impl Grain {
     }
 }
 
+fn named(part: Part) -> &'static str {
+    match part {
+        Part::Order => "the position and the last start",
+        Part::Locks => "who holds the locks",
+        Part::Turns => "who has the turns",
+        Part::Progress => "what the locks tell",
+        Part::Ring => "the words of the ring",
+        Part::Pages => "the pages of the ring",
+        Part::Positions => "the written and flushed ends",
+    }
+}
+
 /// Eight backends, what they are to do, and what is known of what they did.
 #[derive(Drop)]
 pub struct Schedule {
@@ -42,24 +54,18 @@ pub struct Schedule {
     pub plan: Vec<Planned>,
     /// The numbers of the lines whose records are reserved, in their order.
     pub order: Vec<u32>,
-    /// Which backend has taken each lock.
-    pub holders: [Option<u32>; 8],
-    /// The words of the records, where they are to be checked.
-    pub words: Option<LogWords>,
+    /// Which lock each backend has taken, and not released.
+    locks: [Option<u32>; 8],
+    /// The records that are reserved, and their words.
+    log: LogWords,
     /// The first thing that was found wrong.
     pub wrong: Option<&'static str>,
     turns: u64,
 }
 
 impl Schedule {
-    /// Random lines on a ring of so many pages; `checks` where all words are to be checked behind
-    /// every 100th turn.
-    pub fn new(
-        alloc: Global,
-        ring_pages: u32,
-        random: &mut Random,
-        checks: bool,
-    ) -> Result<Schedule, Fail> {
+    /// Random lines on a ring of so many pages.
+    pub fn new(alloc: Global, ring_pages: u32, random: &mut Random) -> Result<Schedule, Fail> {
         let setup = Setup {
             ring_pages,
             ..SETUP
@@ -73,8 +79,8 @@ impl Schedule {
             core,
             plan,
             order: Vec::new(alloc),
-            holders: [None; 8],
-            words: checks.then(|| LogWords::new(alloc)),
+            locks: [None; 8],
+            log: LogWords::new(alloc),
             wrong: None,
             turns: 0,
         })
@@ -89,7 +95,7 @@ impl Schedule {
         }
         self.turns = self.turns.wrapping_add(1);
         if self.turns % 100 == 0 && self.wrong.is_none() {
-            self.wrong = self.words.as_ref().and_then(|words| fault_of(self, words));
+            self.wrong = self.fault(alloc)?.map(named);
         }
         Ok(turn)
     }
@@ -98,8 +104,8 @@ impl Schedule {
     fn note(&mut self, alloc: Global, backend: u32, line: u64, event: Event) -> Result<(), Fail> {
         match event {
             Event::StorePosition => self.reserved(alloc, backend, line)?,
-            Event::TakeLock { lock } => self.hold(lock, Some(backend)),
-            Event::ReleaseLock { lock } => self.hold(lock, None),
+            Event::TakeLock { lock } => self.hold(backend, None, Some(lock)),
+            Event::ReleaseLock { lock } => self.hold(backend, Some(lock), None),
             _ => {}
         }
         Ok(())
@@ -111,20 +117,45 @@ impl Schedule {
         self.order.push(number)?;
         let planned = self.planned(number);
         let flight = self.core.view(backend).map(|view| view.flight);
-        match (&mut self.words, flight) {
-            (Some(words), Some(Flight::Copying { start, prev, .. })) => {
-                words.add(alloc, &planned.line(alloc, number + 1)?, start, prev)
+        match flight {
+            Some(Flight::Copying { start, prev, .. }) => {
+                self.log
+                    .add(alloc, &planned.line(alloc, number + 1)?, start, prev)
             }
             _ => Ok(()),
         }
     }
 
-    // A lock is taken by a backend where nobody has it, or is released by who has it.
-    fn hold(&mut self, lock: u32, by: Option<u32>) {
-        match self.holders.get_mut(lock as usize) {
-            Some(holder) if holder.is_some() != by.is_some() => *holder = by,
-            _ => self.wrong = Some("a lock is taken twice"),
+    // A backend that has this lock, or none, has that one from now on.
+    fn hold(&mut self, backend: u32, old: Option<u32>, new: Option<u32>) {
+        match self.locks.get_mut(backend as usize) {
+            Some(lock) if *lock == old => *lock = new,
+            _ => self.wrong = Some("a lock is taken or released out of turn"),
         }
+    }
+
+    // The part of the words that is not what it has to be, if any.
+    fn fault(&self, alloc: Global) -> Result<Option<Part>, Fail> {
+        let words = self.core.words(alloc)?;
+        let backends = self.backends(alloc)?;
+        let moment = Moment {
+            setup: self.core.setup(),
+            words: &words,
+            order: &self.log.order,
+            log: &self.log.words,
+            backends: &backends,
+        };
+        Ok(fault_of(&moment))
+    }
+
+    fn backends(&self, alloc: Global) -> Result<Vec<BackendNow>, Fail> {
+        let mut backends = Vec::new(alloc);
+        for backend in 0..BACKENDS {
+            let view = self.core.view(backend).ok_or("a backend")?;
+            let lock = self.locks.get(backend as usize).copied().unwrap_or(None);
+            backends.push(BackendNow { view, lock })?;
+        }
+        Ok(backends)
     }
 
     /// What the line with a number is to do.

@@ -10,14 +10,9 @@ use std::test::Fail;
 
 // What is wrong with a schedule, if anything: every other one goes on to its end, the others are
 // cut off somewhere.
-fn fault(
-    alloc: Global,
-    ring_pages: u32,
-    seed: u64,
-    checks: bool,
-) -> Result<Option<&'static str>, Fail> {
+fn fault(alloc: Global, ring_pages: u32, seed: u64) -> Result<Option<&'static str>, Fail> {
     let mut random = Random::new(seed);
-    let mut schedule = Schedule::new(alloc, ring_pages, &mut random, checks)?;
+    let mut schedule = Schedule::new(alloc, ring_pages, &mut random)?;
     let (grain, times) = match seed % 6 / 2 {
         0 => (Grain::One, 400_000),
         1 => (Grain::Few, 12_000),
@@ -51,10 +46,9 @@ fn first_fault(
     alloc: Global,
     ring_pages: u32,
     seeds: Range<u64>,
-    checks: bool,
 ) -> Result<Option<(u64, &'static str)>, Fail> {
     for seed in seeds {
-        if let Some(fault) = fault(alloc, ring_pages, seed, checks)? {
+        if let Some(fault) = fault(alloc, ring_pages, seed)? {
             return Ok(Some((seed, fault)));
         }
     }
@@ -62,31 +56,61 @@ fn first_fault(
 }
 
 #[test]
-fn crashes_leave_fronts_with_what_was_promised_on_4_pages(rt: HostRuntime) -> Result<(), Fail> {
-    assert_eq!(rt; first_fault(rt.alloc(), 4, 0..250, false)?, None);
+fn schedules_on_4_pages_keep_what_they_promise(rt: HostRuntime) -> Result<(), Fail> {
+    assert_eq!(rt; first_fault(rt.alloc(), 4, 0..100)?, None);
     Ok(())
 }
 
 #[test]
-fn crashes_leave_fronts_with_what_was_promised_on_5_pages(rt: HostRuntime) -> Result<(), Fail> {
-    assert_eq!(rt; first_fault(rt.alloc(), 5, 250..500, false)?, None);
+fn more_schedules_on_4_pages_keep_what_they_promise(rt: HostRuntime) -> Result<(), Fail> {
+    assert_eq!(rt; first_fault(rt.alloc(), 4, 100..200)?, None);
     Ok(())
 }
 
 #[test]
-fn crashes_leave_fronts_with_what_was_promised_on_6_pages(rt: HostRuntime) -> Result<(), Fail> {
-    assert_eq!(rt; first_fault(rt.alloc(), 6, 500..750, false)?, None);
+fn schedules_on_5_pages_keep_what_they_promise(rt: HostRuntime) -> Result<(), Fail> {
+    assert_eq!(rt; first_fault(rt.alloc(), 5, 200..300)?, None);
     Ok(())
 }
 
 #[test]
-fn crashes_leave_fronts_with_what_was_promised_on_8_pages(rt: HostRuntime) -> Result<(), Fail> {
-    assert_eq!(rt; first_fault(rt.alloc(), 8, 750..1000, false)?, None);
+fn more_schedules_on_5_pages_keep_what_they_promise(rt: HostRuntime) -> Result<(), Fail> {
+    assert_eq!(rt; first_fault(rt.alloc(), 5, 300..400)?, None);
     Ok(())
 }
 
 #[test]
-fn words_are_those_of_the_records_all_along(rt: HostRuntime) -> Result<(), Fail> {
-    assert_eq!(rt; first_fault(rt.alloc(), 4, 2000..2060, true)?, None);
+fn schedules_on_6_pages_keep_what_they_promise(rt: HostRuntime) -> Result<(), Fail> {
+    assert_eq!(rt; first_fault(rt.alloc(), 6, 400..500)?, None);
+    Ok(())
+}
+
+#[test]
+fn more_schedules_on_6_pages_keep_what_they_promise(rt: HostRuntime) -> Result<(), Fail> {
+    assert_eq!(rt; first_fault(rt.alloc(), 6, 500..600)?, None);
+    Ok(())
+}
+
+#[test]
+fn schedules_on_7_pages_keep_what_they_promise(rt: HostRuntime) -> Result<(), Fail> {
+    assert_eq!(rt; first_fault(rt.alloc(), 7, 600..700)?, None);
+    Ok(())
+}
+
+#[test]
+fn more_schedules_on_7_pages_keep_what_they_promise(rt: HostRuntime) -> Result<(), Fail> {
+    assert_eq!(rt; first_fault(rt.alloc(), 7, 700..800)?, None);
+    Ok(())
+}
+
+#[test]
+fn schedules_on_8_pages_keep_what_they_promise(rt: HostRuntime) -> Result<(), Fail> {
+    assert_eq!(rt; first_fault(rt.alloc(), 8, 800..900)?, None);
+    Ok(())
+}
+
+#[test]
+fn more_schedules_on_8_pages_keep_what_they_promise(rt: HostRuntime) -> Result<(), Fail> {
+    assert_eq!(rt; first_fault(rt.alloc(), 8, 900..1000)?, None);
     Ok(())
 }

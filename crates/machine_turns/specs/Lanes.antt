@@ -58,7 +58,8 @@ abbrev pub asked_by : Purpose → PlainView → ℕ
 asked_by Line view = view.last_end
 asked_by (Page lock end) view = end
 
--- a lock holds a watcher back that tells nothing, or no more than the address asked for
+-- a lock holds a watcher back that tells nothing, or less than the address asked for: its word is
+-- one more than what it tells
 abbrev pub holds_back : (asked met : ℕ) → Bool
 holds_back asked met = not (met == 0) && nat_le met asked
 
@@ -169,6 +170,19 @@ module _ (setup : Setup) (words : List ℕ) (writer : WriterState) (view : Plain
   stepped (doings.PutsBack purpose failed) = same (at_puts_back setup words view purpose failed)
   stepped (doings.GivesWriteTurn purpose failed) =
       same (at_gives_write_turn setup words view purpose failed)
+
+-- the places of a flush, the writer's among them; the others are an insert's
+abbrev pub IsOfFlush : Doing → Type 0
+IsOfFlush doings.Begins = ⊥
+IsOfFlush (doings.Tries taken) = ⊥
+IsOfFlush (doings.Reserves lock) = ⊥
+IsOfFlush (doings.Looks lock) = ⊥
+IsOfFlush (doings.Copies lock) = ⊥
+IsOfFlush (doings.Maps lock) = ⊥
+IsOfFlush (doings.GivesTurn lock end) = ⊥
+IsOfFlush (doings.Tells lock end) = ⊥
+IsOfFlush (doings.Releases lock full) = ⊥
+IsOfFlush other = Unit {0}
 
 -- the line whose record is copied: from a reservation on the one under way
 abbrev pub copied_behind : Doing → Lane → ℕ

@@ -8,9 +8,8 @@ ghost use Rattle.machine_turns.specs.Flushing.{at_flush_begins, at_gives_write_t
 use crate::doing::{Doing, Made, Next, Purpose};
 use crate::event::Event;
 use crate::insert::LOCKS;
-use crate::shape::LogShape;
 use crate::view::{Hold, PlainView};
-use machine_words::{MachineWords, Word};
+use machine_words::{LogShape, MachineWords, Word};
 use wal_types::Lsn;
 
 impl PlainView {

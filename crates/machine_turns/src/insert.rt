@@ -12,10 +12,9 @@ ghost use Rattle.machine_turns.specs.Lanes.{HasNextOf, HasNextWord, IsLowPlace, 
 use crate::doing::{Doing, Made, Next};
 use crate::event::Event;
 use crate::script::Line;
-use crate::shape::LogShape;
 use crate::view::{Flight, Place, PlainView, Watching};
 use byte_position::PAGE_SIZE;
-use machine_words::{MachineWords, Word};
+use machine_words::{LogShape, MachineWords, Word};
 use record_spelling::Body;
 use wal_page::Placed;
 use wal_types::Lsn;

@@ -4,15 +4,14 @@ ghost use Rattle.std.specs.Prelude.{◌≡◌, ◌+◌, ◌%◌, ◌<◌, ◌^�
 ghost use Rattle.wal_core.specs.Words.{lock_word, mapping_turn, position_word};
 ghost use Rattle.machine_words.specs.Numbers.{IsWord, number_of_word};
 ghost use Rattle.machine_turns.specs.Writer.{HasCallRoom, state_of};
-ghost use Rattle.machine_turns.specs.Lanes.{IsLockAwaited, LeavesLane, MayPlay, asked_by, finds_full, holds_back, is_away, is_free, lane_answered, lane_behind, loads_down, played, stepped, waits_if, word_awaited};
+ghost use Rattle.machine_turns.specs.Lanes.{IsLockAwaited, IsOfFlush, LeavesLane, MayPlay, asked_by, finds_full, holds_back, is_away, is_free, lane_answered, lane_behind, loads_down, played, stepped, waits_if, word_awaited};
 
 use crate::doing::{Doing, Made, Next, Purpose};
 use crate::event::Turn;
 use crate::script::{Line, Script};
-use crate::shape::LogShape;
 use crate::view::{Place, PlainView, Stage};
 use crate::writer::MachineWriter;
-use machine_words::{MachineWords, Word};
+use machine_words::{LogShape, MachineWords, Word};
 
 /// A backend: its lines, how many are answered, its next step, what it knows, and which line's
 /// record it copies.
@@ -74,7 +73,7 @@ impl Lane {
         }
     }
 
-    // Makes the step that the order names.
+    // Makes the step that the order names: an insert's here.
     fn step(
         &mut self,
         shape: &LogShape,
@@ -111,6 +110,31 @@ impl Lane {
             Doing::Releases { lock, full } => {
                 view.releases(shape, words, lock, full, line.is_commit())
             }
+            _ => self.step_of_flush(shape, words, writer),
+        }
+    }
+
+    // And a flush's, the writer's among them.
+    fn step_of_flush(
+        &mut self,
+        shape: &LogShape,
+        words: &mut MachineWords,
+        writer: &mut MachineWriter,
+    ) -> Made
+        requires pages { words.old.pages ≡ shape.now.ring_pages }
+        requires place { IsOfFlush self.old.doing }
+        requires kept { HasCallRoom writer.old }
+        requires may { MayPlay shape.now words.old.words (state_of writer.old) self.old }
+        ensures kept { HasCallRoom writer.new }
+        ensures script { self.new.script ≡ self.old.script }
+        ensures answered { self.new.answered ≡ self.old.answered }
+        ensures left { (line : Line) → slice_get self.old.script self.old.answered ≡ Some line
+            → LeavesLane result self.old self.new words.old words.new (state_of writer.new)
+            (stepped shape.now words.old.words (state_of writer.old) self.old.view line
+            (slice_get self.old.script self.old.copied) self.old.doing) }
+    {
+        let view = &mut self.view;
+        match self.doing {
             Doing::FlushBegins => view.flush_begins(shape, words),
             Doing::LoadsPosition => view.loads_position(shape, words),
             Doing::LoadsFlushed => view.loads_flushed(shape, words),
@@ -134,6 +158,7 @@ impl Lane {
             Doing::StoresMoment => view.stores_moment(shape, words, writer),
             Doing::StoresFlushed => view.stores_flushed(shape, words, writer),
             Doing::SetsDown { purpose } => view.sets_down(shape, words, writer, purpose),
+            _ => unreachable!(),
         }
     }
 
@@ -225,7 +250,7 @@ impl PlainView {
         (is_away && words.get(Word::MappingTurn) != 0).then_some(Word::MappingTurn)
     }
 
-    // A lock's holder tells nothing, or no more than the address asked for.
+    // A lock's holder tells nothing, or less than the address asked for.
     fn lock_awaited(&self, words: &MachineWords, purpose: Purpose, lock: u32) -> Option<Word>
         requires { lock < 8 }
         ensures number { option_map (number_of_word words.now.pages) result

@@ -8,10 +8,9 @@ ghost use Rattle.machine_turns.specs.Lanes.{IsLowStage};
 
 use crate::doing::{Doing, Made, Purpose};
 use crate::event::Event;
-use crate::shape::LogShape;
 use crate::view::{PlainView, Stage};
 use byte_position::PAGE_SIZE;
-use machine_words::{MachineWords, Word};
+use machine_words::{LogShape, MachineWords, Word};
 
 const PAGE_WORDS: u32 = 1024;
 

@@ -9,8 +9,8 @@ ghost use Rattle.segment_disk.specs.Tape.{state_at};
 ghost use Rattle.machine_turns.specs.Writer.{IsCreateDue, IsFreshWriter, HasCallRoom, IsSyncDue, IsWriteDue, created, maybe, page_at, page_written, segment_at, state_of, succeeds, synced, with_word};
 ghost use Rattle.machine_turns.specs.Writing.{segment_waiting};
 
-use crate::shape::LogShape;
 use byte_position::{Geometry, PAGE_SIZE};
+use machine_words::LogShape;
 use segment_disk::{Disk, MemDisk, Memory, Pick};
 use std::alloc::Global;
 

@@ -10,11 +10,10 @@ ghost use Rattle.machine_turns.specs.Writing.{at_creates, at_loads_page, at_sets
 use crate::doing::{Doing, Made, Purpose};
 use crate::event::Event;
 use crate::insert::{LOCKS, ring_place};
-use crate::shape::LogShape;
 use crate::view::{Hold, PlainView};
 use crate::writer::MachineWriter;
 use byte_position::PAGE_SIZE;
-use machine_words::{MachineWords, Word};
+use machine_words::{LogShape, MachineWords, Word};
 use wal_types::Lsn;
 
 const PAGE_WORDS: u64 = 1024;

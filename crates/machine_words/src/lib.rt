@@ -5,9 +5,11 @@
 mod first;
 pub mod laws;
 mod setup;
+mod shape;
 mod word;
 mod words;
 
 pub use setup::is_setup;
+pub use shape::LogShape;
 pub use word::Word;
 pub use words::MachineWords;

@@ -51,6 +51,13 @@ impl MachineWords {
         })
     }
 
+    /// All words, in the machine's numbering.
+    pub fn as_slice(&self) -> &[u64]
+        ensures { result.now ≡ self.now.words }
+    {
+        &self.words
+    }
+
     /// A word's number now.
     pub fn get(&self, word: Word) -> u64
         requires { IsWord self.now.pages word }

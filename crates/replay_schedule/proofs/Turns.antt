@@ -67,11 +67,14 @@ length-backends_in_turn [] = refl
 length-backends_in_turn (item ∷ items) =
     omega (arith, length-append (replicate item.turns item.backend) (backends_in_turn items), length-replicate item.turns item.backend, length-backends_in_turn items, sum_by-cons (λ (i : Item). i.turns) item items)
 
-pub turns_are_within : (backends first_line : ℕ) (bytes : List ℕ) → IfOk (schedule_of backends first_line bytes) (λ items. length (backends_in_turn items) ≤ most_turns)
-turns_are_within backends first_line bytes =
-    schedule-keeps backends (λ items. length (backends_in_turn items) ≤ most_turns)
+pub lines_are_within : (backends line : ℕ) (texts : List (List ℕ)) → IfOk (after_lines backends line [] texts) (λ items. length (backends_in_turn items) ≤ most_turns)
+lines_are_within backends line texts =
+    after_lines-keep backends (λ items. length (backends_in_turn items) ≤ most_turns)
     (λ items item holds playable fits. omega (arith, fits, length-backends_in_turn (items ++ item ∷ []), sum_by_push (λ (i : Item). i.turns) items item))
-    first_line bytes (omega arith)
+    line [] texts (omega arith)
+
+pub turns_are_within : (backends first_line : ℕ) (bytes : List ℕ) → IfOk (schedule_of backends first_line bytes) (λ items. length (backends_in_turn items) ≤ most_turns)
+turns_are_within backends first_line bytes = lines_are_within backends first_line (slice_split (λ c. eqb c 10) bytes)
 
 pub items_are_playable : (backends first_line : ℕ) (bytes : List ℕ) → IfOk (schedule_of backends first_line bytes) (All (IsPlayable backends))
 items_are_playable backends first_line bytes =

@@ -2,6 +2,8 @@
 #![tactic(auto)]
 
 #[cfg(test)]
+mod crashes;
+#[cfg(test)]
 mod ends;
 #[cfg(test)]
 mod schedules;

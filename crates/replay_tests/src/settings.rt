@@ -14,7 +14,18 @@ pub fn replay<R: Threads + Wait + Sync>(
     alloc: Global,
     setting: Setting,
 ) -> Result<Played, Fail> {
-    let words = ["replay", "--seg", "1048576", "--cap", "1", "--crash", "old"];
+    replay_with(rt, alloc, &["--cap", "1", "--crash", "old"], setting)
+}
+
+/// Plays `replay` with these options.
+pub fn replay_with<R: Threads + Wait + Sync>(
+    rt: &R,
+    alloc: Global,
+    options: &[&str],
+    setting: Setting,
+) -> Result<Played, Fail> {
+    let mut words = vec![in alloc; "replay", "--seg", "1048576"]?;
+    words.extend_from_slice(options)?;
     play(rt, alloc, &words, setting)
 }
 
@@ -26,12 +37,40 @@ pub fn prints<R: Abort + Threads + Wait + Sync>(
     script: &[u8],
     text: &[u8],
 ) -> Result<(), Fail> {
-    let played = replay(rt, alloc, on_empty_disk(alloc, script)?)?;
+    prints_with(rt, alloc, &["--cap", "1", "--crash", "old"], script, text)
+}
+
+/// The same of a replay with these options.
+pub fn prints_with<R: Abort + Threads + Wait + Sync>(
+    rt: &R,
+    alloc: Global,
+    options: &[&str],
+    script: &[u8],
+    text: &[u8],
+) -> Result<(), Fail> {
+    let played = replay_with(rt, alloc, options, on_empty_disk(alloc, script)?)?;
     assert_eq!(rt; played.out.taken(), text);
     assert_eq!(rt; played.err.taken(), b"".as_slice());
     assert_eq!(rt; played.ended.status, 0);
     assert_eq!(rt; played.ended.told.len(), 0);
     assert_eq!(rt; played.ended.disk.moment(), 0);
+    Ok(())
+}
+
+/// A replay of this script with these options ends with status 6, which this line tells, and prints
+/// this.
+pub fn breaks_off<R: Abort + Threads + Wait + Sync>(
+    rt: &R,
+    alloc: Global,
+    options: &[&str],
+    script: &[u8],
+    text: &[u8],
+    line: &[u8],
+) -> Result<(), Fail> {
+    let played = replay_with(rt, alloc, options, on_empty_disk(alloc, script)?)?;
+    assert_eq!(rt; played.out.taken(), text);
+    assert_eq!(rt; played.err.taken(), line);
+    assert_eq!(rt; played.ended.status, 6);
     Ok(())
 }
 

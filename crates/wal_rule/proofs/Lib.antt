@@ -1,3 +1,12 @@
 pub mod SeatLaws
+pub mod QuietSteps
+pub mod Steady
 pub mod Allowed
 pub mod Opens
+pub mod CallsEnd
+pub mod Places
+pub mod PassNumbers
+pub mod DeviceSteps
+pub mod Taken
+pub mod Addresses
+pub mod Closes

@@ -9,8 +9,8 @@ abbrev pub empty_log_opening : Setup → (moment faults : ℕ) → Opening
 empty_log_opening setup moment faults =
     record { setup = setup; found = []; moment = moment; faults = faults }
 
-abbrev pub opening_of : {D : Type 0} → Founding D → Opening
-opening_of founding = empty_log_opening founding.setup founding.moment founding.faults
+abbrev pub founded_opening : {D : Type 0} → Founding D → Opening
+founded_opening founding = empty_log_opening founding.setup founding.moment founding.faults
 
 -- the disk as it was then
 abbrev pub disk_of_founding : {D : Type 0} → Founding D → D

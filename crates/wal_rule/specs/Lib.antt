@@ -1,4 +1,9 @@
+pub mod Slotted
 pub mod Seats
 pub mod Founded
-pub mod Ruled
+pub mod Stepping
 pub mod Passes
+pub mod Tables
+pub mod Ruled
+pub mod Called
+pub mod Closing

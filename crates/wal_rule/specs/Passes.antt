@@ -1,8 +1,10 @@
 -- A pass of a table: its view, and the numbers that it keeps at run time.
-use Rattle.std.specs.Prelude.{◌≡◌, ℕ, List, [], ◌∷◌}
+use Rattle.std.specs.Prelude.{◌≡◌, ℕ, true, List, [], ◌∷◌}
 use Rattle.atomic_table.specs.Seated.{TableId}
+use Rattle.wal_core.specs.Words.{Opening}
 use Rattle.wal_rule.specs.declared.pass.Pass.{Pass}
 use Rattle.wal_rule.specs.Seats.{SeatView, no_view}
+use Rattle.wal_rule.specs.Stepping.{Stands}
 
 -- the first of some views
 abbrev pub first_among : List SeatView → SeatView
@@ -19,11 +21,14 @@ pub record HasNumbers (number spare spare_end : ℕ) (v : SeatView) : Type 0 whe
   pub low : spare ≡ (v.reserving).spare
   pub high : spare_end ≡ (v.reserving).spare_end
 
--- a pass has a seat of this table, and the numbers of its view
-pub record IsPassOf (table : TableId) (pass : Pass) : Type 0 where
+-- a pass has a live seat of this table, of the log that was opened so, and the numbers of its view
+pub record IsPassOf (table : TableId) (opening : Opening) (pass : Pass) : Type 0 where
   pub of_table : (pass.badge).table_id ≡ table
   pub seated : (pass.badge).views ≡ view_of_pass pass ∷ []
   pub numbers : HasNumbers pass.number pass.spare pass.spare_end (view_of_pass pass)
+  pub own : (view_of_pass pass).opening ≡ opening
+  pub live : ((view_of_pass pass).reserving).live ≡ true
+  pub stands : Stands (view_of_pass pass)
 
 -- two passes have the same numbers
 pub record SamePass (old new : Pass) : Type 0 where

@@ -6,7 +6,7 @@ use Rattle.segment_disk.specs.declared.disk.Call.{Call}
 use Rattle.segment_disk.specs.Tape.{DiskState, Tape, empty_state}
 use Rattle.wal_core.specs.Words.{Opening}
 use Rattle.wal_core.specs.Views.{FlushPromise, Hold, Idle, Lent, Mapping, Out, Plain, Reserving, Turned, View, Watching, Working}
-use Rattle.wal_core.specs.Moves.{after_join, after_split, spent, split_off}
+use Rattle.wal_core.specs.Moves.{after_join, after_split, lent, spent, split_off}
 use Rattle.wal_core.specs.Opened.{first_view}
 use Rattle.wal_core.specs.Steps.{IsResting, StepKind, view_behind}
 
@@ -152,6 +152,10 @@ seat_view v = record {
 -- the view behind a step of a kind, which met this number and, in its slot, this writer
 abbrev pub behind : StepKind → ℕ → Option Plain → SeatView → SeatView
 behind e met home v = seat_view (view_behind (view_on empty_state v) e met home)
+
+-- with a writer in hand that was just taken
+abbrev pub first_lent : Plain → SeatView → SeatLent
+first_lent writer v = lent_told (lent writer (view_on empty_state v))
 
 -- what is left of a view that was split, and what goes into the new one
 abbrev pub seat_after_split : SeatView → SeatView

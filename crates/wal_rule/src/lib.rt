@@ -2,12 +2,26 @@
 //! machine's invariant.
 #![tactic(auto)]
 
+mod closing;
+mod device;
+mod joining;
+mod locks;
+mod mapping;
+pub mod numbers;
+mod opening;
 mod pass;
 mod plays;
+mod positions;
+mod quiet;
+mod reserving;
+mod ring;
 mod seats;
-mod steps;
 mod table;
+mod turns;
+mod writer;
 
 pub use pass::Pass;
+pub use plays::OfKind;
 pub use seats::{Founding, PassView};
 pub use table::{LogRule, LogSeat, LogTable};
+pub use writer::LogWriter;

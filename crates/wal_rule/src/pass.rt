@@ -1,8 +1,11 @@
 // A pass: a seat between two calls, with its numbers.
-ghost use Rattle.std.specs.Prelude.{◌≡◌, ◌<◌, [], true};
+ghost use Rattle.std.specs.Prelude.{◌≡◌, ◌<◌, ◌≤◌, []};
 ghost use Rattle.atomic_table.specs.Seated.{TableId};
+ghost use Rattle.wal_core.specs.Words.{Opening};
 ghost use Rattle.wal_rule.specs.Passes.{HasNumbers, IsPassOf, SamePass, view_of_pass};
 ghost use Rattle.wal_rule.specs.Seats.{IsAtRest, seat_after_join, seat_after_split, seat_split_off};
+ghost use Rattle.wal_rule.specs.Stepping.{IsSeatOf};
+ghost use Rattle.wal_rule.specs.Tables.{IsPassOn};
 
 use crate::seats::PassView;
 use crate::table::{LogSeat, LogTable};
@@ -25,7 +28,8 @@ impl Pass {
     pub fn of_seat<D>(seat: LogSeat<D>, number: u32, spare: u32, spare_end: u32) -> Pass
         requires none_held { seat.me.1 ≡ [] }
         requires numbers { HasNumbers number spare spare_end seat.me.0 }
-        ensures pass { IsPassOf seat.table_id result }
+        ensures pass { (table : TableId) (opening : Opening) → IsSeatOf table opening seat
+            → IsPassOf table opening result }
         ensures view { view_of_pass result ≡ seat.me.0 }
     {
         Pass {
@@ -38,9 +42,10 @@ impl Pass {
 
     /// The seat, for the steps of a call; the pass is none until it is put back.
     pub fn seat<D>(&mut self) -> LogSeat<D>
-        requires { (table : TableId) × IsPassOf table self.old }
-        ensures seat { (result.table_id ≡ self.old.badge.table_id)
-            × (result.me ≡ (view_of_pass self.old, [])) }
+        requires { (table : TableId) × (opening : Opening) × IsPassOf table opening self.old }
+        ensures view { result.me ≡ (view_of_pass self.old, []) }
+        ensures seat { (table : TableId) (opening : Opening) → IsPassOf table opening self.old
+            → IsSeatOf table opening result }
         ensures numbers { SamePass self.old self.new }
     {
         mem::replace(&mut self.badge, Badge::blank()).into_seat()
@@ -50,7 +55,8 @@ impl Pass {
     pub fn put_back<D>(&mut self, seat: LogSeat<D>)
         requires none_held { seat.me.1 ≡ [] }
         requires numbers { HasNumbers self.old.number self.old.spare self.old.spare_end seat.me.0 }
-        ensures pass { IsPassOf seat.table_id self.new }
+        ensures pass { (table : TableId) (opening : Opening) → IsSeatOf table opening seat
+            → IsPassOf table opening self.new }
         ensures view { view_of_pass self.new ≡ seat.me.0 }
         ensures numbers { SamePass self.old self.new }
     {
@@ -59,12 +65,11 @@ impl Pass {
 
     /// A pass for another backend, with the least of the spare numbers.
     pub fn split<D: Disk>(&mut self, table: &LogTable<D>) -> Pass
-        requires pass { IsPassOf table.now.table.shared.table_id self.old }
-        requires live { (view_of_pass self.old).reserving.live ≡ true }
+        requires pass { IsPassOn table.now self.old }
         requires spare { self.old.spare < self.old.spare_end }
-        ensures left { IsPassOf table.now.table.shared.table_id self.new
+        ensures left { IsPassOn table.now self.new
             × (view_of_pass self.new ≡ seat_after_split (view_of_pass self.old)) }
-        ensures right { IsPassOf table.now.table.shared.table_id result
+        ensures right { IsPassOn table.now result
             × (view_of_pass result ≡ seat_split_off (view_of_pass self.old)) }
     {
         let number = self.spare;
@@ -78,21 +83,30 @@ impl Pass {
     /// Takes another backend's pass in, which is about nothing: its log, what it knows, and its
     /// spare numbers where this one has none.
     pub fn join<D: Disk>(&mut self, table: &LogTable<D>, mut other: Pass)
-        requires pass { IsPassOf table.now.table.shared.table_id self.old
-            × IsPassOf table.now.table.shared.table_id other }
-        requires live { ((view_of_pass self.old).reserving.live ≡ true)
-            × ((view_of_pass other).reserving.live ≡ true) }
+        requires pass { IsPassOn table.now self.old }
+        requires other { IsPassOn table.now other }
         requires rests { IsAtRest (view_of_pass other) }
-        ensures pass { IsPassOf table.now.table.shared.table_id self.new }
+        ensures pass { IsPassOn table.now self.new }
         ensures view { view_of_pass self.new
             ≡ seat_after_join (view_of_pass self.old) (view_of_pass other) }
     {
         let mut seat = self.seat();
         table.join(&mut seat, other.seat());
-        if self.spare >= self.spare_end {
-            self.spare = other.spare;
-            self.spare_end = other.spare_end;
-        }
+        (self.spare, self.spare_end) = self.spares_of(&other);
         self.put_back(seat);
+    }
+
+    // The spare numbers behind a join: its own where it has some, else the other's.
+    fn spares_of(&self, other: &Pass) -> (u32, u32)
+        ensures own { self.now.spare < self.now.spare_end
+            → result ≡ (self.now.spare, self.now.spare_end) }
+        ensures taken { self.now.spare_end ≤ self.now.spare
+            → result ≡ (other.now.spare, other.now.spare_end) }
+    {
+        if self.spare < self.spare_end {
+            (self.spare, self.spare_end)
+        } else {
+            (other.spare, other.spare_end)
+        }
     }
 }

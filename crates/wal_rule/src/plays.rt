@@ -1,21 +1,36 @@
-// What each kind of step tells its pass: the view behind it.
-ghost use Rattle.std.specs.Prelude.{◌≡◌, [], ◌∷◌};
-ghost use mathlib.Core.Option.{none, some};
+// What each step tells its pass: the view behind it.
+ghost use Rattle.std.specs.Prelude.{◌≡◌, [], Ok, Result};
+ghost use mathlib.Core.Option.{none};
 ghost use Rattle.segment_disk.specs.Tape.{DiskState, empty_state};
-ghost use Rattle.wal_core.specs.Steps.{load_position, release_write_turn, slot_in, slot_out, store_written, take_write_turn};
-ghost use Rattle.wal_rule.specs.Ruled.{IsOn, plain_of};
+ghost use Rattle.flush_core.specs.declared.writer.DiskFault.{DiskFault};
+ghost use Rattle.wal_core.specs.Steps.{StepKind, load_position, slot_in};
+ghost use Rattle.wal_rule.specs.Called.{DeviceCall, DeviceCallEnds, syncs};
+ghost use Rattle.wal_rule.specs.Ruled.{IsOutOf};
 ghost use Rattle.wal_rule.specs.Seats.{SeatView, behind, no_view, seat_after_join, seat_after_split, seat_split_off};
+ghost use Rattle.wal_rule.specs.Stepping.{Stands};
 
 use crate::seats::PassView;
+use crate::writer::LogWriter;
 use atomic_table::{Join, Play, Split};
-use flush_core::Writer;
 use segment_disk::Disk;
 use std::marker::{Brand, PhantomData};
 
-pub struct LoadsPosition;
+/// Which kind of step it is, for the proof alone.
+pub trait OfKind {
+    ghost kind: { StepKind };
+}
 
-impl<D> Play<Writer<D>, PassView> for LoadsPosition {
-    ghost then = { λ st m r n. n ≡ (behind load_position r none m.0, m.1) };
+impl OfKind for Brand {
+    ghost kind = { load_position };
+}
+
+/// A step that moves no writer and calls no device.
+pub struct Quietly<K: OfKind> {
+    kind: PhantomData<K>,
+}
+
+impl<D, K: OfKind> Play<LogWriter<D>, PassView> for Quietly<K> {
+    ghost then = { λ st m r n. (n ≡ (behind K.kind r none m.0, m.1)) × Stands n.0 };
 }
 
 /// A new pass has the least spare number.
@@ -46,12 +61,6 @@ impl<B: Leaves> Join<PassView> for TakesIn<B> {
     ghost spent = { B.left };
 }
 
-pub struct TakesWriteTurn;
-
-impl<D> Play<Writer<D>, PassView> for TakesWriteTurn {
-    ghost then = { λ st m r n. n ≡ (behind take_write_turn r none m.0, m.1) };
-}
-
 /// What the disk held at first, which a call picks for the proof alone.
 pub trait HeldFirst {
     ghost first: { DiskState };
@@ -66,25 +75,47 @@ pub struct SlotOut<D, B: HeldFirst> {
     first: PhantomData<B>,
 }
 
-impl<D: Disk, B: HeldFirst> Play<Writer<D>, PassView> for SlotOut<D, B> {
-    ghost then = { λ st m r n. (w : _) × IsOn D.tape D.moment B.first w
-        × (n ≡ (behind slot_out r (some (plain_of D.tape D.moment w)) m.0, (0, w) ∷ m.1)) };
+impl<D: Disk, B: HeldFirst> Play<LogWriter<D>, PassView> for SlotOut<D, B> {
+    ghost then = { λ st m r n. (w : _)
+        × IsOutOf D.tape D.moment D.faults B.first (m.0).opening r w m n × Stands n.0 };
 }
 
 pub struct SlotIn;
 
-impl<D> Play<Writer<D>, PassView> for SlotIn {
-    ghost then = { λ st m r n. n ≡ (behind slot_in r none m.0, []) };
+impl<D> Play<LogWriter<D>, PassView> for SlotIn {
+    ghost then = { λ st m r n. (n ≡ (behind slot_in r none m.0, [])) × Stands n.0 };
 }
 
-pub struct ReleasesWriteTurn;
+/// A load that changes nothing of what the pass knows.
+pub struct LooksOn;
 
-impl<D> Play<Writer<D>, PassView> for ReleasesWriteTurn {
-    ghost then = { λ st m r n. n ≡ (behind release_write_turn r none m.0, m.1) };
+impl<D> Play<LogWriter<D>, PassView> for LooksOn {
+    ghost then = { λ st m r n. (n ≡ m) × Stands n.0 };
 }
 
-pub struct StoresWritten;
+/// A call of the device and how it ended, which a call of the table picks for the proof alone.
+pub trait OfCall {
+    ghost call: { DeviceCall };
 
-impl<D> Play<Writer<D>, PassView> for StoresWritten {
-    ghost then = { λ st m r n. n ≡ (behind store_written r none m.0, m.1) };
+    ghost ended: { Result Unit DiskFault };
+
+    ghost first: { DiskState };
+}
+
+impl OfCall for Brand {
+    ghost call = { syncs 0 };
+
+    ghost ended = { Ok tt };
+
+    ghost first = { empty_state };
+}
+
+pub struct CatchesUp<D, B: OfCall> {
+    disk: PhantomData<D>,
+    call: PhantomData<B>,
+}
+
+impl<D: Disk, B: OfCall> Play<LogWriter<D>, PassView> for CatchesUp<D, B> {
+    ghost then = { λ st m r n. DeviceCallEnds D.tape D.moment D.faults B.first (m.0).opening
+        B.call B.ended m.0 n × Stands n.0 };
 }

@@ -1,6 +1,6 @@
 // What a pass knows, which is nothing at run time, and what the table is told once.
 ghost use Rattle.std.specs.Prelude.{◌≡◌};
-ghost use Rattle.wal_rule.specs.Founded.{disk_of_founding, empty_log_opening, opening_of};
+ghost use Rattle.wal_rule.specs.Founded.{disk_of_founding, empty_log_opening, founded_opening};
 ghost use Rattle.wal_rule.specs.Seats.{SeatView};
 
 use segment_disk::Disk;
@@ -39,7 +39,7 @@ pub struct Founding<D> {
 impl<D: Disk> Founding<D> {
     /// What is to be fixed of a table for a log on this disk. It makes no device call.
     pub fn of(setup: Setup, disk: &D) -> Founding<D>
-        ensures opening { opening_of result
+        ensures opening { founded_opening result
             ≡ empty_log_opening setup (D.moment disk.now) (D.faults disk.now) }
         ensures disk { disk_of_founding result ≡ disk.now }
     {

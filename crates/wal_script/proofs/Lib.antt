@@ -5,7 +5,6 @@ pub mod FittingBlocks
 pub mod Pairs
 pub mod ReplayLaws
 pub mod Replays
-pub mod ScheduledTurns
 pub mod Scripts
 pub mod SeveralBackends
 pub mod Steps

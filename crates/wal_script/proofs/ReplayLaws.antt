@@ -1,20 +1,18 @@
 -- What holds of each replay's script that is read.
-use Rattle.std.proofs.Common.{ℕ, ◌+◌, ◌<◌, ◌≤◌, List, [], ◌∷◌, ◌++◌, length, true, false, Option, Some, None, Result, Ok, Err, All, codes, eqb, ltb, ltb-true, length-append, arith}
+use Rattle.std.proofs.Common.{◌≡◌, ℕ, ◌+◌, ◌<◌, ◌≤◌, List, [], ◌∷◌, ◌++◌, length, Bool, true, false, Option, Some, None, Result, Ok, Err, All, codes, eqb, ltb, ltb-true, length-append, refl, arith}
 use Rattle.std.specs.Prelude.{IfOk, if◌then◌else◌}
 use Rattle.std.proofs.lemmas.Bool.{cond_both}
 use Rattle.std.proofs.lemmas.List.Elements.{All-nil, All-cons, All-append}
 use Rattle.replay_schedule.specs.declared.item.Item.{Item}
 use Rattle.replay_schedule.specs.Meaning.{after_lines}
 use Rattle.replay_schedule.specs.Turns.{backends_in_turn, most_turns}
-use Rattle.replay_schedule.proofs.Turns.{lines_are_of_backends}
+use Rattle.replay_schedule.proofs.Turns.{lines_are_of_backends, lines_are_within}
 use Rattle.wal_script.specs.declared.line.Refusal.{Refusal}
-use Rattle.wal_script.specs.declared.line.ScriptFault.TheVariants as faults
 use Rattle.wal_script.specs.Asked.{AskedLine}
 use Rattle.wal_script.specs.Meaning.{line_with, passes, asks, refuses, script_limit}
-use Rattle.wal_script.specs.Replay.{ReplayLine, of_backend, begins, ends, ScheduleLines, BackendsMeaning, ReplayMeaning, alone, most_backends, backends_from, backends_with, items_or_fault, replay_line_of, replay_line_with, replay_meaning, replay_with, schedule_with, with_schedule}
+use Rattle.wal_script.specs.Replay.{ReplayLine, of_backend, begins, ends, ScheduleLines, BackendsMeaning, ReplayMeaning, alone, begin_fault, most_backends, backends_from, backends_with, items_or_fault, replay_line_of, replay_line_with, replay_meaning, replay_with, schedule_with, unless_fault, with_schedule}
 use Rattle.wal_script.specs.Text.{is_text, fields_of, lines_of}
 use Rattle.wal_script.specs.Writable.{AsksWritable}
-use Rattle.wal_script.proofs.ScheduledTurns.{AreWithin, lines_within}
 use Rattle.wal_script.proofs.Writing.{MeansWritable, line_with_writable}
 
 -- ---- lines
@@ -59,6 +57,11 @@ AreFit-pushed before lines schedule room before_writable lines_writable = record
   writable = All-append AreWritable before (lines ∷ []) before_writable (All-cons AreWritable lines [] lines_writable (All-nil AreWritable));
 }
 
+begins_fit : (number : ℕ) (has_room is_alone : Bool) (next : Result BackendsMeaning Refusal) → (has_room ≡ true → IfOk next AreFit) → IfOk (unless_fault number (begin_fault has_room is_alone) next) AreFit
+begins_fit number false is_alone next fit = tt
+begins_fit number true false next fit = tt
+begins_fit number true true next fit = fit refl
+
 backends_with_fit : (number : ℕ) (before : List (List AskedLine)) (lines : List AskedLine) (line : ReplayLine) (texts : List (List ℕ)) (others : List (List AskedLine) → List AskedLine → Result BackendsMeaning Refusal) → length before < most_backends → All AreWritable before → AreWritable lines → IsWritableLine line → ((so_far : List (List AskedLine)) (latest : List AskedLine) → length so_far < most_backends → All AreWritable so_far → AreWritable latest → IfOk (others so_far latest) AreFit) → IfOk (backends_with number before lines line texts others) AreFit
 backends_with_fit number before lines (of_backend passes) texts others room before_writable lines_writable writable fit = fit before lines room before_writable lines_writable
 backends_with_fit number before lines (of_backend (asks asked)) texts others room before_writable lines_writable writable fit =
@@ -66,12 +69,9 @@ backends_with_fit number before lines (of_backend (asks asked)) texts others roo
     let Is = λ (l : AskedLine). AsksWritable l.asked in
     fit before (lines ++ line ∷ []) room before_writable (All-append Is lines (line ∷ []) lines_writable (All-cons Is line [] writable (All-nil Is)))
 backends_with_fit number before lines (of_backend (refuses fault)) texts others room before_writable lines_writable writable fit = tt
-backends_with_fit number before lines (begins false) texts others room before_writable lines_writable writable fit =
-    cond_both (ltb (length before + 1) most_backends) (Err (record { line = number; fault = faults.Count })) (Err (record { line = number; fault = faults.Backends })) (λ read. IfOk read AreFit) (λ _. tt) (λ _. tt)
-backends_with_fit number before lines (begins true) texts others room before_writable lines_writable writable fit =
-    cond_both (ltb (length before + 1) most_backends) (others (before ++ lines ∷ []) []) (Err (record { line = number; fault = faults.Backends })) (λ read. IfOk read AreFit)
+backends_with_fit number before lines (begins is_alone) texts others room before_writable lines_writable writable fit =
+    begins_fit number (ltb (length before + 1) most_backends) is_alone (others (before ++ lines ∷ []) [])
     (λ holds. fit (before ++ lines ∷ []) [] (omega (arith, ltb-true (length before + 1) most_backends holds, length-append before (lines ∷ []))) (AreFit-pushed before lines None room before_writable lines_writable).writable (All-nil (λ l. AsksWritable l.asked)))
-    (λ _. tt)
 backends_with_fit number before lines ends texts others room before_writable lines_writable writable fit =
     AreFit-pushed before lines (Some (record { number = number; texts = texts })) room before_writable lines_writable
 
@@ -82,6 +82,9 @@ backends_from_fit number before lines (text ∷ texts) room before_writable line
     (λ so_far latest. backends_from_fit (number + 1) so_far latest texts)
 
 -- ---- the schedule
+
+abbrev AreWithin : List Item → Type 0
+AreWithin items = length (backends_in_turn items) ≤ most_turns
 
 -- what holds of a schedule that was read for so many backends
 record AreTaken (backends : ℕ) (items : List Item) : Type 0 where
@@ -95,7 +98,7 @@ items_or_fault_taken backends (Err line) there within = tt
 schedule_with_taken : (backends : ℕ) (schedule : Option ScheduleLines) → IfOk (schedule_with backends schedule) (AreTaken backends)
 schedule_with_taken backends None = record { there = All-nil (λ backend. backend < backends); within = omega arith }
 schedule_with_taken backends (Some lines) =
-    items_or_fault_taken backends (after_lines backends (lines.number + 1) [] lines.texts) (lines_are_of_backends backends (lines.number + 1) lines.texts) (lines_within backends (lines.number + 1) [] lines.texts (omega arith))
+    items_or_fault_taken backends (after_lines backends (lines.number + 1) [] lines.texts) (lines_are_of_backends backends (lines.number + 1) lines.texts) (lines_are_within backends (lines.number + 1) lines.texts)
 
 -- ---- all of it
 

@@ -6,7 +6,7 @@ use Rattle.wal_script.specs.declared.backends.Backends.{Backends}
 use Rattle.wal_script.specs.declared.line.Refusal.{Refusal}
 use Rattle.wal_script.specs.declared.parser.ParseError.{ParseError}
 use Rattle.wal_script.specs.declared.parser.ParseError.TheVariants as errors
-use Rattle.wal_script.specs.Meaning.{script_limit, too_long}
+use Rattle.wal_script.specs.Meaning.{script_limit, script_too_long}
 use Rattle.wal_script.specs.Reading.{RefusesScript}
 use Rattle.wal_script.specs.Replay.{ReplayMeaning, backends_from, replay_meaning, replay_with, schedule_with, with_schedule}
 use Rattle.wal_script.specs.ReplayReading.{AreBackendsOf, DoesBackends, schedule_lines}
@@ -21,7 +21,7 @@ under_limit limit script refusal meaning within = rw (le-ltb limit (length scrip
 module _ (script : List ℕ) (within : length script ≤ script_limit) (read : Backends) (does : DoesBackends read (backends_from 1 [] [] (lines_of script))) where
   by_schedule : (items : Result (List Item) Refusal) → schedule_with (length read.lines.items) (schedule_lines read.schedule) ≡ items → replay_meaning script ≡ with_schedule does.0.backends items
   by_schedule items is =
-      under_limit script_limit script (too_long script) (replay_with (backends_from 1 [] [] (lines_of script))) within
+      under_limit script_limit script (script_too_long script) (replay_with (backends_from 1 [] [] (lines_of script))) within
       ∙ ap replay_with does.1
       ∙ ap (with_schedule does.0.backends) (ap (λ (n : ℕ). schedule_with n does.0.schedule) (AreBackendsOf-length does.0.backends read.lines.items does.2) ∙ ap (schedule_with (length read.lines.items)) does.3 ∙ is)
 

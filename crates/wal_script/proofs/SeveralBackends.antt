@@ -1,16 +1,15 @@
 -- Reading the lines of several backends from the first on.
-use Rattle.std.proofs.Common.{◌≡◌, ℕ, ◌+◌, ◌<◌, Bool, true, false, List, [], ◌∷◌, ◌++◌, length, cond, Option, Some, None, Result, Ok, Err, ltb, ltb-true, refl, sym, subst, arith}
+use Rattle.std.proofs.Common.{◌≡◌, ℕ, ◌+◌, ◌<◌, Bool, true, false, List, [], ◌∷◌, ◌++◌, length, Option, Some, None, Result, Ok, Err, ltb, ltb-true, refl, sym, subst, arith}
 use Rattle.std.specs.Global.{Vec}
 use Rattle.wal_script.specs.declared.line.Action.{Action}
 use Rattle.wal_script.specs.declared.line.Line.{Line}
 use Rattle.wal_script.specs.declared.line.Refusal.{Refusal}
 use Rattle.wal_script.specs.declared.line.ScriptFault.{ScriptFault}
-use Rattle.wal_script.specs.declared.line.ScriptFault.TheVariants as faults
 use Rattle.wal_script.specs.Asked.{Asked, AskedLine}
 use Rattle.wal_script.specs.Bodies.{AreLinesOf, IsActionOf}
 use Rattle.wal_script.specs.Meaning.{passes, asks}
-use Rattle.wal_script.specs.Replay.{ReplayLine, of_backend, begins, ends, BackendsMeaning, most_backends, backends_with, backends_from, replay_line_of}
-use Rattle.wal_script.specs.ReplayReading.{AreBackendsOf, begin_fault}
+use Rattle.wal_script.specs.Replay.{ReplayLine, of_backend, begins, ends, BackendsMeaning, begin_fault, most_backends, backends_with, backends_from, replay_line_of, unless_fault}
+use Rattle.wal_script.specs.ReplayReading.{AreBackendsOf}
 use Rattle.wal_script.proofs.Scripts.{AreLinesOf_push}
 
 -- there are as many backends
@@ -28,11 +27,11 @@ AreBackendsOf_push (first ∷ askeds) [] asked lines are does = absurd are
 AreBackendsOf_push (first ∷ askeds) (other ∷ backends) asked lines are does = (are.0, AreBackendsOf_push askeds backends asked lines are.1 does)
 
 -- where the next backend may begin, there is room for it
-room_of : (room is_alone : Bool) → cond room (cond is_alone None (Some faults.Count)) (Some faults.Backends) ≡ None → room ≡ true
+room_of : (room is_alone : Bool) → begin_fault room is_alone ≡ None → room ≡ true
 room_of true is_alone may = refl
 room_of false is_alone may = absurd cc
 
-pub begins_in_room : (backends : ℕ) (is_alone : Bool) → begin_fault backends is_alone ≡ None → backends < most_backends
+pub begins_in_room : (backends : ℕ) (is_alone : Bool) → begin_fault (ltb backends most_backends) is_alone ≡ None → backends < most_backends
 begins_in_room backends is_alone may = ltb-true backends most_backends (room_of (ltb backends most_backends) is_alone may)
 
 -- the backends and lines so far do what was read, and with the meaning of the texts from a number
@@ -75,38 +74,26 @@ module _ (before : List (Vec Line)) (lines : Vec Line) (number : ℕ) (text : Li
   abbrev next : Result BackendsMeaning Refusal
   next = backends_from (number + 1) (upto.askeds ++ upto.asked ∷ []) [] texts
 
-  abbrev refused : ScriptFault → Result BackendsMeaning Refusal
-  refused fault = Err (record { line = number; fault = fault })
+  abbrev fault_of : Bool → Option ScriptFault
+  fault_of = begin_fault (ltb (length before + 1) most_backends)
 
-  abbrev judged : Bool → Bool → Result BackendsMeaning Refusal
-  judged room is_alone = cond room (cond is_alone next (refused faults.Count)) (refused faults.Backends)
+  at_begin : (is_alone : Bool) → replay_line_of text ≡ begins is_alone → unless_fault number (fault_of is_alone) next ≡ meaning
+  at_begin is_alone is = subst (λ (n : ℕ). unless_fault number (begin_fault (ltb (n + 1) most_backends) is_alone) next ≡ meaning) (AreBackendsOf-length upto.askeds before upto.backends_are) (by_line before lines.items number text texts meaning upto (begins is_alone) is)
 
-  abbrev MeansBy : Option ScriptFault → Result BackendsMeaning Refusal → Type 0
-  MeansBy None read = read ≡ next
-  MeansBy (Some fault) read = read ≡ refused fault
+  by_fault : (is_alone : Bool) (fault : Option ScriptFault) → replay_line_of text ≡ begins is_alone → fault_of is_alone ≡ fault → unless_fault number fault next ≡ meaning
+  by_fault is_alone fault is fault_is = subst (λ (f : Option ScriptFault). unless_fault number f next ≡ meaning) fault_is (at_begin is_alone is)
 
-  by_fault : (room is_alone : Bool) → MeansBy (cond room (cond is_alone None (Some faults.Count)) (Some faults.Backends)) (judged room is_alone)
-  by_fault true true = refl
-  by_fault true false = refl
-  by_fault false is_alone = refl
-
-  at_begin : (is_alone : Bool) (fault : Option ScriptFault) → replay_line_of text ≡ begins is_alone → begin_fault (length before + 1) is_alone ≡ fault → MeansBy fault meaning
-  at_begin is_alone fault is fault_is =
-      let room = ltb (length before + 1) most_backends in
-      let means : judged room is_alone ≡ meaning = subst (λ (n : ℕ). judged (ltb (n + 1) most_backends) is_alone ≡ meaning) (AreBackendsOf-length upto.askeds before upto.backends_are) (by_line before lines.items number text texts meaning upto (begins is_alone) is) in
-      subst (λ (f : Option ScriptFault). MeansBy f meaning) fault_is (subst (MeansBy (begin_fault (length before + 1) is_alone)) means (by_fault room is_alone))
-
-  pub AreReadUpto-begin : (is_alone : Bool) → replay_line_of text ≡ begins is_alone → begin_fault (length before + 1) is_alone ≡ None → AreReadUpto (before ++ lines ∷ []) [] (number + 1) texts meaning
+  pub AreReadUpto-begin : (is_alone : Bool) → replay_line_of text ≡ begins is_alone → fault_of is_alone ≡ None → AreReadUpto (before ++ lines ∷ []) [] (number + 1) texts meaning
   AreReadUpto-begin is_alone is room = record {
     askeds = upto.askeds ++ upto.asked ∷ [];
     asked = [];
     backends_are = AreBackendsOf_push upto.askeds before upto.asked lines upto.backends_are upto.lines_are;
     lines_are = tt;
-    whole = sym (at_begin is_alone None is room);
+    whole = by_fault is_alone None is room;
   }
 
-  pub refused_begin : (is_alone : Bool) (fault : ScriptFault) → replay_line_of text ≡ begins is_alone → begin_fault (length before + 1) is_alone ≡ Some fault → meaning ≡ Err (record { line = number; fault = fault })
-  refused_begin is_alone fault = at_begin is_alone (Some fault)
+  pub refused_begin : (is_alone : Bool) (fault : ScriptFault) → replay_line_of text ≡ begins is_alone → fault_of is_alone ≡ Some fault → meaning ≡ Err (record { line = number; fault = fault })
+  refused_begin is_alone fault is fault_is = sym (by_fault is_alone (Some fault) is fault_is)
 
   pub at_end : (read : List (Vec Line)) → replay_line_of text ≡ ends → read ≡ before ++ lines ∷ [] → (m : BackendsMeaning) × (meaning ≡ Ok m) × AreBackendsOf m.backends read × (m.schedule ≡ Some (record { number = number; texts = texts }))
   at_end read is backends = (

@@ -127,8 +127,8 @@ abbrev pub script_limit : ℕ
 script_limit = 67108864
 
 -- a script beyond its limit is refused at the line of its first byte too many
-abbrev pub too_long : List ℕ → Refusal
-too_long script =
+abbrev pub script_too_long : List ℕ → Refusal
+script_too_long script =
     record {
       line = count_by (λ c. c == 10) (take script_limit script) + 1;
       fault = faults.Length;
@@ -137,7 +137,7 @@ too_long script =
 -- what a script means where it is within its limit
 abbrev pub within_limit : {X : Type 0} → List ℕ → Result X Refusal → Result X Refusal
 within_limit script meaning =
-    if nat_lt script_limit (length script) then Err (too_long script) else meaning
+    if nat_lt script_limit (length script) then Err (script_too_long script) else meaning
 
 -- the lines of one backend
 abbrev pub backend_meaning : List ℕ → Result (List AskedLine) Refusal

@@ -1,8 +1,9 @@
 -- What the script of a replay means: lines for each of several backends, and a schedule.
-use Rattle.std.specs.Prelude.{ℕ, ◌+◌, Bool, List, [], ◌∷◌, ◌++◌, length, Option, Some, None, Result, Ok, Err, codes, ◌==◌, nat_lt, if◌then◌else◌}
+use Rattle.std.specs.Prelude.{ℕ, ◌+◌, Bool, true, false, List, [], ◌∷◌, ◌++◌, length, Option, Some, None, Result, Ok, Err, codes, ◌==◌, nat_lt, if◌then◌else◌}
 use Rattle.replay_schedule.specs.declared.item.Item.{Item}
 use Rattle.replay_schedule.specs.Meaning.{after_lines}
 use Rattle.wal_script.specs.declared.line.Refusal.{Refusal}
+use Rattle.wal_script.specs.declared.line.ScriptFault.{ScriptFault}
 use Rattle.wal_script.specs.declared.line.ScriptFault.TheVariants as faults
 use Rattle.wal_script.specs.Asked.{AskedLine}
 use Rattle.wal_script.specs.Text.{is_text, lines_of, fields_of}
@@ -48,9 +49,20 @@ pub record BackendsMeaning : Type 0 where
 abbrev pub most_backends : ℕ
 most_backends = 64
 
+-- why a `B` begins no backend: by the number of backends first, and then by its fields
+abbrev pub begin_fault : (has_room is_alone : Bool) → Option ScriptFault
+begin_fault false is_alone = Some faults.Backends
+begin_fault true false = Some faults.Count
+begin_fault true true = None
+
+-- a meaning, unless the line of this number is refused
+abbrev pub unless_fault : ℕ → Option ScriptFault → Result BackendsMeaning Refusal
+    → Result BackendsMeaning Refusal
+unless_fault number None meaning = meaning
+unless_fault number (Some fault) meaning = Err (record { line = number; fault = fault })
+
 -- a line by its number, behind the backends before its own and its own's lines before it: `others`
--- is what the lines behind it, `texts`, mean. A `B` fails by the number of backends before it does by
--- its fields
+-- is what the lines behind it, `texts`, mean
 abbrev pub backends_with : ℕ → List (List AskedLine) → List AskedLine → ReplayLine → List (List ℕ)
     → (List (List AskedLine) → List AskedLine → Result BackendsMeaning Refusal)
     → Result BackendsMeaning Refusal
@@ -60,10 +72,8 @@ backends_with number before lines (of_backend (asks asked)) texts others =
 backends_with number before lines (of_backend (refuses fault)) texts others =
     Err (record { line = number; fault = fault })
 backends_with number before lines (begins is_alone) texts others =
-    if nat_lt (length before + 1) most_backends
-    then (if is_alone then others (before ++ lines ∷ []) []
-    else Err (record { line = number; fault = faults.Count }))
-    else Err (record { line = number; fault = faults.Backends })
+    unless_fault number (begin_fault (nat_lt (length before + 1) most_backends) is_alone)
+    (others (before ++ lines ∷ []) [])
 backends_with number before lines ends texts others =
     Ok (record {
       backends = before ++ lines ∷ [];

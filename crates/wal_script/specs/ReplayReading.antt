@@ -1,6 +1,6 @@
 -- What a reader of a replay's script returns, beside what the script means: want of memory is no
 -- part of the meaning.
-use Rattle.std.specs.Prelude.{◌≡◌, ℕ, ◌+◌, ◌<◌, ◌≤◌, Bool, IfSome, if◌then◌else◌, length, nat_lt, List, [], ◌∷◌, Option, Some, None, Result, Ok, Err}
+use Rattle.std.specs.Prelude.{◌≡◌, ℕ, ◌+◌, ◌<◌, ◌≤◌, IfSome, length, List, [], ◌∷◌, Option, Some, None, Result, Ok, Err}
 use Rattle.std.specs.Global.{Vec}
 use Rattle.replay_schedule.specs.declared.item.Item.{Item}
 use Rattle.replay_schedule.specs.declared.schedule.ScheduleError.{ScheduleError}
@@ -12,7 +12,6 @@ use Rattle.wal_script.specs.declared.backends.Step.{Step}
 use Rattle.wal_script.specs.declared.backends.Step.TheVariants as steps
 use Rattle.wal_script.specs.declared.line.Line.{Line}
 use Rattle.wal_script.specs.declared.line.Refusal.{Refusal}
-use Rattle.wal_script.specs.declared.line.ScriptFault.{ScriptFault}
 use Rattle.wal_script.specs.declared.line.ScriptFault.TheVariants as faults
 use Rattle.wal_script.specs.declared.line_error.LineError.{LineError}
 use Rattle.wal_script.specs.declared.line_error.LineError.TheVariants as causes
@@ -61,12 +60,6 @@ RefusesStep (causes.Fault fault) meaning = meaning ≡ of_backend (refuses fault
 abbrev pub StepGives : Result Step LineError → ReplayLine → Type 0
 StepGives (Ok step) meaning = DoesStep step meaning
 StepGives (Err error) meaning = RefusesStep error meaning
-
--- why the next backend does not begin behind so many
-abbrev pub begin_fault : ℕ → Bool → Option ScriptFault
-begin_fault backends is_alone =
-    if nat_lt backends most_backends then (if is_alone then None else Some faults.Count)
-    else Some faults.Backends
 
 -- the lines of what stands behind a line `S`
 abbrev pub schedule_lines : Option ScheduleText → Option ScheduleLines

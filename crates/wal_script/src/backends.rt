@@ -1,8 +1,8 @@
 //! The lines of several backends, parted by lines `B`, up to a line `S` or the script's end.
 
-ghost use Rattle.std.specs.Prelude.{◌≡◌, [], ◌+◌, ◌≤◌, IfOk, length};
-ghost use Rattle.wal_script.specs.Replay.{backends_from, replay_line_of, replay_line_with};
-ghost use Rattle.wal_script.specs.ReplayReading.{GivesBackends, HasReadBackends, StepGives, begin_fault};
+ghost use Rattle.std.specs.Prelude.{◌≡◌, [], ◌+◌, ◌≤◌, IfOk, length, nat_lt};
+ghost use Rattle.wal_script.specs.Replay.{backends_from, begin_fault, most_backends, replay_line_of, replay_line_with};
+ghost use Rattle.wal_script.specs.ReplayReading.{GivesBackends, HasReadBackends, StepGives};
 ghost use Rattle.wal_script.specs.Text.{lines_of};
 
 use crate::fields::no_more;
@@ -86,9 +86,9 @@ pub(crate) fn read_backends(alloc: Global, script: &[u8]) -> Result<Backends, Pa
     })
 }
 
-// Why the next backend does not begin behind so many: the letter fails before its fields do.
+// Why the next backend does not begin behind so many.
 fn begin_fault(backends: usize, is_alone: bool) -> Option<ScriptFault>
-    ensures { result ≡ begin_fault backends is_alone }
+    ensures { result ≡ begin_fault (nat_lt backends most_backends) is_alone }
 {
     if backends >= MOST_BACKENDS {
         Some(ScriptFault::Backends)

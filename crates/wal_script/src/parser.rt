@@ -1,7 +1,7 @@
 ghost use Rattle.std.specs.Prelude.{◌≡◌, ◌+◌, ◌<◌, ◌≤◌, ◌==◌, ◌∷◌, IfErr, IfOk, length, count_by};
 ghost use Rattle.wal_script.specs.Text.{lines_of};
 ghost use Rattle.wal_script.specs.declared.parser.ParseError.TheVariants.{Refused};
-ghost use Rattle.wal_script.specs.Meaning.{line_with, line_of, lines_meaning, backend_meaning, script_limit, too_long};
+ghost use Rattle.wal_script.specs.Meaning.{line_with, line_of, lines_meaning, backend_meaning, script_limit, script_too_long};
 ghost use Rattle.wal_script.specs.Reading.{DoesAny, DoesLine, GivesLines, LineGives};
 
 use crate::fields::no_more;
@@ -60,7 +60,7 @@ pub fn parse(alloc: Global, script: &[u8]) -> Result<Vec<Line>, ParseError>
 pub(crate) fn within_limit(script: &[u8]) -> Result<(), ParseError>
     requires { length script.now ≤ SCRIPT_LIMIT + 1 }
     ensures above { IfErr result (λ error.
-        (script_limit < length script.now) × (error ≡ Refused (too_long script.now))) }
+        (script_limit < length script.now) × (error ≡ Refused (script_too_long script.now))) }
     ensures within { IfOk result (λ _. length script.now ≤ script_limit) }
 {
     if script.len() > SCRIPT_LIMIT {

@@ -1,4 +1,4 @@
-use Rattle.std.proofs.Common.{◌≡◌, ℕ, ◌+◌, ◌≤◌, List, [], ◌∷◌, ◌++◌, length, Option, Some, None, Result, Ok, ap, ◌∙◌, sym, subst, arith}
+use Rattle.std.proofs.Common.{◌≡◌, ℕ, ◌+◌, ◌≤◌, List, [], ◌∷◌, ◌++◌, length, Option, Some, None, Result, Ok, ap, ◌∙◌, ltb, sym, subst, arith}
 use Rattle.std.proofs.lemmas.Grind.{common_steps}
 use Rattle.std.specs.Borrow.{Bor}
 use Rattle.std.specs.Global.{Vec}
@@ -9,8 +9,8 @@ use Rattle.wal_script.specs.declared.line.Line.{Line}
 use Rattle.wal_script.specs.declared.line_error.LineError.{LineError}
 use Rattle.wal_script.specs.declared.parser.ParseError.{ParseError}
 use Rattle.wal_script.specs.Reading.{RefusesScript}
-use Rattle.wal_script.specs.Replay.{backends_from, replay_line_of, begins, ends}
-use Rattle.wal_script.specs.ReplayReading.{DoesStep, StepGives, begin_fault}
+use Rattle.wal_script.specs.Replay.{backends_from, begin_fault, most_backends, replay_line_of, begins, ends}
+use Rattle.wal_script.specs.ReplayReading.{DoesStep, StepGives}
 use Rattle.wal_script.specs.Text.{lines_of}
 use Rattle.wal_script.proofs.SeveralBackends.{AreReadUpto, AreReadUpto-ask, AreReadUpto-begin, begins_in_room, refused_begin, at_end, behind_last}
 use Rattle.wal_script.proofs.backends.read_backends.Goals as goal
@@ -45,7 +45,7 @@ returns-in-Some-begin_fault-clause-read c =
     let read : c.read_line.result ≡ Ok (steps.Begin c.in-Begin.is_alone) = grind (arith, common_steps) in
     let is : replay_line_of text ≡ begins c.in-Begin.is_alone = subst (λ (result : Result Step LineError). StepGives result (replay_line_of text)) read c.read_line.ensures in
     let before : AreReadUpto c.loop-rest.before.items lines.items number (text ∷ rest) whole = subst (λ (texts : List (List ℕ)). AreReadUpto c.loop-rest.before.items lines.items number texts whole) left c.loop-rest.invariant.meaning in
-    let fault : begin_fault (length c.loop-rest.before.items + 1) c.in-Begin.is_alone ≡ Some c.in-Some-begin_fault.fault = grind (arith, common_steps) in
+    let fault : begin_fault (ltb (length c.loop-rest.before.items + 1) most_backends) c.in-Begin.is_alone ≡ Some c.in-Some-begin_fault.fault = grind (arith, common_steps) in
     let refusal = refused_begin c.loop-rest.before.items lines number text rest whole before c.in-Begin.is_alone c.in-Some-begin_fault.fault is fault in
     subst (λ (error : ParseError). RefusesScript error whole) (sym c.at.ensures) refusal
 
@@ -61,7 +61,7 @@ loop-rest-preserved c =
     let is : replay_line_of text ≡ begins c.in-Begin.is_alone = subst (λ (result : Result Step LineError). StepGives result (replay_line_of text)) read c.read_line.ensures in
     let before : AreReadUpto c.loop-rest.before.items lines.items number (text ∷ rest) whole = subst (λ (texts : List (List ℕ)). AreReadUpto c.loop-rest.before.items lines.items number texts whole) left c.loop-rest.invariant.meaning in
     let bytes : c.loop-rest.number + (length c.in-Some.text.now + 1) ≤ length c.args.script.now + 1 = subst (λ (left_over : Option (Bor (List ℕ))). c.loop-rest.number + bytes_left left_over ≤ length c.args.script.now + 1) c.in-Some.is c.loop-rest.invariant.left in
-    let may : begin_fault (length c.loop-rest.before.items + 1) c.in-Begin.is_alone ≡ None = grind (arith, common_steps) in
+    let may : begin_fault (ltb (length c.loop-rest.before.items + 1) most_backends) c.in-Begin.is_alone ≡ None = grind (arith, common_steps) in
     record {
       meaning = subst (λ (all : List (Vec Line)). AreReadUpto all c.new-lines-in-Begin.result.items (number + 1) rest whole) (sym c.in_ok-push-in-Begin.ensures.items) (subst (λ (none : List Line). AreReadUpto (c.loop-rest.before.items ++ lines ∷ []) none (number + 1) rest whole) (sym c.new-lines-in-Begin.ensures.items) (AreReadUpto-begin c.loop-rest.before.items lines number text rest whole before c.in-Begin.is_alone is may));
       left = omega (arith, c.cut.ensures.fewer, bytes);

@@ -4,8 +4,8 @@ use Rattle.wal_rule.proofs.table.LogTable.slot_in.Goals as goal
 
 pub load-requires : goal.load-requires
 load-requires g c = (
-  c.requires.table,
+  c.requires.seat.of_table,
   omega (arith, c.args.self.now.wide),
-  comes_in g.D.Disk.tape g.D.Disk.moment _ _ _ _ _ c.requires.live c.requires.out.0 c.requires.out.1
-      c.requires.out.2 c.requires.out.3,
+  comes_in g.D.Disk.tape g.D.Disk.moment g.D.Disk.faults _ _ _ _ _ c.requires.seat.live
+      c.requires.out.0 c.requires.out.1 c.requires.out.2 c.requires.may,
 )

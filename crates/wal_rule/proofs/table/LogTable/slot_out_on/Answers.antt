@@ -1,11 +1,23 @@
-use Rattle.std.proofs.Common.{arith}
+use Rattle.std.proofs.Common.{arith, subst}
+use Rattle.wal_core.specs.Words.{Opening}
+use Rattle.wal_rule.specs.Ruled.{IsOutOf}
 use Rattle.wal_rule.proofs.Allowed.{goes_out}
 use Rattle.wal_rule.proofs.table.LogTable.slot_out_on.Goals as goal
 
 pub load-requires : goal.load-requires
 load-requires g c = (
-  c.requires.table,
+  c.requires.seat.of_table,
   omega (arith, c.args.self.now.wide),
-  goes_out g.D.Disk.tape g.D.Disk.moment _ _ _ _ _ c.requires.live c.requires.turn _
-      c.requires.first,
+  goes_out g.D.Disk.tape g.D.Disk.moment g.D.Disk.faults _ _ _ _ _ c.requires.seat.live
+      c.requires.may _ c.requires.first _ c.requires.seat.own,
 )
+
+pub returns-clause-out : goal.returns-clause-out
+returns-clause-out g c =
+    let e = c.load.ensures in (
+      c.load.result,
+      e.2.0,
+      subst (λ (o : Opening). IsOutOf g.D.Disk.tape g.D.Disk.moment g.D.Disk.faults
+          g.B.HeldFirst.first o c.load.result e.2.0 c.args.seat.now.me c.load.new.seat.me)
+          c.requires.seat.own e.2.1,
+    )

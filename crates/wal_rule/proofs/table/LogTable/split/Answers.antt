@@ -2,9 +2,10 @@ use Rattle.std.proofs.Common.{arith}
 use Rattle.wal_rule.proofs.Allowed.{splits_off}
 use Rattle.wal_rule.proofs.table.LogTable.split.Goals as goal
 
-pub split_seat-requires : goal.split_seat-requires
-split_seat-requires g c = (
-  c.requires.table,
+pub split_seat-other-requires : goal.split_seat-other-requires
+split_seat-other-requires g c = (
+  c.requires.seat.of_table,
   omega (arith, c.args.self.now.wide),
-  splits_off g.D.Disk.tape g.D.Disk.moment _ _ _ _ c.requires.live c.requires.spare,
+  splits_off g.D.Disk.tape g.D.Disk.moment g.D.Disk.faults _ _ _ _ c.requires.seat.live
+      c.requires.spare,
 )

@@ -1,21 +1,12 @@
-use Rattle.std.proofs.Common.{ℕ, ◌∷◌, List, refl, ap, ◌∙◌}
-use Rattle.segment_disk.specs.Tape.{empty_state}
-use Rattle.flush_core.specs.declared.writer.Writer.{Writer}
-use Rattle.wal_core.specs.Moves.{lent}
-use Rattle.wal_rule.specs.Ruled.{plain_of}
-use Rattle.wal_rule.specs.Seats.{SeatView, lent_told, view_on}
+use Rattle.wal_rule.specs.Tables.{first_of_table, opening_of_table}
+use Rattle.wal_rule.proofs.Taken.{taken}
 use Rattle.wal_rule.proofs.table.LogTable.take_writer.Goals as goal
 
-pub returns-clause-out : goal.returns-clause-out
-returns-clause-out g c = λ _.
-    let e = c.slot_out.ensures.view in
-    let D : Type 0 = g.row.D.Denot in (
-      lent_told (lent (plain_of g.D.Disk.tape g.D.Disk.moment e.1)
-          (view_on empty_state c.take_write_turn.new.seat.me.0)),
-      e.1,
-      ap (λ (m : SeatView × List (ℕ × Writer D)). (m.0).hold) e.3,
-      ap (λ (m : SeatView × List (ℕ × Writer D)). m.1) e.3
-          ∙ ap (λ (m : SeatView × List (ℕ × Writer D)). (0, e.1) ∷ m.1)
-          c.take_write_turn.ensures.view,
-      refl,
-    )
+pub returns-clause-taken : goal.returns-clause-taken
+returns-clause-taken g c = λ _.
+    let out = c.slot_out.ensures.out in
+    taken g.D.Disk.tape g.D.Disk.moment g.D.Disk.faults (opening_of_table c.args.self.now)
+    (first_of_table g.D.Disk.tape c.args.self.now) c.args.seat.now.me
+    c.take_write_turn.new.seat.me c.slot_out.new.seat.me c.requires.none_out
+    c.take_write_turn.result c.if-take_write_turn-ne0.false
+    c.take_write_turn.ensures.steps.me_is out.0 out.1 out.2

@@ -1,0 +1,4 @@
+//! Laws of the machine: what its last pass knows, once it is about nothing.
+#![tactic(auto)]
+
+pub mod laws;

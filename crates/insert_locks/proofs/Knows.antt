@@ -1,0 +1,26 @@
+-- A watch that has visited all locks.
+use Rattle.std.proofs.Common.{◌≡◌, ℕ, ◌≤◌, Bool, cond, map, ap, subst, eq-eqb}
+use Rattle.wal_page.specs.Order.{end_position}
+use Rattle.wal_core.specs.declared.setup.Setup.{Setup}
+use Rattle.wal_core.specs.Words.{end_form, lock_word}
+use Rattle.wal_core.specs.Views.{flight_of}
+use Rattle.wal_core.specs.Positioned.{IsCopiedBelow}
+use Rattle.lock_laws.proofs.WatchLaws.{known_is_copied}
+use Rattle.wal_rule.specs.Seats.{SeatView, view_on}
+use Rattle.wal_rule.specs.Stepping.{Stands}
+
+module _ (v : SeatView) (s : Stands v) (all : (v.watching).visited ≡ 8) where
+  abbrev setup : Setup
+  setup = (v.opening).setup
+
+  abbrev reserved_end : ℕ
+  reserved_end = end_form setup (end_position setup.segment_size (s.sound).order)
+
+  pub bound_known : ((v.watching).bound ≤ reserved_end)
+      × IsCopiedBelow setup.segment_size (map flight_of s.views) (v.watching).bound
+  bound_known = subst
+      (λ (n : ℕ). (n ≤ reserved_end)
+      × IsCopiedBelow setup.segment_size (map flight_of s.views) n)
+      (ap (λ (b : Bool). cond b (v.watching).bound 0) (eq-eqb (v.watching).visited 8 all))
+      (known_is_copied setup.segment_size reserved_end (lock_word s.words) s.views
+      ((s.sound).locks).locks (s.sound).watching s.id (view_on s.first v) s.here)

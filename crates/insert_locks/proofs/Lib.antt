@@ -1,0 +1,4 @@
+pub mod Told
+pub mod Sees
+pub mod Visits
+pub mod Knows

@@ -1,0 +1,52 @@
+// An insertion lock is taken (PostgreSQL's xlog.c, WALInsertLockAcquire).
+ghost use Rattle.std.specs.Prelude.{◌≡◌, ◌≢◌, ◌<◌, IfErr, IfOk};
+ghost use Rattle.wal_rule.specs.Tables.{IsSeatOn};
+ghost use Rattle.insert_locks.specs.Taking.{AreHeldWords, with_lock};
+
+use crate::LOCKS;
+use segment_disk::Disk;
+use wal_rule::{LogSeat, LogTable};
+
+/// All locks were held: the words met, none of them 0, in the order of the tries.
+#[derive(Clone, Copy, Debug, PartialEq, Eq)]
+pub struct AllHeld {
+    pub seen: [u64; 8],
+}
+
+/// Takes an insertion lock: the one of the pass's number first, then the next ones, each tried
+/// once. Where each is held, nothing has changed.
+pub fn try_take<D: Disk>(
+    table: &LogTable<D>,
+    seat: &mut LogSeat<D>,
+    number: u32,
+) -> Result<u32, AllHeld>
+    requires seat { IsSeatOn table.now seat.old }
+    ensures taken { IfOk result (λ lock. (lock < 8)
+        × (seat.new.me ≡ (with_lock lock seat.old.me.0, seat.old.me.1))) }
+    ensures held { IfErr result (λ e. AreHeldWords e.seen × (seat.new.me ≡ seat.old.me)) }
+    ensures seat { IsSeatOn table.now seat.new }
+{
+    let first = number % LOCKS;
+    let mut seen = [0; 8];
+    for tried in 0..8 {
+        let lock = (first + tried) % LOCKS;
+        let word = try_lock(table, seat, lock);
+        if word == 0 {
+            return Ok(lock);
+        }
+        seen[tried as usize] = word;
+    }
+    Err(AllHeld { seen })
+}
+
+// Takes a lock where it is free, which is where the word met is 0.
+fn try_lock<D: Disk>(table: &LogTable<D>, seat: &mut LogSeat<D>, lock: u32) -> u64
+    requires seat { IsSeatOn table.now seat.old }
+    requires lock { lock < 8 }
+    ensures taken { result ≡ 0
+        → seat.new.me ≡ (with_lock lock seat.old.me.0, seat.old.me.1) }
+    ensures held { result ≢ 0 → seat.new.me ≡ seat.old.me }
+    ensures seat { IsSeatOn table.now seat.new }
+{
+    table.take_lock(seat, lock)
+}

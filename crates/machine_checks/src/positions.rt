@@ -1,0 +1,41 @@
+//! The written and flushed ends.
+
+ghost use Rattle.std.specs.Prelude.{◌↔◌, All, IsTrue};
+ghost use Rattle.machine_checks.specs.Positions.{HasCopiedBelow, PositionsAgree};
+
+use crate::moment::BackendNow;
+use crate::words::word_at;
+use machine_turns::Flight;
+
+pub(crate) fn positions_agree(
+    first: u64,
+    words: &[u64],
+    log: &[u64],
+    backends: &[BackendNow],
+) -> bool
+    ensures { IsTrue result ↔ PositionsAgree first words.now log.now backends.now }
+{
+    let written = word_at(words, 13);
+    let flushed = word_at(words, 14);
+    first <= flushed
+        && flushed <= written
+        && written.saturating_sub(first).div_ceil(8) <= log.len() as u64
+        && have_copied_below(written, backends)
+}
+
+fn have_copied_below(address: u64, backends: &[BackendNow]) -> bool
+    ensures { IsTrue result ↔ All (λ b. HasCopiedBelow address b.view.flight) backends.now }
+{
+    backends
+        .iter()
+        .all(|b| has_copied_below(address, b.view.flight))
+}
+
+fn has_copied_below(address: u64, flight: Flight) -> bool
+    ensures { IsTrue result ↔ HasCopiedBelow address flight }
+{
+    match flight {
+        Flight::Landed => true,
+        Flight::Copying { next, end, .. } => next >= end || address <= next,
+    }
+}

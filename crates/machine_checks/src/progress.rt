@@ -1,0 +1,34 @@
+//! What the locks tell of copies.
+
+ghost use Rattle.std.specs.Prelude.{◌↔◌, ◌≤◌, ◌+◌, IsTrue};
+ghost use Rattle.machine_checks.specs.Progress.{ProgressAgrees, TellsAtMost, most_of};
+
+use crate::moment::BackendNow;
+use crate::words::word_at;
+use machine_turns::Flight;
+
+pub(crate) fn progress_agrees(words: &[u64], backends: &[BackendNow]) -> bool
+    ensures { IsTrue result ↔ ProgressAgrees words.now backends.now }
+{
+    backends
+        .iter()
+        .all(|b| tells_at_most(words, b.lock, b.view.flight))
+}
+
+fn tells_at_most(words: &[u64], lock: Option<u32>, flight: Flight) -> bool
+    ensures { IsTrue result ↔ TellsAtMost words.now lock (most_of flight) }
+{
+    match lock {
+        Some(lock) => is_at_most(word_at(words, 2 + lock as usize), flight),
+        None => true,
+    }
+}
+
+fn is_at_most(word: u64, flight: Flight) -> bool
+    ensures { IsTrue result ↔ word ≤ most_of flight }
+{
+    match flight {
+        Flight::Landed => word <= 1,
+        Flight::Copying { next, .. } => word.saturating_sub(1) <= next,
+    }
+}

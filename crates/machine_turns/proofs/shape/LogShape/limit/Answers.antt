@@ -1,5 +1,0 @@
-use Rattle.machine_turns.proofs.Bounds.{limit_low}
-use Rattle.machine_turns.proofs.shape.LogShape.limit.Goals as goal
-
-pub returns-clause-low : goal.returns-clause-low
-returns-clause-low c = rw c.self.invariant.2 (limit_low c.self.inside.setup c.self.invariant.0)

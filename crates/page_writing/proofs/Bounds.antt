@@ -1,0 +1,83 @@
+-- What is known to be copied and what is written are far below the last address, and the next
+-- segment to be written is at most the one behind the last that is made.
+use Rattle.std.proofs.Common.{◌≡◌, ℕ, ◌+◌, ◌*◌, ◌^◌, ◌<◌, ◌≤◌, sym, ap, subst, arith}
+use Rattle.atomic_table.proofs.Lists.{at_map}
+use Rattle.byte_position.specs.Position.{end_address_of}
+use Rattle.byte_position.proofs.EndAddresses.{end_address_of-le_address_of}
+use Rattle.byte_position.proofs.Rising.{address_of-bound}
+use Rattle.machine_words.proofs.Bounds.{limit_low}
+use Rattle.wal_page.specs.Order.{end_position}
+use Rattle.wal_core.specs.Words.{Opening, write_turn}
+use Rattle.wal_core.specs.Locked.{StandsTo}
+use Rattle.wal_core.specs.Sound.{IsSound}
+use Rattle.wal_core.specs.Views.{Hold, Out, Plain, writer_of, writing_of}
+use Rattle.wal_rule.specs.Seats.{SeatHold, SeatView, hold_on, lent_on, plain_on, view_on}
+use Rattle.wal_rule.specs.Stepping.{Stands}
+use Rattle.page_writing.specs.InHand.{lent_in, writer_in}
+use Rattle.page_writing.proofs.HandLaws.{HasLent, hold_is}
+
+pub record IsInBounds (v : SeatView) : Type 0 where
+  pub known : (lent_in v.hold).known < 2 ^ 50
+  pub written : (writer_in v).written < 2 ^ 50
+  pub reached : (writer_in v).written
+      ≤ (writer_in v).made * ((v.opening).setup).segment_size + ((v.opening).setup).segment_size
+
+module _ (v : SeatView) (stands : Stands v) (has : HasLent v) where
+  abbrev opening : Opening
+  opening = v.opening
+
+  abbrev sound : IsSound opening stands.words stands.home stands.views
+  sound = stands.sound
+
+  abbrev end : ℕ
+  end = end_address_of (opening.setup).segment_size
+      (end_position (opening.setup).segment_size sound.order)
+
+  end_low : end < 2 ^ 50
+  end_low =
+      let size : ℕ = (opening.setup).segment_size in
+      let position : ℕ = end_position size sound.order in
+      let within = (sound.reserved).within in
+      omega (
+        arith,
+        within,
+        limit_low opening.setup sound.setup_is,
+        end_address_of-le_address_of size (sound.setup_is).size position,
+        address_of-bound size (sound.setup_is).size position,
+      )
+
+  hold_out : hold_on stands.first v.hold ≡ Out (lent_on stands.first (lent_in v.hold))
+  hold_out = ap (λ (h : SeatHold). hold_on stands.first h) (hold_is v has)
+
+  -- the writer in hand is the rule's
+  own_writer : plain_on stands.first (writer_in v) ≡ sound.writer
+  own_writer =
+      let w : ℕ × Hold = ((v.reserving).number, hold_on stands.first v.hold) in
+      let own = ((sound.locks).writing).each stands.id w
+      (at_map writer_of stands.views stands.id (view_on stands.first v) stands.here) in
+      (subst (λ (h : Hold). StandsTo (write_turn stands.words) ((sound.locks).writing).holder
+      stands.home sound.writer stands.id (v.reserving).number h) hold_out own).3
+
+  known_low : (lent_in v.hold).known ≤ end
+  known_low = ((((sound.positions).views stands.id _
+      (at_map writing_of stands.views stands.id (view_on stands.first v) stands.here)).known
+      (lent_on stands.first (lent_in v.hold)) hold_out)).0
+
+  pub in_bounds : IsInBounds v
+  in_bounds =
+      let low = end_low in
+      let known = known_low in
+      let reserved = (sound.positions).reserved in
+      let written : (writer_in v).written ≡ (sound.writer).written =
+      ap (λ (p : Plain). p.written) own_writer in
+      let made : (writer_in v).made ≡ (sound.writer).made =
+      ap (λ (p : Plain). p.made) own_writer in
+      let reached = (sound.durable).reached in
+      record {
+        known = omega (arith, low, known);
+        written = omega (arith, low, reserved, written);
+        reached = subst (λ (n : ℕ). (writer_in v).written ≤ n * (opening.setup).segment_size
+            + (opening.setup).segment_size) (sym made)
+            (subst (λ (n : ℕ). n ≤ (sound.writer).made * (opening.setup).segment_size
+            + (opening.setup).segment_size) (sym written) reached);
+      }

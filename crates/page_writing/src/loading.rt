@@ -1,0 +1,86 @@
+// The words of a page are loaded from the ring, and made into its bytes (PostgreSQL's xlog.c,
+// XLogWrite, which writes from the buffers themselves).
+ghost use Rattle.std.specs.Prelude.{◌≡◌, ℕ, List, ◌∷◌, ◌+◌, ◌*◌, ◌/◌, ◌<◌, ◌^◌};
+ghost use Rattle.std.specs.Int.{w64, to_le_bytes};
+ghost use Rattle.page_writing.specs.InHand.{HasHand, Loads, known_copied, lent_in, writer_in};
+ghost use Rattle.segment_disk.specs.DiskImage.{word_of};
+ghost use Rattle.wal_core.specs.Steps.{IsPageLoaded, ring_number, ring_place};
+ghost use Rattle.wal_rule.specs.Tables.{opening_of_table};
+
+use byte_position::PAGE_SIZE;
+use machine_words::LogShape;
+use segment_disk::Disk;
+use wal_rule::{LogSeat, LogTable};
+
+const PAGE_WORDS: u64 = 1024;
+
+const WORD: usize = 8;
+
+// The number of the first buffer's end word.
+const BUFFER_ENDS: usize = 17;
+
+/// Loads the words of a page, which is counted from the log's address 0, begins below what is known
+/// to be copied, and is not written whole.
+pub fn load_page<D: Disk>(
+    table: &LogTable<D>,
+    seat: &mut LogSeat<D>,
+    shape: &LogShape,
+    page: u64,
+    bytes: &mut [u8; PAGE_SIZE as usize],
+)
+    requires hand { HasHand D.tape D.moment D.faults table.now seat.old }
+    requires shape { shape.now ≡ (opening_of_table table.now).setup }
+    requires unwritten { (writer_in seat.old.me.0).written < (page + 1) * 8192 }
+    requires copied { page * 8192 < known_copied seat.old.me.0 }
+    ensures loads { (staged : List (ℕ × ℕ)) × Loads seat.old.me.0 seat.new.me.0 staged
+        × IsPageLoaded page bytes.new staged }
+    ensures hand { HasHand D.tape D.moment D.faults table.now seat.new }
+{
+    let first = first_word(table, seat, page);
+    for n in 0..PAGE_WORDS {
+        let word = load_word(table, seat, shape, first + n);
+        put_word(bytes, n as usize, word);
+    }
+}
+
+// The number of the first word of a page.
+fn first_word<D: Disk>(_table: &LogTable<D>, seat: &LogSeat<D>, page: u64) -> u64
+    requires hand { HasHand D.tape D.moment D.faults _table.now seat.now }
+    requires copied { page * 8192 < known_copied seat.now.me.0 }
+    ensures first { result ≡ page * 1024 }
+    ensures low { result < 2 ^ 50 }
+{
+    page * PAGE_WORDS
+}
+
+// Loads the log's k-th word.
+fn load_word<D: Disk>(table: &LogTable<D>, seat: &mut LogSeat<D>, shape: &LogShape, k: u64) -> u64
+    requires hand { HasHand D.tape D.moment D.faults table.now seat.old }
+    requires shape { shape.now ≡ (opening_of_table table.now).setup }
+    requires unwritten { (writer_in seat.old.me.0).written < (k / 1024 + 1) * 8192 }
+    requires copied { k / 1024 * 8192 < known_copied seat.old.me.0 }
+    ensures loads { Loads seat.old.me.0 seat.new.me.0
+        ((k, result) ∷ (lent_in seat.old.me.0.hold).staged) }
+    ensures hand { HasHand D.tape D.moment D.faults table.now seat.new }
+{
+    table.load_ring_word(seat, k, place_of(shape, k))
+}
+
+// The number, among all words, of the place of the log's k-th word.
+fn place_of(shape: &LogShape, k: u64) -> usize
+    ensures { result ≡ ring_number shape.now (ring_place shape.now k) }
+{
+    let ring_pages = u64::from(shape.ring_pages());
+    let place = k / PAGE_WORDS % ring_pages * PAGE_WORDS + k % PAGE_WORDS;
+    BUFFER_ENDS + ring_pages as usize + place as usize
+}
+
+// Puts a page's n-th word at its place.
+fn put_word(bytes: &mut [u8; PAGE_SIZE as usize], n: usize, word: u64)
+    requires { n < 1024 }
+    ensures own { word_of bytes.new n ≡ to_le_bytes w64 word }
+    ensures below { (m : ℕ) → m < n → word_of bytes.new m ≡ word_of bytes.old m }
+{
+    let at = WORD * n;
+    bytes[at..at + WORD].copy_from_slice(&word.to_le_bytes());
+}

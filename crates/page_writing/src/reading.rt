@@ -1,0 +1,37 @@
+// The numbers of the writer in hand (PostgreSQL's xlog.c, XLogCtl->LogwrtResult).
+ghost use Rattle.std.specs.Prelude.{◌≡◌};
+ghost use Rattle.page_writing.specs.InHand.{HasHand, IsReadOff, writer_in};
+
+use segment_disk::Disk;
+use wal_rule::{LogSeat, LogTable};
+
+/// What the writer in hand has done.
+#[derive(Clone, Copy, Debug, PartialEq, Eq)]
+pub struct WriterNow {
+    /// The address up to which the log is written.
+    pub written: u64,
+    /// The last segment made, 0 where none is.
+    pub made: u64,
+    /// The segment of which writes wait for a sync.
+    pub waiting: Option<u64>,
+    /// The disk's count of faults when it failed.
+    pub fault: Option<u64>,
+    /// How many calls of the disk were counted.
+    pub moment: u64,
+}
+
+/// Reads the writer in hand. Nothing is changed by it, and no call is made.
+pub fn writer_now<D: Disk>(table: &LogTable<D>, seat: &mut LogSeat<D>) -> WriterNow
+    requires hand { HasHand D.tape D.moment D.faults table.now seat.old }
+    ensures read { IsReadOff (writer_in seat.old.me.0) result }
+    ensures same { seat.new ≡ seat.old }
+{
+    let writer = seat.slot_mut(&table.table.shared, 0);
+    WriterNow {
+        written: writer.written(),
+        made: writer.made(),
+        waiting: writer.waiting(),
+        fault: writer.fault(),
+        moment: writer.moment(),
+    }
+}

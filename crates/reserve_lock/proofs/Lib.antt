@@ -1,0 +1,5 @@
+pub mod Records
+pub mod Standing
+pub mod Steps
+pub mod Tries
+pub mod Placing

@@ -1,0 +1,71 @@
+-- With the position locked, a place is reserved: what each step may rest on, and what is left.
+use Rattle.std.proofs.Common.{◌≡◌, ℕ, ◌+◌, ◌≤◌, [], ◌∷◌, refl, sym, ap, ◌∙◌, subst, arith}
+use mathlib.Core.Option.{none}
+use Rattle.wal_types.specs.declared.record.Record.{Record}
+use Rattle.record_spelling.specs.Spelling.{Assembled, IsWritable, assembled}
+use Rattle.wal_page.specs.Order.{assembled_room_at}
+use Rattle.wal_core.specs.declared.setup.Setup.{Setup}
+use Rattle.wal_core.specs.Words.{log_limit}
+use Rattle.wal_core.specs.Views.{AreSomeOf, Landed, Loaded, Locked, Stored, Working}
+use Rattle.wal_core.specs.Moves.{entry_reserved}
+use Rattle.wal_core.specs.Steps.{StepKind, load_prev, store_position, store_prev}
+use Rattle.wal_rule.specs.Seats.{SeatView, behind}
+use Rattle.wal_rule.specs.Stepping.{MaySeat}
+use Rattle.reserve_lock.specs.Reserved.{IsEntryReserved, reserved_view}
+use Rattle.reserve_lock.proofs.Steps.{behind_load_prev, behind_store_position, behind_store_prev, place_view}
+
+module _ (v : SeatView) (at : ℕ) (setup : Setup) (own : (v.opening).setup ≡ setup)
+    (place : (v.reserving).place ≡ Locked at) where
+  module _ (prev : ℕ) (x : SeatView) (load : x ≡ behind load_prev prev none v) where
+    loaded : x ≡ place_view (Loaded at prev) v
+    loaded = load ∙ behind_load_prev at v place prev
+
+    pub may_store_prev : MaySeat x store_prev
+    may_store_prev = (at, prev, ap (λ (y : SeatView). (y.reserving).place) loaded)
+
+    module _ (y : SeatView) (store : y ≡ behind store_prev 0 none x) (lock : ℕ) (body : Assembled)
+        (value : Record) (writable : IsWritable value) (same : assembled value ≡ body)
+        (e : StepKind) (is : e ≡ store_position (lock ∷ []) value) where
+      stored : y ≡ place_view (Stored at prev) v
+      stored = store ∙ ap (λ (z : SeatView). behind store_prev 0 none z) loaded
+          ∙ behind_store_prev at prev lock v
+
+      some_lock : v.working ≡ record { locks = lock ∷ []; flight = Landed }
+          → AreSomeOf (lock ∷ []) (v.working).locks
+      some_lock holds = subst (λ (w : Working). AreSomeOf (lock ∷ []) w.locks) (sym holds)
+          (omega arith, λ (one : ℕ) among. among)
+
+      fits_own : at + assembled_room_at setup.segment_size at body ≤ log_limit setup
+          → at + assembled_room_at ((v.opening).setup).segment_size at (assembled value)
+          ≤ log_limit (v.opening).setup
+      fits_own fits = subst
+          (λ (s : Setup). at + assembled_room_at s.segment_size at (assembled value)
+          ≤ log_limit s) (sym own)
+          (subst (λ (a : Assembled). at + assembled_room_at setup.segment_size at a
+          ≤ log_limit setup) (sym same) fits)
+
+      pub may_reserve : v.working ≡ record { locks = lock ∷ []; flight = Landed }
+          → at + assembled_room_at setup.segment_size at body ≤ log_limit setup → MaySeat y e
+      may_reserve holds fits = subst (λ (k : StepKind). MaySeat y k) (sym is)
+          (subst (λ (z : SeatView). MaySeat z (store_position (lock ∷ []) value)) (sym stored) (
+            at,
+            prev,
+            refl,
+            writable,
+            fits_own fits,
+            some_lock holds,
+            ap (λ (w : Working). w.flight) holds,
+          ))
+
+      pub has_entry : (z : SeatView) → z ≡ behind e 0 none y
+          → IsEntryReserved setup body at prev lock v z
+      has_entry z reserved = record {
+        value = value;
+        writable = writable;
+        of_body = same;
+        new_is = reserved ∙ ap (λ (k : StepKind). behind k 0 none y) is
+            ∙ ap (λ (w : SeatView). behind (store_position (lock ∷ []) value) 0 none w) stored
+            ∙ behind_store_position at prev lock v value
+            ∙ ap (λ (s : Setup). reserved_view s.segment_size
+            (entry_reserved (v.reserving).number at value) prev lock v) own;
+      }

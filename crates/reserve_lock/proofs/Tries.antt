@@ -1,0 +1,69 @@
+-- The position, loaded and locked or found busy.
+use Rattle.std.specs.Prelude.{max}
+use Rattle.std.proofs.Common.{◌≡◌, ◌≢◌, ℕ, ◌%◌, ◌≤◌, true, inl, inr, refl, ap, ◌∙◌, subst, arith}
+use Rattle.std.proofs.lemmas.Bool.{ne_eqb}
+use Rattle.std.proofs.Math.Nat.{le-max_left, max-eq_right}
+use mathlib.Core.Option.{none}
+use Rattle.wal_core.specs.declared.setup.Setup.{Setup}
+use Rattle.wal_core.specs.Words.{log_limit}
+use Rattle.wal_core.specs.Views.{Locked}
+use Rattle.wal_core.specs.Moves.{unlocked}
+use Rattle.wal_core.specs.Steps.{load_position, lock_position}
+use Rattle.wal_rule.specs.Seats.{SeatView, behind}
+use Rattle.wal_rule.specs.Stepping.{Stands}
+use Rattle.reserve_lock.specs.Reserved.{IsPositionBusy, IsPositionLocked, locked_view, seen_view}
+use Rattle.reserve_lock.proofs.Standing.{locked_behind_seen, locked_whole, locked_within}
+use Rattle.reserve_lock.proofs.Steps.{behind_load, behind_lock, behind_vain_lock, place_view}
+
+module _ (loaded : ℕ) (v w : SeatView) (load : w ≡ behind load_position loaded none v) where
+  pub found_locked : loaded % 2 ≡ 1 → IsPositionBusy loaded v w
+  found_locked odd = record {
+    loaded = loaded;
+    found = inl (odd, refl);
+    new_is = load ∙ behind_load loaded v;
+  }
+
+  module _ (met : ℕ) (x : SeatView) (lock : x ≡ behind (lock_position loaded) met none w)
+      (even : loaded % 2 ≡ 0) where
+    pub found_moved : met ≢ loaded → IsPositionBusy met v x
+    found_moved apart = record {
+      loaded = loaded;
+      found = inr (even, apart);
+      new_is = lock ∙ behind_vain_lock loaded met w (ne_eqb met loaded apart)
+          ∙ load ∙ behind_load loaded v;
+    }
+
+    module _ (setup : Setup) (met_is : met ≡ loaded) (stands : Stands x)
+        (live : (x.reserving).live ≡ true) (own : (x.opening).setup ≡ setup) where
+      whole_word : unlocked loaded ≡ loaded
+      whole_word = omega (arith, even)
+
+      locked : x ≡ place_view (Locked loaded) (seen_view loaded v)
+      locked = lock ∙ behind_lock loaded met w met_is
+          ∙ ap (place_view (Locked loaded)) (load ∙ behind_load loaded v
+          ∙ ap (λ (n : ℕ). seen_view n v) whole_word)
+
+      place : (x.reserving).place ≡ Locked loaded
+      place = ap (λ (y : SeatView). (y.reserving).place) locked
+
+      both_seen : max (v.reserving).seen loaded ≤ loaded
+      both_seen = subst (λ (n : ℕ). n ≤ loaded) (ap (λ (y : SeatView). (y.reserving).seen) locked)
+          (locked_behind_seen x loaded stands live place)
+
+      seen : (v.reserving).seen ≤ loaded
+      seen =
+          let low = le-max_left (v.reserving).seen loaded in
+          let high = both_seen in
+          omega (arith, low, high)
+
+      pub is_locked : IsPositionLocked setup loaded v x
+      is_locked = record {
+        behind_seen = seen;
+        within = subst (λ (s : Setup). loaded ≤ log_limit s) own
+            (locked_within x loaded stands live place);
+        whole = locked_whole x loaded stands live place;
+        new_is = locked ∙ ap
+            (λ (n : ℕ). record (locked_view loaded v)
+            { reserving = record (locked_view loaded v).reserving { seen = n } })
+            (max-eq_right seen);
+      }

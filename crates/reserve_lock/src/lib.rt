@@ -1,0 +1,8 @@
+//! A record's place in the log is reserved, with the position locked for so long.
+#![tactic(auto)]
+
+mod locking;
+mod places;
+mod reserving;
+
+pub use reserving::{ReserveErr, try_reserve};

@@ -1,0 +1,58 @@
+// One try of a reservation.
+ghost use Rattle.std.specs.Prelude.{◌≡◌, [], ◌∷◌, IfErr, IfOk};
+ghost use Rattle.wal_core.specs.Views.{Free, Landed};
+ghost use Rattle.wal_rule.specs.Tables.{IsSeatOn, opening_of_table};
+ghost use Rattle.reserve_lock.specs.Reserved.{IsPlaceReserved, TellsWhy};
+
+use crate::locking::lock_seen;
+use crate::places::{give_back, reserve_at};
+use machine_words::LogShape;
+use record_spelling::Body;
+use segment_disk::Disk;
+use std::marker::Brand;
+use wal_page::Placed;
+use wal_rule::{LogSeat, LogTable};
+use wal_types::Lsn;
+
+/// Why nothing was reserved.
+#[derive(Debug, Drop)]
+pub enum ReserveErr {
+    /// The position was locked, or was another one when it was to be locked: what was found, a byte
+    /// position, one more where it was locked.
+    Busy { seen: u64 },
+    /// So many bytes of the log are left, fewer than the record takes up.
+    Full { free: u64 },
+}
+
+/// Reserves a record's place under one insertion lock, which the pass holds (PostgreSQL's xlog.c,
+/// ReserveXLogInsertLocation). It tries once and never waits: where another pass has the position
+/// locked, or has moved it, the caller tries again. The lock stays held at each exit.
+pub fn try_reserve<'a, D: Disk>(
+    table: &LogTable<D>,
+    seat: &mut LogSeat<D>,
+    shape: &LogShape,
+    body: &'a Body,
+    lock: u32,
+) -> Result<Placed<'a>, ReserveErr>
+    requires seat { IsSeatOn table.now seat.old }
+    requires shape { shape.now ≡ (opening_of_table table.now).setup }
+    requires holds { seat.old.me.0.working ≡ record { locks = lock ∷ []; flight = Landed } }
+    requires place { seat.old.me.0.reserving.place ≡ Free }
+    ensures reserved { IfOk result (λ placed. IsPlaceReserved shape.now body.now lock
+        seat.old.me.0 seat.new.me.0 placed) }
+    ensures why { IfErr result (λ e. TellsWhy shape.now body.now seat.old.me.0 seat.new.me.0 e) }
+    ensures slots { seat.new.me.1 ≡ seat.old.me.1 }
+    ensures seat { IsSeatOn table.now seat.new }
+{
+    let at = match lock_seen(table, seat) {
+        Ok(at) => at,
+        Err(seen) => return Err(ReserveErr::Busy { seen }),
+    };
+    let free = shape.limit() - at;
+    if free < u64::from(body.room()) {
+        give_back::<D, Brand>(table, seat, shape, body, at);
+        return Err(ReserveErr::Full { free });
+    }
+    let prev = reserve_at::<D, Brand>(table, seat, shape, body, lock, at);
+    Ok(Placed::new(shape.geometry(), shape.sysid(), body, at, Lsn(prev)))
+}

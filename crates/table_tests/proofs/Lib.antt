@@ -1,0 +1,3 @@
+mod Takes
+mod Maps
+mod Closes

@@ -1,0 +1,71 @@
+-- A table's last state gives its writer back.
+use Rattle.std.proofs.Common.{◌≡◌, ℕ, true, List, map, sym, ap, ◌∙◌, subst}
+use mathlib.Core.Option.{Option, some, some-injective}
+use lib.ListN.{get_elem?}
+use Rattle.atomic_table.specs.Table.{State, Final, Seen}
+use Rattle.segment_disk.specs.Tape.{DiskState, Tape}
+use Rattle.wal_core.specs.Words.{Opening}
+use Rattle.wal_core.specs.Views.{Plain, View}
+use Rattle.wal_core.specs.Sound.{IsSound}
+use Rattle.wal_core.proofs.Lists.{part_at}
+use Rattle.closing_laws.specs.Closed.{HasAllNumbers, IsClosed, IsLastPass}
+use Rattle.closing_laws.proofs.ClosingLaws.{closed}
+use Rattle.wal_rule.specs.declared.writer.LogWriter.{LogWriter}
+use Rattle.wal_rule.specs.Closing.{ClosesWith}
+use Rattle.wal_rule.specs.Ruled.{IsRuled, home_of}
+use Rattle.wal_rule.specs.Seats.{IsAtRest, SeatView, view_on}
+use Rattle.wal_rule.specs.Slotted.{IsOfLog, slot_plain}
+use Rattle.wal_rule.proofs.Allowed.{is_home}
+use Rattle.wal_rule.proofs.SeatLaws.{rests_on}
+
+module _ {D : Type 0} (tape : D → Rattle.std.specs.Prelude.Option Tape)
+    (moment faults : D → ℕ) (opening : Opening) (first : DiskState) where
+  abbrev Held : State (LogWriter D) SeatView → Type 0
+  Held s = IsRuled tape moment faults opening first s.words s.homes s.views
+
+  module _ (id : ℕ) (v : SeatView) (live : (v.reserving).live ≡ true) (rests : IsAtRest v)
+      (numbers : HasAllNumbers (opening.setup).passes v.reserving) where
+    abbrev mine : View
+    mine = view_on first v
+
+    last : IsLastPass opening mine
+    last = record { live = live; rests = rests_on first v rests; numbers = numbers }
+
+    -- the machine's last state, with this writer at home
+    abbrev Ends : List ℕ → List View → Option Plain → Plain → Type 0
+    Ends words views home writer = (k : IsSound opening words home views)
+        × IsClosed opening k.order words home writer views id mine
+
+    pub closes : (words : List ℕ) (slots : List (LogWriter D)) (w : LogWriter D)
+        → Final (Seen Held id v) words slots → get_elem? slots 0 ≡ some w
+        → ClosesWith tape moment faults first opening v w
+    closes words slots w end taken =
+        let s = end.0 in
+        let k : Held s = (end.1).0 in
+        let views : List View = map (view_on first) s.views in
+        let home : Option Plain = home_of tape moment faults s.homes in
+        let c = closed opening s.words home views k.sound id mine
+        (part_at (view_on first) s.views id v (end.1).1) last in
+        let h = is_home tape moment faults opening first s.homes (k.sound).writer c.at_home in
+        let same : h.0 ≡ w = some-injective h.0 w (sym (end.4 0 h.0 h.1) ∙ taken) in
+        let plain : Plain = slot_plain tape moment w in
+        let home_is : home ≡ some plain =
+        h.2 ∙ ap (λ (x : LogWriter D). some (slot_plain tape moment x)) same in
+        let writer_is : (k.sound).writer ≡ plain =
+        some-injective (k.sound).writer plain (sym c.at_home ∙ home_is) in
+        let e : Ends s.words views home plain = (
+          k.sound,
+          subst (λ (p : Plain). IsClosed opening (k.sound).order s.words home p views id
+              mine) writer_is c,
+        ) in
+        let f : Ends s.words views (some plain) plain =
+        subst (λ (o : Option Plain). Ends s.words views o plain) home_is e in
+        record {
+          of_log = subst (λ (x : LogWriter D). IsOfLog tape faults first opening x) same
+              (k.of_log h.0 h.1);
+          words = s.words;
+          views = views;
+          id = id;
+          sound = f.0;
+          closed = f.1;
+        }

@@ -1,0 +1,485 @@
+-- A call of the device is a step of the table: what a seat knows of its writer, told of the call,
+-- is the machine's writer behind it.
+use Rattle.std.specs.Prelude.{IfErr, IfSome, Result, if◌then◌else◌}
+use Rattle.std.proofs.Common.{get_or, ◌≡◌, ℕ, ◌+◌, ◌*◌, ◌/◌, ◌^◌, ◌≤◌, ◌<◌, inl, inr, Bool, true, false, List, ◌∷◌, map, set, slice_index, Err, Ok, Some, None, arith, refl, sym, ap, ◌∙◌, subst}
+use mathlib.Core.Option.{Option, none, some, some-injective, some-ne-none}
+use Rattle.atomic_table.specs.Table.{Allows, State, keeps, rest}
+use Rattle.byte_position.specs.Geometry.{pages_of}
+use Rattle.segment_disk.specs.declared.disk.Call.{Call}
+use Rattle.segment_disk.specs.Cause.{Rose}
+use Rattle.segment_disk.specs.Tape.{DiskState, Tape, create_call, empty_state, failed_call, sync_call, with_call, write_call}
+use Rattle.flush_core.specs.declared.writer.DiskFault.{DiskFault}
+use Rattle.wal_core.specs.Words.{Opening}
+use Rattle.wal_core.specs.Views.{Hold, Idle, Lent, Out, Plain, Turned, View}
+use Rattle.wal_core.specs.Moves.{Done, Failed, Outcome, is_counted, is_done, with_hold, with_outcome}
+use Rattle.wal_core.specs.Sound.{IsSound}
+use Rattle.wal_core.specs.Steps.{IsCallFault, MayStep, StepKind, create, sync, write, home_behind, value_behind, view_behind, with_call_on, word_of_step}
+use Rattle.wal_rule.specs.declared.writer.LogWriter.{LogWriter}
+use Rattle.wal_rule.specs.Called.{DeviceCall, DeviceCallEnds, IsCalled, IsWriteLow, creates, step_of_call, syncs, writer_behind, writes}
+use Rattle.wal_rule.specs.Seats.{HasWriter, SeatHold, SeatLent, SeatView, SeatWriter, behind, calls_of, hold_on, lent_on, plain_on, tape_on, view_on, writer_told}
+use Rattle.wal_rule.specs.Slotted.{CallEnds, EndsAs, IsOfLog, slot_disk, slot_plain, slot_segment_size}
+use Rattle.wal_rule.specs.Stepping.{MaySeat, Stands}
+use Rattle.wal_rule.specs.Ruled.{HasInHand, IsRuled, home_of}
+use Rattle.wal_rule.proofs.SeatLaws.{again_tape, back_plain}
+use Rattle.wal_rule.proofs.QuietSteps.{out_on}
+use Rattle.wal_rule.proofs.Allowed.{stands_in, stepped_sound}
+use Rattle.wal_rule.proofs.Addresses.{starts_in_pages}
+
+-- ---- the writer behind a call, as a seat tells it
+
+module _ (first : DiskState) where
+  with_call_on_tape : (other : DiskState) (calls : Rattle.std.specs.Prelude.Option (List Call))
+      (call : Call)
+      → tape_on first (calls_of (with_call (tape_on other calls) call))
+      ≡ with_call (tape_on first calls) call
+  with_call_on_tape other None call = refl
+  with_call_on_tape other (Some calls) call = refl
+
+  outcome_on : (other : DiskState) (call : Call) (outcome : Outcome) (w : SeatWriter)
+      → plain_on first (writer_told (with_outcome call outcome (plain_on other w)))
+      ≡ with_outcome call outcome (plain_on first w)
+  outcome_on other call Done w =
+      ap (λ (t : Rattle.std.specs.Prelude.Option Tape).
+      record (with_outcome call Done (plain_on first w)) { tape = t })
+      (with_call_on_tape other w.calls call)
+  outcome_on other call (Failed faults none) w =
+      ap (λ (t : Rattle.std.specs.Prelude.Option Tape).
+      record (with_outcome call (Failed faults none) (plain_on first w)) { tape = t })
+      (again_tape first other w.calls)
+  outcome_on other call (Failed faults (some made)) w =
+      ap (λ (t : Rattle.std.specs.Prelude.Option Tape).
+      record (with_outcome call (Failed faults (some made)) (plain_on first w)) { tape = t })
+      (with_call_on_tape other w.calls (failed_call made call))
+
+  pub writer_on : (other : DiskState) (size : ℕ) (call : DeviceCall) (outcome : Outcome)
+      (w : SeatWriter)
+      → plain_on first (writer_told (writer_behind size call outcome (plain_on other w)))
+      ≡ writer_behind size call outcome (plain_on first w)
+  writer_on other size (creates segment) outcome w =
+      ap (λ (p : Plain). record p { made = (if is_done outcome then segment else w.made) })
+      (outcome_on other (create_call size segment) outcome w)
+  writer_on other size (writes segment page upto bytes) outcome w =
+      ap (λ (p : Plain). record p {
+        written = (if is_done outcome then upto else w.written);
+        waiting = (if is_counted outcome then some segment else w.waiting);
+      })
+      (outcome_on other (write_call size segment page bytes) outcome w)
+  writer_on other size (syncs segment) outcome w =
+      ap (λ (p : Plain). record p { waiting = (if is_done outcome then none else w.waiting) })
+      (outcome_on other (sync_call size segment) outcome w)
+
+  -- the tape is still one of a disk that held this at first
+  kept_first : (t : Rattle.std.specs.Prelude.Option Tape) (call : Call)
+      → IfSome t (λ (x : Tape). x.at_first ≡ first)
+      → IfSome (with_call t call) (λ (x : Tape). x.at_first ≡ first)
+  kept_first None call is = tt
+  kept_first (Some t) call is = is
+
+  outcome_first : (call : Call) (outcome : Outcome) (p : Plain)
+      → IfSome p.tape (λ (x : Tape). x.at_first ≡ first)
+      → IfSome (with_outcome call outcome p).tape (λ (x : Tape). x.at_first ≡ first)
+  outcome_first call Done p is = kept_first p.tape call is
+  outcome_first call (Failed faults none) p is = is
+  outcome_first call (Failed faults (some made)) p is =
+      kept_first p.tape (failed_call made call) is
+
+  writer_first : (size : ℕ) (call : DeviceCall) (outcome : Outcome) (p : Plain)
+      → IfSome p.tape (λ (x : Tape). x.at_first ≡ first)
+      → IfSome (writer_behind size call outcome p).tape (λ (x : Tape). x.at_first ≡ first)
+  writer_first size (creates segment) outcome p is =
+      outcome_first (create_call size segment) outcome p is
+  writer_first size (writes segment page upto bytes) outcome p is =
+      outcome_first (write_call size segment page bytes) outcome p is
+  writer_first size (syncs segment) outcome p is =
+      outcome_first (sync_call size segment) outcome p is
+
+  told_calls : (calls : Rattle.std.specs.Prelude.Option (List Call))
+      → calls_of (tape_on first calls) ≡ calls
+  told_calls None = refl
+  told_calls (Some calls) = refl
+
+  told_plain : (w : SeatWriter) → writer_told (plain_on first w) ≡ w
+  told_plain w = ap (λ (c : Rattle.std.specs.Prelude.Option (List Call)). record w { calls = c })
+      (told_calls w.calls)
+
+  -- a seat tells the same of the writer behind a call, whatever it takes the disk to have held
+  told_behind : (other : DiskState) (size : ℕ) (call : DeviceCall) (outcome : Outcome) (p : Plain)
+      → IfSome p.tape (λ (x : Tape). x.at_first ≡ first)
+      → writer_told (writer_behind size call outcome (plain_on other (writer_told p)))
+      ≡ writer_told (writer_behind size call outcome p)
+  told_behind other size call outcome p is =
+      sym (told_plain
+      (writer_told (writer_behind size call outcome (plain_on other (writer_told p)))))
+      ∙ ap writer_told (writer_on other size call outcome (writer_told p)
+      ∙ ap (writer_behind size call outcome) (back_plain first p is))
+
+-- the segment that waits behind a call waited before, or is the one written to
+outcome_waits : (call : Call) (outcome : Outcome) (p : Plain)
+    → (with_outcome call outcome p).waiting ≡ p.waiting
+outcome_waits call Done p = refl
+outcome_waits call (Failed faults none) p = refl
+outcome_waits call (Failed faults (some made)) p = refl
+
+either_waits : (P : ℕ → Type 0) (b : Bool) (x y : Option ℕ)
+    → ((n : ℕ) → x ≡ some n → P n) → ((n : ℕ) → y ≡ some n → P n)
+    → (n : ℕ) → (if b then x else y) ≡ some n → P n
+either_waits P true x y left right = left
+either_waits P false x y left right = right
+
+writer_waits : (size : ℕ) (call : DeviceCall) (outcome : Outcome) (p : Plain)
+    → IsWriteLow size call
+    → ((segment : ℕ) → p.waiting ≡ some segment → segment < 2 ^ 64 / size)
+    → (segment : ℕ) → (writer_behind size call outcome p).waiting ≡ some segment
+    → segment < 2 ^ 64 / size
+writer_waits size (creates segment) outcome p low was n is =
+    was n (sym (outcome_waits (create_call size segment) outcome p) ∙ is)
+writer_waits size (writes segment page upto bytes) outcome p low was n is =
+    either_waits (λ (m : ℕ). m < 2 ^ 64 / size) (is_counted outcome) (some segment) p.waiting
+    (λ m at. subst (λ (o : ℕ). o < 2 ^ 64 / size) (some-injective segment m at) low) was n is
+writer_waits size (syncs segment) outcome p low was n is =
+    either_waits (λ (m : ℕ). m < 2 ^ 64 / size) (is_done outcome) none p.waiting
+    (λ m at. absurd (some-ne-none m (sym at))) was n is
+
+-- ---- the view behind a call
+
+-- with this of the writer in hand
+abbrev lent_behind : ℕ → DeviceCall → Outcome → SeatLent → SeatLent
+lent_behind size call outcome l = record l {
+  writer = writer_told (writer_behind size call outcome (plain_on empty_state l.writer));
+}
+
+abbrev holding : SeatHold → SeatView → SeatView
+holding hold v = record v { hold = hold }
+
+abbrev size_of : SeatView → ℕ
+size_of v = ((v.opening).setup).segment_size
+
+held_behind : (call : DeviceCall) (outcome : Outcome) (v : SeatView) (l : SeatLent)
+    → behind (step_of_call call outcome) 0 none (holding (HasWriter l) v)
+    ≡ holding (HasWriter (lent_behind (size_of v) call outcome l)) v
+held_behind (creates segment) outcome v l = refl
+held_behind (writes segment page upto bytes) outcome v l = refl
+held_behind (syncs segment) outcome v l = refl
+
+machine_behind : (first : DiskState) (call : DeviceCall) (outcome : Outcome) (v : SeatView)
+    (l : SeatLent) (met : ℕ) (home : Option Plain)
+    → view_behind (view_on first (holding (HasWriter l) v)) (step_of_call call outcome) met home
+    ≡ with_hold (Out (record (lent_on first l) {
+      writer = writer_behind (size_of v) call outcome (plain_on first l.writer);
+    })) (view_on first v)
+machine_behind first (creates segment) outcome v l met home = refl
+machine_behind first (writes segment page upto bytes) outcome v l met home = refl
+machine_behind first (syncs segment) outcome v l met home = refl
+
+call_view : (first : DiskState) (call : DeviceCall) (outcome : Outcome) (v : SeatView)
+    (l : SeatLent) (met : ℕ) (home : Option Plain)
+    → view_on first (behind (step_of_call call outcome) 0 none (holding (HasWriter l) v))
+    ≡ view_behind (view_on first (holding (HasWriter l) v)) (step_of_call call outcome) met home
+call_view first call outcome v l met home =
+    ap (view_on first) (held_behind call outcome v l)
+    ∙ ap (λ (p : Plain). with_hold (Out (record (lent_on first l) { writer = p })) (view_on first v))
+    (writer_on first empty_state (size_of v) call outcome l.writer)
+    ∙ sym (machine_behind first call outcome v l met home)
+
+-- no call changes what is fixed of its pass's log, nor whether the pass is live
+abbrev IsSteady : View → View → Type 0
+IsSteady v w = (w.opening ≡ v.opening) × ((w.reserving).live ≡ (v.reserving).live)
+
+steady_called : (v : View) (f : Plain → Plain) (h : Hold) → IsSteady v (with_call_on v f h)
+steady_called v f Idle = (refl, refl)
+steady_called v f Turned = (refl, refl)
+steady_called v f (Out l) = (refl, refl)
+
+pub call_steady : (call : DeviceCall) (outcome : Outcome) (v : SeatView)
+    → ((behind (step_of_call call outcome) 0 none v).opening ≡ v.opening)
+    × (((behind (step_of_call call outcome) 0 none v).reserving).live ≡ (v.reserving).live)
+call_steady (creates segment) outcome v =
+    steady_called (view_on empty_state v) _ (hold_on empty_state v.hold)
+call_steady (writes segment page upto bytes) outcome v =
+    steady_called (view_on empty_state v) _ (hold_on empty_state v.hold)
+call_steady (syncs segment) outcome v =
+    steady_called (view_on empty_state v) _ (hold_on empty_state v.hold)
+
+-- ---- what a call rests on
+
+rose_since : (low old new : ℕ) → low ≤ old → Rose old new → Rose low new
+rose_since low old new below (inl more) = inl (omega (arith, below, more))
+rose_since low old new below (inr top) = inr top
+
+call_fault : (v : View) (old : ℕ) (result : Result Unit DiskFault) (outcome : Outcome)
+    → (v.opening).faults ≤ old → EndsAs result outcome
+    → IfErr result (λ (e : DiskFault). Rose old e.faults) → IsCallFault v outcome
+call_fault v old (Ok done) outcome below ends rose =
+    subst (IsCallFault v) (sym ends) tt
+call_fault v old (Err e) outcome below ends rose =
+    subst (IsCallFault v) (sym ends.1) (rose_since (v.opening).faults old e.faults below rose)
+
+may_call : (first : DiskState) (v : SeatView) (call : DeviceCall) (outcome : Outcome)
+    → MaySeat v (step_of_call call Done) → IsCallFault (view_on first v) outcome
+    → MayStep (view_on first v) (step_of_call call outcome)
+may_call first v (creates segment) outcome may fault = (
+  out_on first v _ _ (λ l is. record {
+    up = is.up;
+    next = is.next;
+    behind = is.behind;
+    asked = is.asked;
+    alone = is.alone;
+  }) may.0,
+  fault,
+)
+may_call first v (writes segment page upto bytes) outcome may fault = (
+  out_on first v _ _ (λ l is. record {
+    up = is.up;
+    page_is = is.page_is;
+    on_segment = is.on_segment;
+    is_made = is.is_made;
+    alone = is.alone;
+    rises = is.rises;
+    behind_start = is.behind_start;
+    within = is.within;
+    copied = is.copied;
+    whole = is.whole;
+    loaded = is.loaded;
+  }) may.0,
+  fault,
+)
+may_call first v (syncs segment) outcome may fault =
+    (out_on first v _ _ (λ l is. record { up = is.up; waits = is.waits }) may.0, fault)
+
+-- ---- the step
+
+word_called : (v : View) (call : DeviceCall) (outcome : Outcome)
+    → word_of_step v (step_of_call call outcome) ≡ 11
+word_called v (creates segment) outcome = refl
+word_called v (writes segment page upto bytes) outcome = refl
+word_called v (syncs segment) outcome = refl
+
+value_called : (v : View) (call : DeviceCall) (outcome : Outcome) (met : ℕ)
+    → value_behind v (step_of_call call outcome) met ≡ met
+value_called v (creates segment) outcome met = refl
+value_called v (writes segment page upto bytes) outcome met = refl
+value_called v (syncs segment) outcome met = refl
+
+home_called : (v : View) (call : DeviceCall) (outcome : Outcome) (home : Option Plain)
+    → home ≡ home_behind v (step_of_call call outcome) home
+home_called v (creates segment) outcome home = refl
+home_called v (writes segment page upto bytes) outcome home = refl
+home_called v (syncs segment) outcome home = refl
+
+-- what is written, and what waits, of a writer in hand
+abbrev written_of_hold : Hold → ℕ
+written_of_hold Idle = 0
+written_of_hold Turned = 0
+written_of_hold (Out l) = (l.writer).written
+
+abbrev waiting_of_hold : Hold → Option ℕ
+waiting_of_hold Idle = none
+waiting_of_hold Turned = none
+waiting_of_hold (Out l) = (l.writer).waiting
+
+module _ {D : Type 0} (tape : D → Rattle.std.specs.Prelude.Option Tape)
+    (moment faults : D → ℕ) (opening : Opening) (first : DiskState) where
+  abbrev Held : State (LogWriter D) SeatView → Type 0
+  Held s = IsRuled tape moment faults opening first s.words s.homes s.views
+
+  of_log_behind : (call : DeviceCall) (result : Result Unit DiskFault) (before now : LogWriter D)
+      → IsOfLog tape faults first opening before → IsWriteLow (opening.setup).segment_size call
+      → CallEnds tape moment faults before now result
+      (writer_behind (opening.setup).segment_size call)
+      → IsOfLog tape faults first opening now
+  of_log_behind call result before now was low ends =
+      let size : ℕ = (opening.setup).segment_size in
+      let rises = ends.rises in
+      let failed = was.failed in
+      record {
+        size_is = ends.same_size ∙ was.size_is;
+        on_first = subst (λ (t : Rattle.std.specs.Prelude.Option Tape).
+            IfSome t (λ (x : Tape). x.at_first ≡ first))
+            (sym (ap (λ (p : Plain). p.tape) ends.plain_is))
+            (writer_first first size call ends.outcome (slot_plain tape moment before)
+            was.on_first);
+        failed = omega (arith, rises, failed);
+        waits_low = λ segment is. writer_waits size call ends.outcome
+            (slot_plain tape moment before) low was.waits_low segment
+            (sym (ap (λ (p : Plain). p.waiting) ends.plain_is) ∙ is);
+      }
+
+  -- the seat behind the call
+  module _ (call : DeviceCall) (result : Result Unit DiskFault)
+      (me : SeatView × List (ℕ × LogWriter D)) (own : (me.0).opening ≡ opening)
+      (called : IsCalled tape moment faults first opening call result me) where
+    abbrev made : StepKind
+    made = step_of_call call (called.ends).outcome
+
+    abbrev told : SeatView
+    told = behind made 0 none me.0
+
+    own_size : (opening.setup).segment_size ≡ size_of me.0
+    own_size = ap (λ (o : Opening). (o.setup).segment_size) (sym own)
+
+    told_hold : told ≡ holding (HasWriter (lent_behind (opening.setup).segment_size call
+        (called.ends).outcome called.lent)) me.0
+    told_hold = ap (λ (h : SeatHold). behind made 0 none (holding h me.0)) (called.had).hold
+        ∙ held_behind call (called.ends).outcome me.0 called.lent
+        ∙ ap (λ (n : ℕ). holding (HasWriter (lent_behind n call (called.ends).outcome
+        called.lent)) me.0) (sym own_size)
+
+    told_view : (met : ℕ) (home : Option Plain)
+        → view_on first told ≡ view_behind (view_on first me.0) made met home
+    told_view met home = subst (λ (h : SeatHold).
+        view_on first (behind made 0 none (holding h me.0))
+        ≡ view_behind (view_on first (holding h me.0)) made met home)
+        (sym (called.had).hold)
+        (call_view first call (called.ends).outcome me.0 called.lent met home)
+
+    pub call_ended : DeviceCallEnds tape moment faults first opening call result me.0 (told, me.1)
+    call_ended =
+        let size : ℕ = (opening.setup).segment_size in
+        let outcome : Outcome = (called.ends).outcome in
+        let was : Plain = slot_plain tape moment called.before in
+        record {
+          outcome = outcome;
+          ends = (called.ends).ends;
+          view_is = refl;
+          lent = lent_behind size call outcome called.lent;
+          writer = called.writer;
+          in_hand = record {
+            hold = ap (λ (v : SeatView). v.hold) told_hold;
+            slot = called.slot;
+            kept = ap (λ (w : SeatWriter).
+                writer_told (writer_behind size call outcome (plain_on empty_state w)))
+                (called.had).kept
+                ∙ told_behind first empty_state size call outcome was
+                ((called.had).of_log).on_first
+                ∙ ap writer_told (sym (called.ends).plain_is);
+            of_log = of_log_behind call result called.before called.writer (called.had).of_log
+                called.low called.ends;
+          };
+        }
+
+    may_made : MaySeat me.0 (step_of_call call Done) → MayStep (view_on first me.0) made
+    may_made may = may_call first me.0 call (called.ends).outcome may
+        (call_fault (view_on first me.0) (faults (slot_disk called.before)) result
+        (called.ends).outcome
+        (subst (λ (o : Opening). o.faults ≤ faults (slot_disk called.before)) (sym own)
+        ((called.had).of_log).failed)
+        (called.ends).ends (called.ends).fault)
+
+    pub catches_up : (slots id : ℕ) → ((me.0).reserving).live ≡ true
+        → MaySeat me.0 (step_of_call call Done) → (told_first : DiskState) → told_first ≡ first
+        → (of : Opening) → of ≡ opening → Allows Held slots id me 11 (λ n. n)
+        (λ r n. DeviceCallEnds tape moment faults told_first of call result me.0 n × Stands n.0)
+    catches_up slots id live may told_first first_is of of_is s k _ here _ =
+        let v : View = view_on first me.0 in
+        let home : Option Plain = home_of tape moment faults s.homes in
+        let word : ℕ = word_of_step v made in
+        let after : List SeatView = set s.views id told in
+        let sound : IsSound opening (set s.words word (slice_index s.words word)) home
+        (map (view_on first) after) = subst
+        (λ (n : ℕ). IsSound opening (set s.words word n) home (map (view_on first) after))
+        (value_called v call (called.ends).outcome (slice_index s.words word))
+        (stepped_sound tape moment faults opening first slots id me live made
+        (may_made may) s k here home told (home_called v call (called.ends).outcome home)
+        (told_view (slice_index s.words word) home)) in (
+          told,
+          keeps,
+          tt,
+          record {
+            one = k.one;
+            of_log = k.of_log;
+            sound = subst (λ (i : ℕ). IsSound opening (set s.words i (slice_index s.words i)) home
+                (map (view_on first) after)) (word_called v call (called.ends).outcome) sound;
+          },
+          (
+            subst (λ (o : Opening).
+                DeviceCallEnds tape moment faults told_first o call result me.0 (told, me.1))
+                (sym of_is) (subst (λ (d : DiskState).
+                DeviceCallEnds tape moment faults d opening call result me.0 (told, me.1))
+                (sym first_is) call_ended),
+            stands_in tape moment faults opening first slots id me live s k here _ home told
+                (call_steady call (called.ends).outcome me.0).0 sound,
+          ),
+        )
+
+  -- ---- the writer is lent from its slot
+
+  pub lends : (me : SeatView × List (ℕ × LogWriter D)) (l : SeatLent) (w : LogWriter D)
+      → HasInHand tape moment faults first opening me l w → me.1 ≡ (0, w) ∷ rest me.1
+  lends me l w has =
+      has.slot ∙ ap (λ (c : List (ℕ × LogWriter D)). (0, w) ∷ rest c) (sym has.slot)
+
+  module _ (me : SeatView × List (ℕ × LogWriter D)) (l : SeatLent) (w held : LogWriter D)
+      (has : HasInHand tape moment faults first opening me l w)
+      (lent_is : me.1 ≡ (0, held) ∷ rest me.1) where
+    pub lent_writer : w ≡ held
+    lent_writer = ap (λ (c : List (ℕ × LogWriter D)). (get_or c 0 (0, w)).1)
+        (sym has.slot ∙ lent_is)
+
+    pub lent_size : (opening.setup).segment_size ≡ slot_segment_size held
+    lent_size = sym (has.of_log).size_is ∙ ap (λ (x : LogWriter D). slot_segment_size x) lent_writer
+
+    pub is_called : (call : DeviceCall) (result : Result Unit DiskFault) (now : LogWriter D)
+        → IsWriteLow (slot_segment_size held) call
+        → CallEnds tape moment faults held now result
+        (writer_behind (slot_segment_size held) call)
+        → IsCalled tape moment faults first opening call result (me.0, (0, now) ∷ rest me.1)
+    is_called call result now low ends = record {
+      lent = l;
+      before = w;
+      writer = now;
+      had = record { hold = has.hold; slot = refl; kept = has.kept; of_log = has.of_log };
+      slot = ap (λ (c : List (ℕ × LogWriter D)). (0, now) ∷ rest c) has.slot;
+      ends = subst (λ (n : ℕ). CallEnds tape moment faults w now result (writer_behind n call))
+          (sym lent_size) (subst (λ (x : LogWriter D). CallEnds tape moment faults x now result
+          (writer_behind (slot_segment_size held) call)) (sym lent_writer) ends);
+      low = subst (λ (n : ℕ). IsWriteLow n call) (sym lent_size) low;
+    }
+
+    -- ---- the segment called for has an address
+
+    own_held : (me.0).opening ≡ opening → size_of me.0 ≡ slot_segment_size held
+    own_held own = ap (λ (o : Opening). (o.setup).segment_size) own ∙ lent_size
+
+    written_held : (lent : Lent) → hold_on empty_state (me.0).hold ≡ Out lent
+        → (lent.writer).written ≡ held.written
+    written_held lent out = ap written_of_hold (sym out
+        ∙ ap (λ (h : SeatHold). hold_on empty_state h) has.hold)
+        ∙ ap (λ (w : SeatWriter). w.written) has.kept
+        ∙ ap (λ (x : LogWriter D). (slot_plain tape moment x).written) lent_writer
+
+    waiting_held : (lent : Lent) → hold_on empty_state (me.0).hold ≡ Out lent
+        → (lent.writer).waiting ≡ (slot_plain tape moment w).waiting
+    waiting_held lent out = ap waiting_of_hold (sym out
+        ∙ ap (λ (h : SeatHold). hold_on empty_state h) has.hold)
+        ∙ ap (λ (w : SeatWriter). w.waiting) has.kept
+
+    pub create_reaches : (me.0).opening ≡ opening → (segment : ℕ)
+        → MaySeat me.0 (create segment Done)
+        → segment * pages_of (slot_segment_size held) ≤ (slot_plain tape moment held).written / 8192
+    create_reaches own segment may =
+        let next = (may.0).2 in
+        starts_in_pages (slot_segment_size held) (slot_plain tape moment held).written segment
+        (subst (λ (n : ℕ). segment * n ≤ (slot_plain tape moment held).written) (own_held own)
+        (subst (λ (n : ℕ). segment * size_of me.0 ≤ n) (written_held (may.0).0 (may.0).1)
+        next.behind))
+
+    pub write_reaches : (me.0).opening ≡ opening → (segment page upto : ℕ) (bytes : List ℕ)
+        → MaySeat me.0 (write segment page upto bytes Done)
+        → (segment * pages_of (slot_segment_size held)
+        ≤ (slot_plain tape moment held).written / 8192)
+        × (page < pages_of (slot_segment_size held))
+    write_reaches own segment page upto bytes may =
+        let next = (may.0).2 in
+        let size_is = own_held own in
+        let at : segment * pages_of (size_of me.0) + page
+        ≡ (slot_plain tape moment held).written / 8192 = next.page_is
+        ∙ ap (λ (n : ℕ). n / 8192) (written_held (may.0).0 (may.0).1) in
+        subst (λ (n : ℕ). (segment * pages_of n ≤ (slot_plain tape moment held).written / 8192)
+        × (page < pages_of n)) size_is (omega (arith, at), next.on_segment)
+
+    pub sync_low : (segment : ℕ) → MaySeat me.0 (sync segment Done)
+        → segment < 2 ^ 64 / slot_segment_size held
+    sync_low segment may =
+        let next = (may.0).2 in
+        subst (λ (n : ℕ). segment < 2 ^ 64 / n) lent_size ((has.of_log).waits_low segment
+        (sym (waiting_held (may.0).0 (may.0).1) ∙ next.waits))

@@ -1,0 +1,65 @@
+-- The writer in the table's slot, as the machine sees it, and what one device call leaves of it.
+use Rattle.std.specs.Prelude.{◌≡◌, ℕ, ◌/◌, ◌^◌, ◌<◌, ◌≤◌, Bool, Result, MatchResult, IfErr, IfSome, Some, None}
+use mathlib.Core.Option.{Option, none, some}
+use Rattle.segment_disk.specs.Cause.{Rose}
+use Rattle.segment_disk.specs.Tape.{DiskState, Tape, empty_state}
+use Rattle.flush_core.specs.declared.writer.DiskFault.{DiskFault}
+use Rattle.wal_core.specs.Words.{Opening}
+use Rattle.wal_core.specs.Views.{Plain}
+use Rattle.wal_core.specs.Moves.{Outcome, Done, Failed}
+use Rattle.wal_rule.specs.declared.writer.LogWriter.{LogWriter}
+
+-- a number that may be missing, as the machine has it
+abbrev pub as_machine_has : Rattle.std.specs.Prelude.Option ℕ → Option ℕ
+as_machine_has None = none
+as_machine_has (Some n) = some n
+
+-- its disk, and the size of its segments
+abbrev pub slot_disk : {D : Type 0} → LogWriter D → D
+slot_disk w = w.disk
+
+abbrev pub slot_segment_size : {D : Type 0} → LogWriter D → ℕ
+slot_segment_size w = w.geometry
+
+-- the writer as the machine sees it
+abbrev pub slot_plain : {D : Type 0} → (D → Rattle.std.specs.Prelude.Option Tape) → (D → ℕ)
+    → LogWriter D → Plain
+slot_plain tape moment w = record {
+  tape = tape w.disk;
+  moment = moment w.disk;
+  written = w.written;
+  made = w.made;
+  waiting = as_machine_has w.waiting;
+  fault = as_machine_has w.fault;
+}
+
+-- what a tape says that the disk held at first; no segment where none is told
+abbrev pub first_on : Rattle.std.specs.Prelude.Option Tape → DiskState
+first_on None = empty_state
+first_on (Some t) = t.at_first
+
+-- a call ended so
+abbrev pub EndsAs : Result Unit DiskFault → Outcome → Type 0
+EndsAs result outcome = MatchResult result (λ _. outcome ≡ Done)
+    (λ e. (counted : Option Bool) × (outcome ≡ Failed e.faults counted))
+
+-- a device call ended: the writer is as the machine's call by this outcome leaves it
+pub record CallEnds {D : Type 0} (tape : D → Rattle.std.specs.Prelude.Option Tape)
+    (moment faults : D → ℕ) (old new : LogWriter D) (result : Result Unit DiskFault)
+    (behind_call : Outcome → Plain → Plain) : Type 0 where
+  pub outcome : Outcome
+  pub ends : EndsAs result outcome
+  pub plain_is : slot_plain tape moment new ≡ behind_call outcome (slot_plain tape moment old)
+  pub same_size : slot_segment_size new ≡ slot_segment_size old
+  pub rises : faults (slot_disk old) ≤ faults (slot_disk new)
+  pub fault : IfErr result (λ e. Rose (faults (slot_disk old)) e.faults)
+
+-- the writer of a log: it makes segments of the log's size, on a disk that held this at first and
+-- that has failed no less often than at the opening; and the segment that waits has an address
+pub record IsOfLog {D : Type 0} (tape : D → Rattle.std.specs.Prelude.Option Tape)
+    (faults : D → ℕ) (first : DiskState) (opening : Opening) (w : LogWriter D) : Type 0 where
+  pub size_is : slot_segment_size w ≡ (opening.setup).segment_size
+  pub on_first : IfSome (tape (slot_disk w)) (λ t. t.at_first ≡ first)
+  pub failed : opening.faults ≤ faults (slot_disk w)
+  pub waits_low : (segment : ℕ) → as_machine_has w.waiting ≡ some segment
+      → segment < 2 ^ 64 / (opening.setup).segment_size

@@ -1,0 +1,45 @@
+// A table is closed, and its writer comes back.
+ghost use Rattle.closing_laws.specs.Closed.{HasAllNumbers};
+ghost use Rattle.wal_rule.specs.Closing.{ClosesWith};
+ghost use Rattle.wal_rule.specs.Passes.{view_of_pass};
+ghost use Rattle.wal_rule.specs.Seats.{IsAtRest};
+ghost use Rattle.wal_rule.specs.Tables.{IsPassOn, IsSeatOn, first_of_table, opening_of_table};
+
+use crate::pass::Pass;
+use crate::table::{LogSeat, LogTable};
+use crate::writer::LogWriter;
+use segment_disk::Disk;
+
+impl<D: Disk> LogTable<D> {
+    /// Ends the table by the seat that has all numbers and is about nothing, so that every other
+    /// one was joined, and gives the writer back. It makes no device call.
+    pub fn close(self, seat: LogSeat<D>) -> LogWriter<D>
+        requires seat { IsSeatOn self seat }
+        requires rests { IsAtRest seat.me.0 }
+        requires numbers { HasAllNumbers (opening_of_table self).setup.passes
+            seat.me.0.reserving }
+        ensures { ClosesWith D.tape D.moment D.faults (first_of_table D.tape self)
+            (opening_of_table self) seat.me.0 result }
+    {
+        let LogTable { table } = self;
+        let mut closed = table.close_with(seat);
+        let writer = closed.take(0);
+        closed.free();
+        writer
+    }
+}
+
+impl Pass {
+    /// Ends the table by the pass that has all numbers and is about nothing.
+    pub fn close<D: Disk>(mut self, table: LogTable<D>) -> LogWriter<D>
+        requires pass { IsPassOn table self }
+        requires rests { IsAtRest (view_of_pass self) }
+        requires numbers { HasAllNumbers (opening_of_table table).setup.passes
+            (view_of_pass self).reserving }
+        ensures { ClosesWith D.tape D.moment D.faults (first_of_table D.tape table)
+            (opening_of_table table) (view_of_pass self) result }
+    {
+        let seat = self.seat();
+        table.close(seat)
+    }
+}

@@ -1,0 +1,97 @@
+// Calls of the device, each one step of the table, by the seat that has the writer in hand.
+ghost use Rattle.std.specs.Prelude.{◌≡◌};
+ghost use Rattle.wal_core.specs.Moves.{Done};
+ghost use Rattle.wal_core.specs.Steps.{create, sync, write};
+ghost use Rattle.wal_rule.specs.Called.{DeviceCallEnds, IsCalled, creates, step_of_call, syncs, writes};
+ghost use Rattle.wal_rule.specs.Ruled.{HasInHand};
+ghost use Rattle.wal_rule.specs.Seats.{SeatLent};
+ghost use Rattle.wal_rule.specs.Stepping.{MaySeat};
+ghost use Rattle.wal_rule.specs.Tables.{IsSeatOn, first_of_table, opening_of_table};
+
+use crate::plays::{CatchesUp, OfCall};
+use crate::table::{LogSeat, LogTable};
+use byte_position::PAGE_SIZE;
+use flush_core::DiskFault;
+use segment_disk::Disk;
+use std::marker::Brand;
+
+const WRITE_TURN: usize = 11;
+
+impl<D: Disk> LogTable<D> {
+    /// Makes the segment under way (PostgreSQL's xlog.c, XLogFileInit).
+    pub fn create(&self, seat: &mut LogSeat<D>, segment: u64) -> Result<(), DiskFault>
+        requires seat { IsSeatOn self.now seat.old }
+        requires out { (l : SeatLent) × (w : _) × HasInHand D.tape D.moment D.faults
+            (first_of_table D.tape self.now) (opening_of_table self.now) seat.old.me l w }
+        requires may { MaySeat seat.old.me.0 (create segment Done) }
+        ensures ended { DeviceCallEnds D.tape D.moment D.faults (first_of_table D.tape self.now)
+            (opening_of_table self.now) (creates segment) result seat.old.me.0 seat.new.me }
+        ensures seat { IsSeatOn self.now seat.new }
+    {
+        let writer = seat.slot_mut(&self.table.shared, 0);
+        writer.reaches(segment);
+        let ended = writer.create(segment);
+        self.catch_up::<Brand, _>(seat, &segment, &ended);
+        ended
+    }
+
+    /// Writes the page under way, which is whole up to an address (XLogWrite).
+    pub fn write_page(
+        &self,
+        seat: &mut LogSeat<D>,
+        segment: u64,
+        page: u32,
+        upto: u64,
+        bytes: &[u8; PAGE_SIZE as usize],
+    ) -> Result<(), DiskFault>
+        requires seat { IsSeatOn self.now seat.old }
+        requires out { (l : SeatLent) × (w : _) × HasInHand D.tape D.moment D.faults
+            (first_of_table D.tape self.now) (opening_of_table self.now) seat.old.me l w }
+        requires may { MaySeat seat.old.me.0 (write segment page upto bytes.now Done) }
+        ensures ended { DeviceCallEnds D.tape D.moment D.faults (first_of_table D.tape self.now)
+            (opening_of_table self.now) (writes segment page upto bytes.now) result seat.old.me.0
+            seat.new.me }
+        ensures seat { IsSeatOn self.now seat.new }
+    {
+        let writer = seat.slot_mut(&self.table.shared, 0);
+        writer.reaches(segment);
+        let ended = writer.write_page(segment, page, upto, bytes);
+        self.catch_up::<Brand, _>(seat, &(segment, page, upto, bytes), &ended);
+        ended
+    }
+
+    /// Makes the writes that wait for it durable (issue_xlog_fsync).
+    pub fn sync(&self, seat: &mut LogSeat<D>, segment: u64) -> Result<(), DiskFault>
+        requires seat { IsSeatOn self.now seat.old }
+        requires out { (l : SeatLent) × (w : _) × HasInHand D.tape D.moment D.faults
+            (first_of_table D.tape self.now) (opening_of_table self.now) seat.old.me l w }
+        requires may { MaySeat seat.old.me.0 (sync segment Done) }
+        ensures ended { DeviceCallEnds D.tape D.moment D.faults (first_of_table D.tape self.now)
+            (opening_of_table self.now) (syncs segment) result seat.old.me.0 seat.new.me }
+        ensures seat { IsSeatOn self.now seat.new }
+    {
+        let writer = seat.slot_mut(&self.table.shared, 0);
+        let ended = writer.sync(segment);
+        self.catch_up::<Brand, _>(seat, &segment, &ended);
+        ended
+    }
+
+    // Tells the seat's view of the call that its writer has made.
+    fn catch_up<B: OfCall, A>(
+        &self,
+        seat: &mut LogSeat<D>,
+        _operands: &A,
+        _ended: &Result<(), DiskFault>,
+    )
+        requires seat { IsSeatOn self.now seat.old }
+        requires first { B.first ≡ first_of_table D.tape self.now }
+        requires may { MaySeat seat.old.me.0 (step_of_call B.call Done) }
+        requires called { IsCalled D.tape D.moment D.faults B.first (opening_of_table self.now)
+            B.call B.ended seat.old.me }
+        ensures ended { DeviceCallEnds D.tape D.moment D.faults B.first (opening_of_table self.now)
+            B.call B.ended seat.old.me.0 seat.new.me }
+        ensures seat { IsSeatOn self.now seat.new }
+    {
+        self.table.shared.load::<CatchesUp<D, B>>(seat, WRITE_TURN);
+    }
+}

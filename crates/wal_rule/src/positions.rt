@@ -1,0 +1,166 @@
+// How far the log is reserved, written and durable, and whether its disk has failed (PostgreSQL's
+// xlog.c, LogwrtResult).
+ghost use Rattle.std.specs.Prelude.{◌≡◌};
+ghost use Rattle.wal_core.specs.Steps.{load_down, load_flushed, load_moment, load_position, load_written, set_down, store_flushed, store_moment, store_written};
+ghost use Rattle.wal_rule.specs.Stepping.{MaySeat, SeatSteps, value_left};
+ghost use Rattle.wal_rule.specs.Tables.{IsSeatOn};
+
+use crate::plays::OfKind;
+use crate::quiet::NO_OPERANDS;
+use crate::table::{LogSeat, LogTable};
+use segment_disk::Disk;
+
+const POSITION: usize = 0;
+
+const WRITTEN: usize = 13;
+
+const FLUSHED: usize = 14;
+
+const MOMENT: usize = 15;
+
+const DOWN: usize = 16;
+
+pub struct LoadsPosition;
+
+impl OfKind for LoadsPosition {
+    ghost kind = { load_position };
+}
+
+pub struct LoadsWritten;
+
+impl OfKind for LoadsWritten {
+    ghost kind = { load_written };
+}
+
+pub struct LoadsFlushed;
+
+impl OfKind for LoadsFlushed {
+    ghost kind = { load_flushed };
+}
+
+pub struct LoadsMoment;
+
+impl OfKind for LoadsMoment {
+    ghost kind = { load_moment };
+}
+
+pub struct LoadsDown;
+
+impl OfKind for LoadsDown {
+    ghost kind = { load_down };
+}
+
+pub struct StoresWritten;
+
+impl OfKind for StoresWritten {
+    ghost kind = { store_written };
+}
+
+pub struct StoresMoment;
+
+impl OfKind for StoresMoment {
+    ghost kind = { store_moment };
+}
+
+pub struct StoresFlushed;
+
+impl OfKind for StoresFlushed {
+    ghost kind = { store_flushed };
+}
+
+pub struct SetsDown;
+
+impl OfKind for SetsDown {
+    ghost kind = { set_down };
+}
+
+impl<D: Disk> LogTable<D> {
+    /// How far records are reserved: a byte position, one more while it is locked.
+    pub fn load_position(&self, seat: &mut LogSeat<D>) -> u64
+        requires seat { IsSeatOn self.now seat.old }
+        ensures steps { SeatSteps load_position result seat.old seat.new }
+        ensures seat { IsSeatOn self.now seat.new }
+    {
+        self.loads::<LoadsPosition>(seat, POSITION, NO_OPERANDS)
+    }
+
+    /// The written address.
+    pub fn load_written(&self, seat: &mut LogSeat<D>) -> u64
+        requires seat { IsSeatOn self.now seat.old }
+        ensures steps { SeatSteps load_written result seat.old seat.new }
+        ensures seat { IsSeatOn self.now seat.new }
+    {
+        self.loads::<LoadsWritten>(seat, WRITTEN, NO_OPERANDS)
+    }
+
+    /// The flushed address.
+    pub fn load_flushed(&self, seat: &mut LogSeat<D>) -> u64
+        requires seat { IsSeatOn self.now seat.old }
+        ensures steps { SeatSteps load_flushed result seat.old seat.new }
+        ensures seat { IsSeatOn self.now seat.new }
+    {
+        self.loads::<LoadsFlushed>(seat, FLUSHED, NO_OPERANDS)
+    }
+
+    /// The disk's moment when the last flush had ended.
+    pub fn load_moment(&self, seat: &mut LogSeat<D>) -> u64
+        requires seat { IsSeatOn self.now seat.old }
+        ensures steps { SeatSteps load_moment result seat.old seat.new }
+        ensures seat { IsSeatOn self.now seat.new }
+    {
+        self.loads::<LoadsMoment>(seat, MOMENT, NO_OPERANDS)
+    }
+
+    /// The disk's count of faults where it has failed, else 0.
+    pub fn load_down(&self, seat: &mut LogSeat<D>) -> u64
+        requires seat { IsSeatOn self.now seat.old }
+        ensures steps { SeatSteps load_down result seat.old seat.new }
+        ensures seat { IsSeatOn self.now seat.new }
+    {
+        self.loads::<LoadsDown>(seat, DOWN, NO_OPERANDS)
+    }
+
+    /// Stores as written what the writer in hand has written.
+    pub fn store_written(&self, seat: &mut LogSeat<D>, written: u64)
+        requires seat { IsSeatOn self.now seat.old }
+        requires may { MaySeat seat.old.me.0 store_written }
+        requires value { written ≡ value_left seat.old.me.0 store_written 0 }
+        ensures steps { SeatSteps store_written 0 seat.old seat.new }
+        ensures seat { IsSeatOn self.now seat.new }
+    {
+        self.stores::<StoresWritten>(seat, WRITTEN, written, NO_OPERANDS);
+    }
+
+    /// Stores the disk's moment, behind which all that is written is durable.
+    pub fn store_moment(&self, seat: &mut LogSeat<D>, moment: u64)
+        requires seat { IsSeatOn self.now seat.old }
+        requires may { MaySeat seat.old.me.0 store_moment }
+        requires value { moment ≡ value_left seat.old.me.0 store_moment 0 }
+        ensures steps { SeatSteps store_moment 0 seat.old seat.new }
+        ensures seat { IsSeatOn self.now seat.new }
+    {
+        self.stores::<StoresMoment>(seat, MOMENT, moment, NO_OPERANDS);
+    }
+
+    /// Stores as flushed what is durable from the moment on that was stored.
+    pub fn store_flushed(&self, seat: &mut LogSeat<D>, flushed: u64)
+        requires seat { IsSeatOn self.now seat.old }
+        requires may { MaySeat seat.old.me.0 store_flushed }
+        requires value { flushed ≡ value_left seat.old.me.0 store_flushed 0 }
+        ensures steps { SeatSteps store_flushed 0 seat.old seat.new }
+        ensures seat { IsSeatOn self.now seat.new }
+    {
+        self.stores::<StoresFlushed>(seat, FLUSHED, flushed, NO_OPERANDS);
+    }
+
+    /// Stores the disk's count of faults: from now on no call of the log goes to the device.
+    pub fn set_down(&self, seat: &mut LogSeat<D>, faults: u64)
+        requires seat { IsSeatOn self.now seat.old }
+        requires may { MaySeat seat.old.me.0 set_down }
+        requires value { faults ≡ value_left seat.old.me.0 set_down 0 }
+        ensures steps { SeatSteps set_down 0 seat.old seat.new }
+        ensures seat { IsSeatOn self.now seat.new }
+    {
+        self.stores::<SetsDown>(seat, DOWN, faults, NO_OPERANDS);
+    }
+}

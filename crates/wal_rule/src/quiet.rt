@@ -1,0 +1,90 @@
+// Steps that move no writer and call no device: one load, store or exchange each.
+ghost use Rattle.std.specs.Prelude.{◌≡◌, ℕ, ◌<◌, ◌==◌, if◌then◌else◌};
+ghost use mathlib.Core.Option.{none};
+ghost use Rattle.wal_rule.specs.Seats.{behind};
+ghost use Rattle.wal_rule.specs.Stepping.{IsQuiet, MaySeat, SeatSteps, value_left, word_at_step};
+ghost use Rattle.wal_rule.specs.Tables.{IsSeatOn};
+
+use crate::plays::{OfKind, Quietly};
+use crate::table::{LogSeat, LogTable};
+use segment_disk::Disk;
+
+/// The operands of a step's kind, by which its call picks the kind for the proof; nothing else
+/// reads them.
+#[derive(Clone, Copy)]
+pub struct Operands {
+    pub first: u64,
+    pub second: u64,
+}
+
+pub const NO_OPERANDS: Operands = Operands {
+    first: 0,
+    second: 0,
+};
+
+impl<D: Disk> LogTable<D> {
+    // A step of a kind that loads a word.
+    pub(crate) fn loads<K: OfKind>(
+        &self,
+        seat: &mut LogSeat<D>,
+        word: usize,
+        operands: Operands,
+    ) -> u64
+        requires seat { IsSeatOn self.now seat.old }
+        requires quiet { IsQuiet K.kind }
+        requires word { word ≡ word_at_step seat.old.me.0 K.kind }
+        requires there { word < self.now.table.shared.table_id.words }
+        requires may { MaySeat seat.old.me.0 K.kind }
+        requires loads { (met : ℕ) → met ≡ value_left seat.old.me.0 K.kind met }
+        ensures steps { SeatSteps K.kind result seat.old seat.new }
+        ensures seat { IsSeatOn self.now seat.new }
+    {
+        self.table.shared.load::<Quietly<K>>(seat, word)
+    }
+
+    // A step of a kind that stores a word.
+    pub(crate) fn stores<K: OfKind>(
+        &self,
+        seat: &mut LogSeat<D>,
+        word: usize,
+        value: u64,
+        operands: Operands,
+    )
+        requires seat { IsSeatOn self.now seat.old }
+        requires quiet { IsQuiet K.kind }
+        requires word { word ≡ word_at_step seat.old.me.0 K.kind }
+        requires there { word < self.now.table.shared.table_id.words }
+        requires may { MaySeat seat.old.me.0 K.kind }
+        requires stores { (met : ℕ) → value ≡ value_left seat.old.me.0 K.kind met }
+        requires meets_none { (met other : ℕ)
+            → behind K.kind met none seat.old.me.0 ≡ behind K.kind other none seat.old.me.0 }
+        ensures steps { SeatSteps K.kind 0 seat.old seat.new }
+        ensures seat { IsSeatOn self.now seat.new }
+    {
+        self.table.shared.store::<Quietly<K>>(seat, word, value)
+    }
+
+    // A step of a kind that exchanges a word where it meets what it expects.
+    pub(crate) fn exchanges<K: OfKind>(
+        &self,
+        seat: &mut LogSeat<D>,
+        word: usize,
+        expected: u64,
+        value: u64,
+        operands: Operands,
+    ) -> u64
+        requires seat { IsSeatOn self.now seat.old }
+        requires quiet { IsQuiet K.kind }
+        requires word { word ≡ word_at_step seat.old.me.0 K.kind }
+        requires there { word < self.now.table.shared.table_id.words }
+        requires may { MaySeat seat.old.me.0 K.kind }
+        requires exchanges { (met : ℕ) → (if met == expected then value else met)
+            ≡ value_left seat.old.me.0 K.kind met }
+        ensures steps { SeatSteps K.kind result seat.old seat.new }
+        ensures seat { IsSeatOn self.now seat.new }
+    {
+        self.table
+            .shared
+            .compare_exchange::<Quietly<K>>(seat, word, expected, value)
+    }
+}

@@ -1,0 +1,88 @@
+// The steps of a reservation (PostgreSQL's xlog.c, ReserveXLogInsertLocation).
+ghost use Rattle.std.specs.Prelude.{◌≡◌, ℕ, List};
+ghost use Rattle.wal_types.specs.declared.record.Record.{Record};
+ghost use Rattle.wal_core.specs.Steps.{give_position_back, load_prev, lock_position, store_position, store_prev};
+ghost use Rattle.wal_rule.specs.Stepping.{MaySeat, SeatSteps, value_left};
+ghost use Rattle.wal_rule.specs.Tables.{IsSeatOn};
+
+use crate::plays::OfKind;
+use crate::quiet::NO_OPERANDS;
+use crate::table::{LogSeat, LogTable};
+use segment_disk::Disk;
+use std::marker::Brand;
+
+const POSITION: usize = 0;
+
+const PREV: usize = 1;
+
+pub struct LoadsPrev;
+
+impl OfKind for LoadsPrev {
+    ghost kind = { load_prev };
+}
+
+pub struct StoresPrev;
+
+impl OfKind for StoresPrev {
+    ghost kind = { store_prev };
+}
+
+impl<D: Disk> LogTable<D> {
+    /// Locks the position where it is still the expected one, which is a byte position.
+    pub fn lock_position(&self, seat: &mut LogSeat<D>, expected: u64) -> u64
+        requires seat { IsSeatOn self.now seat.old }
+        requires may { MaySeat seat.old.me.0 (lock_position expected) }
+        ensures steps { SeatSteps (lock_position expected) result seat.old seat.new }
+        ensures seat { IsSeatOn self.now seat.new }
+    {
+        self.exchanges::<Brand>(seat, POSITION, expected, expected + 1, NO_OPERANDS)
+    }
+
+    /// The address at which the last reserved record starts, 0 where there is none.
+    pub fn load_prev(&self, seat: &mut LogSeat<D>) -> u64
+        requires seat { IsSeatOn self.now seat.old }
+        requires may { MaySeat seat.old.me.0 load_prev }
+        ensures steps { SeatSteps load_prev result seat.old seat.new }
+        ensures seat { IsSeatOn self.now seat.new }
+    {
+        self.loads::<LoadsPrev>(seat, PREV, NO_OPERANDS)
+    }
+
+    /// Stores, for the next record, the address at which this one starts.
+    pub fn store_prev(&self, seat: &mut LogSeat<D>, start: u64)
+        requires seat { IsSeatOn self.now seat.old }
+        requires may { MaySeat seat.old.me.0 store_prev }
+        requires value { start ≡ value_left seat.old.me.0 store_prev 0 }
+        ensures steps { SeatSteps store_prev 0 seat.old seat.new }
+        ensures seat { IsSeatOn self.now seat.new }
+    {
+        self.stores::<StoresPrev>(seat, PREV, start, NO_OPERANDS);
+    }
+
+    /// Stores the byte position behind the record, and so reserves its place. The locks under which
+    /// the record stands, and the record, are picked with the kind.
+    pub fn store_position<K: OfKind>(&self, seat: &mut LogSeat<D>, position: u64)
+        requires seat { IsSeatOn self.now seat.old }
+        requires kind { (locks : List ℕ) × (value : Record)
+            × (K.kind ≡ store_position locks value) }
+        requires may { MaySeat seat.old.me.0 K.kind }
+        requires value { position ≡ value_left seat.old.me.0 K.kind 0 }
+        ensures steps { SeatSteps K.kind 0 seat.old seat.new }
+        ensures seat { IsSeatOn self.now seat.new }
+    {
+        self.stores::<K>(seat, POSITION, position, NO_OPERANDS);
+    }
+
+    /// Stores the position as it was before it was locked, where too few bytes are left for the
+    /// record, which is picked with the kind.
+    pub fn give_position_back<K: OfKind>(&self, seat: &mut LogSeat<D>, position: u64)
+        requires seat { IsSeatOn self.now seat.old }
+        requires kind { (value : Record) × (K.kind ≡ give_position_back value) }
+        requires may { MaySeat seat.old.me.0 K.kind }
+        requires value { position ≡ value_left seat.old.me.0 K.kind 0 }
+        ensures steps { SeatSteps K.kind 0 seat.old seat.new }
+        ensures seat { IsSeatOn self.now seat.new }
+    {
+        self.stores::<K>(seat, POSITION, position, NO_OPERANDS);
+    }
+}

@@ -1,0 +1,105 @@
+// The turn to write, and the writer in its slot.
+ghost use Rattle.std.specs.Prelude.{◌≡◌, ℕ, true, false, []};
+ghost use mathlib.Core.Option.{none};
+ghost use Rattle.wal_core.specs.Steps.{release_write_turn, slot_in, slot_out, take_write_turn};
+ghost use Rattle.wal_rule.specs.Ruled.{HasInHand, HasTaken, IsOutOf};
+ghost use Rattle.wal_rule.specs.Seats.{SeatLent, behind};
+ghost use Rattle.wal_rule.specs.Stepping.{MaySeat, SeatSteps};
+ghost use Rattle.wal_rule.specs.Tables.{IsSeatOn, first_of_table, opening_of_table};
+
+use crate::plays::{HeldFirst, OfKind, SlotIn, SlotOut};
+use crate::quiet::NO_OPERANDS;
+use crate::table::{LogSeat, LogTable};
+use segment_disk::Disk;
+use std::marker::Brand;
+
+const WRITE_TURN: usize = 11;
+
+pub struct TakesWriteTurn;
+
+impl OfKind for TakesWriteTurn {
+    ghost kind = { take_write_turn };
+}
+
+pub struct ReleasesWriteTurn;
+
+impl OfKind for ReleasesWriteTurn {
+    ghost kind = { release_write_turn };
+}
+
+impl<D: Disk> LogTable<D> {
+    /// Takes the turn to write where it is free, which is where the word found is 0.
+    pub fn take_write_turn(&self, seat: &mut LogSeat<D>, number: u32) -> u64
+        requires seat { IsSeatOn self.now seat.old }
+        requires may { MaySeat seat.old.me.0 take_write_turn }
+        requires number { number ≡ seat.old.me.0.reserving.number }
+        ensures steps { SeatSteps take_write_turn result seat.old seat.new }
+        ensures seat { IsSeatOn self.now seat.new }
+    {
+        self.exchanges::<TakesWriteTurn>(seat, WRITE_TURN, 0, u64::from(number) + 1, NO_OPERANDS)
+    }
+
+    /// Takes the writer out of its slot.
+    pub fn slot_out(&self, seat: &mut LogSeat<D>)
+        requires seat { IsSeatOn self.now seat.old }
+        requires may { MaySeat seat.old.me.0 slot_out }
+        ensures out { (met : ℕ) × (w : _) × IsOutOf D.tape D.moment D.faults
+            (first_of_table D.tape self.now) (opening_of_table self.now) met w seat.old.me
+            seat.new.me }
+        ensures seat { IsSeatOn self.now seat.new }
+    {
+        self.slot_out_on::<Brand>(seat);
+    }
+
+    fn slot_out_on<B: HeldFirst>(&self, seat: &mut LogSeat<D>)
+        requires seat { IsSeatOn self.now seat.old }
+        requires may { MaySeat seat.old.me.0 slot_out }
+        requires first { B.first ≡ first_of_table D.tape self.now }
+        ensures out { (met : ℕ) × (w : _) × IsOutOf D.tape D.moment D.faults
+            B.first (opening_of_table self.now) met w seat.old.me seat.new.me }
+        ensures seat { IsSeatOn self.now seat.new }
+    {
+        self.table.shared.load::<SlotOut<D, B>>(seat, WRITE_TURN);
+    }
+
+    /// Puts the writer back into its slot.
+    pub fn slot_in(&self, seat: &mut LogSeat<D>)
+        requires seat { IsSeatOn self.now seat.old }
+        requires may { MaySeat seat.old.me.0 slot_in }
+        requires out { (l : SeatLent) × (w : _) × HasInHand D.tape D.moment D.faults
+            (first_of_table D.tape self.now) (opening_of_table self.now) seat.old.me l w }
+        ensures view { (met : ℕ) × (seat.new.me ≡ (behind slot_in met none seat.old.me.0, [])) }
+        ensures seat { IsSeatOn self.now seat.new }
+    {
+        self.table.shared.load::<SlotIn>(seat, WRITE_TURN);
+    }
+
+    /// Gives the turn to write back, with the writer in its slot.
+    pub fn release_write_turn(&self, seat: &mut LogSeat<D>)
+        requires seat { IsSeatOn self.now seat.old }
+        requires may { MaySeat seat.old.me.0 release_write_turn }
+        ensures steps { SeatSteps release_write_turn 0 seat.old seat.new }
+        ensures seat { IsSeatOn self.now seat.new }
+    {
+        self.stores::<ReleasesWriteTurn>(seat, WRITE_TURN, 0, NO_OPERANDS);
+    }
+
+    /// Where the turn to write is free, takes it and the writer. A call that waits tries again
+    /// where the answer is false.
+    pub fn take_writer(&self, seat: &mut LogSeat<D>, number: u32) -> bool
+        requires seat { IsSeatOn self.now seat.old }
+        requires may { MaySeat seat.old.me.0 take_write_turn }
+        requires none_out { seat.old.me.1 ≡ [] }
+        requires number { number ≡ seat.old.me.0.reserving.number }
+        ensures taken { result ≡ true → HasTaken D.tape D.moment D.faults
+            (first_of_table D.tape self.now) (opening_of_table self.now) seat.old.me seat.new.me }
+        ensures same { result ≡ false → seat.new.me ≡ seat.old.me }
+        ensures seat { IsSeatOn self.now seat.new }
+    {
+        if self.take_write_turn(seat, number) != 0 {
+            return false;
+        }
+        self.slot_out(seat);
+        true
+    }
+}

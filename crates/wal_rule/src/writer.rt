@@ -1,0 +1,177 @@
+// The writer in the table's slot.
+ghost use Rattle.std.specs.Prelude.{◌≡◌, ◌*◌, ◌/◌, ◌<◌, ◌≤◌, ◌^◌, Some};
+ghost use Rattle.byte_position.specs.Geometry.{pages_of};
+ghost use Rattle.segment_disk.specs.Tape.{create_call, sync_call, write_call};
+ghost use Rattle.wal_core.specs.declared.setup.Setup.{Setup};
+ghost use Rattle.wal_core.specs.Moves.{after_create, after_sync, after_write};
+ghost use Rattle.wal_core.specs.Opened.{IsFirstWriter};
+ghost use Rattle.wal_rule.specs.Founded.{empty_log_opening};
+ghost use Rattle.wal_rule.specs.Slotted.{CallEnds, as_machine_has, slot_disk, slot_plain, slot_segment_size};
+
+use byte_position::{Geometry, PAGE_SIZE};
+use flush_core::DiskFault;
+use segment_disk::{Disk, Failed};
+
+/// What is written of a log, on its disk, by one device call at a time (PostgreSQL's xlog.c,
+/// XLogWrite). Whoever has it in hand calls in the protocol of `Disk`, and nothing more once a call
+/// has failed.
+#[derive(Drop)]
+pub struct LogWriter<D> {
+    disk: D,
+    geometry: Geometry,
+    /// The address up to which the log is written.
+    written: u64,
+    /// The last segment made, 0 where none is.
+    made: u64,
+    /// The segment of which writes wait for a sync.
+    waiting: Option<u64>,
+    /// The disk's count of faults when it failed.
+    fault: Option<u64>,
+}
+
+impl<D: Disk> LogWriter<D> {
+    /// A writer of a new log, which begins with segment 1. It makes no device call.
+    pub fn new(disk: D, geometry: Geometry) -> LogWriter<D>
+        ensures disk { slot_disk result ≡ disk }
+        ensures size { slot_segment_size result ≡ geometry }
+        ensures first { (setup : Setup) → setup.segment_size ≡ geometry
+            → IsFirstWriter (empty_log_opening setup (D.moment disk) (D.faults disk))
+            (slot_plain D.tape D.moment result) }
+    {
+        LogWriter {
+            disk,
+            geometry,
+            written: geometry.segment_size(),
+            made: 0,
+            waiting: None,
+            fault: None,
+        }
+    }
+
+    pub fn into_disk(self) -> D
+        ensures { result ≡ slot_disk self }
+    {
+        self.disk
+    }
+
+    pub fn written(&self) -> u64
+        ensures { result ≡ (slot_plain D.tape D.moment self.now).written }
+    {
+        self.written
+    }
+
+    /// The last segment made, 0 where none is.
+    pub fn made(&self) -> u64
+        ensures { result ≡ (slot_plain D.tape D.moment self.now).made }
+    {
+        self.made
+    }
+
+    /// How many calls of the disk were counted.
+    pub fn moment(&self) -> u64
+        ensures { result ≡ (slot_plain D.tape D.moment self.now).moment }
+    {
+        self.disk.moment()
+    }
+
+    /// The segment of which writes wait for a sync.
+    pub fn waiting(&self) -> Option<u64>
+        ensures { as_machine_has result ≡ (slot_plain D.tape D.moment self.now).waiting }
+    {
+        self.waiting
+    }
+
+    /// The disk's count of faults when it failed.
+    pub fn fault(&self) -> Option<u64>
+        ensures { as_machine_has result ≡ (slot_plain D.tape D.moment self.now).fault }
+    {
+        self.fault
+    }
+
+    // A law: a segment whose start is written, or is to be written next, has an address.
+    pub(crate) fn reaches(&self, segment: u64)
+        requires { segment * pages_of (slot_segment_size self.now)
+            ≤ (slot_plain D.tape D.moment self.now).written / 8192 }
+        ensures { segment < 2 ^ 64 / slot_segment_size self.now }
+    {
+        has_address(self.geometry, self.written, segment);
+    }
+
+    /// Makes a segment, which is the one behind the last.
+    pub(crate) fn create(&mut self, segment: u64) -> Result<(), DiskFault>
+        requires { segment < 2 ^ 64 / slot_segment_size self.old }
+        ensures { CallEnds D.tape D.moment D.faults self.old self.new result
+            (after_create segment (create_call (slot_segment_size self.old) segment)) }
+    {
+        match self.disk.create(self.geometry, segment) {
+            Ok(()) => {
+                self.made = segment;
+                Ok(())
+            }
+            Err(failed) => Err(self.fail(failed)),
+        }
+    }
+
+    /// Writes a page in place, which is whole up to an address.
+    pub(crate) fn write_page(
+        &mut self,
+        segment: u64,
+        page: u32,
+        upto: u64,
+        bytes: &[u8; PAGE_SIZE as usize],
+    ) -> Result<(), DiskFault>
+        requires segment { segment < 2 ^ 64 / slot_segment_size self.old }
+        requires page { page < pages_of (slot_segment_size self.old) }
+        ensures { CallEnds D.tape D.moment D.faults self.old self.new result
+            (after_write segment upto
+            (write_call (slot_segment_size self.old) segment page bytes.now)) }
+    {
+        let counted = self.disk.moment();
+        match self.disk.write_page(self.geometry, segment, page, bytes) {
+            Ok(()) => {
+                self.written = upto;
+                self.waiting = Some(segment);
+                Ok(())
+            }
+            Err(failed) => {
+                if self.disk.moment() != counted {
+                    self.waiting = Some(segment);
+                }
+                Err(self.fail(failed))
+            }
+        }
+    }
+
+    /// Makes the writes to a segment durable.
+    pub(crate) fn sync(&mut self, segment: u64) -> Result<(), DiskFault>
+        requires { segment < 2 ^ 64 / slot_segment_size self.old }
+        ensures { CallEnds D.tape D.moment D.faults self.old self.new result
+            (after_sync (sync_call (slot_segment_size self.old) segment)) }
+    {
+        match self.disk.sync(self.geometry, segment) {
+            Ok(()) => {
+                self.waiting = None;
+                Ok(())
+            }
+            Err(failed) => Err(self.fail(failed)),
+        }
+    }
+
+    // Keeps the disk's count of faults.
+    fn fail(&mut self, _failed: Failed) -> DiskFault
+        ensures told { result.faults ≡ D.faults self.old.disk }
+        ensures kept { self.new ≡ record self.old { fault = Some result.faults } }
+    {
+        let faults = self.disk.faults();
+        self.fault = Some(faults);
+        DiskFault { faults }
+    }
+}
+
+// The law of plain numbers.
+fn has_address(geometry: Geometry, address: u64, segment: u64)
+    requires { segment * pages_of geometry ≤ address / 8192 }
+    ensures { segment < 2 ^ 64 / geometry }
+{
+    prove!(segment <= address / geometry.segment_size());
+}

@@ -1,0 +1,52 @@
+-- Words of a record are copied to a page: what a pass's view is behind so many of them.
+use Rattle.std.specs.Prelude.{◌≡◌, ℕ, ◌+◌, ◌*◌, ◌/◌}
+use Rattle.record_spelling.specs.Spelling.{assembled}
+use Rattle.wal_page.specs.EntryWords.{address_of_word}
+use Rattle.wal_page.specs.Placed.{PlacedState, placed_end}
+use Rattle.wal_core.specs.declared.setup.Setup.{Setup}
+use Rattle.wal_core.specs.Views.{Copy, Copying, Flight, Landed}
+use Rattle.wal_rule.specs.Seats.{SeatView}
+use Rattle.word_ring.specs.declared.copying.Copied.{Copied}
+use Rattle.word_ring.specs.declared.copying.Copied.TheVariants.{Whole, PageEnd}
+
+-- its copy is so many words further on; all else is as it was
+abbrev pub further : ℕ → Flight → Flight
+further count Landed = Landed
+further count (Copying c) = Copying (record c { copied = c.copied + count })
+
+abbrev pub copied_view : ℕ → SeatView → SeatView
+copied_view count v =
+    record v { working = record v.working { flight = further count (v.working).flight } }
+
+-- a record at its place gives the words that are left of a copy, from its next one on
+abbrev pub rest_of : Setup → Copy → PlacedState
+rest_of setup c = record {
+  size = setup.segment_size;
+  sysid = setup.sysid;
+  body = assembled (c.entry).value;
+  start = (c.entry).start;
+  prev = c.prev;
+  next = address_of_word setup.segment_size c.entry c.copied;
+}
+
+-- a pass copies an entry, of which this record at its place gives the words that are left
+abbrev pub IsRestOf : Setup → SeatView → PlacedState → Type 0
+IsRestOf setup v placed =
+    (c : Copy) × ((v.working).flight ≡ Copying c) × (placed ≡ rest_of setup c)
+
+-- where the page at an address ends
+abbrev pub page_end_at : ℕ → ℕ
+page_end_at address = (address / 8192 + 1) * 8192
+
+-- a copy stops where the record ends, or its page
+abbrev pub StopsAt : (old new : PlacedState) → Copied → Type 0
+StopsAt old new Whole = new.next ≡ placed_end old
+StopsAt old new PageEnd = new.next ≡ page_end_at old.next
+
+-- so many words were copied to a page, and the record at its place gives those behind them
+pub record CopiesPage (old new : SeatView) (placed_old placed_new : PlacedState) (stop : Copied)
+    : Type 0 where
+  pub count : ℕ
+  pub view_is : new ≡ copied_view count old
+  pub placed_is : placed_new ≡ record placed_old { next = placed_old.next + 8 * count }
+  pub stops : StopsAt placed_old placed_new stop

@@ -1,0 +1,39 @@
+-- A try to map the next page: what it leaves of its pass's view, and when it maps none.
+use Rattle.std.specs.Prelude.{◌≡◌, ◌≢◌, ℕ, ◌+◌, ◌*◌, ◌<◌, ◌≤◌}
+use Rattle.wal_core.specs.declared.setup.Setup.{Setup}
+use Rattle.wal_core.specs.Views.{Stage}
+use Rattle.wal_rule.specs.Seats.{SeatView}
+use Rattle.word_ring.specs.Ring.{confirmed_view, end_of_page}
+use Rattle.word_ring.specs.declared.mapping.MapTry.{MapTry}
+use Rattle.word_ring.specs.declared.mapping.MapTry.TheVariants.{Mapped, There, Taken, Unwritten}
+
+-- ---- a pass's view behind steps: all that is not named is as it was
+
+-- it is so far with mapping a page
+abbrev pub staged_view : Stage → SeatView → SeatView
+staged_view stage v = record v { mapping = record v.mapping { stage = stage } }
+
+-- it loaded this address as written
+abbrev pub written_view : ℕ → SeatView → SeatView
+written_view written v = record v { written = written }
+
+-- it loaded the initialised end `at` and the written address
+abbrev pub looked_view : (at written : ℕ) → SeatView → SeatView
+looked_view at written v = written_view written (confirmed_view at v)
+
+-- ---- a try
+
+-- the buffer of the page at an address holds a page that is not all written
+abbrev pub IsOldPageUnwritten : Setup → (at written : ℕ) → Type 0
+IsOldPageUnwritten setup at written = written + setup.ring_pages * 8192 < at + 8192
+
+-- what a try tells, and what it leaves of the view, which is not mapping: somebody else had the
+-- turn; or it had the turn, and met the initialised end `at` and the written address
+abbrev pub TriesMapping : Setup → (page : ℕ) → (old new : SeatView) → MapTry → Type 0
+TriesMapping setup page old new (Taken turn) = (turn ≢ 0) × (new ≡ old)
+TriesMapping setup page old new There = (at written : ℕ) × (end_of_page page ≤ at)
+    × (new ≡ looked_view at written old)
+TriesMapping setup page old new (Unwritten told) = (at : ℕ) × (at < end_of_page page)
+    × IsOldPageUnwritten setup at told × (new ≡ looked_view at told old)
+TriesMapping setup page old new Mapped = (at written : ℕ) × (at < end_of_page page)
+    × (new ≡ confirmed_view (at + 8192) (looked_view at written old))

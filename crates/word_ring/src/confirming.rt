@@ -1,0 +1,40 @@
+// Whether a page is in its buffer (PostgreSQL's xlog.c, GetXLogBuffer).
+ghost use Rattle.std.specs.Prelude.{◌≡◌, ℕ, ◌<◌, ◌^◌};
+ghost use Rattle.wal_rule.specs.Tables.{IsSeatOn, opening_of_table};
+ghost use Rattle.word_ring.specs.Ring.{Confirms, confirmed_view};
+
+use byte_position::PAGE_SIZE;
+use machine_words::LogShape;
+use segment_disk::Disk;
+use wal_rule::{LogSeat, LogTable};
+
+/// Whether a page is in its buffer.
+#[derive(Clone, Copy, Debug, PartialEq, Eq)]
+pub enum Presence {
+    Present,
+    /// The buffer holds the page that ends at this address, or none where it is 0.
+    Other { end: u64 },
+}
+
+/// Loads the end word of a page's buffer. A page is counted from the log's address 0.
+pub fn confirm<D: Disk>(
+    table: &LogTable<D>,
+    seat: &mut LogSeat<D>,
+    shape: &LogShape,
+    page: u64,
+) -> Presence
+    requires seat { IsSeatOn table.now seat.old }
+    requires shape { shape.now ≡ (opening_of_table table.now).setup }
+    requires low { page < 2 ^ 40 }
+    ensures met { (end : ℕ) × Confirms page end result
+        × (seat.new.me ≡ (confirmed_view end seat.old.me.0, seat.old.me.1)) }
+    ensures seat { IsSeatOn table.now seat.new }
+{
+    let buffer = (page % u64::from(shape.ring_pages())) as u32;
+    let end = table.load_buffer_end(seat, buffer);
+    if end == (page + 1) * PAGE_SIZE {
+        Presence::Present
+    } else {
+        Presence::Other { end }
+    }
+}

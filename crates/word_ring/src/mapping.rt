@@ -1,0 +1,147 @@
+// The next page is mapped (PostgreSQL's xlog.c, AdvanceXLInsertBuffer).
+ghost use Rattle.std.specs.Prelude.{◌≡◌, ◌≢◌, ℕ, ◌+◌, ◌*◌, ◌<◌, ◌≤◌, ◌^◌};
+ghost use Rattle.wal_core.specs.Paged.{IsOpen};
+ghost use Rattle.wal_core.specs.Steps.{buffer_of};
+ghost use Rattle.wal_core.specs.Views.{Away, Ready, Taken, Zeroing};
+ghost use Rattle.wal_rule.specs.Tables.{IsSeatOn, opening_of_table};
+ghost use Rattle.word_ring.specs.Mapped.{TriesMapping, looked_view, staged_view};
+ghost use Rattle.word_ring.specs.Ring.{confirmed_view};
+
+use byte_position::PAGE_SIZE;
+use machine_words::LogShape;
+use segment_disk::Disk;
+use wal_rule::{LogSeat, LogTable};
+
+const PAGE_WORDS: usize = 1024;
+
+// The number of the first buffer's end word.
+const BUFFER_ENDS: usize = 17;
+
+/// How a try to map the next page ended.
+#[derive(Clone, Copy, Debug, PartialEq, Eq)]
+pub enum MapTry {
+    /// The page at the initialised end is mapped.
+    Mapped,
+    /// The page asked for was mapped already.
+    There,
+    /// Somebody had the turn to map: the turn's word.
+    Taken { turn: u64 },
+    /// The buffer's page is not all written: the written address.
+    Unwritten { written: u64 },
+}
+
+/// Tries once to map the page at the initialised end, so that one page more is there of those up to
+/// the one asked for.
+pub fn try_map<D: Disk>(
+    table: &LogTable<D>,
+    seat: &mut LogSeat<D>,
+    shape: &LogShape,
+    number: u32,
+    page: u64,
+) -> MapTry
+    requires seat { IsSeatOn table.now seat.old }
+    requires shape { shape.now ≡ (opening_of_table table.now).setup }
+    requires number { number ≡ seat.old.me.0.reserving.number }
+    requires away { seat.old.me.0.mapping.stage ≡ Away }
+    requires low { page < 2 ^ 40 }
+    ensures tries { TriesMapping shape.now page seat.old.me.0 seat.new.me.0 result }
+    ensures slots { seat.new.me.1 ≡ seat.old.me.1 }
+    ensures seat { IsSeatOn table.now seat.new }
+{
+    let turn = take_turn(table, seat, number);
+    if turn != 0 {
+        return MapTry::Taken { turn };
+    }
+    let (at, written) = look(table, seat);
+    let ring = u64::from(shape.ring_pages()) * PAGE_SIZE;
+    if (page + 1) * PAGE_SIZE <= at {
+        give_turn_back(table, seat);
+        MapTry::There
+    } else if written + ring < at + PAGE_SIZE {
+        give_turn_back(table, seat);
+        MapTry::Unwritten { written }
+    } else {
+        replace(table, seat, shape, at);
+        MapTry::Mapped
+    }
+}
+
+// Takes the turn to map where it is free.
+fn take_turn<D: Disk>(table: &LogTable<D>, seat: &mut LogSeat<D>, number: u32) -> u64
+    requires seat { IsSeatOn table.now seat.old }
+    requires number { number ≡ seat.old.me.0.reserving.number }
+    requires away { seat.old.me.0.mapping.stage ≡ Away }
+    ensures taken { result ≡ 0
+        → seat.new.me ≡ (staged_view Taken seat.old.me.0, seat.old.me.1) }
+    ensures vain { result ≢ 0 → seat.new.me ≡ seat.old.me }
+    ensures seat { IsSeatOn table.now seat.new }
+{
+    table.take_mapping_turn(seat, number)
+}
+
+// The initialised end, and the written address.
+fn look<D: Disk>(table: &LogTable<D>, seat: &mut LogSeat<D>) -> (u64, u64)
+    requires seat { IsSeatOn table.now seat.old }
+    requires taken { seat.old.me.0.mapping.stage ≡ Taken }
+    ensures view { seat.new.me ≡ (
+      staged_view (Ready result.0 result.1) (looked_view result.0 result.1 seat.old.me.0),
+      seat.old.me.1,
+    ) }
+    ensures low { (result.0 < 2 ^ 60) × (result.1 < 2 ^ 60) }
+    ensures seat { IsSeatOn table.now seat.new }
+{
+    let at = table.load_initialised_end(seat);
+    (at, table.load_written(seat))
+}
+
+// Gives the turn back, with nothing changed.
+fn give_turn_back<D: Disk>(table: &LogTable<D>, seat: &mut LogSeat<D>)
+    requires seat { IsSeatOn table.now seat.old }
+    requires open { IsOpen seat.old.me.0.mapping.stage }
+    ensures view { seat.new.me ≡ (staged_view Away seat.old.me.0, seat.old.me.1) }
+    ensures seat { IsSeatOn table.now seat.new }
+{
+    table.release_mapping_turn(seat);
+}
+
+// Maps the page at an address in place of the one in its buffer, which is written, and gives the
+// turn back.
+fn replace<D: Disk>(table: &LogTable<D>, seat: &mut LogSeat<D>, shape: &LogShape, at: u64)
+    requires seat { IsSeatOn table.now seat.old }
+    requires shape { shape.now ≡ (opening_of_table table.now).setup }
+    requires ready { (written : ℕ) × (seat.old.me.0.mapping.stage ≡ Ready at written)
+        × (at + 8192 ≤ written + shape.now.ring_pages * 8192) }
+    requires low { at < 2 ^ 60 }
+    ensures view { seat.new.me
+        ≡ (confirmed_view (at + 8192) (staged_view Away seat.old.me.0), seat.old.me.1) }
+    ensures seat { IsSeatOn table.now seat.new }
+{
+    let end = BUFFER_ENDS + buffer_at(shape, at);
+    table.clear_end(seat, end);
+    zero_page(table, seat, shape, at);
+    table.publish_end(seat, end, at + PAGE_SIZE);
+    table.publish_initialised_end(seat, at + PAGE_SIZE);
+    give_turn_back(table, seat);
+}
+
+// Zeroes the words of the buffer of the page at an address.
+fn zero_page<D: Disk>(table: &LogTable<D>, seat: &mut LogSeat<D>, shape: &LogShape, at: u64)
+    requires seat { IsSeatOn table.now seat.old }
+    requires shape { shape.now ≡ (opening_of_table table.now).setup }
+    requires cleared { seat.old.me.0.mapping.stage ≡ Zeroing at 0 }
+    ensures view { seat.new.me ≡ (staged_view (Zeroing at 1024) seat.old.me.0, seat.old.me.1) }
+    ensures seat { IsSeatOn table.now seat.new }
+{
+    let first = BUFFER_ENDS + shape.ring_pages() as usize + buffer_at(shape, at) * PAGE_WORDS;
+    for n in 0..PAGE_WORDS {
+        table.zero_ring_word(seat, first + n);
+    }
+}
+
+// The buffer of the page at an address.
+fn buffer_at(shape: &LogShape, at: u64) -> usize
+    ensures value { result ≡ buffer_of shape.now at }
+    ensures low { result < 64 }
+{
+    (at / PAGE_SIZE % u64::from(shape.ring_pages())) as usize
+}
