@@ -10,10 +10,11 @@ use Rattle.serial_log.specs.History.{LogHistory}
 use Rattle.serial_log.specs.Steps.{Inserts, Commits, Flushes}
 use Rattle.wal_script.specs.Asked.{Asked}
 use Rattle.wal_script.specs.Asked as asking
-use Rattle.backend_cli.specs.declared.told.Told.{Told}
+use Rattle.told_lines.specs.declared.told.Told.{Told}
 use Rattle.wal_script.specs.declared.line.Action.{Action}
 use Rattle.wal_script.specs.declared.line.Action.TheVariants as actions
-use Rattle.backend_cli.specs.Steps.{Steps, own_end, told_of_insert, told_of_commit, told_of_flush}
+use Rattle.backend_cli.specs.Steps.{Steps, own_end}
+use Rattle.told_lines.specs.Answered.{told_of_insert, told_of_commit, told_of_flush}
 use Rattle.wal_script.specs.Bodies.{IsActionOf}
 
 module _ (size capacity faults_at_open : ℕ) (s : LogHistory) (backend : ℕ) (IsAfter : LogHistory → Type 0) (told : Told) where

@@ -1,18 +1,17 @@
 -- What a log promised survives each crash, and no promise was told after a later record was written.
-use Rattle.std.proofs.Common.{◌≡◌, ℕ, zero, suc, ◌+◌, ◌*◌, ◌^◌, ◌<◌, ◌≤◌, All, List, [], ◌∷◌, ◌++◌, drop, length, take, Some, None, option_to_list, inl, inr, refl, sym, ap, ◌∙◌, subst, arith}
+use Rattle.std.proofs.Common.{◌≡◌, ℕ, ◌+◌, ◌*◌, ◌^◌, ◌<◌, ◌≤◌, All, List, [], ◌∷◌, ◌++◌, drop, length, take, Some, None, option_to_list, inl, inr, refl, sym, ap, ◌∙◌, subst, arith}
 use Rattle.std.specs.Int.{w64, to_le_bytes}
 use Rattle.std.specs.Prelude.{IfSome, slice_get}
-use Rattle.std.proofs.lemmas.List.{length-take-le}
-use Rattle.std.proofs.lemmas.List.Elements.{All-cons, All-drop, All-head, All-nil, All-tail, All-weaker}
+use Rattle.std.proofs.lemmas.List.Elements.{All-head, All-weaker}
 use Rattle.std.proofs.Math.Seq.{take-append_seam}
 use Rattle.byte_position.specs.Geometry.{IsSegmentSize}
-use Rattle.byte_position.specs.Position.{address_of, end_address_of, first_position, position_of}
+use Rattle.byte_position.specs.Position.{end_address_of, first_position, position_of}
 use Rattle.byte_position.proofs.EndAddresses.{end_address_of-le}
 use Rattle.segment_disk.specs.declared.disk.CallKind.{CallKind}
 use Rattle.segment_disk.specs.declared.disk.CallKind.TheVariants.{Create, Write, Sync}
 use Rattle.segment_disk.specs.Tape.{Tape}
 use Rattle.segment_disk.specs.DiskImage.{DiskImage, LeftAt}
-use Rattle.wal_page.specs.Order.{Entry, FollowsFrom, IsChained, end_position, finish_of, position_behind, rooms_of}
+use Rattle.wal_page.specs.Order.{Entry, IsChained, end_position, finish_of, rooms_of}
 use Rattle.wal_page.specs.Log.{owner_at}
 use Rattle.wal_page.proofs.LogWordLaws.{log_word-behind}
 use Rattle.wal_page.proofs.OrderLaws.{FollowsFrom-parts}
@@ -27,36 +26,22 @@ use Rattle.wal_reader.specs.Decodes.{Decodes}
 use Rattle.wal_reader.specs.Pages.{pages_in}
 use Rattle.written_log.specs.LawfulLog.{IsFrontUpto}
 use Rattle.written_log.specs.Torn.{NoTornPass}
-use Rattle.written_log.specs.Written.{found_from}
 use Rattle.written_log.proofs.LawfulLaws.{lawful_images_decode_to_fronts}
 use Rattle.wal_script.specs.Asked.{AskedLine}
-use Rattle.backend_cli.specs.declared.told.Told.{Told}
-use Rattle.backend_cli.specs.declared.told.Told.TheVariants.{Wrote, Hard, Flushed, Refused}
-use Rattle.backend_cli.specs.Told.{SomeAnswer, SomeTold, entries_of}
-use Rattle.backend_cli.specs.Texts.{is_reserved}
+use Rattle.told_lines.specs.declared.told.Told.{Told}
+use Rattle.told_lines.specs.declared.told.Told.TheVariants.{Wrote, Hard, Flushed, Refused}
+use Rattle.told_lines.specs.Told.{SomeAnswer, SomeTold, entries_of}
+use Rattle.told_lines.specs.Counts.{is_reserved}
 use Rattle.backend_cli.specs.Steps.{Event, Plays, answers_in, events_of, promise_of, promises_in}
-use Rattle.backend_cli.specs.Crash.{EachIsTimely, IsBefore, IsFrontWithTold, NoneIsLate, SaysDurable, SurvivesCrashes, WritesNoWord, WritesNone, moment_told}
+use Rattle.told_lines.specs.Crash.{EachIsTimely, IsBefore, IsFrontWithTold, NoneIsLate, SaysDurable, SurvivesCrashes, WritesNoWord, WritesNone, moment_told}
 use Rattle.backend_cli.proofs.StepCases.{fact-Steps}
 use Rattle.backend_cli.proofs.PlayedEntries.{CountsEntry, answers_in-events_of, entries_in-events_of, played_chained, plays_entries, steps_counted}
-use Rattle.backend_cli.proofs.PlayedAnswers.{SomeTold-one}
 use Rattle.backend_cli.proofs.PlayedPromises.{played_promises}
-use Rattle.backend_cli.proofs.WholeLaws.{ends_low}
-
--- ---- facts of all of a list
-
-module _ {X : Type 0} (P : X → Type 0) where
-  parts_all : (front behind : List X) → All P (front ++ behind) → All P front × All P behind
-  parts_all [] behind all = (All-nil P, all)
-  parts_all (x ∷ front) behind all =
-      let rest = parts_all front behind (All-tail P x (front ++ behind) all) in
-      (All-cons P x front (All-head P x (front ++ behind) all) rest.0, rest.1)
-
-  -- what holds behind a place holds behind each later one
-  dropped_further : (n m : ℕ) → n ≤ m → (xs : List X) → All P (drop n xs) → All P (drop m xs)
-  dropped_further zero m within xs all = All-drop P m xs all
-  dropped_further (suc n) zero within xs all = absurd (omega (arith, within))
-  dropped_further (suc n) (suc m) within [] all = All-nil P
-  dropped_further (suc n) (suc m) within (x ∷ xs) all = dropped_further n m (omega (arith, within)) xs all
+use Rattle.told_lines.proofs.AllLaws.{parts_all, dropped_further}
+use Rattle.told_lines.proofs.AnswerLoops.{SomeTold-one}
+use Rattle.told_lines.proofs.Capacities.{ends_low}
+use Rattle.told_lines.proofs.FrontLengths.{front_length}
+use Rattle.told_lines.proofs.Orders.{starts_above}
 
 -- ---- what was told is promised
 
@@ -81,15 +66,6 @@ module _ (P : Promise → Type 0) (moment address : ℕ) where
       answers_promised behind events (parts_all P (option_to_list (promise_of behind event.told)) (promises_in behind events) all).1 later
 
 -- ---- what is promised survives
-
-length-found_from : (size prev : ℕ) (es : List Entry) → length (found_from size prev es) ≡ length es
-length-found_from size prev [] = refl
-length-found_from size prev (e ∷ es) = ap suc (length-found_from size (address_of size e.start) es)
-
--- the front is as long as what was found
-front_length : (size : ℕ) (es : List Entry) (upto : ℕ) (found : List FoundRecord) → (front : IsFrontUpto size es upto found) → front.count ≡ length found
-front_length size es upto found front =
-    omega (arith, ap length front.found_is, length-found_from size 0 (take front.count es), length-take-le front.count es front.within)
 
 module _ (size sysid : ℕ) (valid : IsSegmentSize size) (known : 0 < sysid) (narrow : sysid < 2 ^ 64) (es : List Entry) (chained : IsChained size es) (low : end_address_of size (end_position size es) ≤ 2 ^ 60) (opened opening : ℕ) (from : opened ≤ opening) (tape : Tape) where
   -- of a promise that the log keeps
@@ -133,10 +109,6 @@ module _ (size sysid : ℕ) (valid : IsSegmentSize size) (known : 0 < sysid) (na
   kind_writes_none front later parts e behind segment (Write page bytes) lawful = λ n low owned. later_word front later parts e behind (segment * size + page * 8192 + 8 * n) _ owned (lawful n low)
   kind_writes_none front later parts e behind segment Sync lawful = tt
 
-  starts_above : (bound position : ℕ) (later : List Entry) → bound ≤ position → FollowsFrom size position later → All (λ e. bound ≤ e.start) later
-  starts_above bound position [] within follows = All-nil (λ (e : Entry). bound ≤ e.start)
-  starts_above bound position (e ∷ later) within follows = All-cons (λ (f : Entry). bound ≤ f.start) e later (omega (arith, follows.0, within)) (starts_above bound (position_behind size e) later (omega (arith, follows.0, within)) follows.2)
-
   module _ (front later : List Entry) (parts : es ≡ front ++ later) (count : ℕ) (whole : length front ≡ count) where
     -- a promise that was told when the log had these entries
     told_before : (upto moment : ℕ) → IsKept (record { upto = upto; moment = moment; count = count }) → IsBefore size opening es tape later moment
@@ -146,7 +118,7 @@ module _ (size sysid : ℕ) (valid : IsSegmentSize size) (known : 0 < sysid) (na
         let lawful : All (WritesLawful size sysid front) (drop opened (take moment tape.calls)) = subst (λ (fs : List Entry). All (WritesLawful size sysid fs) (drop opened (take moment tape.calls))) entries kept.writes in
         let since : All (WritesLawful size sysid front) calls = dropped_further (WritesLawful size sysid front) opened opening from (take moment tape.calls) lawful in
         let follows = (FollowsFrom-parts size (first_position size) front later (subst (IsChained size) parts chained)).1 in
-        let above = starts_above (end_position size front) (end_position size front) later (omega arith) follows in
+        let above = starts_above size (end_position size front) (end_position size front) later (omega arith) follows in
         record {
           passed = kept.passed;
           unwritten = All-weaker (λ (e : Entry). end_position size front ≤ e.start) (λ e. All (WritesNone size es e) calls)

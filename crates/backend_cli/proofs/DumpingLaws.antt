@@ -9,7 +9,7 @@ use Rattle.waldump_text.specs.Dump.{HasDumpCause, IsDump}
 use Rattle.command_words.specs.declared.commands.DumpOptions.{DumpOptions}
 use Rattle.backend_cli.specs.Outside.{Outside}
 use Rattle.backend_cli.specs.declared.outcome.Outcome.{Outcome}
-use Rattle.backend_cli.specs.declared.told.Told.{Told}
+use Rattle.told_lines.specs.declared.told.Told.{Told}
 use Rattle.backend_cli.specs.Dumping.{DumpHolds, Listed, ListingEnds, all, all_before, by_disk, by_sink, ended, front_for_disk, front_for_memory, front_for_sink, outcome_of, stopped, without_memory}
 
 lists_on : (asked : DumpOptions) (outside : Outside) (result : Result ℕ DumpErr) (t : Tape) → IsDump asked.geometry asked.filter outside.taken_before outside.taken_after result t → Listed asked outside (outcome_of result) t

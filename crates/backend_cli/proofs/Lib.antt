@@ -1,11 +1,9 @@
-pub mod Orders
 pub mod StepCases
 pub mod OwnEnds
 pub mod PlayedEntries
 pub mod PlayedAnswers
 pub mod PlayedTells
 pub mod PlayedDown
-pub mod AnswerCounts
 pub mod LineLaws
 pub mod ScriptLaws
 pub mod AnswerLaws
@@ -14,11 +12,9 @@ pub mod WholeLaws
 pub mod PlayedPromises
 pub mod CrashLaws
 pub mod LastFlush
-pub mod Capacities
 pub mod RunLaws
 pub mod ToldLines
 pub mod ReadLaws
-pub mod AnswerLoops
 pub mod ScriptReading
 pub mod MomentLaws
 pub mod DumpingLaws

@@ -2,7 +2,7 @@
 use Rattle.std.proofs.Common.{◌≡◌, ℕ, List, [], ◌∷◌, ◌++◌, ap, ap₂, refl}
 use Rattle.wal_script.specs.Asked.{AskedLine}
 use Rattle.wal_script.specs.declared.line.Line.{Line}
-use Rattle.backend_cli.specs.declared.told.Told.{Told}
+use Rattle.told_lines.specs.declared.told.Told.{Told}
 use Rattle.wal_script.specs.Bodies.{AreLinesOf}
 use Rattle.backend_cli.specs.Texts.{told_line, told_lines_of}
 use Rattle.backend_cli.specs.Printing.{told_lines}

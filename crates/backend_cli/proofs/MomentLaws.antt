@@ -1,5 +1,5 @@
 -- Moments that are told one after another.
-use Rattle.std.proofs.Common.{◌≡◌, ◌<◌, ◌≤◌, ◌⊎◌, inr, ℕ, Bool, true, false, List, [], ◌∷◌, ◌++◌, Option, Some, None, Result, Ok, Err, sym, ap, ◌∙◌, subst, refl, arith}
+use Rattle.std.proofs.Common.{◌≡◌, ◌<◌, ◌≤◌, ◌⊎◌, inr, ℕ, Bool, true, false, Option, Some, None, Result, Ok, Err, sym, ap, ◌∙◌, subst, refl, arith}
 use Rattle.std.specs.Prelude.{IfSome, IfOk, IfErr, OnOk, OnErr}
 use Rattle.flush_core.specs.Writer.{writer_fault}
 use Rattle.log_answers.specs.declared.Receipt.{Receipt}
@@ -13,15 +13,10 @@ use Rattle.serial_log.specs.LogState.{LogState, IsLog, HasUnwritten, end_behind,
 use Rattle.serial_log.specs.History.{at_opening}
 use Rattle.serial_log.proofs.OpeningLaws.{end_behind-none}
 use Rattle.serial_log.specs.Refusing.{HasFailed, IsLeftBy, down_again}
-use Rattle.backend_cli.specs.declared.told.Told.{Told}
-use Rattle.backend_cli.specs.Moments.{FlushMoment, LastTold, MomentStep, MomentsReach}
-use Rattle.backend_cli.specs.Steps.{told_of_insert, told_of_commit, told_of_flush}
+use Rattle.told_lines.specs.declared.told.Told.{Told}
+use Rattle.told_lines.specs.Moments.{FlushMoment, LastTold, MomentStep}
+use Rattle.told_lines.specs.Answered.{told_of_insert, told_of_commit, told_of_flush}
 use Rattle.backend_cli.specs.Tracked.{IsLatest, IsTracked}
-
--- one answer more at the end
-pub MomentsReach_push : (before mid after : LastTold) (told : List Told) (answer : Told) → MomentsReach before told mid → MomentStep mid answer after → MomentsReach before (told ++ answer ∷ []) after
-MomentsReach_push before mid after [] answer reach step = (after, subst (λ (last : LastTold). MomentStep last answer after) reach step, refl)
-MomentsReach_push before mid after (t ∷ told) answer reach step = (reach.0, reach.1, MomentsReach_push reach.0 mid after told answer reach.2 step)
 
 -- what one answer says of the moments
 abbrev pub StepsOn : {D : Type 0} → (D → ℕ) → LastTold → Told → LogState D → Type 0

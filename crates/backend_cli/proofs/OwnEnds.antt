@@ -8,7 +8,7 @@ use Rattle.wal_page.specs.Order.{Entry, position_behind, rooms_of}
 use Rattle.wal_page.proofs.OrderLaws.{rooms_of_push}
 use Rattle.serial_log.specs.History.{LogHistory, at_opening, end_of, next_entry, with_entry}
 use Rattle.wal_script.specs.Asked.{Asked, AskedLine}
-use Rattle.backend_cli.specs.declared.told.Told.{Told}
+use Rattle.told_lines.specs.declared.told.Told.{Told}
 use Rattle.backend_cli.specs.Steps.{EndsWithOwn, Plays, Steps, behind_last, events_of, own_end}
 use Rattle.backend_cli.proofs.StepCases.{StepFact, HoldsOfSteps, fact-Steps}
 

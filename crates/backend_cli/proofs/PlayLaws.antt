@@ -7,7 +7,7 @@ use Rattle.wal_script.specs.Asked.{Asked}
 use Rattle.serial_log.specs.LogState.{LogState, IsSameLog, StepsLog}
 use Rattle.serial_log.specs.History.{LogHistory}
 use Rattle.wal_script.specs.declared.line.Line.{Line}
-use Rattle.backend_cli.specs.declared.told.Told.{Told}
+use Rattle.told_lines.specs.declared.told.Told.{Told}
 use Rattle.backend_cli.specs.Steps.{EndsWithOwn, Event, Plays, Steps, events_of}
 use Rattle.wal_script.specs.Bodies.{IsActionOf, AreLinesOf}
 use Rattle.backend_cli.proofs.OwnEnds.{plays_own}

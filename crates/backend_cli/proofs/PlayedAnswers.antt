@@ -5,9 +5,9 @@ use Rattle.wal_page.specs.Order.{rooms_of, room_behind}
 use Rattle.wal_page.proofs.OrderLaws.{rooms_of_push}
 use Rattle.wal_script.specs.Asked.{AskedLine}
 use Rattle.wal_script.specs.Asked.{Asked}
-use Rattle.backend_cli.specs.declared.told.Told.{Told}
-use Rattle.backend_cli.specs.Told.{IsFullAnswer, IsRefused, SomeAnswer, SomeTold}
-use Rattle.backend_cli.specs.Run.{room_asked, rooms_asked}
+use Rattle.told_lines.specs.declared.told.Told.{Told}
+use Rattle.told_lines.specs.Told.{IsFullAnswer, IsRefused, SomeAnswer}
+use Rattle.told_lines.specs.Rooms.{room_asked, rooms_asked}
 use Rattle.serial_log.specs.History.{LogHistory, at_opening, next_entry, with_entry}
 use Rattle.backend_cli.specs.Steps.{Event, Plays, answers_in, events_of}
 use Rattle.backend_cli.proofs.PlayedEntries.{answers_in-events_of}
@@ -108,11 +108,3 @@ module _ (size capacity faults_at_open : ℕ) (lines : List AskedLine) (told : L
   played_full full =
       let more = plays_full size capacity faults_at_open (events_of 0 lines told) (at_opening size) after plays (subst (SomeAnswer IsFullAnswer) (sym (answers_in-events_of 0 lines told same)) full) in
       omega (arith, more, rooms_in-events_of 0 lines told)
-
--- some answer of the one backend
-pub SomeTold-one : (P : Told → Type 0) (told : List Told) → SomeTold P (told ∷ []) → SomeAnswer P told
-SomeTold-one P told (inl some) = some
-SomeTold-one P told (inr none) = absurd none
-
-pub one-SomeTold : (P : Told → Type 0) (told : List Told) → SomeAnswer P told → SomeTold P (told ∷ [])
-one-SomeTold P told some = inl some

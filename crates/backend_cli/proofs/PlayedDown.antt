@@ -3,11 +3,11 @@ use Rattle.std.proofs.Common.{◌≡◌, ℕ, List, [], ◌∷◌, length, Some,
 use Rattle.wal_script.specs.Asked.{AskedLine}
 use Rattle.log_answers.specs.declared.Cause.TheVariants.{Full, Disk, Down}
 use Rattle.serial_log.specs.History.{LogHistory, at_opening}
-use Rattle.backend_cli.specs.declared.told.Told.{Told}
-use Rattle.backend_cli.specs.declared.told.Told.TheVariants.{Wrote, Hard, Flushed, Refused}
+use Rattle.told_lines.specs.declared.told.Told.{Told}
+use Rattle.told_lines.specs.declared.told.Told.TheVariants.{Wrote, Hard, Flushed, Refused}
 use Rattle.backend_cli.specs.Steps.{Event, Plays, answers_in, events_of}
 use Rattle.backend_cli.proofs.PlayedEntries.{answers_in-events_of}
-use Rattle.backend_cli.specs.Told.{AllDown, StaysDown}
+use Rattle.told_lines.specs.Told.{AllDown, StaysDown}
 use Rattle.backend_cli.proofs.StepCases.{StepFact, HoldsOfSteps, fact-Steps}
 
 -- an answer that tells a fault leaves the disk failed

@@ -9,12 +9,12 @@ use Rattle.wal_types.specs.declared.lsn.Lsn.{Lsn}
 use Rattle.wal_page.specs.Order.{Entry, IsChained, rooms_of}
 use Rattle.wal_page.proofs.OrderLaws.{IsChained_push}
 use Rattle.wal_script.specs.Asked.{AskedLine}
-use Rattle.backend_cli.specs.declared.told.Told.{Told}
-use Rattle.backend_cli.specs.Told.{entry_of, entries_of, order_of, IsRising, RiseInLineOrder, sorted_by_start}
-use Rattle.backend_cli.specs.Texts.{is_reserved, reserved_count}
+use Rattle.told_lines.specs.declared.told.Told.{Told}
+use Rattle.told_lines.specs.Told.{entry_of, entries_of, order_of, IsRising, RiseInLineOrder, sorted_by_start}
+use Rattle.told_lines.specs.Counts.{is_reserved, reserved_count}
 use Rattle.serial_log.specs.History.{LogHistory, at_opening, next_entry, with_entry}
 use Rattle.backend_cli.specs.Steps.{Event, Plays, answers_in, entries_in, events_of}
-use Rattle.backend_cli.proofs.Orders.{IsRising-FollowsFrom, sorted_by_start-rising}
+use Rattle.told_lines.proofs.Orders.{IsRising-FollowsFrom, sorted_by_start-rising}
 use Rattle.backend_cli.proofs.StepCases.{StepFact, HoldsOfSteps, Reserves, fact-Steps}
 
 -- a step puts the entry that its answer tells of behind those before it

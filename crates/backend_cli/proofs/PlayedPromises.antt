@@ -2,7 +2,7 @@
 use Rattle.std.proofs.Common.{◌≡◌, ℕ, ◌+◌, List, [], ◌∷◌, ◌++◌, length, option_to_list, sym, ap, ◌∙◌, append_assoc, append-nil, arith}
 use Rattle.std.proofs.lemmas.List.{length_push}
 use Rattle.serial_log.specs.History.{LogHistory, Promise, at_opening, next_entry}
-use Rattle.backend_cli.specs.Texts.{is_reserved}
+use Rattle.told_lines.specs.Counts.{is_reserved}
 use Rattle.backend_cli.specs.Steps.{Event, Plays, promise_of, promises_in}
 use Rattle.backend_cli.proofs.PlayedEntries.{CountsEntry, steps_counted}
 use Rattle.backend_cli.proofs.StepCases.{StepFact, HoldsOfSteps, fact-Steps}

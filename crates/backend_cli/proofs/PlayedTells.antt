@@ -1,21 +1,20 @@
 -- Lines that were played are told what they may be told.
-use Rattle.std.proofs.Common.{◌≡◌, ℕ, ◌+◌, ◌-◌, ◌^◌, ◌<◌, ◌≤◌, ◌⊎◌, List, [], ◌∷◌, ◌++◌, length, take, Option, Some, None, IfSome, sym, ap, ◌∙◌, refl, subst, arith, length-append}
-use Rattle.std.proofs.Math.Seq.{take-append_seam}
+use Rattle.std.proofs.Common.{◌≡◌, ℕ, ◌+◌, ◌-◌, ◌^◌, ◌<◌, ◌≤◌, ◌⊎◌, List, [], ◌∷◌, ◌++◌, length, Option, Some, None, IfSome, sym, ap, ◌∙◌, refl, subst, arith}
 use Rattle.byte_position.specs.Geometry.{IsSegmentSize}
 use Rattle.byte_position.specs.Position.{position_of, address_of, end_address_of, first_position}
 use Rattle.byte_position.proofs.EndAddresses.{end_address_of-mono}
-use Rattle.byte_position.proofs.PositionLaws.{position_of-address_of}
 use Rattle.segment_disk.specs.Cause.{Rose}
 use Rattle.wal_types.specs.declared.record.Record.{Record}
 use Rattle.wal_types.specs.declared.lsn.Lsn.{Lsn}
-use Rattle.wal_page.specs.Order.{Entry, rooms_of, finish_of, room_at, room_behind}
+use Rattle.wal_page.specs.Order.{Entry, rooms_of, finish_of, room_at}
 use Rattle.wal_page.proofs.OrderLaws.{rooms_of_push, rooms_of-append}
 use Rattle.wal_script.specs.Asked.{AskedLine}
 use Rattle.wal_script.specs.Asked.{Asked}
-use Rattle.backend_cli.specs.declared.told.Told.{Told}
-use Rattle.backend_cli.specs.Told.{Logged, IsFault, MayBeFull, IsPlaced, FitsLine, TellsFrom, TellsAll, behind_or, entry_of, order_of}
+use Rattle.told_lines.specs.declared.told.Told.{Told}
+use Rattle.told_lines.specs.Told.{IsPlaced, FitsLine, TellsFrom, TellsAll, behind_or, entry_of, order_of}
 use Rattle.serial_log.specs.History.{LogHistory, at_opening, next_entry, end_of}
 use Rattle.backend_cli.specs.Steps.{EndsWithOwn, Event, Plays, entries_in, events_of}
+use Rattle.told_lines.proofs.LineCauses.{fault_line, full_line, logged_of, position_at_end, start_at_end}
 use Rattle.backend_cli.proofs.StepCases.{StepFact, HoldsOfSteps, Reserves, fact-Steps}
 use Rattle.backend_cli.proofs.OwnEnds.{own_at_opening, step_own}
 use Rattle.backend_cli.proofs.PlayedEntries.{plays_entries, played_order}
@@ -57,9 +56,6 @@ plays_down size capacity faults_at_open [] before after plays faults failed = ap
 plays_down size capacity faults_at_open (event ∷ events) before after plays faults failed =
     plays_down size capacity faults_at_open events plays.0 after plays.2 faults (fact-Steps size capacity faults_at_open StaysDown (steps_down size capacity faults_at_open) before event.backend event.asked event.told plays.0 plays.1 faults failed)
 
-abbrev logged_of : ℕ → ℕ → List Entry → ℕ → ℕ → Logged
-logged_of size capacity order faults_at_open last = record { size = size; capacity = capacity; order = order; faults_at_open = faults_at_open; last = last }
-
 -- an answer as it may be behind some entries, and what is known for the next line
 record TellsLine (size capacity faults_at_open last : ℕ) (order es : List Entry) (pass : ℕ) (action : Asked) (told : Told) (after : LogHistory) : Type 0 where
   fits : FitsLine (logged_of size capacity order faults_at_open last) (first_position size + rooms_of size es) action told
@@ -70,29 +66,10 @@ abbrev TellsStep : ℕ → ℕ → ℕ → ℕ → List Entry → StepFact
 TellsStep size capacity faults_at_open last order before pass action told after =
     (more : List Entry) → order ≡ after.entries ++ more → HasFailed faults_at_open before.down → IsLast last after.down → EndsWithOwn size pass before → TellsLine size capacity faults_at_open last order before.entries pass action told after
 
-position_at_end : (size : ℕ) → IsSegmentSize size → (es : List Entry) (start : Lsn) → start.0 ≡ address_of size (first_position size + rooms_of size es) → position_of size start.0 ≡ first_position size + rooms_of size es
-position_at_end size valid es start at = ap (position_of size) at ∙ position_of-address_of size valid (first_position size + rooms_of size es)
-
-start_at_end : (size : ℕ) → IsSegmentSize size → (es : List Entry) (start : Lsn) → start.0 ≡ address_of size (first_position size + rooms_of size es) → start.0 ≡ address_of size (position_of size start.0)
-start_at_end size valid es start at = at ∙ ap (address_of size) (sym (position_at_end size valid es start at))
-
 -- the new entry ends where the entries with it do
 behind_at_end : (size : ℕ) → IsSegmentSize size → (es : List Entry) (pass : ℕ) (value : Record) (start : Lsn) → start.0 ≡ address_of size (first_position size + rooms_of size es)
     → position_of size start.0 + room_at size (position_of size start.0) value ≡ first_position size + rooms_of size (es ++ next_entry size es pass value ∷ [])
 behind_at_end size valid es pass value start at = omega (arith, position_at_end size valid es start at, rooms_of_push size es (next_entry size es pass value))
-
-full_line : (size capacity faults_at_open last : ℕ) (order es more : List Entry) (value : Record) (free : ℕ) → order ≡ es ++ more → free + rooms_of size es ≡ capacity → free < room_behind size es value
-    → MayBeFull (logged_of size capacity order faults_at_open last) (first_position size + rooms_of size es) value free
-full_line size capacity faults_at_open last order es more value free parts left short =
-    let front : take (length es) order ≡ es = ap (take (length es)) parts ∙ take-append_seam es more in
-    let rooms : rooms_of size (take (length es) order) ≡ rooms_of size es = ap (rooms_of size) front in
-    record {
-      front = length es;
-      within = omega (arith, ap length parts, length-append es more);
-      earlier = omega (arith, rooms);
-      left = omega (arith, rooms, left);
-      short = short;
-    }
 
 flushed_line : (size capacity faults_at_open last : ℕ) → IsSegmentSize size → (order es more : List Entry) (upto : Lsn) → order ≡ es ++ more → upto.0 ≡ end_of size es
     → (end_address_of size (first_position size + rooms_of size es) ≤ upto.0) × (upto.0 ≤ end_address_of size (first_position size + rooms_of size order))
@@ -109,10 +86,6 @@ placed_line size capacity valid s pass value start end reserves ends =
       starts = start_at_end size valid s.entries start reserves.reserved.start_is;
       ends = ends ∙ ap (λ (n : ℕ). end_address_of size (n + room_at size n value)) (sym position);
     }
-
--- a fault that is told since the opening
-fault_line : (size capacity faults_at_open last : ℕ) (order : List Entry) (faults : ℕ) → Rose faults_at_open faults → faults ≡ last → IsFault (logged_of size capacity order faults_at_open last) faults
-fault_line size capacity faults_at_open last order faults rose is_last = record { rose = rose; upto = omega (arith, is_last) }
 
 failed_now : (faults_at_open faults : ℕ) → Rose faults_at_open faults → HasFailed faults_at_open (Some faults)
 failed_now faults_at_open faults rose others same = let equal : faults ≡ others = cc in subst (Rose faults_at_open) equal rose

@@ -16,7 +16,7 @@ use Rattle.waldump_text.specs.declared.putting.SinkFault.{SinkFault}
 use Rattle.waldump_text.specs.Put.{Puts, joined}
 use Rattle.backend_cli.specs.declared.outcome.Outcome.{Outcome}
 use Rattle.backend_cli.specs.declared.outcome.Outcome.TheVariants.{OutOfMemory, NotEmpty, DiskFault}
-use Rattle.backend_cli.specs.declared.told.Told.{Told}
+use Rattle.told_lines.specs.declared.told.Told.{Told}
 use Rattle.wal_script.specs.declared.line.Line.{Line}
 use Rattle.flush_core.specs.Pages.{HoldsNothing}
 use Rattle.flush_core.specs.Writer.{writer_fault}
@@ -28,24 +28,27 @@ use Rattle.serial_log.specs.History.{LogHistory, Promise, at_opening, end_of}
 use Rattle.serial_log.specs.OnDisk.{moments_of}
 use Rattle.serial_log.specs.Promises.{LeavesLog}
 use Rattle.backend_cli.specs.declared.printing.Summary.{Summary}
-use Rattle.backend_cli.specs.Told.{IsFullAnswer, IsRefused, SomeAnswer}
-use Rattle.backend_cli.specs.Texts.{run_text, summary_text, segments_upto, commits_of, all_commits_of, reserved_count, told_lines_of}
+use Rattle.told_lines.specs.Told.{IsFullAnswer, IsRefused, SomeAnswer}
+use Rattle.backend_cli.specs.Texts.{run_text, summary_text, segments_upto, told_lines_of}
+use Rattle.told_lines.specs.Counts.{commits_of, all_commits_of, reserved_count}
 use Rattle.backend_cli.specs.Printing.{told_lines, summary_line, printed_text, Summarizes}
 use Rattle.backend_cli.specs.Concluding.{Concludes}
-use Rattle.backend_cli.specs.Moments.{MomentsRise}
+use Rattle.told_lines.specs.Moments.{MomentsRise}
 use Rattle.segment_disk.specs.Cause.{Rose, RoseByOne}
 use Rattle.backend_cli.specs.Steps.{Plays, events_of}
-use Rattle.backend_cli.specs.Crash.{EachIsTimely, SurvivesCrashes}
+use Rattle.told_lines.specs.Crash.{EachIsTimely, SurvivesCrashes}
 use Rattle.backend_cli.specs.Outside.{Outside, SourceView, Took}
 use Rattle.backend_cli.specs.Reading.{ScriptMeans}
-use Rattle.backend_cli.specs.Run.{EndsOpened, IsWhole, RunHolds}
-use Rattle.backend_cli.specs.Told.{order_of}
+use Rattle.backend_cli.specs.Run.{EndsOpened, RunHolds}
+use Rattle.told_lines.specs.Whole.{IsWhole}
+use Rattle.told_lines.specs.Told.{order_of}
 use Rattle.wal_script.specs.Bodies.{AreLinesOf}
 use Rattle.backend_cli.proofs.PlayedEntries.{answers_in-events_of, counted, played_order, played_chained, played_rises}
 use Rattle.backend_cli.proofs.PlayedTells.{played_tells_order}
 use Rattle.backend_cli.proofs.PlayedDown.{played_stays_down}
 use Rattle.backend_cli.proofs.LastFlush.{IsBehindFlush, still_down}
-use Rattle.backend_cli.proofs.PlayedAnswers.{played_refusals, played_full, SomeTold-one}
+use Rattle.told_lines.proofs.AnswerLoops.{SomeTold-one}
+use Rattle.backend_cli.proofs.PlayedAnswers.{played_refusals, played_full}
 use Rattle.backend_cli.proofs.LineLaws.{told_lines_are}
 use Rattle.backend_cli.proofs.WholeLaws.{whole}
 use Rattle.backend_cli.proofs.CrashLaws.{leaves_front, played_survives, played_timely}

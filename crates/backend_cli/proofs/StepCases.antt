@@ -16,9 +16,10 @@ use Rattle.serial_log.specs.Steps.{Inserts, Commits, Flushes, HasFlushed, IsRese
 use Rattle.serial_log.proofs.StepLaws.{HasCommitted-of, RefusesRecord-of}
 use Rattle.wal_script.specs.Asked.{Asked}
 use Rattle.wal_script.specs.Asked.{Insert, Commit, Flush}
-use Rattle.backend_cli.specs.declared.told.Told.{Told}
-use Rattle.backend_cli.specs.declared.told.Told.TheVariants.{Wrote, Hard, Flushed, Refused}
-use Rattle.backend_cli.specs.Steps.{EndsWithOwn, Steps, own_end, told_of_insert, told_of_commit, told_of_flush}
+use Rattle.told_lines.specs.declared.told.Told.{Told}
+use Rattle.told_lines.specs.declared.told.Told.TheVariants.{Wrote, Hard, Flushed, Refused}
+use Rattle.backend_cli.specs.Steps.{EndsWithOwn, Steps, own_end}
+use Rattle.told_lines.specs.Answered.{told_of_insert, told_of_commit, told_of_flush}
 
 -- a fact about the history before a step, its backend, its action, its answer and the history after it
 abbrev pub StepFact : Type 1

@@ -10,7 +10,7 @@ use Rattle.std.specs.Slice.Iter.{iter_rest}
 use Rattle.std.specs.declared.iter.Zip.{Zip}
 use Rattle.std.specs.declared.slice.Iter.{Iter}
 use Rattle.wal_script.specs.declared.line.Line.{Line}
-use Rattle.backend_cli.specs.declared.told.Told.{Told}
+use Rattle.told_lines.specs.declared.told.Told.{Told}
 use Rattle.backend_cli.specs.Texts.{told_line}
 use Rattle.backend_cli.specs.Printing.{told_lines}
 

@@ -1,24 +1,16 @@
 -- A log that a disk holds for good reads back whole, from each image that a crash may leave and from the disk as it is read.
-use Rattle.std.proofs.Common.{ℕ, ◌+◌, ◌^◌, ◌<◌, ◌≤◌, List, Option, Some, None, arith}
+use Rattle.std.proofs.Common.{ℕ, ◌^◌, ◌<◌, ◌≤◌, List, Option, Some, None, arith}
 use Rattle.std.specs.Prelude.{IfSome}
 use Rattle.byte_position.specs.Geometry.{IsSegmentSize}
-use Rattle.byte_position.specs.Position.{end_address_of, first_position}
-use Rattle.byte_position.proofs.EndAddresses.{end_address_of-le_address_of}
-use Rattle.byte_position.proofs.Rising.{position_of-le_self, address_of-bound}
-use Rattle.byte_position.proofs.SegmentSizes.{segment_size_tests}
+use Rattle.byte_position.specs.Position.{end_address_of}
 use Rattle.segment_disk.specs.Tape.{Tape}
 use Rattle.segment_disk.specs.DiskImage.{DiskImage}
 use Rattle.wal_page.specs.Order.{Entry, IsChained, rooms_of, end_position}
 use Rattle.serial_log.specs.LogImage.{IsLogImage, HoldsLog}
 use Rattle.written_log.proofs.LawfulLaws.{whole_lawful_images_decode}
-use Rattle.backend_cli.specs.Run.{DecodesTo, IsWhole}
+use Rattle.told_lines.specs.Whole.{DecodesTo, IsWhole}
+use Rattle.told_lines.proofs.Capacities.{ends_low}
 use Rattle.backend_cli.specs.Whole.{HeldLogIsWhole}
-
--- a log of at most 2 ^ 42 bytes ends far below the last address that is read
-pub ends_low : (size : ℕ) → IsSegmentSize size → (es : List Entry) → rooms_of size es ≤ 2 ^ 42 → end_address_of size (end_position size es) ≤ 2 ^ 60
-ends_low size valid es within =
-    let p = first_position size + rooms_of size es in
-    omega (arith, end_address_of-le_address_of size valid p, address_of-bound size valid p, position_of-le_self size size, (segment_size_tests size valid).2)
 
 module _ (size sysid : ℕ) (es : List Entry) (valid : IsSegmentSize size) (known : 0 < sysid) (narrow : sysid < 2 ^ 64) (chained : IsChained size es) (within : rooms_of size es ≤ 2 ^ 42) where
   image_decodes : (image : DiskImage) → IsLogImage size sysid es image → DecodesTo size image es

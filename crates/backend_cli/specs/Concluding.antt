@@ -2,8 +2,8 @@
 use Rattle.std.specs.Prelude.{◌≡◌, ℕ, ◌⊎◌, Bool, List, Option, Some, None, if◌then◌else◌}
 use Rattle.backend_cli.specs.declared.outcome.Outcome.{Outcome}
 use Rattle.backend_cli.specs.declared.outcome.Outcome.TheVariants.{Done, DiskFault, LogFull, SinkFault}
-use Rattle.backend_cli.specs.declared.told.Told.{Told}
-use Rattle.backend_cli.specs.Told.{IsFullAnswer, SomeAnswer}
+use Rattle.told_lines.specs.declared.told.Told.{Told}
+use Rattle.told_lines.specs.Told.{IsFullAnswer, SomeAnswer}
 
 -- a disk's fault, else a full log, else a failed print, else all is done
 abbrev pub Concludes : Option ℕ → List Told → Bool → Outcome → Type 0

@@ -9,7 +9,7 @@ use Rattle.waldump_text.specs.Dump.{ListsAll, ListsFront, ListsUpTo}
 use Rattle.command_words.specs.declared.commands.DumpOptions.{DumpOptions}
 use Rattle.backend_cli.specs.declared.outcome.Outcome.{Outcome}
 use Rattle.backend_cli.specs.declared.outcome.Outcome.TheVariants.{Done, OutOfMemory, DiskFault, Stopped, SinkFault}
-use Rattle.backend_cli.specs.declared.told.Told.{Told}
+use Rattle.told_lines.specs.declared.told.Told.{Told}
 use Rattle.segment_disk.specs.Cause.{RoseByOne}
 use Rattle.backend_cli.specs.Outside.{Outside}
 

@@ -1,11 +1,8 @@
-pub mod Told
 pub mod Texts
-pub mod Moments
 pub mod Tracked
 pub mod Steps
 pub mod Outcome
 pub mod Outside
-pub mod Crash
 pub mod Run
 pub mod Whole
 pub mod Dumping

@@ -1,9 +1,9 @@
 -- What a command line promises.
 use Rattle.std.specs.Prelude.{◌≡◌, ◌⊎◌, ℕ, List, []}
-use Rattle.serial_log.specs.History.{capacity_of}
+use Rattle.told_lines.specs.Rooms.{capacity_of}
 use Rattle.backend_cli.specs.declared.outcome.Outcome.{Outcome}
 use Rattle.backend_cli.specs.declared.outcome.Outcome.TheVariants.{OutOfMemory, Usage}
-use Rattle.backend_cli.specs.declared.told.Told.{Told}
+use Rattle.told_lines.specs.declared.told.Told.{Told}
 use Rattle.command_words.specs.declared.commands.Command.TheVariants.{Run, Replay, Dump}
 use Rattle.command_line.specs.declared.asking.Request.{Request}
 use Rattle.command_line.specs.declared.asking.Request.TheVariants.{Command, Help, Version, Nothing}

@@ -6,8 +6,9 @@ use Rattle.wal_types.specs.LsnText.{lsn_text}
 use Rattle.waldump_text.specs.Put.{joined}
 use Rattle.backend_cli.specs.declared.printing.Summary.{Summary}
 use Rattle.wal_script.specs.declared.line.Line.{Line}
-use Rattle.backend_cli.specs.declared.told.Told.{Told}
-use Rattle.backend_cli.specs.Texts.{told_line, reserved_count, commits_of}
+use Rattle.told_lines.specs.declared.told.Told.{Told}
+use Rattle.backend_cli.specs.Texts.{told_line}
+use Rattle.told_lines.specs.Counts.{reserved_count, commits_of}
 
 -- a told line for each line
 abbrev pub told_lines : ℕ → List Line → List Told → List ℕ

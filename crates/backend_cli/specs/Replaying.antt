@@ -29,7 +29,7 @@ use Rattle.command_words.specs.declared.commands.CrashPick.TheVariants as crashe
 use Rattle.command_words.specs.declared.commands.ReplayOptions.{ReplayOptions}
 use Rattle.backend_cli.specs.declared.outcome.Outcome.{Outcome}
 use Rattle.backend_cli.specs.declared.outcome.Outcome.TheVariants.{Done, OutOfMemory, Stopped, LogFull, SinkFault}
-use Rattle.backend_cli.specs.declared.told.Told.{Told}
+use Rattle.told_lines.specs.declared.told.Told.{Told}
 use Rattle.backend_cli.specs.Outside.{Outside}
 use Rattle.backend_cli.specs.Prepared.{IsUnpreparedBy}
 use Rattle.backend_cli.specs.Reading.{ScriptMeansBy}

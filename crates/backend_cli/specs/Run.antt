@@ -1,22 +1,17 @@
 -- What a run promises.
-use Rattle.std.specs.Prelude.{◌≡◌, ℕ, ◌+◌, ◌-◌, ◌^◌, ◌<◌, Bool, List, [], ◌∷◌, Option, Some, None, Ok, Err, IfSome, IsSome}
-use Rattle.segment_disk.specs.Tape.{Tape, state_now, page_of_segment}
-use Rattle.segment_disk.specs.DiskImage.{DiskImage, MayLeave, image_as_read}
+use Rattle.std.specs.Prelude.{◌≡◌, ℕ, ◌-◌, ◌^◌, ◌<◌, Bool, List, [], ◌∷◌, None, Ok, Err, IfSome, IsSome}
+use Rattle.segment_disk.specs.Tape.{state_now, page_of_segment}
 use Rattle.flush_core.specs.Pages.{HoldsNothing}
-use Rattle.record_spelling.specs.Spelling.{room_of}
-use Rattle.wal_page.specs.Order.{Entry, IsChained, end_position}
+use Rattle.wal_page.specs.Order.{IsChained}
 use Rattle.wal_script.specs.Asked.{AskedLine}
-use Rattle.wal_script.specs.Asked.{Asked}
-use Rattle.wal_script.specs.Asked.{Insert, Commit, Flush}
-use Rattle.wal_reader.specs.Pages.{pages_in}
-use Rattle.wal_reader.specs.Decodes.{Decodes, ended}
-use Rattle.written_log.specs.Written.{found_of}
 use Rattle.backend_cli.specs.declared.outcome.Outcome.{Outcome}
 use Rattle.backend_cli.specs.declared.outcome.Outcome.TheVariants.{Done, OutOfMemory, SourceFault, ScriptRefused, NotEmpty, DiskFault, LogFull, SinkFault}
-use Rattle.backend_cli.specs.declared.told.Told.{Told}
-use Rattle.backend_cli.specs.Told.{TellsAll, EachStaysDown, order_of, RiseInLineOrder, IsFullAnswer, IsRefused, SomeTold}
-use Rattle.backend_cli.specs.Moments.{EachRises}
-use Rattle.backend_cli.specs.Crash.{EachIsTimely, SurvivesCrashes}
+use Rattle.told_lines.specs.declared.told.Told.{Told}
+use Rattle.told_lines.specs.Told.{TellsAll, EachStaysDown, order_of, RiseInLineOrder, IsFullAnswer, IsRefused, SomeTold}
+use Rattle.told_lines.specs.Moments.{EachRises}
+use Rattle.told_lines.specs.Crash.{EachIsTimely, SurvivesCrashes}
+use Rattle.told_lines.specs.Rooms.{all_rooms_asked}
+use Rattle.told_lines.specs.Whole.{IsWhole}
 use Rattle.backend_cli.specs.Texts.{run_text}
 use Rattle.backend_cli.specs.Reading.{ScriptMeans}
 use Rattle.segment_disk.specs.Cause.{Rose, RoseByOne}
@@ -60,34 +55,6 @@ EndsOpened outside told SinkFault =
     (outside.disk_after ≡ outside.disk_before) × (SomeTold IsFullAnswer told → ⊥)
     × Rose outside.sink_before outside.sink_after
 EndsOpened outside told others = ⊥
-
--- pages decode to all of an order, and then to a clean end at its end
-abbrev pub DecodesTo : ℕ → DiskImage → List Entry → Type 0
-DecodesTo size image es =
-    Decodes size (pages_in size image) size None (found_of size es)
-    (ended size (end_position size es))
-
--- where the disk told nothing but an empty log at the start and did not fail, every image that a
--- crash may leave at the last moment, and the disk as it is read, decode to the whole order
-abbrev pub IsWhole : ℕ → Option Tape → List Entry → Type 0
-IsWhole size None es = Unit {0}
-IsWhole size (Some t) es =
-    ((image : DiskImage) → MayLeave (state_now t) image → DecodesTo size image es)
-    × DecodesTo size (image_as_read (state_now t)) es
-
--- the bytes that the records of a script take up together
-abbrev pub room_asked : Asked → ℕ
-room_asked (Insert value) = room_of value
-room_asked (Commit value) = room_of value
-room_asked Flush = 0
-
-abbrev pub rooms_asked : List AskedLine → ℕ
-rooms_asked [] = 0
-rooms_asked (line ∷ lines) = room_asked line.asked + rooms_asked lines
-
-abbrev pub all_rooms_asked : List (List AskedLine) → ℕ
-all_rooms_asked [] = 0
-all_rooms_asked (lines ∷ script) = rooms_asked lines + all_rooms_asked script
 
 -- a run that opened the log, of the script with these lines that the source handed out: what it
 -- told and made of them

@@ -1,7 +1,7 @@
 -- What a log was asked and what it told, step by step: the history of a run, however many
 -- backends wrote it. Throughout, `capacity` is how many bytes its records may take up,
 -- `faults_at_open` the disk's count of faults when it was opened.
-use Rattle.std.specs.Prelude.{◌≡◌, ℕ, ◌+◌, false, List, [], ◌∷◌, ◌++◌, map, Option, Some, None, option_to_list, Result, Ok, Err, ◌==◌, if◌then◌else◌}
+use Rattle.std.specs.Prelude.{◌≡◌, ℕ, ◌+◌, false, List, [], ◌∷◌, ◌++◌, map, Option, Some, None, option_to_list, Result, ◌==◌, if◌then◌else◌}
 use Rattle.std.specs.Option.{option_map_or}
 use Rattle.byte_position.specs.Position.{end_address_of, first_position}
 use Rattle.record_spelling.specs.Spelling.{IsWritable}
@@ -15,23 +15,11 @@ use Rattle.serial_log.specs.Steps.{Inserts, Commits, Flushes}
 use Rattle.wal_script.specs.Asked.{AskedLine}
 use Rattle.wal_script.specs.Asked.{Asked}
 use Rattle.wal_script.specs.Asked.{Insert, Commit, Flush}
-use Rattle.backend_cli.specs.declared.told.Told.{Told}
-use Rattle.backend_cli.specs.declared.told.Told.TheVariants.{Wrote, Hard, Flushed, Refused}
-use Rattle.backend_cli.specs.Told.{entry_of}
-use Rattle.backend_cli.specs.Texts.{is_reserved}
-
--- what a line is told, by what the log answered
-abbrev pub told_of_insert : Result Receipt refused.Refused → Told
-told_of_insert (Ok receipt) = Wrote receipt.start receipt.end
-told_of_insert (Err refusal) = Refused refusal.cause refusal.reserved
-
-abbrev pub told_of_commit : Result Sealed refused.Refused → Told
-told_of_commit (Ok sealed) = Hard sealed.start sealed.end sealed.moment
-told_of_commit (Err refusal) = Refused refusal.cause refusal.reserved
-
-abbrev pub told_of_flush : Result hard.Hard refused.Refused → Told
-told_of_flush (Ok done) = Flushed done.upto done.moment
-told_of_flush (Err refusal) = Refused refusal.cause refusal.reserved
+use Rattle.told_lines.specs.Answered.{told_of_insert, told_of_commit, told_of_flush}
+use Rattle.told_lines.specs.declared.told.Told.{Told}
+use Rattle.told_lines.specs.declared.told.Told.TheVariants.{Wrote, Hard, Flushed, Refused}
+use Rattle.told_lines.specs.Told.{entry_of}
+use Rattle.told_lines.specs.Counts.{is_reserved}
 
 -- the byte position at which the last of a backend's entries ends, `behind` where it has none
 abbrev pub behind_last : ℕ → ℕ → ℕ → List Entry → ℕ

@@ -7,8 +7,9 @@ use Rattle.wal_types.specs.declared.lsn.Lsn.{Lsn}
 use Rattle.wal_page.specs.Order.{Entry, rooms_of, end_position}
 use Rattle.wal_script.specs.Asked.{AskedLine}
 use Rattle.waldump_text.specs.Put.{joined}
-use Rattle.backend_cli.specs.declared.told.Told.{Told}
-use Rattle.backend_cli.specs.declared.told.Told.TheVariants.{Wrote, Hard, Flushed, Refused}
+use Rattle.told_lines.specs.Counts.{all_commits_of}
+use Rattle.told_lines.specs.declared.told.Told.{Told}
+use Rattle.told_lines.specs.declared.told.Told.TheVariants.{Wrote, Hard, Flushed, Refused}
 use Rattle.log_answers.specs.declared.Cause.{Cause}
 use Rattle.log_answers.specs.declared.Cause.TheVariants.{Full, Disk, Down}
 
@@ -49,33 +50,6 @@ told_lines_from backend [] told = []
 told_lines_from backend (lines ∷ script) [] = []
 told_lines_from backend (lines ∷ script) (told ∷ others) =
     told_lines_of backend lines told ++ told_lines_from (backend + 1) script others
-
--- how many answers say that a commit is durable
-abbrev pub is_hard : Told → ℕ
-is_hard (Wrote start end) = 0
-is_hard (Hard start end moment) = 1
-is_hard (Flushed upto moment) = 0
-is_hard (Refused cause reserved) = 0
-
-abbrev pub commits_of : List Told → ℕ
-commits_of [] = 0
-commits_of (told ∷ others) = is_hard told + commits_of others
-
-abbrev pub all_commits_of : List (List Told) → ℕ
-all_commits_of [] = 0
-all_commits_of (told ∷ others) = commits_of told + all_commits_of others
-
--- how many answers say that a record was reserved
-abbrev pub is_reserved : Told → ℕ
-is_reserved (Wrote start end) = 1
-is_reserved (Hard start end moment) = 1
-is_reserved (Flushed upto moment) = 0
-is_reserved (Refused cause None) = 0
-is_reserved (Refused cause (Some start)) = 1
-
-abbrev pub reserved_count : List Told → ℕ
-reserved_count [] = 0
-reserved_count (told ∷ others) = is_reserved told + reserved_count others
 
 -- how many segments hold a reserved byte, where the order ends at an address: those from segment 1
 -- up to that of the last byte

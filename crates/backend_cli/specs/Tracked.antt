@@ -2,7 +2,7 @@
 use Rattle.std.specs.Prelude.{◌≡◌, ℕ, ◌≤◌, Bool, true, false, None}
 use Rattle.flush_core.specs.Writer.{writer_fault}
 use Rattle.serial_log.specs.LogState.{LogState, HasUnwritten, end_behind, log_disk}
-use Rattle.backend_cli.specs.Moments.{LastTold}
+use Rattle.told_lines.specs.Moments.{LastTold}
 
 -- nothing was written since it was flushed, or something is still to be written
 abbrev pub IsLatest : {D : Type 0} → Bool → LogState D → Type 0

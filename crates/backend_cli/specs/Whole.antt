@@ -4,7 +4,7 @@ use Rattle.byte_position.specs.Geometry.{IsSegmentSize}
 use Rattle.segment_disk.specs.Tape.{Tape}
 use Rattle.wal_page.specs.Order.{Entry, IsChained, rooms_of}
 use Rattle.serial_log.specs.LogImage.{HoldsLog}
-use Rattle.backend_cli.specs.Run.{IsWhole}
+use Rattle.told_lines.specs.Whole.{IsWhole}
 
 -- an order whose log a disk holds for good is what every image that a crash may leave, and the disk
 -- as it is read, decode to

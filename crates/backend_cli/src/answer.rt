@@ -2,13 +2,13 @@ ghost use Rattle.std.specs.Prelude.{ℕ};
 ghost use Rattle.wal_script.specs.Asked.{Asked};
 ghost use Rattle.wal_script.specs.Bodies.{IsActionOf};
 ghost use Rattle.serial_log.specs.LogState.{IsSameLog, StepsLog};
-ghost use Rattle.backend_cli.specs.Moments.{LastTold, MomentStep};
+ghost use Rattle.told_lines.specs.Moments.{LastTold, MomentStep};
 ghost use Rattle.backend_cli.specs.Steps.{EndsWithOwn, Steps};
 ghost use Rattle.backend_cli.specs.Tracked.{IsTracked};
 
-use crate::told::Told;
 use segment_disk::Disk;
 use serial_log::Log;
+use told_lines::Told;
 use wal_script::Action;
 
 /// Does what a line asks for. A flush asks for the log's end, which is that of the backend's own

@@ -8,11 +8,11 @@ ghost use Rattle.wal_script.specs.declared.line.Refusal.{Refusal};
 ghost use Rattle.wal_script.specs.Meaning.{meaning_of};
 ghost use Rattle.backend_cli.specs.Outside.{SourceView};
 ghost use Rattle.backend_cli.specs.Reading.{ScriptMeans};
-ghost use Rattle.backend_cli.specs.declared.told.Told.{Told};
-ghost use Rattle.backend_cli.specs.Told.{IsFullAnswer, IsRefused, RiseInLineOrder, SomeAnswer, StaysDown, TellsAll, order_of};
+ghost use Rattle.told_lines.specs.declared.told.Told.{Told};
+ghost use Rattle.told_lines.specs.Told.{IsFullAnswer, IsRefused, RiseInLineOrder, SomeAnswer, StaysDown, TellsAll, order_of};
 ghost use Rattle.serial_log.specs.History.{LogHistory, at_opening};
 ghost use Rattle.backend_cli.specs.Steps.{Event, Plays, entries_in, events_of, promises_in};
-ghost use Rattle.backend_cli.specs.Run.{rooms_asked};
+ghost use Rattle.told_lines.specs.Rooms.{rooms_asked};
 ghost use Rattle.backend_cli.specs.Whole.{HeldLogIsWhole};
 
 /// What a log told says which entries it made: chained; of one backend in the order of its lines.

@@ -21,4 +21,5 @@ pub use laws::{
 pub use log_answers::Cause;
 pub use outcome::Outcome;
 pub use program::{Ended, Gate, pgwal};
-pub use told::{Told, ToldLists};
+pub use told::ToldLists;
+pub use told_lines::Told;

@@ -2,15 +2,15 @@ ghost use Rattle.std.specs.Prelude.{◌≡◌, ◌≤◌, List, [], length, vec_
 ghost use Rattle.wal_script.specs.Asked.{AskedLine};
 ghost use Rattle.wal_script.specs.Bodies.{AreLinesOf};
 ghost use Rattle.serial_log.specs.LogState.{IsSameLog, StepsLog};
-ghost use Rattle.backend_cli.specs.Moments.{LastTold, MomentsReach};
+ghost use Rattle.told_lines.specs.Moments.{LastTold, MomentsReach};
 ghost use Rattle.backend_cli.specs.Steps.{EndsWithOwn, Plays, events_of};
 ghost use Rattle.backend_cli.specs.Tracked.{IsTracked};
 
 use crate::answer::answer;
 use crate::program::Gate;
-use crate::told::Told;
 use segment_disk::Disk;
 use serial_log::Log;
+use told_lines::Told;
 use wal_script::Line;
 
 /// Plays a backend's lines in order, and notes what each is told in a vector that has room for it:

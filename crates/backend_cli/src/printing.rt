@@ -5,9 +5,9 @@ ghost use Rattle.waldump_text.specs.Put.{Puts, joined};
 ghost use Rattle.backend_cli.specs.Texts.{told_line, answer_text, cause_text, reserved_text};
 ghost use Rattle.backend_cli.specs.Printing.{told_lines, summary_line};
 
-use crate::told::Told;
 use log_answers::Cause;
 use segment_disk::Sink;
+use told_lines::Told;
 use wal_script::Line;
 use wal_types::Lsn;
 use waldump_text::{SinkFault, put_all};

@@ -2,9 +2,9 @@ ghost use Rattle.std.specs.Prelude.{◌≡◌, ◌≤◌, ◌<◌, All, List, []
 ghost use Rattle.wal_script.specs.Asked.{AskedLine};
 ghost use Rattle.wal_script.specs.Bodies.{AreLinesOf};
 ghost use Rattle.waldump_text.specs.Put.{Puts};
-ghost use Rattle.serial_log.specs.History.{capacity_of};
-ghost use Rattle.backend_cli.specs.Told.{SomeAnswer, IsFullAnswer};
-ghost use Rattle.backend_cli.specs.Texts.{reserved_count, commits_of};
+ghost use Rattle.told_lines.specs.Rooms.{capacity_of};
+ghost use Rattle.told_lines.specs.Told.{SomeAnswer, IsFullAnswer};
+ghost use Rattle.told_lines.specs.Counts.{reserved_count, commits_of};
 ghost use Rattle.backend_cli.specs.Printing.{printed_text, Summarizes};
 ghost use Rattle.backend_cli.specs.Concluding.{Concludes};
 ghost use Rattle.backend_cli.specs.Run.{RunHolds};
@@ -17,11 +17,12 @@ use crate::play::play;
 use crate::printing::{Summary, put_told_lines};
 use crate::program::Gate;
 use crate::reading::read_script;
-use crate::told::{Told, ToldLists};
+use crate::told::ToldLists;
 use byte_position::Geometry;
 use segment_disk::{Disk, Sink, Source};
 use serial_log::{Log, LogMemory, OpenFailure, Shape};
 use std::alloc::{AllocError, Global};
+use told_lines::Told;
 use wal_script::{Line, parse};
 use waldump_text::SinkFault;
 

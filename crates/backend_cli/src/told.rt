@@ -1,96 +1,8 @@
-ghost use Rattle.std.specs.Prelude.{◌≡◌, ◌==◌, ◌<◌, ◌↔◌, [], ◌∷◌, length, map, slice_index_or, vec_capacity, IsTrue, if◌then◌else◌};
-ghost use Rattle.backend_cli.specs.Told.{reserved_by, IsFullAnswer};
-ghost use Rattle.backend_cli.specs.Steps.{told_of_insert, told_of_commit, told_of_flush};
-ghost use Rattle.backend_cli.specs.Texts.{is_hard};
+ghost use Rattle.std.specs.Prelude.{◌≡◌, ◌==◌, ◌<◌, [], ◌∷◌, length, map, slice_index_or, vec_capacity};
 
-use log_answers::{Cause, Hard, Receipt, Refused, Sealed};
 use std::alloc::Global;
 use std::marker::Model;
-use wal_types::Lsn;
-
-/// What a line was told.
-#[derive(Clone, Copy, Debug, PartialEq, Eq)]
-pub enum Told {
-    /// A record was written; it may not be durable.
-    Wrote { start: Lsn, end: Lsn },
-    /// A record is durable from this moment of the disk on.
-    Hard { start: Lsn, end: Lsn, moment: u64 },
-    /// All below a position is durable from this moment of the disk on.
-    Flushed { upto: Lsn, moment: u64 },
-    /// Nothing is told to be durable; where a record was reserved all the same, its start.
-    Refused { cause: Cause, reserved: Option<Lsn> },
-}
-
-impl Told {
-    pub(crate) fn of_insert(answer: Result<Receipt, Refused>) -> Told
-        ensures { result ≡ told_of_insert answer }
-    {
-        match answer {
-            Ok(Receipt { start, end }) => Told::Wrote { start, end },
-            Err(refused) => Told::of_refusal(refused),
-        }
-    }
-
-    pub(crate) fn of_commit(answer: Result<Sealed, Refused>) -> Told
-        ensures { result ≡ told_of_commit answer }
-    {
-        match answer {
-            Ok(Sealed { start, end, moment }) => Told::Hard { start, end, moment },
-            Err(refused) => Told::of_refusal(refused),
-        }
-    }
-
-    pub(crate) fn of_flush(answer: Result<Hard, Refused>) -> Told
-        ensures { result ≡ told_of_flush answer }
-    {
-        match answer {
-            Ok(Hard { upto, moment }) => Told::Flushed { upto, moment },
-            Err(refused) => Told::of_refusal(refused),
-        }
-    }
-
-    fn of_refusal(refused: Refused) -> Told
-        ensures { result ≡ Told.Refused refused.cause refused.reserved }
-    {
-        Told::Refused {
-            cause: refused.cause,
-            reserved: refused.reserved,
-        }
-    }
-
-    // Where a record was reserved for the line.
-    pub(crate) fn reserved(&self) -> Option<Lsn>
-        ensures { result ≡ reserved_by self.now }
-    {
-        match self {
-            Told::Wrote { start, .. } | Told::Hard { start, .. } => Some(*start),
-            Told::Flushed { .. } => None,
-            Told::Refused { reserved, .. } => *reserved,
-        }
-    }
-
-    pub(crate) fn is_hard(&self) -> bool
-        ensures { (if result then 1 else 0) ≡ is_hard self.now }
-    {
-        match self {
-            Told::Hard { .. } => true,
-            Told::Wrote { .. } | Told::Flushed { .. } | Told::Refused { .. } => false,
-        }
-    }
-
-    // Whether the line found the log full.
-    pub(crate) fn is_full(&self) -> bool
-        ensures { IsTrue result ↔ IsFullAnswer self.now }
-    {
-        match self {
-            Told::Refused { cause, .. } => match cause {
-                Cause::Full { .. } => true,
-                Cause::Disk { .. } | Cause::Down { .. } => false,
-            },
-            Told::Wrote { .. } | Told::Hard { .. } | Told::Flushed { .. } => false,
-        }
-    }
-}
+use told_lines::Told;
 
 /// What each backend's lines were told, in order, seen by contracts as a list of lists.
 #[derive(Debug, Drop)]
@@ -100,7 +12,7 @@ pub struct ToldLists {
 
 impl Model for ToldLists {
     ghost use Rattle.std.specs.Prelude.{List, map, length, ◌<◌, ◌^◌};
-    ghost use Rattle.backend_cli.specs.declared.told.Told.{Told};
+    ghost use Rattle.told_lines.specs.declared.told.Told.{Told};
 
     ghost Value = { List (List Told) };
 

@@ -1,4 +1,5 @@
-pub mod Told
 pub mod Sees
+pub mod Own
 pub mod Visits
 pub mod Knows
+pub mod Begun

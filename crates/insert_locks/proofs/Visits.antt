@@ -1,62 +1,84 @@
 -- A watch goes from lock to lock, as the seat's view has it.
-use Rattle.std.proofs.Common.{◌≡◌, ◌≢◌, ℕ, ◌+◌, ◌-◌, ◌<◌, ◌&&◌, Bool, true, false, cond, eqb, not, min, refl, sym, ap, subst, ◌∙◌, ⊎_elim, eq-eqb, ne_eqb, arith}
+use Rattle.std.proofs.Common.{◌≡◌, ◌≢◌, ℕ, ◌+◌, ◌-◌, ◌<◌, ◌≤◌, ◌&&◌, Bool, true, false, cond, eqb, not, min, refl, sym, ap, subst, ◌∙◌, ⊎_elim, eq-eqb, ne_eqb, arith}
 use Rattle.segment_disk.specs.Tape.{empty_state}
 use Rattle.lock_laws.proofs.Kept.{met_cases}
 use Rattle.wal_core.specs.Words.{end_form}
 use Rattle.wal_core.specs.Views.{Watching}
 use Rattle.wal_core.specs.Moves.{begun, is_own, visited_on}
 use Rattle.wal_rule.specs.Seats.{SeatView, view_on}
-use Rattle.insert_locks.specs.Watching.{LetsPass, SeesTo, watched_to, with_sight, with_watching}
+use Rattle.insert_locks.specs.Watching.{LetsPass, bound_behind, watched_to, with_sight, with_watching}
 
 -- ---- one lock
 
-module _ (end lock word : ℕ) (passes : LetsPass end word) where
-  abbrev on : ℕ → Watching
-  on bound = record { end = end; visited = lock + 1; bound = bound }
-
-  abbrev told : ℕ
-  told = cond (eqb word 0) end (min end (word - 1))
-
-  told_is : told ≡ end
-  told_is = met_cases (λ (b : Bool). cond b end (min end (word - 1)) ≡ end) word 0
-      (λ free. refl)
-      (λ held. ⊎_elim (λ (free : word ≡ 0). absurd (held free))
-      (λ (t : (word ≢ 1) × (end < word)). omega (arith, t.1)) passes)
-
+module _ (asked end lock word bound : ℕ) (passes : LetsPass asked word) where
   not_one : word ≢ 1
   not_one = ⊎_elim (λ (free : word ≡ 0) (one : word ≡ 1). omega (arith, free, one))
-      (λ (t : (word ≢ 1) × (end < word)). t.0) passes
+      (λ (t : (word ≢ 1) × (asked < word)). t.0) passes
 
   -- a lock that lets the watch pass
-  pub passed : (own : Bool) → visited_on own lock word (watched_to end lock)
-      ≡ watched_to end (lock + 1)
-  passed true = ap (λ (b : Bool). cond (b && true) (on end) (watched_to end lock))
+  pub passed : (own : Bool) → (own ≡ true → word ≤ 1)
+      → visited_on own lock word (watched_to end lock bound)
+      ≡ watched_to end (lock + 1) (bound_behind word bound)
+  passed true tells =
+      let low = tells refl in
+      let free : word ≡ 0 = ⊎_elim (λ (free : word ≡ 0). free)
+      (λ (t : (word ≢ 1) × (asked < word)). absurd (t.0 (omega (arith, low, t.1)))) passes in
+      ap (λ (b : Bool). cond (b && true) (watched_to end (lock + 1) bound)
+      (watched_to end lock bound)) (eq-eqb lock lock refl)
+      ∙ ap (λ (b : Bool). watched_to end (lock + 1) (cond b bound (min bound (word - 1))))
+      (sym (eq-eqb word 0 free))
+  passed false tells =
+      let on : Watching = watched_to end (lock + 1) (bound_behind word bound) in
+      ap (λ (b : Bool). cond (b && not (eqb word 1)) on (watched_to end lock bound))
       (eq-eqb lock lock refl)
-  passed false =
-      ap (λ (b : Bool). cond (b && not (eqb word 1)) (on told) (watched_to end lock))
-      (eq-eqb lock lock refl)
-      ∙ ap (λ (b : Bool). cond (not b) (on told) (watched_to end lock)) (ne_eqb word 1 not_one)
-      ∙ ap on told_is
+      ∙ ap (λ (b : Bool). cond (not b) on (watched_to end lock bound)) (ne_eqb word 1 not_one)
+
+  -- it tells no less than what is asked for
+  pub still_reaches : asked ≤ bound → asked ≤ bound_behind word bound
+  still_reaches reaches = met_cases (λ (b : Bool). asked ≤ cond b bound (min bound (word - 1)))
+      word 0 (λ free. reaches)
+      (λ held. ⊎_elim (λ (free : word ≡ 0). absurd (held free))
+      (λ (t : (word ≢ 1) × (asked < word)). (let more = t.1 in omega (arith, more, reaches)))
+      passes)
+
+  pub still_within : bound ≤ end → bound_behind word bound ≤ end
+  still_within within = met_cases (λ (b : Bool). cond b bound (min bound (word - 1)) ≤ end)
+      word 0 (λ free. within) (λ held. omega (arith, within))
 
 -- ---- all of them
 
--- behind some locks, which hold nothing back below the end: `old` is the view before the watch
-pub record WatchesOn (upto end lock : ℕ) (old new : SeatView) : Type 0 where
-  pub sees : SeesTo (old.opening).setup upto end (new.reserving).seen old
+-- behind some locks, which hold a watch for an address not back: `old` is the view before the watch
+pub record WatchesOn (upto end bound lock : ℕ) (old new : SeatView) : Type 0 where
+  pub rises : (old.reserving).seen ≤ (new.reserving).seen
+  pub end_is : end ≡ end_form (old.opening).setup (new.reserving).seen
+  pub reaches : min upto end ≤ bound
+  pub within : bound ≤ end
   pub is : new ≡ with_watching new.watching (with_sight (new.reserving).seen old)
-  pub begins : begun lock end (view_on empty_state new) ≡ watched_to end lock
+  pub begins : begun lock end (view_on empty_state new) ≡ watched_to end lock bound
 
-module _ (upto end lock : ℕ) (old new newer : SeatView) (k : WatchesOn upto end lock old new)
-    (word : ℕ) (is : newer ≡ with_watching
-    (visited_on (is_own lock new.working) lock word (watched_to end lock)) new) where
-  pub watch_goes_on : LetsPass end word → WatchesOn upto end (lock + 1) old newer
-  watch_goes_on passes =
-      let next : Watching = watched_to end (lock + 1) in
-      subst (λ (w : SeatView). WatchesOn upto end (lock + 1) old w)
-      (sym (is ∙ ap (λ (x : Watching). with_watching x new)
-      (passed end lock word passes (is_own lock new.working))))
+module _ (upto end bound lock : ℕ) (old new newer : SeatView)
+    (k : WatchesOn upto end bound lock old new) (word : ℕ) (is : newer ≡ with_watching
+    (visited_on (is_own lock new.working) lock word (begun lock end (view_on empty_state new)))
+    new) where
+  met_is : newer ≡ with_watching
+      (visited_on (is_own lock new.working) lock word (watched_to end lock bound)) new
+  met_is = is ∙ ap (λ (x : Watching). with_watching
+      (visited_on (is_own lock new.working) lock word x) new) k.begins
+
+  pub watch_goes_on : LetsPass (min upto end) word
+      → (is_own lock new.working ≡ true → word ≤ 1)
+      → WatchesOn upto end (bound_behind word bound) (lock + 1) old newer
+  watch_goes_on passes own =
+      let asked : ℕ = min upto end in
+      let next : Watching = watched_to end (lock + 1) (bound_behind word bound) in
+      subst (λ (w : SeatView). WatchesOn upto end (bound_behind word bound) (lock + 1) old w)
+      (sym (met_is ∙ ap (λ (x : Watching). with_watching x new)
+      (passed asked end lock word bound passes (is_own lock new.working) own)))
       (record {
-        sees = k.sees;
+        rises = k.rises;
+        end_is = k.end_is;
+        reaches = still_reaches asked end lock word bound passes k.reaches;
+        within = still_within asked end lock word bound passes k.within;
         is = ap (with_watching next) k.is;
         begins = ap (λ (b : Bool). cond b (record {
           end = min end (end_form (new.opening).setup (new.reserving).seen);

@@ -1,5 +1,5 @@
 -- What a watch of all insertion locks leaves (PostgreSQL's xlog.c, WaitXLogInsertionsToFinish).
-use Rattle.std.specs.Prelude.{◌≡◌, ◌≢◌, ◌⊎◌, ℕ, ◌-◌, ◌<◌, ◌≤◌, min}
+use Rattle.std.specs.Prelude.{◌≡◌, ◌≢◌, ◌⊎◌, ℕ, ◌-◌, ◌<◌, ◌≤◌, min, ◌==◌, if◌then◌else◌}
 use Rattle.wal_core.specs.declared.setup.Setup.{Setup}
 use Rattle.wal_core.specs.Words.{end_form}
 use Rattle.wal_core.specs.Views.{Watching}
@@ -14,18 +14,23 @@ with_sight seen v = record v { reserving = record v.reserving { seen = seen } }
 abbrev pub with_watching : Watching → SeatView → SeatView
 with_watching watching v = record v { watching = watching }
 
--- so many of the locks are visited, in order, and none of them holds a copy back below the end
-abbrev pub watched_to : (end visited : ℕ) → Watching
-watched_to end visited = record { end = end; visited = visited; bound = end }
+-- so many of the locks are visited, in order: below the bound all is copied of what they guard that
+-- was reserved below the end
+abbrev pub watched_to : (end visited bound : ℕ) → Watching
+watched_to end visited bound = record { end = end; visited = visited; bound = bound }
 
--- a lock holds no copy back below the end: it is free, or its holder tells so far
-abbrev pub LetsPass : (end word : ℕ) → Type 0
-LetsPass end word = (word ≡ 0) ⊎ ((word ≢ 1) × (end < word))
+-- a lock lets a watch for an address pass: it is free, or its holder tells so far
+abbrev pub LetsPass : (asked word : ℕ) → Type 0
+LetsPass asked word = (word ≡ 0) ⊎ ((word ≢ 1) × (asked < word))
 
--- a lock holds a watch back: it is held, and its holder tells nothing, or that all is copied below
--- an address that is less than the end
-abbrev pub HoldsBack : (end word : ℕ) → Type 0
-HoldsBack end word = (word ≢ 0) × ((word ≡ 1) ⊎ (word - 1 < end))
+-- a lock holds it back: it is held, and its holder tells nothing, or that all is copied below a
+-- lesser address
+abbrev pub HoldsBack : (asked word : ℕ) → Type 0
+HoldsBack asked word = (word ≢ 0) × ((word ≡ 1) ⊎ (word - 1 < asked))
+
+-- what a held lock tells lowers the bound, where it tells less
+abbrev pub bound_behind : (word bound : ℕ) → ℕ
+bound_behind word bound = if word == 0 then bound else min bound (word - 1)
 
 -- `end` is how far a watch for an address can tell: that address, where all below it is seen
 -- reserved, else the end of what is. What is seen is the position met, and no less than before
@@ -33,18 +38,27 @@ pub record SeesTo (setup : Setup) (upto end seen : ℕ) (old : SeatView) : Type 
   pub rises : (old.reserving).seen ≤ seen
   pub end_is : end ≡ min upto (end_form setup seen)
 
--- all eight locks were visited, and none holds a copy back below the end
-pub record HasFinished (upto end : ℕ) (old new : SeatView) : Type 0 where
-  pub sees : SeesTo (old.opening).setup upto end (new.reserving).seen old
-  pub new_is : new ≡ with_watching (watched_to end 8) (with_sight (new.reserving).seen old)
+-- all eight locks were visited: below the bound all is copied of what was reserved below the end,
+-- which is the position met; the bound is no less than what was asked for, where that was reserved
+pub record HasFinished (upto bound : ℕ) (old new : SeatView) : Type 0 where
+  pub end : ℕ
+  pub rises : (old.reserving).seen ≤ (new.reserving).seen
+  pub end_is : end ≡ end_form (old.opening).setup (new.reserving).seen
+  pub reaches : min upto end ≤ bound
+  pub within : bound ≤ end
+  pub new_is : new ≡ with_watching (watched_to end 8 bound) (with_sight (new.reserving).seen old)
 
 -- the locks before this one let the watch pass, and this one, of which the word was met, holds it
 -- back
 pub record IsHeldBack (upto lock word : ℕ) (old new : SeatView) : Type 0 where
   pub end : ℕ
-  pub sees : SeesTo (old.opening).setup upto end (new.reserving).seen old
+  pub bound : ℕ
+  pub rises : (old.reserving).seen ≤ (new.reserving).seen
+  pub end_is : end ≡ end_form (old.opening).setup (new.reserving).seen
+  pub reaches : min upto end ≤ bound
+  pub within : bound ≤ end
   pub lock_low : lock < 8
-  pub holds_back : HoldsBack end word
+  pub holds_back : HoldsBack (min upto end) word
   pub new_is : new ≡ with_watching
-      (visited_on (is_own lock old.working) lock word (watched_to end lock))
+      (visited_on (is_own lock old.working) lock word (watched_to end lock bound))
       (with_sight (new.reserving).seen old)

@@ -7,6 +7,7 @@ mod seeing;
 mod taking;
 mod watching;
 
+pub use seeing::see_end;
 pub use taking::{AllHeld, try_take};
 pub use watching::{Watched, watch};
 

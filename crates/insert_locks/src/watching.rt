@@ -1,14 +1,14 @@
 // All insertion locks are watched (PostgreSQL's xlog.c, WaitXLogInsertionsToFinish).
-ghost use Rattle.std.specs.Prelude.{◌≡◌, ◌<◌, true, false};
+ghost use Rattle.std.specs.Prelude.{◌≡◌, ◌<◌, ◌≤◌, true, false};
 ghost use Rattle.segment_disk.specs.Tape.{empty_state};
 ghost use Rattle.wal_core.specs.Moves.{begun, is_own, visited_on};
 ghost use Rattle.wal_rule.specs.Seats.{view_on};
 ghost use Rattle.wal_rule.specs.Tables.{IsSeatOn, opening_of_table};
 ghost use Rattle.insert_locks.specs.Watching.{HasFinished, HoldsBack, IsHeldBack, LetsPass};
-ghost use Rattle.insert_locks.specs.Watching.{watched_to, with_watching};
+ghost use Rattle.insert_locks.specs.Watching.{bound_behind, with_watching};
 
 use crate::LOCKS;
-use crate::seeing::see_end;
+use crate::seeing::see_reserved;
 use machine_words::LogShape;
 use segment_disk::Disk;
 use wal_rule::{LogSeat, LogTable};
@@ -16,17 +16,17 @@ use wal_rule::{LogSeat, LogTable};
 /// What a watch tells.
 #[derive(Clone, Copy, Debug, PartialEq, Eq)]
 pub enum Watched {
-    /// All that is reserved below this address is copied. It is the address asked for, or the end
-    /// of what was reserved where that is less.
+    /// All that is reserved below this address is copied. It is no less than the address asked for,
+    /// or than the end of what was reserved where that is less.
     Finished { upto: u64 },
     /// A lock's holder has not told so far: the lock's word, which is 1, or one more than an
     /// address below the one asked for.
     Behind { lock: u32, word: u64 },
 }
 
-/// Visits the eight locks, to learn whether all that is reserved below an address is copied. It
-/// does not wait: the caller asks again. An insert that holds a lock first tells its progress
-/// there.
+/// Visits the eight locks, to learn below which address all that is reserved is copied, which is at
+/// least the one asked for. It does not wait: the caller asks again. An insert that holds a lock
+/// first tells its progress there.
 pub fn watch<D: Disk>(
     table: &LogTable<D>,
     seat: &mut LogSeat<D>,
@@ -35,43 +35,59 @@ pub fn watch<D: Disk>(
 ) -> Watched
     requires seat { IsSeatOn table.now seat.old }
     requires shape { shape.now ≡ (opening_of_table table.now).setup }
-    ensures finished { (end : _) → result ≡ Watched.Finished end
-        → HasFinished upto end seat.old.me.0 seat.new.me.0 }
+    ensures finished { (bound : _) → result ≡ Watched.Finished bound
+        → HasFinished upto bound seat.old.me.0 seat.new.me.0 }
     ensures behind { (lock word : _) → result ≡ Watched.Behind lock word
         → IsHeldBack upto lock word seat.old.me.0 seat.new.me.0 }
     ensures slots { seat.new.me.1 ≡ seat.old.me.1 }
     ensures seat { IsSeatOn table.now seat.new }
 {
-    let end = see_end(table, seat, shape, upto);
+    let end = see_reserved(table, seat, shape);
+    let asked = upto.min(end);
+    let mut bound = end;
     for lock in 0..LOCKS {
         let word = visit(table, seat, lock, end);
-        if holds_back(end, word) {
+        if holds_back(asked, word) {
             return Watched::Behind { lock, word };
         }
+        bound = lowered(bound, word);
     }
-    Watched::Finished { upto: end }
+    Watched::Finished { upto: bound }
 }
 
-// Visits a lock, the ones before which hold nothing back below the end.
+// Visits a lock, to learn up to the end of what is reserved. A pass's own lock tells nothing where
+// the pass copies nothing.
 fn visit<D: Disk>(table: &LogTable<D>, seat: &mut LogSeat<D>, lock: u32, end: u64) -> u64
     requires seat { IsSeatOn table.now seat.old }
     requires lock { lock < 8 }
-    requires begun { begun lock end (view_on empty_state seat.old.me.0) ≡ watched_to end lock }
     ensures visits { seat.new.me ≡ (
       with_watching
-          (visited_on (is_own lock seat.old.me.0.working) lock result (watched_to end lock))
+          (visited_on (is_own lock seat.old.me.0.working) lock result
+          (begun lock end (view_on empty_state seat.old.me.0)))
           seat.old.me.0,
       seat.old.me.1,
     ) }
+    ensures own { is_own lock seat.old.me.0.working ≡ true → result ≤ 1 }
     ensures seat { IsSeatOn table.now seat.new }
 {
     table.load_lock(seat, lock, end)
 }
 
-// Whether a lock with this word holds the watch back below the end.
-fn holds_back(end: u64, word: u64) -> bool
-    ensures held { result ≡ true → HoldsBack end word }
-    ensures passes { result ≡ false → LetsPass end word }
+// Whether a lock with this word holds back a watch for an address.
+fn holds_back(asked: u64, word: u64) -> bool
+    ensures held { result ≡ true → HoldsBack asked word }
+    ensures passes { result ≡ false → LetsPass asked word }
 {
-    word == 1 || word != 0 && word <= end
+    word == 1 || word != 0 && word <= asked
+}
+
+// The bound behind a lock with this word.
+fn lowered(bound: u64, word: u64) -> u64
+    ensures { result ≡ bound_behind word bound }
+{
+    if word == 0 {
+        bound
+    } else {
+        bound.min(word - 1)
+    }
 }

@@ -50,7 +50,7 @@ module _ (v : SeatView) (stands : Stands v) (has : HasLent v) where
   hold_out = ap (λ (h : SeatHold). hold_on stands.first h) (hold_is v has)
 
   -- the writer in hand is the rule's
-  own_writer : plain_on stands.first (writer_in v) ≡ sound.writer
+  pub own_writer : plain_on stands.first (writer_in v) ≡ (stands.sound).writer
   own_writer =
       let w : ℕ × Hold = ((v.reserving).number, hold_on stands.first v.hold) in
       let own = ((sound.locks).writing).each stands.id w

@@ -9,14 +9,14 @@ use Rattle.wal_rule.specs.declared.writer.LogWriter.{LogWriter}
 use Rattle.wal_rule.specs.Ruled.{HasInHand}
 use Rattle.wal_rule.specs.Seats.{HasTurn, HasWriter, Rests, SeatHold, SeatLent, SeatView, SeatWriter}
 use Rattle.wal_rule.specs.Slotted.{as_machine_has}
-use Rattle.wal_rule.specs.Tables.{IsSeatOn, first_of_table, opening_of_table}
+use Rattle.wal_rule.specs.Tables.{IsSeatOn, began_of_table, opening_of_table}
 use Rattle.page_writing.specs.declared.reading.WriterNow.{WriterNow}
 
 -- the writer is in hand
 abbrev pub HasTheWriter : {D : Type 0} → (D → Rattle.std.specs.Prelude.Option Tape)
     → (moment faults : D → ℕ) → LogTable D → SeatView × List (ℕ × LogWriter D) → Type 0
 HasTheWriter {D} tape moment faults t me = (l : SeatLent) × (w : LogWriter D)
-    × HasInHand tape moment faults (first_of_table tape t) (opening_of_table t) me l w
+    × HasInHand tape moment faults (began_of_table tape t) (opening_of_table t) me l w
 
 -- a live seat of the table, with the writer in hand
 pub record HasHand {D : Type 0} (tape : D → Rattle.std.specs.Prelude.Option Tape)

@@ -1,6 +1,6 @@
 -- What a reservation leaves of its pass's view, where it succeeds and where it does not.
 use Rattle.std.specs.Prelude.{◌≡◌, ◌≢◌, ◌⊎◌, ℕ, ◌+◌, ◌-◌, ◌%◌, ◌<◌, ◌≤◌, [], ◌∷◌, ◌++◌, length, max}
-use Rattle.byte_position.specs.Position.{end_address_of}
+use Rattle.byte_position.specs.Position.{address_of, end_address_of}
 use Rattle.wal_types.specs.declared.record.Record.{Record}
 use Rattle.record_spelling.specs.Spelling.{Assembled, IsWritable, assembled}
 use Rattle.wal_page.specs.Order.{Entry, assembled_room_at, position_behind}
@@ -97,16 +97,17 @@ placed_first setup body start prev = record {
   next = end_address_of setup.segment_size start;
 }
 
--- an entry was reserved, behind all that the pass had seen and before the log's end, and is given
--- at its place
+-- an entry was reserved, behind all that the pass had seen and before the log's end; it is given at
+-- its place, which starts at this address
 pub record IsPlaceReserved (setup : Setup) (body : Assembled) (lock : ℕ) (old new : SeatView)
-    (placed : PlacedState) : Type 0 where
+    (start : ℕ) (placed : PlacedState) : Type 0 where
   pub at : ℕ
   pub prev : ℕ
   pub reserved : IsEntryReserved setup body at prev lock old new
   pub behind_seen : (old.reserving).seen ≤ at
   pub within : at + assembled_room_at setup.segment_size at body ≤ log_limit setup
   pub placed_is : placed ≡ placed_first setup body at prev
+  pub start_is : start ≡ address_of setup.segment_size at
 
 -- why nothing was reserved
 abbrev pub TellsWhy : Setup → Assembled → SeatView → SeatView → ReserveErr → Type 0

@@ -5,4 +5,4 @@ mod locking;
 mod places;
 mod reserving;
 
-pub use reserving::{ReserveErr, try_reserve};
+pub use reserving::{ReserveErr, Reserved, try_reserve};

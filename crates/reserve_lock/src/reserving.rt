@@ -24,6 +24,13 @@ pub enum ReserveErr {
     Full { free: u64 },
 }
 
+/// A record's place: where it starts, and its words, none of which is copied.
+#[derive(Drop)]
+pub struct Reserved<'a> {
+    pub start: Lsn,
+    pub placed: Placed<'a>,
+}
+
 /// Reserves a record's place under one insertion lock, which the pass holds (PostgreSQL's xlog.c,
 /// ReserveXLogInsertLocation). It tries once and never waits: where another pass has the position
 /// locked, or has moved it, the caller tries again. The lock stays held at each exit.
@@ -33,13 +40,13 @@ pub fn try_reserve<'a, D: Disk>(
     shape: &LogShape,
     body: &'a Body,
     lock: u32,
-) -> Result<Placed<'a>, ReserveErr>
+) -> Result<Reserved<'a>, ReserveErr>
     requires seat { IsSeatOn table.now seat.old }
     requires shape { shape.now ≡ (opening_of_table table.now).setup }
     requires holds { seat.old.me.0.working ≡ record { locks = lock ∷ []; flight = Landed } }
     requires place { seat.old.me.0.reserving.place ≡ Free }
-    ensures reserved { IfOk result (λ placed. IsPlaceReserved shape.now body.now lock
-        seat.old.me.0 seat.new.me.0 placed) }
+    ensures reserved { IfOk result (λ r. IsPlaceReserved shape.now body.now lock seat.old.me.0
+        seat.new.me.0 r.start.0 r.placed) }
     ensures why { IfErr result (λ e. TellsWhy shape.now body.now seat.old.me.0 seat.new.me.0 e) }
     ensures slots { seat.new.me.1 ≡ seat.old.me.1 }
     ensures seat { IsSeatOn table.now seat.new }
@@ -54,5 +61,8 @@ pub fn try_reserve<'a, D: Disk>(
         return Err(ReserveErr::Full { free });
     }
     let prev = reserve_at::<D, Brand>(table, seat, shape, body, lock, at);
-    Ok(Placed::new(shape.geometry(), shape.sysid(), body, at, Lsn(prev)))
+    Ok(Reserved {
+        start: shape.geometry().to_lsn(at),
+        placed: Placed::new(shape.geometry(), shape.sysid(), body, at, Lsn(prev)),
+    })
 }

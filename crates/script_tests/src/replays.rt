@@ -25,8 +25,8 @@ fn letter(action: &Action) -> u8 {
     }
 }
 
-// Tries that a backend has these lines, each a number and a letter.
-fn has_lines<R: Abort>(rt: &R, lines: &[Line], wanted: &[(u32, u8)]) {
+/// Tries that a backend has these lines, each a number and a letter.
+pub(crate) fn has_lines<R: Abort>(rt: &R, lines: &[Line], wanted: &[(u32, u8)]) {
     assert_eq!(rt; lines.len(), wanted.len());
     for (line, (number, letter_wanted)) in lines.iter().zip(wanted) {
         assert_eq!(rt; line.number, *number);

@@ -10,8 +10,8 @@ use segment_disk::MemDisk;
 use wal_rule::LogWriter;
 use wal_rule::numbers::seats_keep_numbers;
 
-/// Ends a table by the pass that has the numbers of the first one.
-pub fn close(table: Table, seat: Seat) -> LogWriter<MemDisk>
+/// Ends a table by the pass that has the numbers of the first one: its writer, and the position.
+pub fn close(table: Table, seat: Seat) -> (LogWriter<MemDisk>, u64)
     requires seat { IsSeatOn table seat }
     requires rests { IsAtRest seat.me.0 }
     requires numbers { numbers_kept seat.me.0

@@ -33,7 +33,8 @@ fn a_record_is_inserted_by_its_steps(rt: HostRuntime) -> Result<(), Fail> {
     assert_eq!(rt; placed.next_lsn().0, START + 40);
     release_one(&table, &mut seat, &shape, &placed, lock);
     assert_eq!(rt; position(&table, &mut seat), 1_045_488 + 40);
-    let writer = close(table, seat);
+    let (writer, end) = close(table, seat);
+    assert_eq!(rt; end, 1_045_488 + 40);
     assert_eq!(rt; writer.written(), 1 << 20);
     assert_eq!(rt; writer.into_disk().moment(), 0);
     Ok(())

@@ -47,7 +47,7 @@ pub fn reserve_one<'a>(
     ensures seat { IsSeatOn table.now seat.new }
 {
     match try_reserve(table, seat, shape, body, lock) {
-        Ok(placed) => Some(placed),
+        Ok(reserved) => Some(reserved.placed),
         Err(_) => None,
     }
 }

@@ -14,17 +14,17 @@ use Rattle.segment_disk.specs.Tape.{DiskState, Tape}
 use Rattle.wal_core.specs.Words.{Opening, write_turn}
 use Rattle.wal_core.specs.Views.{Hold, Plain, Turned, View, writer_of}
 use Rattle.wal_core.specs.Locked.{StandsTo}
-use Rattle.wal_core.specs.Moves.{after_join, spent, split_off}
+use Rattle.wal_core.specs.Moves.{after_join, orphan_of, spent, split_off}
 use Rattle.wal_core.specs.Sound.{IsSound}
-use Rattle.wal_core.specs.Steps.{StepKind, MayStep, Moves, SplitsOff, TakesIn, returned, slot_in, slot_out, word_of_step, value_behind, home_behind, view_behind}
+use Rattle.wal_core.specs.Steps.{Abandons, StepKind, MayStep, Moves, SplitsOff, TakesIn, returned, slot_in, slot_out, word_of_step, value_behind, home_behind, view_behind}
 use Rattle.wal_core.specs.Steps as machine
 use Rattle.step_laws.proofs.EveryStep.{step_keeps}
 use Rattle.wal_rule.specs.declared.writer.LogWriter.{LogWriter}
-use Rattle.wal_rule.specs.Seats.{IsAtRest, SeatHold, SeatLent, SeatView, SeatWriter, behind, hold_on, plain_on, seat_after_join, seat_after_split, seat_spent, seat_split_off, view_on}
-use Rattle.wal_rule.specs.Slotted.{IsOfLog, slot_plain}
-use Rattle.wal_rule.specs.Stepping.{IsQuiet, MaySeat, Stands, value_left, word_at_step}
+use Rattle.wal_rule.specs.Seats.{IsAtRest, IsStrandedSeat, SeatHold, SeatLent, SeatView, SeatWriter, behind, hold_on, plain_on, seat_after_join, seat_after_split, seat_orphan, seat_spent, seat_split_off, seat_without_work, view_on}
+use Rattle.wal_rule.specs.Slotted.{IsOfLog, first_on, slot_plain}
+use Rattle.wal_rule.specs.Stepping.{IsQuiet, MaySeat, Meets, Stands, value_left, word_at_step}
 use Rattle.wal_rule.specs.Ruled.{HasInHand, IsOutOf, IsRuled, home_of}
-use Rattle.wal_rule.proofs.SeatLaws.{back_plain, held_on, joined, rests_on, split_left, taken_out}
+use Rattle.wal_rule.proofs.SeatLaws.{back_plain, given_up, held_on, joined, rests_on, split_left, strands_on, taken_out}
 use Rattle.wal_rule.proofs.Steady.{seat_steady}
 use Rattle.wal_rule.proofs.QuietSteps.{home_on, may_go_in, may_on, value_on, view_on_behind, word_on}
 
@@ -32,10 +32,13 @@ pub either_if : (b : Bool) (x y : ℕ) → either b x y ≡ (if b then x else y)
 either_if true x y = refl
 either_if false x y = refl
 
-module _ {D : Type 0} (tape : D → Rattle.std.specs.Prelude.Option Tape)
-    (moment faults : D → ℕ) (opening : Opening) (first : DiskState) where
+module _ {D : Type 0} (tape : D → Rattle.std.specs.Prelude.Option Tape) (moment faults : D → ℕ)
+    (opening : Opening) (began : Rattle.std.specs.Prelude.Option Tape) where
+  abbrev first : DiskState
+  first = first_on began
+
   abbrev Held : State (LogWriter D) SeatView → Type 0
-  Held s = IsRuled tape moment faults opening first s.words s.homes s.views
+  Held s = IsRuled tape moment faults opening began s.words s.homes s.views
 
   -- ---- the slot
 
@@ -97,6 +100,23 @@ module _ {D : Type 0} (tape : D → Rattle.std.specs.Prelude.Option Tape)
     own_opening s k here =
         ((k.sound).grounded id mine (at_map (view_on first) s.views id me.0 here)).opening_is live
 
+    -- the view stands in the table's state
+    abbrev stands_now : (s : State (LogWriter D) SeatView) → Held s → get_elem? s.views id ≡ some me.0
+        → Stands me.0
+    stands_now s k here =
+        let home : Option Plain = home_of tape moment faults s.homes in
+        let views : List View = map (view_on first) s.views in
+        record {
+          first = first;
+          words = s.words;
+          home = home;
+          views = views;
+          id = id;
+          sound = subst (λ (o : Opening). IsSound o s.words home views)
+              (sym (own_opening s k here)) k.sound;
+          here = at_map (view_on first) s.views id me.0 here;
+        }
+
     -- the view stands in the state that a step leaves
     pub stands_in : (s : State (LogWriter D) SeatView) → Held s → get_elem? s.views id ≡ some me.0
         → (words : List ℕ) (home : Option Plain) (w : SeatView) → w.opening ≡ (me.0).opening
@@ -140,16 +160,37 @@ module _ {D : Type 0} (tape : D → Rattle.std.specs.Prelude.Option Tape)
           (refl, stands_in s k here _ home w (seat_steady me.0 e quiet met none).0 sound),
         ))
 
+    -- the same of a load, which tells also that its number was met
+    pub loaded : (e : StepKind) → IsQuiet e → MaySeat me.0 e → (word : ℕ)
+        → word ≡ word_at_step me.0 e → ((met : ℕ) → met ≡ value_left me.0 e met)
+        → Allows Held slots id me word (λ n. n)
+        (λ r n. (n ≡ (behind e r none me.0, me.1)) × Stands n.0 × Meets me.0 e r)
+    loaded e quiet may word word_is loads s k at here fits =
+        let step = quietly e quiet may word word_is (λ n. n) loads s k at here fits in (
+          step.0,
+          step.1,
+          step.2,
+          step.3,
+          (
+            (step.4).0,
+            (step.4).1,
+            record {
+              before = stands_now s k here;
+              met_is = ap (λ (i : ℕ). slice_index s.words i) word_is;
+            },
+          ),
+        )
+
     -- a load that changes nothing of what the pass knows
     pub looks_on : (word : ℕ)
         → Allows Held slots id me word (λ n. n) (λ r n. (n ≡ me) × Stands n.0)
     looks_on word s k _ here _ =
         let met : ℕ = slice_index s.words word in
-        let same : IsRuled tape moment faults opening first (set s.words word met) s.homes
+        let same : IsRuled tape moment faults opening began (set s.words word met) s.homes
         (set s.views id me.0) =
-        subst (λ (ws : List ℕ). IsRuled tape moment faults opening first ws s.homes
+        subst (λ (ws : List ℕ). IsRuled tape moment faults opening began ws s.homes
         (set s.views id me.0)) (sym (word_again s.words word))
-        (subst (λ (vs : List SeatView). IsRuled tape moment faults opening first s.words s.homes vs)
+        (subst (λ (vs : List SeatView). IsRuled tape moment faults opening began s.words s.homes vs)
         (sym (set_again s.views id me.0 here)) k) in (
           me.0,
           keeps,
@@ -191,7 +232,7 @@ module _ {D : Type 0} (tape : D → Rattle.std.specs.Prelude.Option Tape)
         (at_map (view_on first) s.views id me.0 here))) in
         stands.2
 
-    pub goes_out : MaySeat me.0 slot_out → (told : DiskState) → told ≡ first
+    pub goes_out : MaySeat me.0 slot_out → (told : Rattle.std.specs.Prelude.Option Tape) → told ≡ began
         → (of : Opening) → of ≡ opening → Allows Held slots id me 11 (λ n. n)
         (λ r n. (w : LogWriter D) × IsOutOf tape moment faults told of r w me n × Stands n.0)
     goes_out may told told_is of of_is s k _ here _ =
@@ -200,7 +241,7 @@ module _ {D : Type 0} (tape : D → Rattle.std.specs.Prelude.Option Tape)
         let turned : hold_on first (me.0).hold ≡ Turned = held_on first (me.0).hold Turned may in
         let found = is_home s.homes (k.sound).writer (at_home turned s k here) in
         let p : Plain = slot_plain tape moment found.0 in
-        let of_log : IsOfLog tape faults first opening found.0 = k.of_log found.0 found.1 in
+        let of_log : IsOfLog tape faults began opening found.0 = k.of_log found.0 found.1 in
         let w : SeatView = behind slot_out met (some p) me.0 in
         let sound = stepped_sound slot_out turned s k here
         (home_of tape moment faults (set s.homes 0 none)) w (home_none s.homes k.one)
@@ -219,7 +260,8 @@ module _ {D : Type 0} (tape : D → Rattle.std.specs.Prelude.Option Tape)
             found.0,
             record {
               of_log = subst (λ (o : Opening). IsOfLog tape faults told o found.0) (sym of_is)
-                  (subst (λ (d : DiskState). IsOfLog tape faults d opening found.0)
+                  (subst (λ (d : Rattle.std.specs.Prelude.Option Tape). IsOfLog tape faults d opening
+                  found.0)
                   (sym told_is) of_log);
               me_is = refl;
             },
@@ -228,7 +270,7 @@ module _ {D : Type 0} (tape : D → Rattle.std.specs.Prelude.Option Tape)
         )
 
     pub comes_in : (l : SeatLent) (w : LogWriter D)
-        → HasInHand tape moment faults first opening me l w → MaySeat me.0 slot_in
+        → HasInHand tape moment faults began opening me l w → MaySeat me.0 slot_in
         → Allows Held slots id me 11 (λ n. n)
         (λ r n. (n ≡ (behind slot_in r none me.0, [])) × Stands n.0)
     comes_in l w has may s k _ here _ =
@@ -242,10 +284,10 @@ module _ {D : Type 0} (tape : D → Rattle.std.specs.Prelude.Option Tape)
         ∙ ap (λ (x : SeatWriter). some (plain_on first x)) has.kept
         ∙ ap (λ (x : Plain). some x)
         (back_plain first (slot_plain tape moment w) (has.of_log).on_first) in
-        let back : IsRuled tape moment faults opening first (set s.words 11 met)
+        let back : IsRuled tape moment faults opening began (set s.words 11 met)
         (set s.homes 0 (some w)) (set s.views id v) = record {
           one = length-set s.homes 0 (some w) ∙ k.one;
-          of_log = λ x at. subst (λ (y : LogWriter D). IsOfLog tape faults first opening y)
+          of_log = λ x at. subst (λ (y : LogWriter D). IsOfLog tape faults began opening y)
               (some-injective w x (some-injective (some w) (some x)
               (sym (set_here s.homes 0 (some w) (omega arith)) ∙ at))) has.of_log;
           sound = stepped_sound slot_in (may_go_in first me.0 may) s k here
@@ -255,7 +297,7 @@ module _ {D : Type 0} (tape : D → Rattle.std.specs.Prelude.Option Tape)
           v,
           gives,
           tt,
-          subst (λ (c : List (ℕ × LogWriter D)). IsRuled tape moment faults opening first
+          subst (λ (c : List (ℕ × LogWriter D)). IsRuled tape moment faults opening began
               (set s.words 11 met) (put_back s.homes c) (set s.views id v)) (sym has.slot) back,
           (
             ap (λ (c : List (ℕ × LogWriter D)). (v, rest c)) has.slot,
@@ -290,6 +332,35 @@ module _ {D : Type 0} (tape : D → Rattle.std.specs.Prelude.Option Tape)
               ∙ ap (λ (us : List View). us ++ split_off (f v) ∷ [])
               (map-set f s.views id (seat_after_split v)
               ∙ ap (λ (u : View). set old id u) (split_left first v));
+        }));
+      }
+
+  pub gives_up : (id : ℕ) (v : SeatView) → (v.reserving).live ≡ true → IsStrandedSeat v
+      → Splits Held id v (seat_without_work v) (seat_orphan v)
+  gives_up id v live stranded s k here =
+      let f : SeatView → View = view_on first in
+      let home : Option Plain = home_of tape moment faults s.homes in
+      let old : List View = map f s.views in
+      let left : List SeatView = set s.views id (seat_without_work v) in
+      let before : machine.State = record { words = s.words; home = home; views = old } in
+      let after : machine.State = record {
+        words = s.words;
+        home = home;
+        views = map f (left ++ seat_orphan v ∷ []);
+      } in
+      record {
+        one = k.one;
+        of_log = k.of_log;
+        sound = step_keeps opening before after k.sound (Abandons id (record {
+          view = f v;
+          live = (at_map f s.views id v here, live);
+          may = strands_on first v stranded;
+          words = refl;
+          home = refl;
+          views = map-append f left (seat_orphan v ∷ [])
+              ∙ ap (λ (us : List View). us ++ orphan_of (f v) ∷ [])
+              (map-set f s.views id (seat_without_work v)
+              ∙ ap (λ (u : View). set old id u) (given_up first v));
         }));
       }
 

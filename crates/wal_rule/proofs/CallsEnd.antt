@@ -53,6 +53,7 @@ module _ {D : Type 0} (tape : D → Rattle.std.specs.Prelude.Option Tape) (momen
             ∙ sym (counted made.0 (made.1).moment);
         same_size = refl;
         rises = rises (faults old.disk) (faults disk) more;
+        counts = told_is;
         fault = subst (λ (n : ℕ). Rose (faults old.disk) n) (sym told_is)
             (rose (faults old.disk) (faults disk) more);
       })
@@ -69,6 +70,7 @@ module _ {D : Type 0} (tape : D → Rattle.std.specs.Prelude.Option Tape) (momen
             ∙ sym (not_counted same.same_moment);
         same_size = refl;
         rises = rises (faults old.disk) (faults disk) more;
+        counts = told_is;
         fault = subst (λ (n : ℕ). Rose (faults old.disk) n) (sym told_is)
             (rose (faults old.disk) (faults disk) more);
       })

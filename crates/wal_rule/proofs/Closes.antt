@@ -1,10 +1,10 @@
--- A table's last state gives its writer back.
-use Rattle.std.proofs.Common.{◌≡◌, ℕ, true, List, map, sym, ap, ◌∙◌, subst}
-use mathlib.Core.Option.{Option, some, some-injective}
+-- A table's last state gives its writer and its position back.
+use Rattle.std.proofs.Common.{◌≡◌, ℕ, true, List, [], ◌∷◌, map, sym, ap, ◌∙◌, subst}
+use mathlib.Core.Option.{Option, some, some-injective, some-ne-none}
 use lib.ListN.{get_elem?}
 use Rattle.atomic_table.specs.Table.{State, Final, Seen}
 use Rattle.segment_disk.specs.Tape.{DiskState, Tape}
-use Rattle.wal_core.specs.Words.{Opening}
+use Rattle.wal_core.specs.Words.{Opening, position_word}
 use Rattle.wal_core.specs.Views.{Plain, View}
 use Rattle.wal_core.specs.Sound.{IsSound}
 use Rattle.wal_core.proofs.Lists.{part_at}
@@ -14,14 +14,21 @@ use Rattle.wal_rule.specs.declared.writer.LogWriter.{LogWriter}
 use Rattle.wal_rule.specs.Closing.{ClosesWith}
 use Rattle.wal_rule.specs.Ruled.{IsRuled, home_of}
 use Rattle.wal_rule.specs.Seats.{IsAtRest, SeatView, view_on}
-use Rattle.wal_rule.specs.Slotted.{IsOfLog, slot_plain}
+use Rattle.wal_rule.specs.Slotted.{IsOfLog, first_on, slot_plain}
 use Rattle.wal_rule.proofs.Allowed.{is_home}
 use Rattle.wal_rule.proofs.SeatLaws.{rests_on}
 
-module _ {D : Type 0} (tape : D → Rattle.std.specs.Prelude.Option Tape)
-    (moment faults : D → ℕ) (opening : Opening) (first : DiskState) where
+first_word : (words : List ℕ) (n : ℕ) → get_elem? words 0 ≡ some n → n ≡ position_word words
+first_word [] n at = absurd (some-ne-none n (sym at))
+first_word (m ∷ words) n at = some-injective n m (sym at)
+
+module _ {D : Type 0} (tape : D → Rattle.std.specs.Prelude.Option Tape) (moment faults : D → ℕ)
+    (opening : Opening) (began : Rattle.std.specs.Prelude.Option Tape) where
+  abbrev first : DiskState
+  first = first_on began
+
   abbrev Held : State (LogWriter D) SeatView → Type 0
-  Held s = IsRuled tape moment faults opening first s.words s.homes s.views
+  Held s = IsRuled tape moment faults opening began s.words s.homes s.views
 
   module _ (id : ℕ) (v : SeatView) (live : (v.reserving).live ≡ true) (rests : IsAtRest v)
       (numbers : HasAllNumbers (opening.setup).passes v.reserving) where
@@ -37,16 +44,17 @@ module _ {D : Type 0} (tape : D → Rattle.std.specs.Prelude.Option Tape)
         × IsClosed opening k.order words home writer views id mine
 
     pub closes : (words : List ℕ) (slots : List (LogWriter D)) (w : LogWriter D)
-        → Final (Seen Held id v) words slots → get_elem? slots 0 ≡ some w
-        → ClosesWith tape moment faults first opening v w
-    closes words slots w end taken =
+        (position : ℕ) → Final (Seen Held id v) words slots → get_elem? slots 0 ≡ some w
+        → get_elem? words 0 ≡ some position
+        → ClosesWith tape moment faults began opening v w position
+    closes words slots w position end taken found =
         let s = end.0 in
         let k : Held s = (end.1).0 in
         let views : List View = map (view_on first) s.views in
         let home : Option Plain = home_of tape moment faults s.homes in
-        let c = closed opening s.words home views k.sound id mine
-        (part_at (view_on first) s.views id v (end.1).1) last in
-        let h = is_home tape moment faults opening first s.homes (k.sound).writer c.at_home in
+        let here = part_at (view_on first) s.views id v (end.1).1 in
+        let c = closed opening s.words home views k.sound id mine here last in
+        let h = is_home tape moment faults opening began s.homes (k.sound).writer c.at_home in
         let same : h.0 ≡ w = some-injective h.0 w (sym (end.4 0 h.0 h.1) ∙ taken) in
         let plain : Plain = slot_plain tape moment w in
         let home_is : home ≡ some plain =
@@ -61,11 +69,14 @@ module _ {D : Type 0} (tape : D → Rattle.std.specs.Prelude.Option Tape)
         let f : Ends s.words views (some plain) plain =
         subst (λ (o : Option Plain). Ends s.words views o plain) home_is e in
         record {
-          of_log = subst (λ (x : LogWriter D). IsOfLog tape faults first opening x) same
+          of_log = subst (λ (x : LogWriter D). IsOfLog tape faults began opening x) same
               (k.of_log h.0 h.1);
           words = s.words;
+          position_is = first_word words position found
+              ∙ ap (λ (ws : List ℕ). position_word ws) (sym end.2);
           views = views;
           id = id;
+          here = here;
           sound = f.0;
           closed = f.1;
         }

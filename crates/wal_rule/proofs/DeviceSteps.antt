@@ -1,7 +1,7 @@
 -- A call of the device is a step of the table: what a seat knows of its writer, told of the call,
 -- is the machine's writer behind it.
-use Rattle.std.specs.Prelude.{IfErr, IfSome, Result, if◌then◌else◌}
-use Rattle.std.proofs.Common.{get_or, ◌≡◌, ℕ, ◌+◌, ◌*◌, ◌/◌, ◌^◌, ◌≤◌, ◌<◌, inl, inr, Bool, true, false, List, ◌∷◌, map, set, slice_index, Err, Ok, Some, None, arith, refl, sym, ap, ◌∙◌, subst}
+use Rattle.std.specs.Prelude.{IfErr, IfSome, IsSome, Result, MatchResult, if◌then◌else◌}
+use Rattle.std.proofs.Common.{get_or, ◌≡◌, ℕ, ◌+◌, ◌*◌, ◌/◌, ◌^◌, ◌≤◌, ◌<◌, inl, inr, Bool, true, false, List, [], ◌∷◌, ◌++◌, append_assoc, map, set, slice_index, Err, Ok, Some, None, arith, refl, sym, ap, ◌∙◌, subst}
 use mathlib.Core.Option.{Option, none, some, some-injective, some-ne-none}
 use Rattle.atomic_table.specs.Table.{Allows, State, keeps, rest}
 use Rattle.byte_position.specs.Geometry.{pages_of}
@@ -17,7 +17,7 @@ use Rattle.wal_core.specs.Steps.{IsCallFault, MayStep, StepKind, create, sync, w
 use Rattle.wal_rule.specs.declared.writer.LogWriter.{LogWriter}
 use Rattle.wal_rule.specs.Called.{DeviceCall, DeviceCallEnds, IsCalled, IsWriteLow, creates, step_of_call, syncs, writer_behind, writes}
 use Rattle.wal_rule.specs.Seats.{HasWriter, SeatHold, SeatLent, SeatView, SeatWriter, behind, calls_of, hold_on, lent_on, plain_on, tape_on, view_on, writer_told}
-use Rattle.wal_rule.specs.Slotted.{CallEnds, EndsAs, IsOfLog, slot_disk, slot_plain, slot_segment_size}
+use Rattle.wal_rule.specs.Slotted.{CallEnds, EndsAs, GoesOnFrom, IsOfLog, first_on, slot_disk, slot_plain, slot_segment_size}
 use Rattle.wal_rule.specs.Stepping.{MaySeat, Stands}
 use Rattle.wal_rule.specs.Ruled.{HasInHand, IsRuled, home_of}
 use Rattle.wal_rule.proofs.SeatLaws.{again_tape, back_plain}
@@ -68,31 +68,6 @@ module _ (first : DiskState) where
       ap (λ (p : Plain). record p { waiting = (if is_done outcome then none else w.waiting) })
       (outcome_on other (sync_call size segment) outcome w)
 
-  -- the tape is still one of a disk that held this at first
-  kept_first : (t : Rattle.std.specs.Prelude.Option Tape) (call : Call)
-      → IfSome t (λ (x : Tape). x.at_first ≡ first)
-      → IfSome (with_call t call) (λ (x : Tape). x.at_first ≡ first)
-  kept_first None call is = tt
-  kept_first (Some t) call is = is
-
-  outcome_first : (call : Call) (outcome : Outcome) (p : Plain)
-      → IfSome p.tape (λ (x : Tape). x.at_first ≡ first)
-      → IfSome (with_outcome call outcome p).tape (λ (x : Tape). x.at_first ≡ first)
-  outcome_first call Done p is = kept_first p.tape call is
-  outcome_first call (Failed faults none) p is = is
-  outcome_first call (Failed faults (some made)) p is =
-      kept_first p.tape (failed_call made call) is
-
-  writer_first : (size : ℕ) (call : DeviceCall) (outcome : Outcome) (p : Plain)
-      → IfSome p.tape (λ (x : Tape). x.at_first ≡ first)
-      → IfSome (writer_behind size call outcome p).tape (λ (x : Tape). x.at_first ≡ first)
-  writer_first size (creates segment) outcome p is =
-      outcome_first (create_call size segment) outcome p is
-  writer_first size (writes segment page upto bytes) outcome p is =
-      outcome_first (write_call size segment page bytes) outcome p is
-  writer_first size (syncs segment) outcome p is =
-      outcome_first (sync_call size segment) outcome p is
-
   told_calls : (calls : Rattle.std.specs.Prelude.Option (List Call))
       → calls_of (tape_on first calls) ≡ calls
   told_calls None = refl
@@ -112,6 +87,59 @@ module _ (first : DiskState) where
       (writer_told (writer_behind size call outcome (plain_on other (writer_told p)))))
       ∙ ap writer_told (writer_on other size call outcome (writer_told p)
       ∙ ap (writer_behind size call outcome) (back_plain first p is))
+
+-- what holds of a tape, and of each with one call more, still holds behind a call of the writer
+module _ (P : Tape → Type 0)
+    (more : (t : Tape) (call : Call) → P t → P (record t { calls = t.calls ++ call ∷ [] })) where
+  kept_call : (t : Rattle.std.specs.Prelude.Option Tape) (call : Call) → IfSome t P
+      → IfSome (with_call t call) P
+  kept_call None call is = tt
+  kept_call (Some t) call is = more t call is
+
+  outcome_keeps : (call : Call) (outcome : Outcome) (p : Plain) → IfSome p.tape P
+      → IfSome (with_outcome call outcome p).tape P
+  outcome_keeps call Done p is = kept_call p.tape call is
+  outcome_keeps call (Failed faults none) p is = is
+  outcome_keeps call (Failed faults (some made)) p is =
+      kept_call p.tape (failed_call made call) is
+
+  pub writer_keeps : (size : ℕ) (call : DeviceCall) (outcome : Outcome) (p : Plain)
+      → IfSome p.tape P → IfSome (writer_behind size call outcome p).tape P
+  writer_keeps size (creates segment) outcome p is =
+      outcome_keeps (create_call size segment) outcome p is
+  writer_keeps size (writes segment page upto bytes) outcome p is =
+      outcome_keeps (write_call size segment page bytes) outcome p is
+  writer_keeps size (syncs segment) outcome p is =
+      outcome_keeps (sync_call size segment) outcome p is
+
+-- a tape with one call more goes on too
+goes_further : (began : Rattle.std.specs.Prelude.Option Tape) (t : Tape) (call : Call)
+    → GoesOnFrom began t → GoesOnFrom began (record t { calls = t.calls ++ call ∷ [] })
+goes_further None t call is = is
+goes_further (Some b) t call is = (
+  is.0 ++ call ∷ [],
+  ap (λ (cs : List Call). cs ++ call ∷ []) is.1 ∙ append_assoc b.calls is.0 (call ∷ []),
+)
+
+-- a tape that is told is told behind a call
+told_call : (t : Rattle.std.specs.Prelude.Option Tape) (call : Call) → IsSome t
+    → IsSome (with_call t call)
+told_call None call is = is
+told_call (Some t) call is = is
+
+told_outcome : (call : Call) (outcome : Outcome) (p : Plain) → IsSome p.tape
+    → IsSome (with_outcome call outcome p).tape
+told_outcome call Done p is = told_call p.tape call is
+told_outcome call (Failed faults none) p is = is
+told_outcome call (Failed faults (some made)) p is = told_call p.tape (failed_call made call) is
+
+told_on : (size : ℕ) (call : DeviceCall) (outcome : Outcome) (p : Plain) → IsSome p.tape
+    → IsSome (writer_behind size call outcome p).tape
+told_on size (creates segment) outcome p is =
+    told_outcome (create_call size segment) outcome p is
+told_on size (writes segment page upto bytes) outcome p is =
+    told_outcome (write_call size segment page bytes) outcome p is
+told_on size (syncs segment) outcome p is = told_outcome (sync_call size segment) outcome p is
 
 -- the segment that waits behind a call waited before, or is the one written to
 outcome_waits : (call : Call) (outcome : Outcome) (p : Plain)
@@ -139,6 +167,57 @@ writer_waits size (writes segment page upto bytes) outcome p low was n is =
 writer_waits size (syncs segment) outcome p low was n is =
     either_waits (λ (m : ℕ). m < 2 ^ 64 / size) (is_done outcome) none p.waiting
     (λ m at. absurd (some-ne-none m (sym at))) was n is
+
+-- what a writer keeps of a fault behind a call
+fault_done : (size : ℕ) (call : DeviceCall) (p : Plain)
+    → (writer_behind size call Done p).fault ≡ p.fault
+fault_done size (creates segment) p = refl
+fault_done size (writes segment page upto bytes) p = refl
+fault_done size (syncs segment) p = refl
+
+outcome_fault : (call : Call) (told : ℕ) (counted : Option Bool) (p : Plain)
+    → (with_outcome call (Failed told counted) p).fault ≡ some told
+outcome_fault call told none p = refl
+outcome_fault call told (some made) p = refl
+
+fault_failed : (size : ℕ) (call : DeviceCall) (told : ℕ) (counted : Option Bool) (p : Plain)
+    → (writer_behind size call (Failed told counted) p).fault ≡ some told
+fault_failed size (creates segment) told counted p =
+    outcome_fault (create_call size segment) told counted p
+fault_failed size (writes segment page upto bytes) told counted p =
+    outcome_fault (write_call size segment page bytes) told counted p
+fault_failed size (syncs segment) told counted p =
+    outcome_fault (sync_call size segment) told counted p
+
+-- a call by a writer that keeps no fault: it keeps none where the count of faults is as before, and
+-- else that count
+abbrev CountsOn : Result Unit DiskFault → ℕ → ℕ → Type 0
+CountsOn result old new =
+    MatchResult result (λ _. new ≡ old) (λ (e : DiskFault). e.faults ≡ new)
+
+module _ (size : ℕ) (call : DeviceCall) (p : Plain) (old new : ℕ) (kept : Option ℕ) where
+  up_behind : (result : Result Unit DiskFault) (outcome : Outcome) → EndsAs result outcome
+      → CountsOn result old new → (writer_behind size call outcome p).fault ≡ kept
+      → kept ≡ none → new ≡ old
+  up_behind (Ok done) outcome ends counts is none_kept = counts
+  up_behind (Err e) outcome ends counts is none_kept = absurd (some-ne-none e.faults
+      (sym (fault_failed size call e.faults ends.0 p)
+      ∙ ap (λ (o : Outcome). (writer_behind size call o p).fault) (sym ends.1)
+      ∙ is ∙ none_kept))
+
+  down_behind : p.fault ≡ none → (result : Result Unit DiskFault) (outcome : Outcome)
+      → EndsAs result outcome → CountsOn result old new
+      → (writer_behind size call outcome p).fault ≡ kept
+      → (f : ℕ) → kept ≡ some f → f ≡ new
+  down_behind up (Ok done) outcome ends counts is f fault_kept = absurd (some-ne-none f
+      (sym fault_kept ∙ sym is
+      ∙ ap (λ (o : Outcome). (writer_behind size call o p).fault) ends
+      ∙ fault_done size call p ∙ up))
+  down_behind up (Err e) outcome ends counts is f fault_kept = some-injective f e.faults
+      (sym fault_kept ∙ sym is
+      ∙ ap (λ (o : Outcome). (writer_behind size call o p).fault) ends.1
+      ∙ fault_failed size call e.faults ends.0 p)
+      ∙ counts
 
 -- ---- the view behind a call
 
@@ -266,7 +345,7 @@ home_called v (creates segment) outcome home = refl
 home_called v (writes segment page upto bytes) outcome home = refl
 home_called v (syncs segment) outcome home = refl
 
--- what is written, and what waits, of a writer in hand
+-- what is written, what waits, and which fault is kept, of a writer in hand
 abbrev written_of_hold : Hold → ℕ
 written_of_hold Idle = 0
 written_of_hold Turned = 0
@@ -277,28 +356,59 @@ waiting_of_hold Idle = none
 waiting_of_hold Turned = none
 waiting_of_hold (Out l) = (l.writer).waiting
 
-module _ {D : Type 0} (tape : D → Rattle.std.specs.Prelude.Option Tape)
-    (moment faults : D → ℕ) (opening : Opening) (first : DiskState) where
+abbrev fault_of_hold : Hold → Option ℕ
+fault_of_hold Idle = none
+fault_of_hold Turned = none
+fault_of_hold (Out l) = (l.writer).fault
+
+-- a call is made only while no fault is kept
+up_lent : (v : SeatView) (call : DeviceCall) → MaySeat v (step_of_call call Done)
+    → fault_of_hold (hold_on empty_state v.hold) ≡ none
+up_lent v (creates segment) may = ap fault_of_hold (may.0).1 ∙ ((may.0).2).up
+up_lent v (writes segment page upto bytes) may = ap fault_of_hold (may.0).1 ∙ ((may.0).2).up
+up_lent v (syncs segment) may = ap fault_of_hold (may.0).1 ∙ ((may.0).2).up
+
+module _ {D : Type 0} (tape : D → Rattle.std.specs.Prelude.Option Tape) (moment faults : D → ℕ)
+    (opening : Opening) (began : Rattle.std.specs.Prelude.Option Tape) where
+  abbrev first : DiskState
+  first = first_on began
+
   abbrev Held : State (LogWriter D) SeatView → Type 0
-  Held s = IsRuled tape moment faults opening first s.words s.homes s.views
+  Held s = IsRuled tape moment faults opening began s.words s.homes s.views
 
   of_log_behind : (call : DeviceCall) (result : Result Unit DiskFault) (before now : LogWriter D)
-      → IsOfLog tape faults first opening before → IsWriteLow (opening.setup).segment_size call
+      → IsOfLog tape faults began opening before → IsWriteLow (opening.setup).segment_size call
+      → (slot_plain tape moment before).fault ≡ none
       → CallEnds tape moment faults before now result
       (writer_behind (opening.setup).segment_size call)
-      → IsOfLog tape faults first opening now
-  of_log_behind call result before now was low ends =
+      → IsOfLog tape faults began opening now
+  of_log_behind call result before now was low up ends =
       let size : ℕ = (opening.setup).segment_size in
       let rises = ends.rises in
       let failed = was.failed in
+      let old : Plain = slot_plain tape moment before in
+      let tape_is : (writer_behind size call ends.outcome old).tape ≡ tape (slot_disk now) =
+      sym (ap (λ (p : Plain). p.tape) ends.plain_is) in
+      let fault_is = sym (ap (λ (p : Plain). p.fault) ends.plain_is) in
       record {
         size_is = ends.same_size ∙ was.size_is;
         on_first = subst (λ (t : Rattle.std.specs.Prelude.Option Tape).
-            IfSome t (λ (x : Tape). x.at_first ≡ first))
-            (sym (ap (λ (p : Plain). p.tape) ends.plain_is))
-            (writer_first first size call ends.outcome (slot_plain tape moment before)
-            was.on_first);
+            IfSome t (λ (x : Tape). x.at_first ≡ first)) tape_is
+            (writer_keeps (λ (x : Tape). x.at_first ≡ first) (λ t call is. is) size call
+            ends.outcome old was.on_first);
+        goes_on = subst (λ (t : Rattle.std.specs.Prelude.Option Tape).
+            IfSome t (GoesOnFrom began)) tape_is
+            (writer_keeps (GoesOnFrom began) (goes_further began) size call ends.outcome old
+            was.goes_on);
+        told = λ some. subst (λ (t : Rattle.std.specs.Prelude.Option Tape). IsSome t) tape_is
+            (told_on size call ends.outcome old (was.told some));
         failed = omega (arith, rises, failed);
+        up = λ none_kept. up_behind size call old (faults (slot_disk before))
+            (faults (slot_disk now)) (slot_plain tape moment now).fault result ends.outcome
+            ends.ends ends.counts fault_is none_kept ∙ was.up up;
+        down = down_behind size call old (faults (slot_disk before)) (faults (slot_disk now))
+            (slot_plain tape moment now).fault up result ends.outcome ends.ends ends.counts
+            fault_is;
         waits_low = λ segment is. writer_waits size call ends.outcome
             (slot_plain tape moment before) low was.waits_low segment
             (sym (ap (λ (p : Plain). p.waiting) ends.plain_is) ∙ is);
@@ -307,7 +417,7 @@ module _ {D : Type 0} (tape : D → Rattle.std.specs.Prelude.Option Tape)
   -- the seat behind the call
   module _ (call : DeviceCall) (result : Result Unit DiskFault)
       (me : SeatView × List (ℕ × LogWriter D)) (own : (me.0).opening ≡ opening)
-      (called : IsCalled tape moment faults first opening call result me) where
+      (called : IsCalled tape moment faults began opening call result me) where
     abbrev made : StepKind
     made = step_of_call call (called.ends).outcome
 
@@ -332,8 +442,16 @@ module _ {D : Type 0} (tape : D → Rattle.std.specs.Prelude.Option Tape)
         (sym (called.had).hold)
         (call_view first call (called.ends).outcome me.0 called.lent met home)
 
-    pub call_ended : DeviceCallEnds tape moment faults first opening call result me.0 (told, me.1)
-    call_ended =
+    -- the writer had met no fault before the call
+    up_before : MaySeat me.0 (step_of_call call Done)
+        → (slot_plain tape moment called.before).fault ≡ none
+    up_before may = sym (ap (λ (w : SeatWriter). w.fault) (called.had).kept)
+        ∙ ap (λ (h : SeatHold). fault_of_hold (hold_on empty_state h)) (sym (called.had).hold)
+        ∙ up_lent me.0 call may
+
+    pub call_ended : MaySeat me.0 (step_of_call call Done)
+        → DeviceCallEnds tape moment faults began opening call result me.0 (told, me.1)
+    call_ended may =
         let size : ℕ = (opening.setup).segment_size in
         let outcome : Outcome = (called.ends).outcome in
         let was : Plain = slot_plain tape moment called.before in
@@ -353,7 +471,7 @@ module _ {D : Type 0} (tape : D → Rattle.std.specs.Prelude.Option Tape)
                 ((called.had).of_log).on_first
                 ∙ ap writer_told (sym (called.ends).plain_is);
             of_log = of_log_behind call result called.before called.writer (called.had).of_log
-                called.low called.ends;
+                called.low (up_before may) called.ends;
           };
         }
 
@@ -366,10 +484,10 @@ module _ {D : Type 0} (tape : D → Rattle.std.specs.Prelude.Option Tape)
         (called.ends).ends (called.ends).fault)
 
     pub catches_up : (slots id : ℕ) → ((me.0).reserving).live ≡ true
-        → MaySeat me.0 (step_of_call call Done) → (told_first : DiskState) → told_first ≡ first
+        → MaySeat me.0 (step_of_call call Done) → (told_began : Rattle.std.specs.Prelude.Option Tape) → told_began ≡ began
         → (of : Opening) → of ≡ opening → Allows Held slots id me 11 (λ n. n)
-        (λ r n. DeviceCallEnds tape moment faults told_first of call result me.0 n × Stands n.0)
-    catches_up slots id live may told_first first_is of of_is s k _ here _ =
+        (λ r n. DeviceCallEnds tape moment faults told_began of call result me.0 n × Stands n.0)
+    catches_up slots id live may told_began began_is of of_is s k _ here _ =
         let v : View = view_on first me.0 in
         let home : Option Plain = home_of tape moment faults s.homes in
         let word : ℕ = word_of_step v made in
@@ -378,7 +496,7 @@ module _ {D : Type 0} (tape : D → Rattle.std.specs.Prelude.Option Tape)
         (map (view_on first) after) = subst
         (λ (n : ℕ). IsSound opening (set s.words word n) home (map (view_on first) after))
         (value_called v call (called.ends).outcome (slice_index s.words word))
-        (stepped_sound tape moment faults opening first slots id me live made
+        (stepped_sound tape moment faults opening began slots id me live made
         (may_made may) s k here home told (home_called v call (called.ends).outcome home)
         (told_view (slice_index s.words word) home)) in (
           told,
@@ -392,11 +510,11 @@ module _ {D : Type 0} (tape : D → Rattle.std.specs.Prelude.Option Tape)
           },
           (
             subst (λ (o : Opening).
-                DeviceCallEnds tape moment faults told_first o call result me.0 (told, me.1))
-                (sym of_is) (subst (λ (d : DiskState).
+                DeviceCallEnds tape moment faults told_began o call result me.0 (told, me.1))
+                (sym of_is) (subst (λ (d : Rattle.std.specs.Prelude.Option Tape).
                 DeviceCallEnds tape moment faults d opening call result me.0 (told, me.1))
-                (sym first_is) call_ended),
-            stands_in tape moment faults opening first slots id me live s k here _ home told
+                (sym began_is) (call_ended may)),
+            stands_in tape moment faults opening began slots id me live s k here _ home told
                 (call_steady call (called.ends).outcome me.0).0 sound,
           ),
         )
@@ -404,12 +522,12 @@ module _ {D : Type 0} (tape : D → Rattle.std.specs.Prelude.Option Tape)
   -- ---- the writer is lent from its slot
 
   pub lends : (me : SeatView × List (ℕ × LogWriter D)) (l : SeatLent) (w : LogWriter D)
-      → HasInHand tape moment faults first opening me l w → me.1 ≡ (0, w) ∷ rest me.1
+      → HasInHand tape moment faults began opening me l w → me.1 ≡ (0, w) ∷ rest me.1
   lends me l w has =
       has.slot ∙ ap (λ (c : List (ℕ × LogWriter D)). (0, w) ∷ rest c) (sym has.slot)
 
   module _ (me : SeatView × List (ℕ × LogWriter D)) (l : SeatLent) (w held : LogWriter D)
-      (has : HasInHand tape moment faults first opening me l w)
+      (has : HasInHand tape moment faults began opening me l w)
       (lent_is : me.1 ≡ (0, held) ∷ rest me.1) where
     pub lent_writer : w ≡ held
     lent_writer = ap (λ (c : List (ℕ × LogWriter D)). (get_or c 0 (0, w)).1)
@@ -422,7 +540,7 @@ module _ {D : Type 0} (tape : D → Rattle.std.specs.Prelude.Option Tape)
         → IsWriteLow (slot_segment_size held) call
         → CallEnds tape moment faults held now result
         (writer_behind (slot_segment_size held) call)
-        → IsCalled tape moment faults first opening call result (me.0, (0, now) ∷ rest me.1)
+        → IsCalled tape moment faults began opening call result (me.0, (0, now) ∷ rest me.1)
     is_called call result now low ends = record {
       lent = l;
       before = w;

@@ -10,3 +10,5 @@ pub mod DeviceSteps
 pub mod Taken
 pub mod Addresses
 pub mod Closes
+pub mod MetNumbers
+pub mod OpeningTold

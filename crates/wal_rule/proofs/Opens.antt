@@ -1,6 +1,7 @@
 -- The rule holds of a log that holds nothing.
 use Rattle.std.specs.Prelude.{IfSome}
-use Rattle.std.proofs.Common.{◌≡◌, ℕ, ◌≤◌, List, [], ◌∷◌, map, refl, sym, ◌∙◌, subst, Some, None}
+use Rattle.std.specs.Prelude.{IsSome}
+use Rattle.std.proofs.Common.{◌≡◌, ℕ, List, [], ◌∷◌, map, append-nil, arith, refl, sym, ◌∙◌, subst, Some, None}
 use mathlib.Core.Option.{some, some-injective, some-ne-none}
 use Rattle.segment_disk.specs.Tape.{Tape}
 use Rattle.wal_core.specs.Words.{Opening}
@@ -8,7 +9,7 @@ use Rattle.wal_core.specs.Opened.{AreFirstWords, IsFirstWriter, IsNew}
 use Rattle.step_laws.proofs.OpeningLaws.{logs_begin}
 use Rattle.wal_rule.specs.declared.writer.LogWriter.{LogWriter}
 use Rattle.wal_rule.specs.Seats.{first_seat_view}
-use Rattle.wal_rule.specs.Slotted.{IsOfLog, first_on, slot_disk, slot_plain, slot_segment_size}
+use Rattle.wal_rule.specs.Slotted.{GoesOnFrom, IsOfLog, first_on, slot_disk, slot_plain, slot_segment_size}
 use Rattle.wal_rule.specs.Ruled.{IsRuled}
 
 on_own : (t : Rattle.std.specs.Prelude.Option Tape)
@@ -16,35 +17,44 @@ on_own : (t : Rattle.std.specs.Prelude.Option Tape)
 on_own None = tt
 on_own (Some t) = refl
 
+from_own : (t : Rattle.std.specs.Prelude.Option Tape) → IfSome t (GoesOnFrom t)
+from_own None = tt
+from_own (Some t) = ([], sym (append-nil t.calls))
+
 module _ {D : Type 0} (tape : D → Rattle.std.specs.Prelude.Option Tape) (moment faults : D → ℕ)
     (opening : Opening) (disk : D) (words : List ℕ) (writer : LogWriter D) where
   pub is_of_log : disk ≡ slot_disk writer
       → slot_segment_size writer ≡ (opening.setup).segment_size
-      → opening.faults ≤ faults (slot_disk writer)
+      → opening.faults ≡ faults (slot_disk writer)
       → IsFirstWriter opening (slot_plain tape moment writer)
-      → IsOfLog tape faults (first_on (tape disk)) opening writer
+      → IsOfLog tape faults (tape disk) opening writer
   is_of_log is size failed begins = record {
     size_is = size;
     on_first = subst (λ (d : D). IfSome (tape (slot_disk writer))
         (λ (t : Tape). t.at_first ≡ first_on (tape d))) (sym is) (on_own (tape (slot_disk writer)));
-    failed = failed;
+    goes_on = subst (λ (d : D). IfSome (tape (slot_disk writer)) (GoesOnFrom (tape d))) (sym is)
+        (from_own (tape (slot_disk writer)));
+    told = subst (λ (d : D). IsSome (tape disk) → IsSome (tape d)) is (λ some. some);
+    failed = omega (arith, failed);
+    up = λ _. sym failed;
+    down = λ f is. absurd (some-ne-none f (sym is ∙ begins.fault));
     waits_low = λ segment waits. absurd (some-ne-none segment (sym waits ∙ begins.waiting));
   }
 
   pub opens : (items : List (LogWriter D)) → items ≡ writer ∷ []
-      → IsOfLog tape faults (first_on (tape disk)) opening writer
+      → IsOfLog tape faults (tape disk) opening writer
       → IsNew opening → AreFirstWords opening words
       → IsFirstWriter opening (slot_plain tape moment writer)
-      → IsRuled tape moment faults opening (first_on (tape disk)) words (map some items)
+      → IsRuled tape moment faults opening (tape disk) words (map some items)
       (first_seat_view opening ∷ [])
   opens items are of_log new first begins = subst
-      (λ (xs : List (LogWriter D)). IsRuled tape moment faults opening (first_on (tape disk)) words
+      (λ (xs : List (LogWriter D)). IsRuled tape moment faults opening (tape disk) words
       (map some xs) (first_seat_view opening ∷ []))
       (sym are)
       (record {
         one = refl;
         of_log = λ w at. subst
-            (λ (x : LogWriter D). IsOfLog tape faults (first_on (tape disk)) opening x)
+            (λ (x : LogWriter D). IsOfLog tape faults (tape disk) opening x)
             (some-injective writer w (some-injective (some writer) (some w) at)) of_log;
         sound = logs_begin opening words (slot_plain tape moment writer) new first begins;
       })

@@ -5,9 +5,9 @@ use mathlib.Core.Option.{some}
 use Rattle.segment_disk.specs.declared.disk.Call.{Call}
 use Rattle.segment_disk.specs.Tape.{DiskState, Tape, empty_state}
 use Rattle.wal_core.specs.Views.{Hold, Lent, Out, Plain, View}
-use Rattle.wal_core.specs.Moves.{after_join, after_split, lent, with_hold, with_lent}
-use Rattle.wal_core.specs.Steps.{IsResting, slot_out, view_behind}
-use Rattle.wal_rule.specs.Seats.{HasTurn, HasWriter, IsAtRest, Rests, SeatHold, SeatLent, SeatView, behind, calls_of, hold_on, hold_told, lent_on, lent_told, seat_after_join, seat_after_split, seat_view, plain_on, tape_on, view_on, writer_told}
+use Rattle.wal_core.specs.Moves.{after_join, after_split, lent, with_hold, with_lent, without_work}
+use Rattle.wal_core.specs.Steps.{IsResting, IsStranded, slot_out, view_behind}
+use Rattle.wal_rule.specs.Seats.{HasTurn, HasWriter, IsAtRest, IsStrandedSeat, Rests, SeatHold, SeatLent, SeatView, behind, calls_of, hold_on, hold_told, lent_on, lent_told, seat_after_join, seat_after_split, seat_view, seat_without_work, plain_on, tape_on, view_on, writer_told}
 
 module _ (first : DiskState) where
   pub again_tape : (other : DiskState) (calls : Rattle.std.specs.Prelude.Option (List Call))
@@ -70,6 +70,11 @@ module _ (first : DiskState) where
   joined v w = ap (λ (h : Hold). with_hold h (after_join (view_on first v) (view_on first w)))
       (again_hold empty_state v.hold)
 
+  pub given_up : (v : SeatView)
+      → view_on first (seat_without_work v) ≡ without_work (view_on first v)
+  given_up v = ap (λ (h : Hold). with_hold h (without_work (view_on first v)))
+      (again_hold empty_state v.hold)
+
   -- what a view has of the writer, but for what the disk held at first
   pub held_on : (h : SeatHold) (k : Hold) → hold_on empty_state h ≡ k
       → hold_on first h ≡ hold_on first (hold_told k)
@@ -82,6 +87,15 @@ module _ (first : DiskState) where
     flight = r.flight;
     stage = r.stage;
     hold = held_on w.hold (hold_on empty_state Rests) r.hold;
+  }
+
+  pub strands_on : (v : SeatView) → IsStrandedSeat v → IsStranded (view_on first v)
+  strands_on v r = record {
+    down = r.down;
+    flight = r.flight;
+    place = r.place;
+    stage = r.stage;
+    hold = held_on v.hold (hold_on empty_state Rests) r.hold;
   }
 
   back_tape : (t : Rattle.std.specs.Prelude.Option Tape)

@@ -1,7 +1,7 @@
 -- One call of the device by a seat that has the writer in hand.
 use Rattle.std.specs.Prelude.{◌≡◌, ℕ, ◌/◌, ◌^◌, ◌<◌, List, [], ◌∷◌, Result}
 use mathlib.Core.Option.{none}
-use Rattle.segment_disk.specs.Tape.{DiskState, Tape, create_call, sync_call, write_call}
+use Rattle.segment_disk.specs.Tape.{Tape, create_call, sync_call, write_call}
 use Rattle.flush_core.specs.declared.writer.DiskFault.{DiskFault}
 use Rattle.wal_core.specs.Words.{Opening}
 use Rattle.wal_core.specs.Views.{Plain}
@@ -40,14 +40,15 @@ IsWriteLow size (writes segment page upto bytes) = segment < 2 ^ 64 / size
 IsWriteLow size (syncs segment) = Unit {0}
 
 module _ {D : Type 0} (tape : D → Rattle.std.specs.Prelude.Option Tape) (moment faults : D → ℕ)
-    (first : DiskState) (opening : Opening) (call : DeviceCall) (result : Result Unit DiskFault)
+    (began : Rattle.std.specs.Prelude.Option Tape) (opening : Opening) (call : DeviceCall)
+    (result : Result Unit DiskFault)
   where
     -- the call is made, and the view does not tell it yet
     pub record IsCalled (me : SeatView × List (ℕ × LogWriter D)) : Type 0 where
       pub lent : SeatLent
       pub before : LogWriter D
       pub writer : LogWriter D
-      pub had : HasInHand tape moment faults first opening (me.0, (0, before) ∷ []) lent before
+      pub had : HasInHand tape moment faults began opening (me.0, (0, before) ∷ []) lent before
       pub slot : me.1 ≡ (0, writer) ∷ []
       pub ends : CallEnds tape moment faults before writer result
           (writer_behind (opening.setup).segment_size call)
@@ -61,4 +62,4 @@ module _ {D : Type 0} (tape : D → Rattle.std.specs.Prelude.Option Tape) (momen
         pub view_is : new.0 ≡ behind (step_of_call call outcome) 0 none old
         pub lent : SeatLent
         pub writer : LogWriter D
-        pub in_hand : HasInHand tape moment faults first opening new lent writer
+        pub in_hand : HasInHand tape moment faults began opening new lent writer

@@ -1,28 +1,31 @@
 -- What a closed table leaves: the writer, and the last state of the machine.
-use Rattle.std.specs.Prelude.{ℕ, List}
+use Rattle.std.specs.Prelude.{◌≡◌, ℕ, List}
 use mathlib.Core.Option.{some}
-use Rattle.segment_disk.specs.Tape.{DiskState, Tape}
-use Rattle.wal_core.specs.Words.{Opening}
-use Rattle.wal_core.specs.Views.{View}
+use Rattle.segment_disk.specs.Tape.{Tape}
+use Rattle.wal_core.specs.Words.{Opening, position_word}
+use Rattle.wal_core.specs.Views.{HasAt, View}
 use Rattle.wal_core.specs.Sound.{IsSound}
 use Rattle.order_laws.specs.Shared.{HasNumber}
 use Rattle.closing_laws.specs.Closed.{IsClosed}
 use Rattle.wal_rule.specs.declared.writer.LogWriter.{LogWriter}
-use Rattle.wal_rule.specs.Slotted.{IsOfLog, slot_plain}
+use Rattle.wal_rule.specs.Slotted.{IsOfLog, first_on, slot_plain}
 use Rattle.wal_rule.specs.Seats.{SeatView, view_on}
 
--- a table ended with this view of its last seat, and this writer: it is the log's, and stood at
--- home in a sound state of the machine, in which this was the last pass
+-- a table ended with this view of its last seat, this writer and this number of the position: the
+-- writer is the log's, and stood at home in a sound state of the machine, in which this was the
+-- last pass, of this number among the views, and the position's word
 pub record ClosesWith {D : Type 0} (tape : D → Rattle.std.specs.Prelude.Option Tape)
-    (moment faults : D → ℕ) (first : DiskState) (opening : Opening) (v : SeatView)
-    (w : LogWriter D) : Type 0 where
-  pub of_log : IsOfLog tape faults first opening w
+    (moment faults : D → ℕ) (began : Rattle.std.specs.Prelude.Option Tape) (opening : Opening)
+    (v : SeatView) (w : LogWriter D) (position : ℕ) : Type 0 where
+  pub of_log : IsOfLog tape faults began opening w
   pub words : List ℕ
+  pub position_is : position ≡ position_word words
   pub views : List View
   pub id : ℕ
+  pub here : HasAt views id (view_on (first_on began) v)
   pub sound : IsSound opening words (some (slot_plain tape moment w)) views
   pub closed : IsClosed opening sound.order words (some (slot_plain tape moment w))
-      (slot_plain tape moment w) views id (view_on first v)
+      (slot_plain tape moment w) views id (view_on (first_on began) v)
 
 -- one view has each number that the other one had
 abbrev pub KeepsNumbers : SeatView → SeatView → Type 0

@@ -2,6 +2,7 @@ pub mod Slotted
 pub mod Seats
 pub mod Founded
 pub mod Stepping
+pub mod Downs
 pub mod Passes
 pub mod Tables
 pub mod Ruled

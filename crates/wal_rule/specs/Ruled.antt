@@ -2,13 +2,13 @@
 use Rattle.std.specs.Prelude.{◌≡◌, ℕ, List, [], ◌∷◌, length, map}
 use mathlib.Core.Option.{Option, none, some}
 use lib.ListN.{get_elem?}
-use Rattle.segment_disk.specs.Tape.{DiskState, Tape}
+use Rattle.segment_disk.specs.Tape.{Tape}
 use Rattle.wal_core.specs.Words.{Opening}
 use Rattle.wal_core.specs.Views.{Plain}
 use Rattle.wal_core.specs.Sound.{IsSound}
 use Rattle.wal_core.specs.Steps.{slot_out}
 use Rattle.wal_rule.specs.declared.writer.LogWriter.{LogWriter}
-use Rattle.wal_rule.specs.Slotted.{IsOfLog, slot_plain}
+use Rattle.wal_rule.specs.Slotted.{IsOfLog, first_on, slot_plain}
 use Rattle.wal_rule.specs.Seats.{HasWriter, SeatLent, SeatView, behind, first_lent, view_on, writer_told}
 
 module _ {D : Type 0} (tape : D → Rattle.std.specs.Prelude.Option Tape) (moment faults : D → ℕ)
@@ -20,33 +20,34 @@ module _ {D : Type 0} (tape : D → Rattle.std.specs.Prelude.Option Tape) (momen
     home_of (some w ∷ homes) = some (slot_plain tape moment w)
 
     -- a seat with the writer in hand: in its slot as it keeps it in its view
-    pub record HasInHand (first : DiskState) (opening : Opening)
+    pub record HasInHand (began : Rattle.std.specs.Prelude.Option Tape) (opening : Opening)
         (me : SeatView × List (ℕ × LogWriter D)) (l : SeatLent) (w : LogWriter D) : Type 0 where
       pub hold : (me.0).hold ≡ HasWriter l
       pub slot : me.1 ≡ (0, w) ∷ []
       pub kept : l.writer ≡ writer_told (slot_plain tape moment w)
-      pub of_log : IsOfLog tape faults first opening w
+      pub of_log : IsOfLog tape faults began opening w
 
     -- the order, the writer, the memory and what else is existential stand in `IsSound`
-    pub record IsRuled (opening : Opening) (first : DiskState) (words : List ℕ)
-        (homes : List (Option (LogWriter D))) (views : List SeatView) : Type 0 where
+    pub record IsRuled (opening : Opening) (began : Rattle.std.specs.Prelude.Option Tape)
+        (words : List ℕ) (homes : List (Option (LogWriter D))) (views : List SeatView)
+        : Type 0 where
       pub one : length homes ≡ 1
       pub of_log : (w : LogWriter D) → get_elem? homes 0 ≡ some (some w)
-          → IsOfLog tape faults first opening w
-      pub sound : IsSound opening words (home_of homes) (map (view_on first) views)
+          → IsOfLog tape faults began opening w
+      pub sound : IsSound opening words (home_of homes) (map (view_on (first_on began)) views)
 
     -- a seat took this writer of its log out of the slot, behind this number met
-    pub record IsOutOf (first : DiskState) (opening : Opening) (met : ℕ) (w : LogWriter D)
-        (old new : SeatView × List (ℕ × LogWriter D)) : Type 0 where
-      pub of_log : IsOfLog tape faults first opening w
+    pub record IsOutOf (began : Rattle.std.specs.Prelude.Option Tape) (opening : Opening)
+        (met : ℕ) (w : LogWriter D) (old new : SeatView × List (ℕ × LogWriter D)) : Type 0 where
+      pub of_log : IsOfLog tape faults began opening w
       pub me_is : new
           ≡ (behind slot_out met (some (slot_plain tape moment w)) old.0, (0, w) ∷ old.1)
 
     -- a seat took the turn to write and the writer: nothing else has changed for it
-    pub record HasTaken (first : DiskState) (opening : Opening)
+    pub record HasTaken (began : Rattle.std.specs.Prelude.Option Tape) (opening : Opening)
         (old new : SeatView × List (ℕ × LogWriter D)) : Type 0 where
       pub writer : LogWriter D
-      pub in_hand : HasInHand first opening new (first_lent (slot_plain tape moment writer) old.0)
+      pub in_hand : HasInHand began opening new (first_lent (slot_plain tape moment writer) old.0)
           writer
       pub view_is : new.0 ≡ record old.0 {
         hold = HasWriter (first_lent (slot_plain tape moment writer) old.0);

@@ -6,9 +6,9 @@ use Rattle.segment_disk.specs.declared.disk.Call.{Call}
 use Rattle.segment_disk.specs.Tape.{DiskState, Tape, empty_state}
 use Rattle.wal_core.specs.Words.{Opening}
 use Rattle.wal_core.specs.Views.{FlushPromise, Hold, Idle, Lent, Mapping, Out, Plain, Reserving, Turned, View, Watching, Working}
-use Rattle.wal_core.specs.Moves.{after_join, after_split, lent, spent, split_off}
+use Rattle.wal_core.specs.Moves.{after_join, after_split, lent, orphan_of, spent, split_off, without_work}
 use Rattle.wal_core.specs.Opened.{first_view}
-use Rattle.wal_core.specs.Steps.{IsResting, StepKind, view_behind}
+use Rattle.wal_core.specs.Steps.{IsResting, IsStranded, StepKind, view_behind}
 
 -- the writer as plain data (`Plain`), its disk's tape by the counted calls
 pub record SeatWriter : Type 0 where
@@ -172,6 +172,13 @@ seat_after_join v w = seat_view (after_join (view_on empty_state v) (view_on emp
 abbrev pub seat_spent : SeatView → SeatView
 seat_spent v = seat_view (spent (view_on empty_state v))
 
+-- what is left of a view that gives up its copy, and what stays with a view of its own
+abbrev pub seat_without_work : SeatView → SeatView
+seat_without_work v = seat_view (without_work (view_on empty_state v))
+
+abbrev pub seat_orphan : SeatView → SeatView
+seat_orphan v = seat_view (orphan_of (view_on empty_state v))
+
 -- the view of a table's first seat
 abbrev pub first_seat_view : Opening → SeatView
 first_seat_view opening = seat_view (first_view opening)
@@ -179,6 +186,10 @@ first_seat_view opening = seat_view (first_view opening)
 -- about nothing, so that another seat may take it in
 abbrev pub IsAtRest : SeatView → Type 0
 IsAtRest v = IsResting (view_on empty_state v)
+
+-- met or set a down value, and is about nothing but a copy that it does not end
+abbrev pub IsStrandedSeat : SeatView → Type 0
+IsStrandedSeat v = IsStranded (view_on empty_state v)
 
 -- of a log without a size: what stands where a proof picks a view
 abbrev pub no_view : SeatView

@@ -1,6 +1,7 @@
 -- The writer in the table's slot, as the machine sees it, and what one device call leaves of it.
-use Rattle.std.specs.Prelude.{◌≡◌, ℕ, ◌/◌, ◌^◌, ◌<◌, ◌≤◌, Bool, Result, MatchResult, IfErr, IfSome, Some, None}
+use Rattle.std.specs.Prelude.{◌≡◌, ℕ, ◌/◌, ◌^◌, ◌<◌, ◌≤◌, Bool, List, ◌++◌, Result, MatchResult, IfErr, IfSome, IsSome, Some, None}
 use mathlib.Core.Option.{Option, none, some}
+use Rattle.segment_disk.specs.declared.disk.Call.{Call}
 use Rattle.segment_disk.specs.Cause.{Rose}
 use Rattle.segment_disk.specs.Tape.{DiskState, Tape, empty_state}
 use Rattle.flush_core.specs.declared.writer.DiskFault.{DiskFault}
@@ -38,12 +39,18 @@ abbrev pub first_on : Rattle.std.specs.Prelude.Option Tape → DiskState
 first_on None = empty_state
 first_on (Some t) = t.at_first
 
+-- the calls on a tape are those on another one, which is told, and some behind them
+abbrev pub GoesOnFrom : Rattle.std.specs.Prelude.Option Tape → Tape → Type 0
+GoesOnFrom None t = ⊥
+GoesOnFrom (Some b) t = (later : List Call) × (t.calls ≡ b.calls ++ later)
+
 -- a call ended so
 abbrev pub EndsAs : Result Unit DiskFault → Outcome → Type 0
 EndsAs result outcome = MatchResult result (λ _. outcome ≡ Done)
     (λ e. (counted : Option Bool) × (outcome ≡ Failed e.faults counted))
 
--- a device call ended: the writer is as the machine's call by this outcome leaves it
+-- a device call ended: the writer is as the machine's call by this outcome leaves it, and the
+-- disk's count of faults is as before, or the one told
 pub record CallEnds {D : Type 0} (tape : D → Rattle.std.specs.Prelude.Option Tape)
     (moment faults : D → ℕ) (old new : LogWriter D) (result : Result Unit DiskFault)
     (behind_call : Outcome → Plain → Plain) : Type 0 where
@@ -52,14 +59,23 @@ pub record CallEnds {D : Type 0} (tape : D → Rattle.std.specs.Prelude.Option T
   pub plain_is : slot_plain tape moment new ≡ behind_call outcome (slot_plain tape moment old)
   pub same_size : slot_segment_size new ≡ slot_segment_size old
   pub rises : faults (slot_disk old) ≤ faults (slot_disk new)
+  pub counts : MatchResult result (λ _. faults (slot_disk new) ≡ faults (slot_disk old))
+      (λ e. e.faults ≡ faults (slot_disk new))
   pub fault : IfErr result (λ e. Rose (faults (slot_disk old)) e.faults)
 
--- the writer of a log: it makes segments of the log's size, on a disk that held this at first and
--- that has failed no less often than at the opening; and the segment that waits has an address
+-- the writer of a log: it makes segments of the log's size, on a disk whose tape goes on from this
+-- one, that of the opening, and that has failed no less often than then: just as often where the
+-- writer has met no fault, and else as often as the fault that it keeps; and the segment that waits
+-- has an address
 pub record IsOfLog {D : Type 0} (tape : D → Rattle.std.specs.Prelude.Option Tape)
-    (faults : D → ℕ) (first : DiskState) (opening : Opening) (w : LogWriter D) : Type 0 where
+    (faults : D → ℕ) (began : Rattle.std.specs.Prelude.Option Tape) (opening : Opening)
+    (w : LogWriter D) : Type 0 where
   pub size_is : slot_segment_size w ≡ (opening.setup).segment_size
-  pub on_first : IfSome (tape (slot_disk w)) (λ t. t.at_first ≡ first)
+  pub on_first : IfSome (tape (slot_disk w)) (λ t. t.at_first ≡ first_on began)
+  pub goes_on : IfSome (tape (slot_disk w)) (GoesOnFrom began)
+  pub told : IsSome began → IsSome (tape (slot_disk w))
   pub failed : opening.faults ≤ faults (slot_disk w)
+  pub up : as_machine_has w.fault ≡ none → faults (slot_disk w) ≡ opening.faults
+  pub down : (f : ℕ) → as_machine_has w.fault ≡ some f → f ≡ faults (slot_disk w)
   pub waits_low : (segment : ℕ) → as_machine_has w.waiting ≡ some segment
       → segment < 2 ^ 64 / (opening.setup).segment_size

@@ -1,5 +1,5 @@
 -- A seat that may step, and what a step leaves of it.
-use Rattle.std.specs.Prelude.{◌≡◌, ℕ, List, true}
+use Rattle.std.specs.Prelude.{◌≡◌, ℕ, List, slice_index, true}
 use mathlib.Core.Option.{Option, none}
 use Rattle.atomic_table.specs.Seated.{TableId}
 use Rattle.atomic_table.specs.declared.shared.Seat.{Seat}
@@ -55,3 +55,9 @@ pub record SeatSteps {S : Type 0} (e : StepKind) (met : ℕ) (old new : Seat S S
     pub same_table : new.table_id ≡ old.table_id
     pub same_id : new.id ≡ old.id
     pub me_is : new.me ≡ (behind e met none (old.me).0, (old.me).1)
+
+-- a pass with this view met this number at a step of a kind: in some state that the rule allows the
+-- step's word held it
+pub record Meets (v : SeatView) (e : StepKind) (met : ℕ) : Type 0 where
+  pub before : Stands v
+  pub met_is : met ≡ slice_index before.words (word_at_step v e)

@@ -1,27 +1,26 @@
--- What a table is of: the log that was opened so, on a disk that held this at first.
+-- What a table is of: the log that was opened so, on a disk with this tape.
 use Rattle.std.specs.Prelude.{Option}
 use Rattle.atomic_table.specs.Seated.{TableId}
 use Rattle.atomic_table.specs.declared.shared.Seat.{Seat}
-use Rattle.segment_disk.specs.Tape.{DiskState, Tape}
+use Rattle.segment_disk.specs.Tape.{Tape}
 use Rattle.wal_core.specs.Words.{Opening}
 use Rattle.wal_rule.specs.declared.table.LogTable.{LogTable}
 use Rattle.wal_rule.specs.declared.pass.Pass.{Pass}
 use Rattle.wal_rule.specs.declared.writer.LogWriter.{LogWriter}
 use Rattle.wal_rule.specs.Founded.{disk_of_founding, founded_opening}
 use Rattle.wal_rule.specs.Seats.{SeatView}
-use Rattle.wal_rule.specs.Slotted.{first_on}
 use Rattle.wal_rule.specs.Passes.{IsPassOf}
 use Rattle.wal_rule.specs.Stepping.{IsSeatOf}
 
--- which table it is, how its log was opened, and what its disk held then
+-- which table it is, how its log was opened, and its disk's tape then
 abbrev pub table_number : {D : Type 0} → LogTable D → TableId
 table_number t = ((t.table).shared).table_id
 
 abbrev pub opening_of_table : {D : Type 0} → LogTable D → Opening
 opening_of_table t = founded_opening ((t.table).shared).key
 
-abbrev pub first_of_table : {D : Type 0} → (D → Option Tape) → LogTable D → DiskState
-first_of_table tape t = first_on (tape (disk_of_founding ((t.table).shared).key))
+abbrev pub began_of_table : {D : Type 0} → (D → Option Tape) → LogTable D → Option Tape
+began_of_table tape t = tape (disk_of_founding ((t.table).shared).key)
 
 -- a live seat of it
 abbrev pub IsSeatOn : {D : Type 0} → LogTable D → Seat (LogWriter D) SeatView → Type 0

@@ -1,43 +1,46 @@
-// A table is closed, and its writer comes back.
+// A table is closed, and its writer comes back with the position.
 ghost use Rattle.closing_laws.specs.Closed.{HasAllNumbers};
 ghost use Rattle.wal_rule.specs.Closing.{ClosesWith};
 ghost use Rattle.wal_rule.specs.Passes.{view_of_pass};
 ghost use Rattle.wal_rule.specs.Seats.{IsAtRest};
-ghost use Rattle.wal_rule.specs.Tables.{IsPassOn, IsSeatOn, first_of_table, opening_of_table};
+ghost use Rattle.wal_rule.specs.Tables.{IsPassOn, IsSeatOn, began_of_table, opening_of_table};
 
 use crate::pass::Pass;
 use crate::table::{LogSeat, LogTable};
 use crate::writer::LogWriter;
 use segment_disk::Disk;
 
+const POSITION: usize = 0;
+
 impl<D: Disk> LogTable<D> {
     /// Ends the table by the seat that has all numbers and is about nothing, so that every other
-    /// one was joined, and gives the writer back. It makes no device call.
-    pub fn close(self, seat: LogSeat<D>) -> LogWriter<D>
+    /// one was joined. Gives the writer back, and the position's word. It makes no device call.
+    pub fn close(self, seat: LogSeat<D>) -> (LogWriter<D>, u64)
         requires seat { IsSeatOn self seat }
         requires rests { IsAtRest seat.me.0 }
         requires numbers { HasAllNumbers (opening_of_table self).setup.passes
             seat.me.0.reserving }
-        ensures { ClosesWith D.tape D.moment D.faults (first_of_table D.tape self)
-            (opening_of_table self) seat.me.0 result }
+        ensures { ClosesWith D.tape D.moment D.faults (began_of_table D.tape self)
+            (opening_of_table self) seat.me.0 result.0 result.1 }
     {
         let LogTable { table } = self;
         let mut closed = table.close_with(seat);
+        let position = closed.word(POSITION);
         let writer = closed.take(0);
         closed.free();
-        writer
+        (writer, position)
     }
 }
 
 impl Pass {
     /// Ends the table by the pass that has all numbers and is about nothing.
-    pub fn close<D: Disk>(mut self, table: LogTable<D>) -> LogWriter<D>
+    pub fn close<D: Disk>(mut self, table: LogTable<D>) -> (LogWriter<D>, u64)
         requires pass { IsPassOn table self }
         requires rests { IsAtRest (view_of_pass self) }
         requires numbers { HasAllNumbers (opening_of_table table).setup.passes
             (view_of_pass self).reserving }
-        ensures { ClosesWith D.tape D.moment D.faults (first_of_table D.tape table)
-            (opening_of_table table) (view_of_pass self) result }
+        ensures { ClosesWith D.tape D.moment D.faults (began_of_table D.tape table)
+            (opening_of_table table) (view_of_pass self) result.0 result.1 }
     {
         let seat = self.seat();
         table.close(seat)

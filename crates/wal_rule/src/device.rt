@@ -6,7 +6,7 @@ ghost use Rattle.wal_rule.specs.Called.{DeviceCallEnds, IsCalled, creates, step_
 ghost use Rattle.wal_rule.specs.Ruled.{HasInHand};
 ghost use Rattle.wal_rule.specs.Seats.{SeatLent};
 ghost use Rattle.wal_rule.specs.Stepping.{MaySeat};
-ghost use Rattle.wal_rule.specs.Tables.{IsSeatOn, first_of_table, opening_of_table};
+ghost use Rattle.wal_rule.specs.Tables.{IsSeatOn, began_of_table, opening_of_table};
 
 use crate::plays::{CatchesUp, OfCall};
 use crate::table::{LogSeat, LogTable};
@@ -22,9 +22,9 @@ impl<D: Disk> LogTable<D> {
     pub fn create(&self, seat: &mut LogSeat<D>, segment: u64) -> Result<(), DiskFault>
         requires seat { IsSeatOn self.now seat.old }
         requires out { (l : SeatLent) × (w : _) × HasInHand D.tape D.moment D.faults
-            (first_of_table D.tape self.now) (opening_of_table self.now) seat.old.me l w }
+            (began_of_table D.tape self.now) (opening_of_table self.now) seat.old.me l w }
         requires may { MaySeat seat.old.me.0 (create segment Done) }
-        ensures ended { DeviceCallEnds D.tape D.moment D.faults (first_of_table D.tape self.now)
+        ensures ended { DeviceCallEnds D.tape D.moment D.faults (began_of_table D.tape self.now)
             (opening_of_table self.now) (creates segment) result seat.old.me.0 seat.new.me }
         ensures seat { IsSeatOn self.now seat.new }
     {
@@ -46,9 +46,9 @@ impl<D: Disk> LogTable<D> {
     ) -> Result<(), DiskFault>
         requires seat { IsSeatOn self.now seat.old }
         requires out { (l : SeatLent) × (w : _) × HasInHand D.tape D.moment D.faults
-            (first_of_table D.tape self.now) (opening_of_table self.now) seat.old.me l w }
+            (began_of_table D.tape self.now) (opening_of_table self.now) seat.old.me l w }
         requires may { MaySeat seat.old.me.0 (write segment page upto bytes.now Done) }
-        ensures ended { DeviceCallEnds D.tape D.moment D.faults (first_of_table D.tape self.now)
+        ensures ended { DeviceCallEnds D.tape D.moment D.faults (began_of_table D.tape self.now)
             (opening_of_table self.now) (writes segment page upto bytes.now) result seat.old.me.0
             seat.new.me }
         ensures seat { IsSeatOn self.now seat.new }
@@ -64,9 +64,9 @@ impl<D: Disk> LogTable<D> {
     pub fn sync(&self, seat: &mut LogSeat<D>, segment: u64) -> Result<(), DiskFault>
         requires seat { IsSeatOn self.now seat.old }
         requires out { (l : SeatLent) × (w : _) × HasInHand D.tape D.moment D.faults
-            (first_of_table D.tape self.now) (opening_of_table self.now) seat.old.me l w }
+            (began_of_table D.tape self.now) (opening_of_table self.now) seat.old.me l w }
         requires may { MaySeat seat.old.me.0 (sync segment Done) }
-        ensures ended { DeviceCallEnds D.tape D.moment D.faults (first_of_table D.tape self.now)
+        ensures ended { DeviceCallEnds D.tape D.moment D.faults (began_of_table D.tape self.now)
             (opening_of_table self.now) (syncs segment) result seat.old.me.0 seat.new.me }
         ensures seat { IsSeatOn self.now seat.new }
     {
@@ -84,11 +84,11 @@ impl<D: Disk> LogTable<D> {
         _ended: &Result<(), DiskFault>,
     )
         requires seat { IsSeatOn self.now seat.old }
-        requires first { B.first ≡ first_of_table D.tape self.now }
+        requires began { B.began ≡ began_of_table D.tape self.now }
         requires may { MaySeat seat.old.me.0 (step_of_call B.call Done) }
-        requires called { IsCalled D.tape D.moment D.faults B.first (opening_of_table self.now)
+        requires called { IsCalled D.tape D.moment D.faults B.began (opening_of_table self.now)
             B.call B.ended seat.old.me }
-        ensures ended { DeviceCallEnds D.tape D.moment D.faults B.first (opening_of_table self.now)
+        ensures ended { DeviceCallEnds D.tape D.moment D.faults B.began (opening_of_table self.now)
             B.call B.ended seat.old.me.0 seat.new.me }
         ensures seat { IsSeatOn self.now seat.new }
     {

@@ -2,8 +2,11 @@
 //! machine's invariant.
 #![tactic(auto)]
 
+pub mod beginnings;
 mod closing;
 mod device;
+pub mod downs;
+mod giving_up;
 mod joining;
 mod locks;
 mod mapping;

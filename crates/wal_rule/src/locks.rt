@@ -1,7 +1,7 @@
 // The insertion locks (PostgreSQL's xlog.c, WALInsertLockAcquire, WALInsertLockUpdateInsertingAt).
 ghost use Rattle.std.specs.Prelude.{◌≡◌, ◌+◌, ◌<◌, ◌^◌};
 ghost use Rattle.wal_core.specs.Steps.{advance, load_lock, release, take_lock};
-ghost use Rattle.wal_rule.specs.Stepping.{MaySeat, SeatSteps};
+ghost use Rattle.wal_rule.specs.Stepping.{MaySeat, Meets, SeatSteps};
 ghost use Rattle.wal_rule.specs.Tables.{IsSeatOn};
 
 use crate::quiet::Operands;
@@ -19,6 +19,7 @@ impl<D: Disk> LogTable<D> {
         requires seat { IsSeatOn self.now seat.old }
         requires lock { lock < 8 }
         ensures steps { SeatSteps (load_lock lock limit) result seat.old seat.new }
+        ensures met { Meets seat.old.me.0 (load_lock lock limit) result }
         ensures seat { IsSeatOn self.now seat.new }
     {
         self.loads::<Brand>(seat, LOCKS + lock as usize, lock_and(lock, limit))

@@ -1,5 +1,5 @@
 // A table is made, of a log that holds nothing.
-ghost use Rattle.std.specs.Prelude.{◌≡◌, ◌≤◌, [], ◌∷◌, IfErr, IfOk};
+ghost use Rattle.std.specs.Prelude.{◌≡◌, [], ◌∷◌, IfErr, IfOk};
 ghost use Rattle.wal_core.specs.Opened.{AreFirstWords, IsFirstWriter, IsNew};
 ghost use Rattle.wal_rule.specs.Founded.{disk_of_founding, founded_opening};
 ghost use Rattle.wal_rule.specs.Seats.{first_seat_view};
@@ -28,7 +28,7 @@ impl<D: Disk> LogTable<D> {
             (slot_plain D.tape D.moment writer) }
         requires disk { disk_of_founding founding.now ≡ slot_disk writer }
         requires size { slot_segment_size writer ≡ founding.now.setup.segment_size }
-        requires failed { founding.now.faults ≤ D.faults (slot_disk writer) }
+        requires failed { founding.now.faults ≡ D.faults (slot_disk writer) }
         ensures key { IfOk result (λ t. t.0.table.shared.key ≡ founding.now) }
         ensures seat { IfOk result (λ t. (t.1.me
             ≡ (first_seat_view (founded_opening founding.now), [])) × IsSeatOn t.0 t.1) }

@@ -1,5 +1,5 @@
 // A pass: a seat between two calls, with its numbers.
-ghost use Rattle.std.specs.Prelude.{◌≡◌, ◌<◌, ◌≤◌, []};
+ghost use Rattle.std.specs.Prelude.{◌≡◌, ◌-◌, ◌<◌, ◌≤◌, []};
 ghost use Rattle.atomic_table.specs.Seated.{TableId};
 ghost use Rattle.wal_core.specs.Words.{Opening};
 ghost use Rattle.wal_rule.specs.Passes.{HasNumbers, IsPassOf, SamePass, view_of_pass};
@@ -38,6 +38,20 @@ impl Pass {
             spare,
             spare_end,
         }
+    }
+
+    /// Its number, which no other pass of its table has.
+    pub fn number(&self) -> u32
+        ensures { result ≡ self.now.number }
+    {
+        self.number
+    }
+
+    /// How many spare numbers it has: so many passes it may split off.
+    pub fn spare(&self) -> u32
+        ensures { result ≡ self.now.spare_end - self.now.spare }
+    {
+        self.spare_end.saturating_sub(self.spare)
     }
 
     /// The seat, for the steps of a call; the pass is none until it is put back.

@@ -1,13 +1,13 @@
 // What each step tells its pass: the view behind it.
-ghost use Rattle.std.specs.Prelude.{◌≡◌, [], Ok, Result};
+ghost use Rattle.std.specs.Prelude.{◌≡◌, [], None, Ok, Option, Result};
 ghost use mathlib.Core.Option.{none};
-ghost use Rattle.segment_disk.specs.Tape.{DiskState, empty_state};
+ghost use Rattle.segment_disk.specs.Tape.{Tape};
 ghost use Rattle.flush_core.specs.declared.writer.DiskFault.{DiskFault};
 ghost use Rattle.wal_core.specs.Steps.{StepKind, load_position, slot_in};
 ghost use Rattle.wal_rule.specs.Called.{DeviceCall, DeviceCallEnds, syncs};
 ghost use Rattle.wal_rule.specs.Ruled.{IsOutOf};
-ghost use Rattle.wal_rule.specs.Seats.{SeatView, behind, no_view, seat_after_join, seat_after_split, seat_split_off};
-ghost use Rattle.wal_rule.specs.Stepping.{Stands};
+ghost use Rattle.wal_rule.specs.Seats.{SeatView, behind, no_view, seat_after_join, seat_after_split, seat_orphan, seat_split_off, seat_without_work};
+ghost use Rattle.wal_rule.specs.Stepping.{Meets, Stands};
 
 use crate::seats::PassView;
 use crate::writer::LogWriter;
@@ -33,6 +33,16 @@ impl<D, K: OfKind> Play<LogWriter<D>, PassView> for Quietly<K> {
     ghost then = { λ st m r n. (n ≡ (behind K.kind r none m.0, m.1)) × Stands n.0 };
 }
 
+/// A load that moves no writer, which tells also that its number was met.
+pub struct Loads<K: OfKind> {
+    kind: PhantomData<K>,
+}
+
+impl<D, K: OfKind> Play<LogWriter<D>, PassView> for Loads<K> {
+    ghost then = { λ st m r n. (n ≡ (behind K.kind r none m.0, m.1)) × Stands n.0
+        × Meets m.0 K.kind r };
+}
+
 /// A new pass has the least spare number.
 pub struct SplitsOff;
 
@@ -40,6 +50,15 @@ impl Split<PassView> for SplitsOff {
     ghost left = { seat_after_split };
 
     ghost right = { seat_split_off };
+}
+
+/// A pass gives up its copy, which stays with a view of its own.
+pub struct GivesUp;
+
+impl Split<PassView> for GivesUp {
+    ghost left = { seat_without_work };
+
+    ghost right = { seat_orphan };
 }
 
 /// What is left of a pass that was taken in, which its call picks for the proof alone.
@@ -61,23 +80,23 @@ impl<B: Leaves> Join<PassView> for TakesIn<B> {
     ghost spent = { B.left };
 }
 
-/// What the disk held at first, which a call picks for the proof alone.
-pub trait HeldFirst {
-    ghost first: { DiskState };
+/// The disk's tape at the opening, which a call picks for the proof alone.
+pub trait BeganOn {
+    ghost began: { Option Tape };
 }
 
-impl HeldFirst for Brand {
-    ghost first = { empty_state };
+impl BeganOn for Brand {
+    ghost began = { None };
 }
 
-pub struct SlotOut<D, B: HeldFirst> {
+pub struct SlotOut<D, B: BeganOn> {
     disk: PhantomData<D>,
-    first: PhantomData<B>,
+    began: PhantomData<B>,
 }
 
-impl<D: Disk, B: HeldFirst> Play<LogWriter<D>, PassView> for SlotOut<D, B> {
+impl<D: Disk, B: BeganOn> Play<LogWriter<D>, PassView> for SlotOut<D, B> {
     ghost then = { λ st m r n. (w : _)
-        × IsOutOf D.tape D.moment D.faults B.first (m.0).opening r w m n × Stands n.0 };
+        × IsOutOf D.tape D.moment D.faults B.began (m.0).opening r w m n × Stands n.0 };
 }
 
 pub struct SlotIn;
@@ -99,7 +118,7 @@ pub trait OfCall {
 
     ghost ended: { Result Unit DiskFault };
 
-    ghost first: { DiskState };
+    ghost began: { Option Tape };
 }
 
 impl OfCall for Brand {
@@ -107,7 +126,7 @@ impl OfCall for Brand {
 
     ghost ended = { Ok tt };
 
-    ghost first = { empty_state };
+    ghost began = { None };
 }
 
 pub struct CatchesUp<D, B: OfCall> {
@@ -116,6 +135,6 @@ pub struct CatchesUp<D, B: OfCall> {
 }
 
 impl<D: Disk, B: OfCall> Play<LogWriter<D>, PassView> for CatchesUp<D, B> {
-    ghost then = { λ st m r n. DeviceCallEnds D.tape D.moment D.faults B.first (m.0).opening
+    ghost then = { λ st m r n. DeviceCallEnds D.tape D.moment D.faults B.began (m.0).opening
         B.call B.ended m.0 n × Stands n.0 };
 }

@@ -1,9 +1,13 @@
 // How far the log is reserved, written and durable, and whether its disk has failed (PostgreSQL's
 // xlog.c, LogwrtResult).
-ghost use Rattle.std.specs.Prelude.{◌≡◌};
+ghost use Rattle.std.specs.Prelude.{◌≡◌, ◌≢◌, ℕ, ◌<◌, ◌≤◌, ◌^◌, All};
+ghost use Rattle.segment_disk.specs.Cause.{Rose};
+ghost use Rattle.wal_core.specs.Moves.{unlocked};
+ghost use Rattle.wal_core.specs.Views.{FlushPromise};
 ghost use Rattle.wal_core.specs.Steps.{load_down, load_flushed, load_moment, load_position, load_written, set_down, store_flushed, store_moment, store_written};
-ghost use Rattle.wal_rule.specs.Stepping.{MaySeat, SeatSteps, value_left};
-ghost use Rattle.wal_rule.specs.Tables.{IsSeatOn};
+ghost use Rattle.wal_rule.specs.Downs.{KnowsDown};
+ghost use Rattle.wal_rule.specs.Stepping.{MaySeat, Meets, SeatSteps, value_left};
+ghost use Rattle.wal_rule.specs.Tables.{IsSeatOn, opening_of_table};
 
 use crate::plays::OfKind;
 use crate::quiet::NO_OPERANDS;
@@ -75,10 +79,14 @@ impl OfKind for SetsDown {
 }
 
 impl<D: Disk> LogTable<D> {
-    /// How far records are reserved: a byte position, one more while it is locked.
+    /// How far records are reserved: a byte position, one more while it is locked. No pass has seen
+    /// more.
     pub fn load_position(&self, seat: &mut LogSeat<D>) -> u64
         requires seat { IsSeatOn self.now seat.old }
         ensures steps { SeatSteps load_position result seat.old seat.new }
+        ensures met { Meets seat.old.me.0 load_position result }
+        ensures rises { seat.old.me.0.reserving.seen ≤ unlocked result }
+        ensures low { result < 2 ^ 60 }
         ensures seat { IsSeatOn self.now seat.new }
     {
         self.loads::<LoadsPosition>(seat, POSITION, NO_OPERANDS)
@@ -88,33 +96,43 @@ impl<D: Disk> LogTable<D> {
     pub fn load_written(&self, seat: &mut LogSeat<D>) -> u64
         requires seat { IsSeatOn self.now seat.old }
         ensures steps { SeatSteps load_written result seat.old seat.new }
+        ensures met { Meets seat.old.me.0 load_written result }
         ensures seat { IsSeatOn self.now seat.new }
     {
         self.loads::<LoadsWritten>(seat, WRITTEN, NO_OPERANDS)
     }
 
-    /// The flushed address.
+    /// The flushed address. The pass was promised nothing beyond it.
     pub fn load_flushed(&self, seat: &mut LogSeat<D>) -> u64
         requires seat { IsSeatOn self.now seat.old }
         ensures steps { SeatSteps load_flushed result seat.old seat.new }
+        ensures met { Meets seat.old.me.0 load_flushed result }
+        ensures furthest { All (λ (p : FlushPromise). p.upto ≤ result) seat.old.me.0.promises }
         ensures seat { IsSeatOn self.now seat.new }
     {
         self.loads::<LoadsFlushed>(seat, FLUSHED, NO_OPERANDS)
     }
 
-    /// The disk's moment when the last flush had ended.
+    /// The disk's moment when the last flush had ended. The pass was promised nothing of a later
+    /// one.
     pub fn load_moment(&self, seat: &mut LogSeat<D>) -> u64
         requires seat { IsSeatOn self.now seat.old }
         ensures steps { SeatSteps load_moment result seat.old seat.new }
+        ensures met { Meets seat.old.me.0 load_moment result }
+        ensures latest { All (λ (p : FlushPromise). p.moment ≤ result) seat.old.me.0.promises }
         ensures seat { IsSeatOn self.now seat.new }
     {
         self.loads::<LoadsMoment>(seat, MOMENT, NO_OPERANDS)
     }
 
-    /// The disk's count of faults where it has failed, else 0.
+    /// The disk's count of faults where it has failed, else 0. It is the count that the pass knows,
+    /// where it knows one.
     pub fn load_down(&self, seat: &mut LogSeat<D>) -> u64
         requires seat { IsSeatOn self.now seat.old }
         ensures steps { SeatSteps load_down result seat.old seat.new }
+        ensures met { Meets seat.old.me.0 load_down result }
+        ensures known { (faults : ℕ) → KnowsDown faults seat.old.me.0 → result ≡ faults }
+        ensures rose { result ≢ 0 → Rose (opening_of_table self.now).faults result }
         ensures seat { IsSeatOn self.now seat.new }
     {
         self.loads::<LoadsDown>(seat, DOWN, NO_OPERANDS)

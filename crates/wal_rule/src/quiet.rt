@@ -2,10 +2,10 @@
 ghost use Rattle.std.specs.Prelude.{◌≡◌, ℕ, ◌<◌, ◌==◌, if◌then◌else◌};
 ghost use mathlib.Core.Option.{none};
 ghost use Rattle.wal_rule.specs.Seats.{behind};
-ghost use Rattle.wal_rule.specs.Stepping.{IsQuiet, MaySeat, SeatSteps, value_left, word_at_step};
+ghost use Rattle.wal_rule.specs.Stepping.{IsQuiet, MaySeat, Meets, SeatSteps, value_left, word_at_step};
 ghost use Rattle.wal_rule.specs.Tables.{IsSeatOn};
 
-use crate::plays::{OfKind, Quietly};
+use crate::plays::{Loads, OfKind, Quietly};
 use crate::table::{LogSeat, LogTable};
 use segment_disk::Disk;
 
@@ -37,9 +37,10 @@ impl<D: Disk> LogTable<D> {
         requires may { MaySeat seat.old.me.0 K.kind }
         requires loads { (met : ℕ) → met ≡ value_left seat.old.me.0 K.kind met }
         ensures steps { SeatSteps K.kind result seat.old seat.new }
+        ensures met { Meets seat.old.me.0 K.kind result }
         ensures seat { IsSeatOn self.now seat.new }
     {
-        self.table.shared.load::<Quietly<K>>(seat, word)
+        self.table.shared.load::<Loads<K>>(seat, word)
     }
 
     // A step of a kind that stores a word.

@@ -4,7 +4,6 @@ ghost use Rattle.wal_core.specs.Words.{word_count};
 ghost use Rattle.wal_rule.specs.Founded.{disk_of_founding, founded_opening};
 ghost use Rattle.wal_rule.specs.Ruled.{IsRuled};
 ghost use Rattle.wal_rule.specs.Seats.{first_seat_view};
-ghost use Rattle.wal_rule.specs.Slotted.{first_on};
 
 use crate::seats::{Founding, PassView};
 use crate::writer::LogWriter;
@@ -20,7 +19,7 @@ pub struct LogRule<D> {
 
 impl<D: Disk> TableRule<LogWriter<D>, PassView, Founding<D>> for LogRule<D> {
     ghost holds = { λ key s. IsRuled D.tape D.moment D.faults (founded_opening key)
-        (first_on (D.tape (disk_of_founding key))) s.words s.homes s.views };
+        (D.tape (disk_of_founding key)) s.words s.homes s.views };
 
     ghost first = { λ key. first_seat_view (founded_opening key) };
 }

@@ -5,9 +5,9 @@ ghost use Rattle.wal_core.specs.Steps.{release_write_turn, slot_in, slot_out, ta
 ghost use Rattle.wal_rule.specs.Ruled.{HasInHand, HasTaken, IsOutOf};
 ghost use Rattle.wal_rule.specs.Seats.{SeatLent, behind};
 ghost use Rattle.wal_rule.specs.Stepping.{MaySeat, SeatSteps};
-ghost use Rattle.wal_rule.specs.Tables.{IsSeatOn, first_of_table, opening_of_table};
+ghost use Rattle.wal_rule.specs.Tables.{IsSeatOn, began_of_table, opening_of_table};
 
-use crate::plays::{HeldFirst, OfKind, SlotIn, SlotOut};
+use crate::plays::{BeganOn, OfKind, SlotIn, SlotOut};
 use crate::quiet::NO_OPERANDS;
 use crate::table::{LogSeat, LogTable};
 use segment_disk::Disk;
@@ -44,19 +44,19 @@ impl<D: Disk> LogTable<D> {
         requires seat { IsSeatOn self.now seat.old }
         requires may { MaySeat seat.old.me.0 slot_out }
         ensures out { (met : ℕ) × (w : _) × IsOutOf D.tape D.moment D.faults
-            (first_of_table D.tape self.now) (opening_of_table self.now) met w seat.old.me
+            (began_of_table D.tape self.now) (opening_of_table self.now) met w seat.old.me
             seat.new.me }
         ensures seat { IsSeatOn self.now seat.new }
     {
         self.slot_out_on::<Brand>(seat);
     }
 
-    fn slot_out_on<B: HeldFirst>(&self, seat: &mut LogSeat<D>)
+    fn slot_out_on<B: BeganOn>(&self, seat: &mut LogSeat<D>)
         requires seat { IsSeatOn self.now seat.old }
         requires may { MaySeat seat.old.me.0 slot_out }
-        requires first { B.first ≡ first_of_table D.tape self.now }
+        requires began { B.began ≡ began_of_table D.tape self.now }
         ensures out { (met : ℕ) × (w : _) × IsOutOf D.tape D.moment D.faults
-            B.first (opening_of_table self.now) met w seat.old.me seat.new.me }
+            B.began (opening_of_table self.now) met w seat.old.me seat.new.me }
         ensures seat { IsSeatOn self.now seat.new }
     {
         self.table.shared.load::<SlotOut<D, B>>(seat, WRITE_TURN);
@@ -67,7 +67,7 @@ impl<D: Disk> LogTable<D> {
         requires seat { IsSeatOn self.now seat.old }
         requires may { MaySeat seat.old.me.0 slot_in }
         requires out { (l : SeatLent) × (w : _) × HasInHand D.tape D.moment D.faults
-            (first_of_table D.tape self.now) (opening_of_table self.now) seat.old.me l w }
+            (began_of_table D.tape self.now) (opening_of_table self.now) seat.old.me l w }
         ensures view { (met : ℕ) × (seat.new.me ≡ (behind slot_in met none seat.old.me.0, [])) }
         ensures seat { IsSeatOn self.now seat.new }
     {
@@ -92,7 +92,7 @@ impl<D: Disk> LogTable<D> {
         requires none_out { seat.old.me.1 ≡ [] }
         requires number { number ≡ seat.old.me.0.reserving.number }
         ensures taken { result ≡ true → HasTaken D.tape D.moment D.faults
-            (first_of_table D.tape self.now) (opening_of_table self.now) seat.old.me seat.new.me }
+            (began_of_table D.tape self.now) (opening_of_table self.now) seat.old.me seat.new.me }
         ensures same { result ≡ false → seat.new.me ≡ seat.old.me }
         ensures seat { IsSeatOn self.now seat.new }
     {

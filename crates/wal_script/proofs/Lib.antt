@@ -5,6 +5,8 @@ pub mod FittingBlocks
 pub mod Pairs
 pub mod ReplayLaws
 pub mod Replays
+pub mod RunLaws
+pub mod Runs
 pub mod Scripts
 pub mod SeveralBackends
 pub mod Steps

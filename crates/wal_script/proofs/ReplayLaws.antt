@@ -1,5 +1,5 @@
 -- What holds of each replay's script that is read.
-use Rattle.std.proofs.Common.{◌≡◌, ℕ, ◌+◌, ◌<◌, ◌≤◌, List, [], ◌∷◌, ◌++◌, length, Bool, true, false, Option, Some, None, Result, Ok, Err, All, codes, eqb, ltb, ltb-true, length-append, refl, arith}
+use Rattle.std.proofs.Common.{◌≡◌, ℕ, ◌+◌, ◌<◌, ◌≤◌, List, [], ◌∷◌, ◌++◌, length, Bool, true, false, ◌&&◌, Option, Some, None, Result, Ok, Err, All, codes, eqb, ltb, ltb-true, length-append, refl, arith}
 use Rattle.std.specs.Prelude.{IfOk, if◌then◌else◌}
 use Rattle.std.proofs.lemmas.Bool.{cond_both}
 use Rattle.std.proofs.lemmas.List.Elements.{All-nil, All-cons, All-append}
@@ -10,45 +10,45 @@ use Rattle.replay_schedule.proofs.Turns.{lines_are_of_backends, lines_are_within
 use Rattle.wal_script.specs.declared.line.Refusal.{Refusal}
 use Rattle.wal_script.specs.Asked.{AskedLine}
 use Rattle.wal_script.specs.Meaning.{line_with, passes, asks, refuses, script_limit}
-use Rattle.wal_script.specs.Replay.{ReplayLine, of_backend, begins, ends, ScheduleLines, BackendsMeaning, ReplayMeaning, alone, begin_fault, most_backends, backends_from, backends_with, items_or_fault, replay_line_of, replay_line_with, replay_meaning, replay_with, schedule_with, unless_fault, with_schedule}
+use Rattle.wal_script.specs.Replay.{ScriptLine, of_backend, begins, ends, ScheduleLines, BackendsMeaning, ReplayMeaning, alone, begin_fault, most_backends, backends_from, backends_with, items_or_fault, script_line_of, script_line_with, replay_meaning, replay_with, schedule_with, unless_fault, with_schedule}
 use Rattle.wal_script.specs.Text.{is_text, fields_of, lines_of}
 use Rattle.wal_script.specs.Writable.{AsksWritable}
 use Rattle.wal_script.proofs.Writing.{MeansWritable, line_with_writable}
 
 -- ---- lines
 
-abbrev IsWritableLine : ReplayLine → Type 0
+abbrev IsWritableLine : ScriptLine → Type 0
 IsWritableLine (of_backend meaning) = MeansWritable meaning
 IsWritableLine (begins is_alone) = Unit {0}
 IsWritableLine ends = Unit {0}
 
-alone_writable : (line : ReplayLine) (fields : List (List ℕ)) → IsWritableLine line → IsWritableLine (alone line fields)
+alone_writable : (line : ScriptLine) (fields : List (List ℕ)) → IsWritableLine line → IsWritableLine (alone line fields)
 alone_writable line [] writable = writable
 alone_writable line (field ∷ fields) writable = tt
 
-replay_line_with_writable : (fields : List (List ℕ)) → IsWritableLine (replay_line_with fields)
-replay_line_with_writable [] = tt
-replay_line_with_writable (word ∷ fields) =
+script_line_with_writable : (takes_schedule : Bool) (fields : List (List ℕ)) → IsWritableLine (script_line_with takes_schedule fields)
+script_line_with_writable takes_schedule [] = tt
+script_line_with_writable takes_schedule (word ∷ fields) =
     let other = of_backend (line_with (word ∷ fields)) in
-    let end = if is_text word (codes "S") then alone ends fields else other in
+    let end = if takes_schedule && is_text word (codes "S") then alone ends fields else other in
     cond_both (is_text word (codes "B")) (begins (eqb (length fields) 0)) end IsWritableLine (λ _. tt)
-    (λ _. cond_both (is_text word (codes "S")) (alone ends fields) other IsWritableLine (λ _. alone_writable ends fields tt) (λ _. line_with_writable (word ∷ fields)))
+    (λ _. cond_both (takes_schedule && is_text word (codes "S")) (alone ends fields) other IsWritableLine (λ _. alone_writable ends fields tt) (λ _. line_with_writable (word ∷ fields)))
 
-replay_line_of_writable : (text : List ℕ) → IsWritableLine (replay_line_of text)
-replay_line_of_writable [] = tt
-replay_line_of_writable (c ∷ cs) =
-    cond_both (eqb c 35) (of_backend passes) (replay_line_with (fields_of (c ∷ cs))) IsWritableLine (λ _. tt) (λ _. replay_line_with_writable (fields_of (c ∷ cs)))
+script_line_of_writable : (takes_schedule : Bool) (text : List ℕ) → IsWritableLine (script_line_of takes_schedule text)
+script_line_of_writable takes_schedule [] = tt
+script_line_of_writable takes_schedule (c ∷ cs) =
+    cond_both (eqb c 35) (of_backend passes) (script_line_with takes_schedule (fields_of (c ∷ cs))) IsWritableLine (λ _. tt) (λ _. script_line_with_writable takes_schedule (fields_of (c ∷ cs)))
 
 -- ---- the backends
 
-abbrev AreWritable : List AskedLine → Type 0
+abbrev pub AreWritable : List AskedLine → Type 0
 AreWritable lines = All (λ line. AsksWritable line.asked) lines
 
 -- what holds of backends that were read
-record AreFit (m : BackendsMeaning) : Type 0 where
-  some : 0 < length m.backends
-  most : length m.backends ≤ most_backends
-  writable : All AreWritable m.backends
+pub record AreFit (m : BackendsMeaning) : Type 0 where
+  pub some : 0 < length m.backends
+  pub most : length m.backends ≤ most_backends
+  pub writable : All AreWritable m.backends
 
 AreFit-pushed : (before : List (List AskedLine)) (lines : List AskedLine) (schedule : Option ScheduleLines) → length before < most_backends → All AreWritable before → AreWritable lines → AreFit (record { backends = before ++ lines ∷ []; schedule = schedule })
 AreFit-pushed before lines schedule room before_writable lines_writable = record {
@@ -62,7 +62,7 @@ begins_fit number false is_alone next fit = tt
 begins_fit number true false next fit = tt
 begins_fit number true true next fit = fit refl
 
-backends_with_fit : (number : ℕ) (before : List (List AskedLine)) (lines : List AskedLine) (line : ReplayLine) (texts : List (List ℕ)) (others : List (List AskedLine) → List AskedLine → Result BackendsMeaning Refusal) → length before < most_backends → All AreWritable before → AreWritable lines → IsWritableLine line → ((so_far : List (List AskedLine)) (latest : List AskedLine) → length so_far < most_backends → All AreWritable so_far → AreWritable latest → IfOk (others so_far latest) AreFit) → IfOk (backends_with number before lines line texts others) AreFit
+backends_with_fit : (number : ℕ) (before : List (List AskedLine)) (lines : List AskedLine) (line : ScriptLine) (texts : List (List ℕ)) (others : List (List AskedLine) → List AskedLine → Result BackendsMeaning Refusal) → length before < most_backends → All AreWritable before → AreWritable lines → IsWritableLine line → ((so_far : List (List AskedLine)) (latest : List AskedLine) → length so_far < most_backends → All AreWritable so_far → AreWritable latest → IfOk (others so_far latest) AreFit) → IfOk (backends_with number before lines line texts others) AreFit
 backends_with_fit number before lines (of_backend passes) texts others room before_writable lines_writable writable fit = fit before lines room before_writable lines_writable
 backends_with_fit number before lines (of_backend (asks asked)) texts others room before_writable lines_writable writable fit =
     let line : AskedLine = record { number = number; asked = asked } in
@@ -75,11 +75,15 @@ backends_with_fit number before lines (begins is_alone) texts others room before
 backends_with_fit number before lines ends texts others room before_writable lines_writable writable fit =
     AreFit-pushed before lines (Some (record { number = number; texts = texts })) room before_writable lines_writable
 
-backends_from_fit : (number : ℕ) (before : List (List AskedLine)) (lines : List AskedLine) (texts : List (List ℕ)) → length before < most_backends → All AreWritable before → AreWritable lines → IfOk (backends_from number before lines texts) AreFit
-backends_from_fit number before lines [] room before_writable lines_writable = AreFit-pushed before lines None room before_writable lines_writable
-backends_from_fit number before lines (text ∷ texts) room before_writable lines_writable =
-    backends_with_fit number before lines (replay_line_of text) texts (λ so_far latest. backends_from (number + 1) so_far latest texts) room before_writable lines_writable (replay_line_of_writable text)
-    (λ so_far latest. backends_from_fit (number + 1) so_far latest texts)
+backends_from_fit : (takes_schedule : Bool) (number : ℕ) (before : List (List AskedLine)) (lines : List AskedLine) (texts : List (List ℕ)) → length before < most_backends → All AreWritable before → AreWritable lines → IfOk (backends_from takes_schedule number before lines texts) AreFit
+backends_from_fit takes_schedule number before lines [] room before_writable lines_writable = AreFit-pushed before lines None room before_writable lines_writable
+backends_from_fit takes_schedule number before lines (text ∷ texts) room before_writable lines_writable =
+    backends_with_fit number before lines (script_line_of takes_schedule text) texts (λ so_far latest. backends_from takes_schedule (number + 1) so_far latest texts) room before_writable lines_writable (script_line_of_writable takes_schedule text)
+    (λ so_far latest. backends_from_fit takes_schedule (number + 1) so_far latest texts)
+
+-- the backends of each script are fit
+pub backends_fit : (takes_schedule : Bool) (script : List ℕ) → IfOk (backends_from takes_schedule 1 [] [] (lines_of script)) AreFit
+backends_fit takes_schedule script = backends_from_fit takes_schedule 1 [] [] (lines_of script) (omega arith) (All-nil AreWritable) (All-nil (λ l. AsksWritable l.asked))
 
 -- ---- the schedule
 
@@ -118,11 +122,11 @@ module _ (P : ReplayMeaning → Type 0) (holds : (m : BackendsMeaning) (items : 
       with_schedule_keeps m.backends items P (by_items m fit items (schedule_with_taken (length m.backends) m.schedule))
   by_backends (Err refusal) fit = tt
 
-  limited : (limit : ℕ) (refusal : Refusal) (script : List ℕ) → IfOk (if ltb limit (length script) then Err refusal else replay_with (backends_from 1 [] [] (lines_of script))) P
+  limited : (limit : ℕ) (refusal : Refusal) (script : List ℕ) → IfOk (if ltb limit (length script) then Err refusal else replay_with (backends_from true 1 [] [] (lines_of script))) P
   limited limit refusal script =
-      let meaning = replay_with (backends_from 1 [] [] (lines_of script)) in
+      let meaning = replay_with (backends_from true 1 [] [] (lines_of script)) in
       cond_both (ltb limit (length script)) (Err refusal) meaning (λ read. IfOk read P) (λ _. tt)
-      (λ _. by_backends (backends_from 1 [] [] (lines_of script)) (backends_from_fit 1 [] [] (lines_of script) (omega arith) (All-nil AreWritable) (All-nil (λ l. AsksWritable l.asked))))
+      (λ _. by_backends (backends_from true 1 [] [] (lines_of script)) (backends_fit true script))
 
   of_replay : (script : List ℕ) → IfOk (replay_meaning script) P
   of_replay script = limited script_limit _ script

@@ -1,5 +1,5 @@
 -- What a replay's script means, by its backends and its schedule.
-use Rattle.std.proofs.Common.{◌≡◌, ℕ, ◌≤◌, List, length, [], Result, Ok, Err, ltb, refl, ap, ◌∙◌, le-ltb}
+use Rattle.std.proofs.Common.{◌≡◌, ℕ, ◌≤◌, List, length, [], true, Result, Ok, Err, ltb, refl, ap, ◌∙◌, le-ltb}
 use Rattle.std.specs.Prelude.{if◌then◌else◌}
 use Rattle.replay_schedule.specs.declared.item.Item.{Item}
 use Rattle.wal_script.specs.declared.backends.Backends.{Backends}
@@ -14,14 +14,14 @@ use Rattle.wal_script.specs.Text.{lines_of}
 use Rattle.wal_script.proofs.SeveralBackends.{AreBackendsOf-length}
 
 -- under any limit
-under_limit : {X : Type 0} (limit : ℕ) (script : List ℕ) (refusal : Refusal) (meaning : Result X Refusal) → length script ≤ limit → (if ltb limit (length script) then Err refusal else meaning) ≡ meaning
+pub under_limit : {X : Type 0} (limit : ℕ) (script : List ℕ) (refusal : Refusal) (meaning : Result X Refusal) → length script ≤ limit → (if ltb limit (length script) then Err refusal else meaning) ≡ meaning
 under_limit limit script refusal meaning within = rw (le-ltb limit (length script) within) refl
 
 -- a script within its limit is judged by what was read of its backends
-module _ (script : List ℕ) (within : length script ≤ script_limit) (read : Backends) (does : DoesBackends read (backends_from 1 [] [] (lines_of script))) where
+module _ (script : List ℕ) (within : length script ≤ script_limit) (read : Backends) (does : DoesBackends read (backends_from true 1 [] [] (lines_of script))) where
   by_schedule : (items : Result (List Item) Refusal) → schedule_with (length read.lines.items) (schedule_lines read.schedule) ≡ items → replay_meaning script ≡ with_schedule does.0.backends items
   by_schedule items is =
-      under_limit script_limit script (script_too_long script) (replay_with (backends_from 1 [] [] (lines_of script))) within
+      under_limit script_limit script (script_too_long script) (replay_with (backends_from true 1 [] [] (lines_of script))) within
       ∙ ap replay_with does.1
       ∙ ap (with_schedule does.0.backends) (ap (λ (n : ℕ). schedule_with n does.0.schedule) (AreBackendsOf-length does.0.backends read.lines.items does.2) ∙ ap (schedule_with (length read.lines.items)) does.3 ∙ is)
 

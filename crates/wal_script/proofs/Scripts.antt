@@ -14,6 +14,11 @@ abbrev pub with_front : List AskedLine → Result (List AskedLine) Refusal → R
 with_front front (Ok lines) = Ok (front ++ lines)
 with_front front (Err refusal) = Err refusal
 
+-- nothing stands in front
+pub with_front-nil : (lines : Result (List AskedLine) Refusal) → with_front [] lines ≡ lines
+with_front-nil (Ok lines) = refl
+with_front-nil (Err refusal) = refl
+
 -- a line that was read joins those in front
 pub with_front-push : (front : List AskedLine) (number : ℕ) (asked : Asked) (others : Result (List AskedLine) Refusal) → with_front front (with_line number asked others) ≡ with_front (front ++ (record { number = number; asked = asked }) ∷ []) others
 with_front-push front number asked (Ok lines) = ap (λ (ls : List AskedLine). Ok ls) (simp append_assoc)

@@ -8,7 +8,7 @@ use Rattle.wal_script.specs.declared.line.ScriptFault.{ScriptFault}
 use Rattle.wal_script.specs.Asked.{Asked, AskedLine}
 use Rattle.wal_script.specs.Bodies.{AreLinesOf, IsActionOf}
 use Rattle.wal_script.specs.Meaning.{passes, asks}
-use Rattle.wal_script.specs.Replay.{ReplayLine, of_backend, begins, ends, BackendsMeaning, begin_fault, most_backends, backends_with, backends_from, replay_line_of, unless_fault}
+use Rattle.wal_script.specs.Replay.{ScriptLine, of_backend, begins, ends, BackendsMeaning, begin_fault, most_backends, backends_with, backends_from, script_line_of, unless_fault}
 use Rattle.wal_script.specs.ReplayReading.{AreBackendsOf}
 use Rattle.wal_script.proofs.Scripts.{AreLinesOf_push}
 
@@ -36,21 +36,21 @@ begins_in_room backends is_alone may = ltb-true backends most_backends (room_of 
 
 -- the backends and lines so far do what was read, and with the meaning of the texts from a number
 -- on it is that of all
-pub record AreReadUpto (before : List (Vec Line)) (lines : List Line) (number : ℕ) (texts : List (List ℕ)) (meaning : Result BackendsMeaning Refusal) : Type 0 where
+pub record AreReadUpto (takes_schedule : Bool) (before : List (Vec Line)) (lines : List Line) (number : ℕ) (texts : List (List ℕ)) (meaning : Result BackendsMeaning Refusal) : Type 0 where
   pub askeds : List (List AskedLine)
   pub asked : List AskedLine
   pub backends_are : AreBackendsOf askeds before
   pub lines_are : AreLinesOf asked lines
-  pub whole : backends_from number askeds asked texts ≡ meaning
+  pub whole : backends_from takes_schedule number askeds asked texts ≡ meaning
 
-module _ (before : List (Vec Line)) (lines : List Line) (number : ℕ) (text : List ℕ) (texts : List (List ℕ)) (meaning : Result BackendsMeaning Refusal) (upto : AreReadUpto before lines number (text ∷ texts) meaning) where
+module _ (takes_schedule : Bool) (before : List (Vec Line)) (lines : List Line) (number : ℕ) (text : List ℕ) (texts : List (List ℕ)) (meaning : Result BackendsMeaning Refusal) (upto : AreReadUpto takes_schedule before lines number (text ∷ texts) meaning) where
   abbrev others : List (List AskedLine) → List AskedLine → Result BackendsMeaning Refusal
-  others so_far latest = backends_from (number + 1) so_far latest texts
+  others so_far latest = backends_from takes_schedule (number + 1) so_far latest texts
 
-  by_line : (read : ReplayLine) → replay_line_of text ≡ read → backends_with number upto.askeds upto.asked read texts others ≡ meaning
-  by_line read is = subst (λ (line : ReplayLine). backends_with number upto.askeds upto.asked line texts others ≡ meaning) is upto.whole
+  by_line : (read : ScriptLine) → script_line_of takes_schedule text ≡ read → backends_with number upto.askeds upto.asked read texts others ≡ meaning
+  by_line read is = subst (λ (line : ScriptLine). backends_with number upto.askeds upto.asked line texts others ≡ meaning) is upto.whole
 
-  pub AreReadUpto-pass : replay_line_of text ≡ of_backend passes → AreReadUpto before lines (number + 1) texts meaning
+  pub AreReadUpto-pass : script_line_of takes_schedule text ≡ of_backend passes → AreReadUpto takes_schedule before lines (number + 1) texts meaning
   AreReadUpto-pass is = record {
     askeds = upto.askeds;
     asked = upto.asked;
@@ -59,7 +59,7 @@ module _ (before : List (Vec Line)) (lines : List Line) (number : ℕ) (text : L
     whole = by_line (of_backend passes) is;
   }
 
-  pub AreReadUpto-ask : (action : Action) (asked : Asked) → replay_line_of text ≡ of_backend (asks asked) → IsActionOf asked action → AreReadUpto before (lines ++ (record { number = number; action = action }) ∷ []) (number + 1) texts meaning
+  pub AreReadUpto-ask : (action : Action) (asked : Asked) → script_line_of takes_schedule text ≡ of_backend (asks asked) → IsActionOf asked action → AreReadUpto takes_schedule before (lines ++ (record { number = number; action = action }) ∷ []) (number + 1) texts meaning
   AreReadUpto-ask action asked is does =
       let line : AskedLine = record { number = number; asked = asked } in
       record {
@@ -70,20 +70,20 @@ module _ (before : List (Vec Line)) (lines : List Line) (number : ℕ) (text : L
         whole = by_line (of_backend (asks asked)) is;
       }
 
-module _ (before : List (Vec Line)) (lines : Vec Line) (number : ℕ) (text : List ℕ) (texts : List (List ℕ)) (meaning : Result BackendsMeaning Refusal) (upto : AreReadUpto before lines.items number (text ∷ texts) meaning) where
+module _ (takes_schedule : Bool) (before : List (Vec Line)) (lines : Vec Line) (number : ℕ) (text : List ℕ) (texts : List (List ℕ)) (meaning : Result BackendsMeaning Refusal) (upto : AreReadUpto takes_schedule before lines.items number (text ∷ texts) meaning) where
   abbrev next : Result BackendsMeaning Refusal
-  next = backends_from (number + 1) (upto.askeds ++ upto.asked ∷ []) [] texts
+  next = backends_from takes_schedule (number + 1) (upto.askeds ++ upto.asked ∷ []) [] texts
 
   abbrev fault_of : Bool → Option ScriptFault
   fault_of = begin_fault (ltb (length before + 1) most_backends)
 
-  at_begin : (is_alone : Bool) → replay_line_of text ≡ begins is_alone → unless_fault number (fault_of is_alone) next ≡ meaning
-  at_begin is_alone is = subst (λ (n : ℕ). unless_fault number (begin_fault (ltb (n + 1) most_backends) is_alone) next ≡ meaning) (AreBackendsOf-length upto.askeds before upto.backends_are) (by_line before lines.items number text texts meaning upto (begins is_alone) is)
+  at_begin : (is_alone : Bool) → script_line_of takes_schedule text ≡ begins is_alone → unless_fault number (fault_of is_alone) next ≡ meaning
+  at_begin is_alone is = subst (λ (n : ℕ). unless_fault number (begin_fault (ltb (n + 1) most_backends) is_alone) next ≡ meaning) (AreBackendsOf-length upto.askeds before upto.backends_are) (by_line takes_schedule before lines.items number text texts meaning upto (begins is_alone) is)
 
-  by_fault : (is_alone : Bool) (fault : Option ScriptFault) → replay_line_of text ≡ begins is_alone → fault_of is_alone ≡ fault → unless_fault number fault next ≡ meaning
+  by_fault : (is_alone : Bool) (fault : Option ScriptFault) → script_line_of takes_schedule text ≡ begins is_alone → fault_of is_alone ≡ fault → unless_fault number fault next ≡ meaning
   by_fault is_alone fault is fault_is = subst (λ (f : Option ScriptFault). unless_fault number f next ≡ meaning) fault_is (at_begin is_alone is)
 
-  pub AreReadUpto-begin : (is_alone : Bool) → replay_line_of text ≡ begins is_alone → fault_of is_alone ≡ None → AreReadUpto (before ++ lines ∷ []) [] (number + 1) texts meaning
+  pub AreReadUpto-begin : (is_alone : Bool) → script_line_of takes_schedule text ≡ begins is_alone → fault_of is_alone ≡ None → AreReadUpto takes_schedule (before ++ lines ∷ []) [] (number + 1) texts meaning
   AreReadUpto-begin is_alone is room = record {
     askeds = upto.askeds ++ upto.asked ∷ [];
     asked = [];
@@ -92,20 +92,20 @@ module _ (before : List (Vec Line)) (lines : Vec Line) (number : ℕ) (text : Li
     whole = by_fault is_alone None is room;
   }
 
-  pub refused_begin : (is_alone : Bool) (fault : ScriptFault) → replay_line_of text ≡ begins is_alone → fault_of is_alone ≡ Some fault → meaning ≡ Err (record { line = number; fault = fault })
+  pub refused_begin : (is_alone : Bool) (fault : ScriptFault) → script_line_of takes_schedule text ≡ begins is_alone → fault_of is_alone ≡ Some fault → meaning ≡ Err (record { line = number; fault = fault })
   refused_begin is_alone fault is fault_is = sym (by_fault is_alone (Some fault) is fault_is)
 
-  pub at_end : (read : List (Vec Line)) → replay_line_of text ≡ ends → read ≡ before ++ lines ∷ [] → (m : BackendsMeaning) × (meaning ≡ Ok m) × AreBackendsOf m.backends read × (m.schedule ≡ Some (record { number = number; texts = texts }))
+  pub at_end : (read : List (Vec Line)) → script_line_of takes_schedule text ≡ ends → read ≡ before ++ lines ∷ [] → (m : BackendsMeaning) × (meaning ≡ Ok m) × AreBackendsOf m.backends read × (m.schedule ≡ Some (record { number = number; texts = texts }))
   at_end read is backends = (
     record { backends = upto.askeds ++ upto.asked ∷ []; schedule = Some (record { number = number; texts = texts }) },
-    sym (by_line before lines.items number text texts meaning upto ends is),
+    sym (by_line takes_schedule before lines.items number text texts meaning upto ends is),
     subst (AreBackendsOf (upto.askeds ++ upto.asked ∷ [])) (sym backends) (AreBackendsOf_push upto.askeds before upto.asked lines upto.backends_are upto.lines_are),
     refl,
   )
 
 -- behind the script's last line
-pub behind_last : (before : List (Vec Line)) (lines : Vec Line) (number : ℕ) (meaning : Result BackendsMeaning Refusal) → AreReadUpto before lines.items number [] meaning → (read : List (Vec Line)) → read ≡ before ++ lines ∷ [] → (m : BackendsMeaning) × (meaning ≡ Ok m) × AreBackendsOf m.backends read × (m.schedule ≡ None)
-behind_last before lines number meaning upto read backends = (
+pub behind_last : (takes_schedule : Bool) (before : List (Vec Line)) (lines : Vec Line) (number : ℕ) (meaning : Result BackendsMeaning Refusal) → AreReadUpto takes_schedule before lines.items number [] meaning → (read : List (Vec Line)) → read ≡ before ++ lines ∷ [] → (m : BackendsMeaning) × (meaning ≡ Ok m) × AreBackendsOf m.backends read × (m.schedule ≡ None)
+behind_last takes_schedule before lines number meaning upto read backends = (
   record { backends = upto.askeds ++ upto.asked ∷ []; schedule = None },
   sym upto.whole,
   subst (AreBackendsOf (upto.askeds ++ upto.asked ∷ [])) (sym backends) (AreBackendsOf_push upto.askeds before upto.asked lines upto.backends_are upto.lines_are),

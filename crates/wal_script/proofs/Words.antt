@@ -1,10 +1,11 @@
 -- The first fields of lines.
-use Rattle.std.proofs.Common.{◌≡◌, ℕ, ◌≤◌, false, List, [], ◌∷◌, length, codes, ap, arith}
+use Rattle.std.proofs.Common.{◌≡◌, ℕ, ◌≤◌, Bool, true, false, ◌&&◌, List, [], ◌∷◌, length, codes, eqb, refl, ap, arith}
+use Rattle.std.proofs.lemmas.Bool.{and_parts, eqb-true}
 use Rattle.std.proofs.Math.Bool.{and-false}
 use Rattle.wal_script.specs.Text.{is_text}
 use Rattle.wal_script.specs.Meaning.{LineMeaning, line_with, refuses}
 use Rattle.wal_script.specs.Reading.{RefusesLine}
-use Rattle.wal_script.specs.Replay.{of_backend, replay_line_with}
+use Rattle.wal_script.specs.Replay.{of_backend, script_line_with}
 use Rattle.wal_script.specs.ReplayReading.{RefusesStep}
 use Rattle.wal_script.specs.declared.line_error.LineError.{LineError}
 use Rattle.wal_script.specs.declared.line_error.LineError.TheVariants as causes
@@ -22,9 +23,18 @@ is_text-long [] c long = absurd (omega arith)
 is_text-long (a ∷ []) c long = absurd (omega arith)
 is_text-long (a ∷ b ∷ text) c long = simp and-false
 
--- a line that begins with neither `B` nor `S` is one of a backend's
-pub replay_line_of_backend : (word : List ℕ) (fields : List (List ℕ)) → is_text word (codes "B") ≡ false → is_text word (codes "S") ≡ false → replay_line_with (word ∷ fields) ≡ of_backend (line_with (word ∷ fields))
-replay_line_of_backend word fields no_begin no_end = simp (no_begin, no_end)
+-- texts that are the same
+pub is_text-same : (text other : List ℕ) → is_text text other ≡ true → text ≡ other
+is_text-same [] [] is = refl
+is_text-same [] (d ∷ other) is = absurd cc
+is_text-same (c ∷ text) [] is = absurd cc
+is_text-same (c ∷ text) (d ∷ other) is =
+    let both = and_parts (eqb c d) (is_text text other) is in
+    rw (eqb-true c d both.0, is_text-same text other both.1) refl
+
+-- a line that begins with neither `B` nor an `S` that the script takes is one of a backend's
+pub script_line_of_backend : (takes_schedule : Bool) (word : List ℕ) (fields : List (List ℕ)) → is_text word (codes "B") ≡ false → (takes_schedule && is_text word (codes "S")) ≡ false → script_line_with takes_schedule (word ∷ fields) ≡ of_backend (line_with (word ∷ fields))
+script_line_of_backend takes_schedule word fields no_begin no_end = simp (no_begin, no_end)
 
 -- and refused as such
 pub RefusesStep-of_backend : (error : LineError) (meaning : LineMeaning) → RefusesLine error meaning → RefusesStep error (of_backend meaning)

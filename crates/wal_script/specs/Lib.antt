@@ -9,4 +9,6 @@ pub mod Meaning
 pub mod Reading
 pub mod Replay
 pub mod ReplayReading
+pub mod Run
+pub mod RunReading
 pub mod Writable

@@ -1,5 +1,5 @@
 -- What the script of a replay means: lines for each of several backends, and a schedule.
-use Rattle.std.specs.Prelude.{ℕ, ◌+◌, Bool, true, false, List, [], ◌∷◌, ◌++◌, length, Option, Some, None, Result, Ok, Err, codes, ◌==◌, nat_lt, if◌then◌else◌}
+use Rattle.std.specs.Prelude.{ℕ, ◌+◌, Bool, true, false, ◌&&◌, List, [], ◌∷◌, ◌++◌, length, Option, Some, None, Result, Ok, Err, codes, ◌==◌, nat_lt, if◌then◌else◌}
 use Rattle.replay_schedule.specs.declared.item.Item.{Item}
 use Rattle.replay_schedule.specs.Meaning.{after_lines}
 use Rattle.wal_script.specs.declared.line.Refusal.{Refusal}
@@ -11,29 +11,29 @@ use Rattle.wal_script.specs.Meaning.{LineMeaning, passes, asks, refuses, line_wi
 
 -- what one line means: what one of a backend's lines does, that the next backend begins if no field
 -- stands behind the `B`, or that the schedule begins
-pub data ReplayLine : Type 0 where
-  of_backend : LineMeaning → ReplayLine
-  begins : (is_alone : Bool) → ReplayLine
-  ends : ReplayLine
+pub data ScriptLine : Type 0 where
+  of_backend : LineMeaning → ScriptLine
+  begins : (is_alone : Bool) → ScriptLine
+  ends : ScriptLine
 
 -- a line with no further field
-abbrev pub alone : ReplayLine → List (List ℕ) → ReplayLine
+abbrev pub alone : ScriptLine → List (List ℕ) → ScriptLine
 alone line [] = line
 alone line (field ∷ fields) = of_backend (refuses faults.Count)
 
--- a line by its first field
-abbrev pub replay_line_with : List (List ℕ) → ReplayLine
-replay_line_with [] = of_backend (refuses faults.Word)
-replay_line_with (word ∷ fields) =
+-- a line by its first field; `S` is a letter only where the script takes a schedule
+abbrev pub script_line_with : (takes_schedule : Bool) → List (List ℕ) → ScriptLine
+script_line_with takes_schedule [] = of_backend (refuses faults.Word)
+script_line_with takes_schedule (word ∷ fields) =
     if is_text word (codes "B") then begins (length fields == 0)
-    else (if is_text word (codes "S") then alone ends fields
+    else (if takes_schedule && is_text word (codes "S") then alone ends fields
     else of_backend (line_with (word ∷ fields)))
 
 -- an empty line and one that begins with `#` are passed over
-abbrev pub replay_line_of : List ℕ → ReplayLine
-replay_line_of [] = of_backend passes
-replay_line_of (c ∷ cs) =
-    if c == 35 then of_backend passes else replay_line_with (fields_of (c ∷ cs))
+abbrev pub script_line_of : (takes_schedule : Bool) → List ℕ → ScriptLine
+script_line_of takes_schedule [] = of_backend passes
+script_line_of takes_schedule (c ∷ cs) =
+    if c == 35 then of_backend passes else script_line_with takes_schedule (fields_of (c ∷ cs))
 
 -- the number of a line `S`, and the lines behind it
 pub record ScheduleLines : Type 0 where
@@ -63,7 +63,7 @@ unless_fault number (Some fault) meaning = Err (record { line = number; fault = 
 
 -- a line by its number, behind the backends before its own and its own's lines before it: `others`
 -- is what the lines behind it, `texts`, mean
-abbrev pub backends_with : ℕ → List (List AskedLine) → List AskedLine → ReplayLine → List (List ℕ)
+abbrev pub backends_with : ℕ → List (List AskedLine) → List AskedLine → ScriptLine → List (List ℕ)
     → (List (List AskedLine) → List AskedLine → Result BackendsMeaning Refusal)
     → Result BackendsMeaning Refusal
 backends_with number before lines (of_backend passes) texts others = others before lines
@@ -80,15 +80,15 @@ backends_with number before lines ends texts others =
       schedule = Some (record { number = number; texts = texts });
     })
 
--- lines from a number on, behind such backends and lines, up to a line `S` or the first that is
--- refused
-abbrev pub backends_from : ℕ → List (List AskedLine) → List AskedLine → List (List ℕ)
-    → Result BackendsMeaning Refusal
-backends_from number before lines [] =
+-- lines from a number on, behind such backends and lines, up to a line `S`, if the script takes a
+-- schedule, or the first that is refused
+abbrev pub backends_from : (takes_schedule : Bool) → ℕ → List (List AskedLine) → List AskedLine
+    → List (List ℕ) → Result BackendsMeaning Refusal
+backends_from takes_schedule number before lines [] =
     Ok (record { backends = before ++ lines ∷ []; schedule = None })
-backends_from number before lines (text ∷ texts) =
-    backends_with number before lines (replay_line_of text) texts
-    (λ so_far latest. backends_from (number + 1) so_far latest texts)
+backends_from takes_schedule number before lines (text ∷ texts) =
+    backends_with number before lines (script_line_of takes_schedule text) texts
+    (λ so_far latest. backends_from takes_schedule (number + 1) so_far latest texts)
 
 -- what a replay does: the lines of each backend, and who has the next turns
 pub record ReplayMeaning : Type 0 where
@@ -118,4 +118,4 @@ replay_with (Err refusal) = Err refusal
 -- the meaning of a replay's script, or its first refusal
 abbrev pub replay_meaning : List ℕ → Result ReplayMeaning Refusal
 replay_meaning script =
-    within_limit script (replay_with (backends_from 1 [] [] (lines_of script)))
+    within_limit script (replay_with (backends_from true 1 [] [] (lines_of script)))

@@ -22,7 +22,7 @@ use Rattle.wal_script.specs.Asked.{Asked, AskedLine}
 use Rattle.wal_script.specs.Bodies.{AreLinesOf, IsActionOf}
 use Rattle.wal_script.specs.Meaning.{asks, passes, refuses}
 use Rattle.wal_script.specs.Reading.{RefusesScript}
-use Rattle.wal_script.specs.Replay.{ReplayLine, of_backend, begins, ends, ScheduleLines, BackendsMeaning, ReplayMeaning, most_backends}
+use Rattle.wal_script.specs.Replay.{ScriptLine, of_backend, begins, ends, ScheduleLines, BackendsMeaning, ReplayMeaning, most_backends}
 
 -- each backend's lines do what is asked of it, in order, and there are as many backends
 abbrev pub AreBackendsOf : List (List AskedLine) → List (Vec Line) → Type 0
@@ -44,7 +44,7 @@ GivesReplay (Ok replay) meaning = DoesReplay replay meaning
 GivesReplay (Err error) meaning = RefusesScript error meaning
 
 -- a step does what a line means
-abbrev pub DoesStep : Step → ReplayLine → Type 0
+abbrev pub DoesStep : Step → ScriptLine → Type 0
 DoesStep steps.Pass meaning = meaning ≡ of_backend passes
 DoesStep (steps.Ask action) meaning =
     (asked : Asked) × (meaning ≡ of_backend (asks asked)) × IsActionOf asked action
@@ -52,12 +52,12 @@ DoesStep (steps.Begin is_alone) meaning = meaning ≡ begins is_alone
 DoesStep steps.End meaning = meaning ≡ ends
 
 -- a line that is refused so means that fault
-abbrev pub RefusesStep : LineError → ReplayLine → Type 0
+abbrev pub RefusesStep : LineError → ScriptLine → Type 0
 RefusesStep causes.Memory meaning = Unit {0}
 RefusesStep (causes.Fault fault) meaning = meaning ≡ of_backend (refuses fault)
 
 -- what was read of a line does what it means, and its fault is what it means
-abbrev pub StepGives : Result Step LineError → ReplayLine → Type 0
+abbrev pub StepGives : Result Step LineError → ScriptLine → Type 0
 StepGives (Ok step) meaning = DoesStep step meaning
 StepGives (Err error) meaning = RefusesStep error meaning
 

@@ -1,7 +1,8 @@
-//! The lines of several backends, parted by lines `B`, up to a line `S` or the script's end.
+//! The lines of several backends, parted by lines `B`, up to the script's end, or up to a line `S`
+//! where it takes a schedule.
 
 ghost use Rattle.std.specs.Prelude.{◌≡◌, [], ◌+◌, ◌≤◌, IfOk, length, nat_lt};
-ghost use Rattle.wal_script.specs.Replay.{backends_from, begin_fault, most_backends, replay_line_of, replay_line_with};
+ghost use Rattle.wal_script.specs.Replay.{backends_from, begin_fault, most_backends, script_line_of, script_line_with};
 ghost use Rattle.wal_script.specs.ReplayReading.{GivesBackends, HasReadBackends, StepGives};
 ghost use Rattle.wal_script.specs.Text.{lines_of};
 
@@ -45,10 +46,16 @@ enum Step {
     End,
 }
 
-/// The lines of each backend, and where its schedule stands; or the script's first refusal.
-pub(crate) fn read_backends(alloc: Global, script: &[u8]) -> Result<Backends, ParseError>
+/// The lines of each backend, and where the schedule stands, if the script takes one; or its first
+/// refusal.
+pub(crate) fn read_backends(
+    alloc: Global,
+    script: &[u8],
+    takes_schedule: bool,
+) -> Result<Backends, ParseError>
     requires { length script.now ≤ SCRIPT_LIMIT }
-    ensures read { GivesBackends result (backends_from 1 [] [] (lines_of script.now)) }
+    ensures read { GivesBackends result
+        (backends_from takes_schedule 1 [] [] (lines_of script.now)) }
     ensures within { IfOk result (HasReadBackends (length script.now)) }
 {
     let mut before = Vec::new(alloc);
@@ -59,7 +66,7 @@ pub(crate) fn read_backends(alloc: Global, script: &[u8]) -> Result<Backends, Pa
         let (line, behind) = cut(text, b'\n');
         rest = behind;
         number += 1;
-        match read_line(alloc, line).map_err(|cause| cause.at(number))? {
+        match read_line(alloc, line, takes_schedule).map_err(|cause| cause.at(number))? {
             Step::Pass => {}
             Step::Ask(action) => lines.push(Line { number, action })?,
             Step::Begin { is_alone } => {
@@ -100,25 +107,25 @@ fn begin_fault(backends: usize, is_alone: bool) -> Option<ScriptFault>
 }
 
 // What a line does.
-fn read_line(alloc: Global, line: &[u8]) -> Result<Step, LineError>
-    ensures { StepGives result (replay_line_of line.now) }
+fn read_line(alloc: Global, line: &[u8], takes_schedule: bool) -> Result<Step, LineError>
+    ensures { StepGives result (script_line_of takes_schedule line.now) }
 {
     match line {
         [] | [b'#', ..] => Ok(Step::Pass),
-        _ => read_fields(alloc, Parts::of(line, b' ')),
+        _ => read_fields(alloc, Parts::of(line, b' '), takes_schedule),
     }
 }
 
 // What a line does by its fields.
-fn read_fields(alloc: Global, mut fields: Parts) -> Result<Step, LineError>
-    ensures { StepGives result (replay_line_with fields.entry) }
+fn read_fields(alloc: Global, mut fields: Parts, takes_schedule: bool) -> Result<Step, LineError>
+    ensures { StepGives result (script_line_with takes_schedule fields.entry) }
 {
     match fields.next() {
         Some(b"B") => {
             let is_alone = fields.next().is_none();
             Ok(Step::Begin { is_alone })
         }
-        Some(b"S") => {
+        Some(b"S") if takes_schedule => {
             no_more(fields)?;
             Ok(Step::End)
         }

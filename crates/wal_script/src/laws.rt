@@ -1,9 +1,11 @@
 //! What holds of each script that is read. The functions do nothing: their contracts are the laws.
 
-ghost use Rattle.std.specs.Prelude.{ℕ, ◌<◌, ◌≤◌, All, IfOk, List, length};
+ghost use Rattle.std.specs.Prelude.{◌≡◌, ℕ, ◌<◌, ◌≤◌, All, IfOk, List, length};
 ghost use Rattle.replay_schedule.specs.Turns.{backends_in_turn, most_turns};
-ghost use Rattle.wal_script.specs.Meaning.{backend_meaning};
+ghost use Rattle.wal_script.specs.Meaning.{backend_meaning, meaning_of};
 ghost use Rattle.wal_script.specs.Replay.{most_backends, replay_meaning};
+ghost use Rattle.wal_script.specs.Run.{StaysInBackend, backends_meaning};
+ghost use Rattle.wal_script.specs.Text.{lines_of};
 ghost use Rattle.wal_script.specs.Writable.{AsksWritable};
 
 /// Each record of a script's lines can be written.
@@ -38,4 +40,23 @@ pub fn turns_are_within()
     ensures { (script : List ℕ)
         → IfOk (replay_meaning script) (λ m.
         length (backends_in_turn m.schedule) ≤ most_turns) }
+{}
+
+/// A run has from 1 to 64 backends.
+pub fn runs_have_some_backends()
+    ensures { (script : List ℕ)
+        → IfOk (backends_meaning script) (λ backends.
+        (0 < length backends) × (length backends ≤ most_backends)) }
+{}
+
+/// Each record of each backend's lines of a run can be written.
+pub fn lines_of_runs_are_writable()
+    ensures { (script : List ℕ)
+        → IfOk (backends_meaning script) (All (All (λ line. AsksWritable line.asked))) }
+{}
+
+/// Where no line's first field is `B`, a run's script means what it means for one backend.
+pub fn scripts_of_one_backend_mean_the_same()
+    ensures { (script : List ℕ) → All StaysInBackend (lines_of script)
+        → backends_meaning script ≡ meaning_of script }
 {}

@@ -12,8 +12,10 @@ mod line_error;
 mod parser;
 mod records;
 mod replay;
+mod run;
 mod text;
 
 pub use line::{Action, Line, Refusal, ScriptFault};
 pub use parser::{ParseError, SCRIPT_LIMIT, parse};
 pub use replay::{Replay, parse_replay};
+pub use run::parse_backends;

@@ -48,7 +48,7 @@ pub fn parse_replay(alloc: Global, script: &[u8]) -> Result<Replay, ParseError>
     ensures { GivesReplay result (replay_meaning script.now) }
 {
     within_limit(script)?;
-    let read = read_backends(alloc, script)?;
+    let read = read_backends(alloc, script, true)?;
     let schedule = read_schedule(alloc, read.schedule, read.lines.len() as u32)?;
     Ok(Replay {
         backends: read.lines,

@@ -4,7 +4,7 @@ use Rattle.byte_position.specs.Position.{end_address_of, first_position}
 use Rattle.serial_log.specs.History.{end_of}
 use Rattle.serial_log.specs.LogState.{IsLog}
 use Rattle.serial_log.specs.Steps.{Flushes}
-use Rattle.backend_cli.specs.declared.told.Told.{Told}
+use Rattle.told_lines.specs.declared.told.Told.{Told}
 use Rattle.backend_cli.proofs.AnswerLaws.{insert_steps, commit_steps, flush_step}
 use Rattle.backend_cli.proofs.MomentLaws.{StepsOn, insert_moments, commit_moments, flush_moments}
 use Rattle.backend_cli.proofs.answer.answer.Goals as goal

@@ -1,8 +1,8 @@
 -- Each line is played behind those before it.
 use Rattle.std.proofs.Common.{List, sym, subst, arith}
-use Rattle.backend_cli.specs.declared.told.Told.{Told}
-use Rattle.backend_cli.specs.Moments.{MomentsReach}
-use Rattle.backend_cli.proofs.MomentLaws.{MomentsReach_push}
+use Rattle.told_lines.specs.declared.told.Told.{Told}
+use Rattle.told_lines.specs.Moments.{MomentsReach}
+use Rattle.told_lines.proofs.MomentLaws.{MomentsReach_push}
 use Rattle.serial_log.proofs.StepLaws.{IsSameLog-trans}
 use Rattle.backend_cli.proofs.PlayLaws.{IsPlayed_more, IsPlayed_all}
 use Rattle.backend_cli.proofs.play.play.Goals as goal

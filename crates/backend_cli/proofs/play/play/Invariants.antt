@@ -1,6 +1,6 @@
 use Rattle.std.proofs.Common.{◌≡◌, ◌≤◌, length, vec_len, vec_capacity}
 use Rattle.serial_log.specs.LogState.{IsSameLog}
-use Rattle.backend_cli.specs.Moments.{LastTold, MomentsReach}
+use Rattle.told_lines.specs.Moments.{LastTold, MomentsReach}
 use Rattle.backend_cli.specs.Tracked.{IsTracked}
 use Rattle.backend_cli.proofs.PlayLaws.{IsPlayed}
 use Rattle.backend_cli.proofs.play.play.Given as goal

@@ -2,9 +2,9 @@
 use Rattle.std.proofs.Common.{◌∙◌, ap, arith, if◌then◌else◌, sym, take}
 use Rattle.std.proofs.lemmas.List.{length-take}
 use Rattle.wal_types.specs.declared.lsn.Lsn.{Lsn}
-use Rattle.backend_cli.specs.declared.told.Told.TheVariants.{Wrote}
-use Rattle.backend_cli.proofs.AnswerCounts.{commits_of-le}
-use Rattle.backend_cli.proofs.AnswerLoops.{commits_of_step}
+use Rattle.told_lines.specs.declared.told.Told.TheVariants.{Wrote}
+use Rattle.told_lines.proofs.AnswerCounts.{commits_of-le}
+use Rattle.told_lines.proofs.AnswerLoops.{commits_of_step}
 use Rattle.backend_cli.proofs.run.commits_in.Goals.{then-is_hard, else-is_hard}
 use Rattle.backend_cli.proofs.run.commits_in.Goals as goal
 

@@ -1,9 +1,9 @@
 -- A full answer that is found is among all, and where none is found so far none is.
 use Rattle.std.proofs.Common.{inl, inr}
 use Rattle.wal_types.specs.declared.lsn.Lsn.{Lsn}
-use Rattle.backend_cli.specs.declared.told.Told.TheVariants.{Wrote}
-use Rattle.backend_cli.specs.Told.{IsFullAnswer}
-use Rattle.backend_cli.proofs.AnswerLoops.{SomeAnswer-take, SomeAnswer-get_or}
+use Rattle.told_lines.specs.declared.told.Told.TheVariants.{Wrote}
+use Rattle.told_lines.specs.Told.{IsFullAnswer}
+use Rattle.told_lines.proofs.AnswerLoops.{SomeAnswer-take, SomeAnswer-get_or}
 use Rattle.backend_cli.proofs.run.found_full.Goals as goal
 
 pub returns-then-is_full-clause-full : goal.returns-then-is_full-clause-full

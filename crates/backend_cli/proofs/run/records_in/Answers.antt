@@ -3,9 +3,9 @@ use Rattle.std.proofs.Common.{take, ap, sym, ◌∙◌, arith}
 use Rattle.std.proofs.lemmas.List.{length-take}
 use Rattle.std.specs.Option.{is_some}
 use Rattle.wal_types.specs.declared.lsn.Lsn.{Lsn}
-use Rattle.backend_cli.specs.declared.told.Told.TheVariants.{Wrote}
-use Rattle.backend_cli.proofs.AnswerCounts.{reserved_count-le}
-use Rattle.backend_cli.proofs.AnswerLoops.{reserved_count_more, reserved_count_same}
+use Rattle.told_lines.specs.declared.told.Told.TheVariants.{Wrote}
+use Rattle.told_lines.proofs.AnswerCounts.{reserved_count-le}
+use Rattle.told_lines.proofs.AnswerLoops.{reserved_count_more, reserved_count_same}
 use Rattle.backend_cli.proofs.run.records_in.Goals.{then-is_some, else-is_some}
 use Rattle.backend_cli.proofs.run.records_in.Goals as goal
 

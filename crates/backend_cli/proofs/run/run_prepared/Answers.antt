@@ -5,10 +5,11 @@ use Rattle.byte_position.specs.Geometry.{IsSegmentSize}
 use Rattle.serial_log.specs.declared.shape.Shape.{Shape}
 use Rattle.serial_log.specs.LogState.{log_disk}
 use Rattle.byte_position.specs.Position.{end_address_of, first_position}
-use Rattle.serial_log.specs.History.{at_opening, capacity_of, end_of}
+use Rattle.serial_log.specs.History.{at_opening, end_of}
+use Rattle.told_lines.specs.Rooms.{capacity_of}
 use Rattle.serial_log.specs.Opening.{RefusesToOpen}
 use Rattle.serial_log.specs.Steps.{Flushes}
-use Rattle.backend_cli.proofs.Capacities.{capacity_of-le}
+use Rattle.told_lines.proofs.Capacities.{capacity_of-le}
 use Rattle.wal_script.specs.Bodies.{AreLinesOf}
 use Rattle.backend_cli.specs.Printing.{Summarizes, printed_text}
 use Rattle.backend_cli.specs.Concluding.{Concludes}
@@ -16,7 +17,7 @@ use Rattle.backend_cli.specs.Outside.{outside_of}
 use Rattle.backend_cli.specs.Run.{RunHolds}
 use Rattle.backend_cli.specs.declared.outcome.Outcome.TheVariants.{DiskFault, NotEmpty}
 use Rattle.backend_cli.specs.Steps.{Plays, events_of}
-use Rattle.backend_cli.specs.Moments.{MomentsRise}
+use Rattle.told_lines.specs.Moments.{MomentsRise}
 use Rattle.waldump_text.specs.Put.{Puts}
 use Rattle.backend_cli.proofs.LastFlush.{behind_flush}
 use Rattle.backend_cli.proofs.OwnEnds.{own_at_opening}

@@ -5,5 +5,5 @@ use Rattle.insert_locks.proofs.Visits.{WatchesOn}
 use Rattle.insert_locks.proofs.watching.watch.Given as goal
 
 abbrev pub invariant-loop-lock : goal.invariant-loop-lock
-invariant-loop-lock g l = WatchesOn l.upto l.end l.lock (l.fn.seat.me).0 (l.seat.me).0
+invariant-loop-lock g l = WatchesOn l.upto l.end l.bound l.lock (l.fn.seat.me).0 (l.seat.me).0
     × ((l.seat.me).1 ≡ (l.fn.seat.me).1) × IsSeatOn l.table l.seat

@@ -1,6 +1,6 @@
 use Rattle.std.proofs.Common.{List, ℕ, sym, ap}
 use Rattle.wal_rule.specs.declared.writer.LogWriter.{LogWriter}
-use Rattle.wal_rule.specs.Tables.{first_of_table, opening_of_table}
+use Rattle.wal_rule.specs.Tables.{began_of_table, opening_of_table}
 use Rattle.wal_rule.proofs.DeviceSteps.{lends}
 use Rattle.page_writing.proofs.reading.writer_now.Goals as goal
 
@@ -10,7 +10,7 @@ slot_mut-writer-requires g c = (
   (
     c.requires.hand.out.1,
     lends g.D.Disk.tape g.D.Disk.moment g.D.Disk.faults (opening_of_table c.args.table.now)
-        (first_of_table g.D.Disk.tape c.args.table.now) c.args.seat.now.me c.requires.hand.out.0
+        (began_of_table g.D.Disk.tape c.args.table.now) c.args.seat.now.me c.requires.hand.out.0
         c.requires.hand.out.1 c.requires.hand.out.2,
   ),
 )

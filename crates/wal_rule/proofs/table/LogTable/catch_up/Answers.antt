@@ -1,5 +1,5 @@
 use Rattle.std.proofs.Common.{arith, ap, ◌∙◌, subst}
-use Rattle.segment_disk.specs.Tape.{DiskState}
+use Rattle.segment_disk.specs.Tape.{Tape}
 use Rattle.wal_core.specs.Words.{Opening}
 use Rattle.wal_rule.specs.Called.{DeviceCallEnds, IsCalled}
 use Rattle.wal_rule.specs.Seats.{SeatView}
@@ -13,16 +13,16 @@ load-requires g c = (
   omega (arith, c.args.self.now.wide),
   catches_up g.D.Disk.tape g.D.Disk.moment g.D.Disk.faults (opening_of_table c.args.self.now) _
       g.B.OfCall.call g.B.OfCall.ended c.args.seat.now.me c.requires.seat.own
-      (subst (λ (d : DiskState). IsCalled g.D.Disk.tape g.D.Disk.moment g.D.Disk.faults d
-      (opening_of_table c.args.self.now) g.B.OfCall.call g.B.OfCall.ended c.args.seat.now.me)
-      c.requires.first c.requires.called)
-      _ _ c.requires.seat.live c.requires.may _ c.requires.first _ c.requires.seat.own,
+      (subst (λ (d : Rattle.std.specs.Prelude.Option Tape). IsCalled g.D.Disk.tape
+      g.D.Disk.moment g.D.Disk.faults d (opening_of_table c.args.self.now) g.B.OfCall.call g.B.OfCall.ended c.args.seat.now.me)
+      c.requires.began c.requires.called)
+      _ _ c.requires.seat.live c.requires.may _ c.requires.began _ c.requires.seat.own,
 )
 
 pub returns-clause-ended : goal.returns-clause-ended
 returns-clause-ended g c =
     subst (λ (o : Opening). DeviceCallEnds g.D.Disk.tape g.D.Disk.moment g.D.Disk.faults
-    g.B.OfCall.first o g.B.OfCall.call g.B.OfCall.ended c.args.seat.now.me.0 c.load.new.seat.me)
+    g.B.OfCall.began o g.B.OfCall.call g.B.OfCall.ended c.args.seat.now.me.0 c.load.new.seat.me)
     c.requires.seat.own c.load.ensures.2.0
 
 pub returns-clause-seat : goal.returns-clause-seat

@@ -9,7 +9,7 @@ load-requires g c = (
   c.requires.seat.of_table,
   omega (arith, c.args.self.now.wide),
   goes_out g.D.Disk.tape g.D.Disk.moment g.D.Disk.faults _ _ _ _ _ c.requires.seat.live
-      c.requires.may _ c.requires.first _ c.requires.seat.own,
+      c.requires.may _ c.requires.began _ c.requires.seat.own,
 )
 
 pub returns-clause-out : goal.returns-clause-out
@@ -18,6 +18,6 @@ returns-clause-out g c =
       c.load.result,
       e.2.0,
       subst (λ (o : Opening). IsOutOf g.D.Disk.tape g.D.Disk.moment g.D.Disk.faults
-          g.B.HeldFirst.first o c.load.result e.2.0 c.args.seat.now.me c.load.new.seat.me)
+          g.B.BeganOn.began o c.load.result e.2.0 c.args.seat.now.me c.load.new.seat.me)
           c.requires.seat.own e.2.1,
     )

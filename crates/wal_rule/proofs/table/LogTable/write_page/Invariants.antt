@@ -1,10 +1,10 @@
 use Rattle.wal_rule.specs.Called.{writes}
-use Rattle.wal_rule.specs.Tables.{first_of_table}
+use Rattle.wal_rule.specs.Tables.{began_of_table}
 use Rattle.wal_rule.proofs.table.LogTable.write_page.Given as goal
 
 abbrev pub ghosts-catch_up : goal.ghosts-catch_up
 ghosts-catch_up g a = record {
   call = writes a._operands.now.0 a._operands.now.1 a._operands.now.2 a._operands.now.3.now;
   ended = a._ended.now;
-  first = first_of_table g.D.Disk.tape a.self.now;
+  began = began_of_table g.D.Disk.tape a.self.now;
 }

@@ -1,0 +1,114 @@
+-- A disk that holds all of a log for good reads back all of it, also as it is read now.
+use Rattle.std.proofs.Common.{◌≡◌, ℕ, ◌≤◌, ◌⊎◌, inl, inr, List, [], ◌∷◌, length, take, take_all, Option, None, Some, ◌==◌, if◌then◌else◌, refl, sym, subst, arith}
+use Rattle.std.proofs.lemmas.Bool.{cases_eq, eq-eqb, ne_eqb}
+use Rattle.segment_disk.specs.declared.disk.Call.{Call}
+use Rattle.segment_disk.specs.DiskImage.{DiskImage, IsWritten, MayLeave, image_as_read, word_of}
+use Rattle.segment_disk.specs.Tape.{DiskState, Segment, Tape, after_calls, after_writes, page_as_read, state_now}
+use Rattle.flush_core.specs.Left.{DiskImageFits, IsMadeUpto, IsNowhere, SegmentAssures, SegmentFits, StateAssures, TapeAssures}
+use Rattle.lawful_image.specs.Lawful.{IsLawful}
+use Rattle.wal_page.specs.Order.{Entry, end_position}
+use Rattle.wal_core.specs.Words.{Opening, end_form, flushed_word, moment_word}
+use Rattle.wal_core.specs.Views.{View}
+use Rattle.wal_core.specs.Durable.{IsFirm, IsLawfulAt, IsLogBelow}
+use Rattle.wal_core.proofs.Tapes.{at_suited}
+use Rattle.durable_laws.proofs.CrashLaws.{IsLawful-left}
+use Rattle.written_log.proofs.LawfulLaws.{whole_lawful_images_decode}
+use Rattle.closed_log.specs.Closed.{IsClosedOn}
+use Rattle.closed_log.specs.Whole.{HoldsWhole}
+use Rattle.told_lines.specs.Whole.{DecodesTo}
+use Rattle.closed_log.proofs.ClosedDisk.{chained, crashes, known, low, moment_passed, sound_tape, valid}
+
+-- ---- a disk as it is read
+
+-- a word of a page as it is read is the durable one, or that of a write
+word_read : (writes : List (ℕ × List ℕ)) (page k : ℕ) (bytes word : List ℕ)
+    → word ≡ word_of (after_writes writes page bytes) k
+    → (word ≡ word_of bytes k) ⊎ IsWritten writes page k word
+word_read [] page k bytes word is = inl is
+word_read (w ∷ writes) page k bytes word is =
+    elim (word_read writes page k (if w.0 == page then w.1 else bytes) word is) [
+      | inl first ↦ elim (cases_eq w.0 page) [
+        | inl same ↦ inr (inl (same, rw (eq-eqb w.0 page same) at first))
+        | inr other ↦ inl (rw (ne_eqb w.0 page other) at first)
+      ]
+      | inr written ↦ inr (inr written)
+    ]
+
+module _ (size : ℕ) (IsThere : ℕ → Type 0) (Fits : ℕ → ℕ → List ℕ → Type 0) where
+  segment_read_fits : (segment : ℕ) (s : Option Segment)
+      → SegmentAssures size IsThere Fits segment s
+      → SegmentFits size IsThere Fits segment (image_as_read (λ (n : ℕ). s) segment)
+  segment_read_fits segment None assures = assures
+  segment_read_fits segment (Some s) assures = (
+    assures.0,
+    λ page word within low. assures.1 page word within low (word_of (page_as_read s page) word)
+        (word_read s.writes page word (s.durable page) (word_of (page_as_read s page) word) refl),
+  )
+
+  -- what a state assures holds of it as it is read
+  as_read_fits : (state : DiskState) → StateAssures size IsThere Fits state
+      → DiskImageFits size IsThere Fits (image_as_read state)
+  as_read_fits state assures = λ n. segment_read_fits n (state n) (assures n)
+
+-- ---- the whole log
+
+module _ (opening : Opening) (order : List Entry) (t : Tape) (v : View)
+    (c : IsClosedOn opening order t v)
+    (upto : end_form opening.setup (end_position (opening.setup).segment_size order)
+    ≤ flushed_word c.words) where
+  abbrev size : ℕ
+  size = (opening.setup).segment_size
+
+  abbrev flushed : ℕ
+  flushed = flushed_word c.words
+
+  decodes_to : (image : DiskImage)
+      → IsLawful (opening.setup).segment_size (opening.setup).sysid image order
+      (flushed_word c.words)
+      → DecodesTo (opening.setup).segment_size image order
+  decodes_to image lawful = whole_lawful_images_decode size (opening.setup).sysid flushed image
+      order (valid opening order t v c) (known opening order t v c) c.narrow
+      (chained opening order t v c) (low opening order t v c) upto lawful
+
+  left_whole : (image : DiskImage) → MayLeave (state_now t) image
+      → DecodesTo (opening.setup).segment_size image order
+  left_whole image leaves =
+      let all : take (length t.calls) t.calls ≡ t.calls = take_all (length t.calls) t.calls
+      (omega arith) in
+      let now = subst (λ (calls : List Call). MayLeave (after_calls t.at_first calls) image)
+      (sym all) leaves in
+      decodes_to image ((crashes opening order t v c).flushed_kept (length t.calls) image
+      (moment_passed opening order t v c) (inl now))
+
+  -- the disk as it is read holds nothing but words of the log
+  only_log : DiskImageFits (opening.setup).segment_size IsNowhere
+      (IsLawfulAt opening.setup (c.sound).order) (image_as_read (state_now t))
+  only_log = as_read_fits size IsNowhere (IsLawfulAt opening.setup (c.sound).order) (state_now t)
+      (at_suited opening (c.sound).writer (TapeAssures size IsNowhere
+      (IsLawfulAt opening.setup (c.sound).order) opening.moment) t (sound_tape opening order t v c)
+      c.began ((c.sound).durable).lawful).now
+
+  -- and all of them below the flushed address
+  all_below : DiskImageFits (opening.setup).segment_size
+      (IsMadeUpto (opening.setup).segment_size (flushed_word c.words))
+      (IsLogBelow opening.setup (c.sound).order (flushed_word c.words))
+      (image_as_read (state_now t))
+  all_below = as_read_fits size (IsMadeUpto size flushed)
+      (IsLogBelow opening.setup (c.sound).order flushed) (state_now t)
+      (at_suited opening (c.sound).writer (IsFirm opening.setup (c.sound).order flushed
+      (moment_word c.words)) t (sound_tape opening order t v c) c.began
+      ((c.sound).durable).firm).now
+
+  read_lawful : IsLawful (opening.setup).segment_size (opening.setup).sysid
+      (image_as_read (state_now t)) order (flushed_word c.words)
+  read_lawful =
+      let here = IsLawful-left opening.setup (valid opening order t v c) (c.sound).order
+      ((c.sound).reserved).chained (image_as_read (state_now t)) flushed all_below only_log in
+      subst (λ (es : List Entry). IsLawful size (opening.setup).sysid
+      (image_as_read (state_now t)) es flushed) c.order_is here
+
+  pub whole : HoldsWhole (opening.setup).segment_size t order
+  whole = record {
+    left = left_whole;
+    read = decodes_to (image_as_read (state_now t)) read_lawful;
+  }

@@ -1,0 +1,72 @@
+//! What a closed log assures, proved by functions that do nothing.
+
+ghost use Rattle.std.specs.Prelude.{◌≡◌, ℕ, ◌^◌, ◌<◌, ◌≤◌, List, Some};
+ghost use mathlib.Core.Option.{Option};
+ghost use Rattle.segment_disk.specs.Tape.{Tape};
+ghost use Rattle.wal_page.specs.Order.{Entry, end_position};
+ghost use Rattle.wal_core.specs.Words.{Opening, end_form, flushed_word, moment_word};
+ghost use Rattle.wal_core.specs.Suited.{BeganSuited};
+ghost use Rattle.wal_core.specs.Views.{HasAt, FlushPromise, Plain, Reserving, View};
+ghost use Rattle.wal_core.specs.Durable.{IsPromised};
+ghost use Rattle.wal_core.specs.Sound.{IsSound};
+ghost use Rattle.closing_laws.specs.Closed.{IsLastPass, OrderIsAccounted};
+ghost use Rattle.closed_log.specs.Closed.{IsClosedOn, WasPromised};
+ghost use Rattle.closed_log.specs.Surviving.{LeavesFronts};
+ghost use Rattle.closed_log.specs.Timely.{IsTimely};
+ghost use Rattle.closed_log.specs.Whole.{HoldsWhole};
+ghost use Rattle.closed_log.specs.Rising.{LogsAreOfOrder};
+
+/// Each sound state in which one pass is left, has all numbers and is about nothing is that of a
+/// closed log, where the disk tells a tape on which a log may begin.
+pub fn last_passes_leave_closed_logs()
+    ensures close { (opening : Opening) (words : List ℕ) (home : Option Plain)
+        (views : List View) (k : IsSound opening words home views) (id : ℕ) (v : View)
+        → HasAt views id v → IsLastPass opening v → (opening.setup).sysid < 2 ^ 64
+        → (t : Tape) → (k.writer).tape ≡ Some t → BeganSuited opening t
+        → IsClosedOn opening k.order t v }
+{}
+
+/// Whatever a crash leaves, at any moment since the opening, reads as a front of the order, which
+/// holds all that any pass of the log was promised by then.
+pub fn closed_logs_survive_crashes()
+    ensures survive { (opening : Opening) (order : List Entry) (t : Tape) (v : View)
+        → IsClosedOn opening order t v → LeavesFronts opening order t v }
+{}
+
+/// Each promise to a pass came before anything was written of what that pass reserved later.
+pub fn no_promise_is_late()
+    ensures timely { (opening : Opening) (order : List Entry) (t : Tape) (v : View)
+        → IsClosedOn opening order t v → (entries : List Entry) (p : FlushPromise)
+        → WasPromised v entries p → IsTimely opening order t entries p }
+{}
+
+/// In each sound state no promise names a higher address than the word that is flushed, a later
+/// moment than the word that goes with it, or more than was reserved; on any disk.
+pub fn promises_name_no_more_than_the_words()
+    ensures words { (opening : Opening) (words : List ℕ) (home : Option Plain)
+        (views : List View) → IsSound opening words home views → (id : ℕ) (v : View)
+        → HasAt views id v → (entries : List Entry) (p : FlushPromise) → WasPromised v entries p
+        → IsPromised (flushed_word words) (moment_word words) p }
+    ensures reserved { (opening : Opening) (words : List ℕ) (home : Option Plain)
+        (views : List View) (k : IsSound opening words home views) (id : ℕ) (v : View)
+        → HasAt views id v → (entries : List Entry) (p : FlushPromise) → WasPromised v entries p
+        → p.upto ≤ end_form opening.setup (end_position (opening.setup).segment_size k.order) }
+{}
+
+/// Where all of the order is flushed, the disk holds it for good, whether it failed or not: each
+/// image that a crash may leave, and the disk as it is read, decode to all of it and then end.
+pub fn closed_logs_are_whole()
+    ensures whole { (opening : Opening) (order : List Entry) (t : Tape) (v : View)
+        (c : IsClosedOn opening order t v)
+        → end_form opening.setup (end_position (opening.setup).segment_size order)
+        ≤ flushed_word c.words
+        → HoldsWhole (opening.setup).segment_size t order }
+{}
+
+/// What was reserved under one number rises in the order, and is the log of the pass that had the
+/// number, be it the last one or one that was taken in; on any disk.
+pub fn logs_rise_in_the_order()
+    ensures rise { (opening : Opening) (order : List Entry) (words : List ℕ) (views : List View)
+        (r : Reserving) → OrderIsAccounted opening order words views r
+        → LogsAreOfOrder opening order r }
+{}

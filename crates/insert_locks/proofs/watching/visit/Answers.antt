@@ -1,0 +1,6 @@
+use Rattle.insert_locks.proofs.Own.{own_tells_nothing}
+use Rattle.insert_locks.proofs.watching.visit.Goals as goal
+
+pub returns-clause-own : goal.returns-clause-own
+returns-clause-own g c = own_tells_nothing c.args.seat.now.me.0 c.args.lock c.args.end
+    c.load_lock.result c.load_lock.ensures.met

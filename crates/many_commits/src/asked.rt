@@ -1,0 +1,75 @@
+//! What the command line asks for.
+
+use crate::trouble::Trouble;
+use std::env;
+
+/// What the log is written to.
+#[derive(Clone, Copy, Debug, PartialEq, Eq)]
+pub enum Place {
+    Memory,
+    Files,
+}
+
+impl Place {
+    fn of_word(word: &str) -> Option<Place> {
+        match word {
+            "memory" => Some(Place::Memory),
+            "files" => Some(Place::Files),
+            _ => None,
+        }
+    }
+}
+
+/// How many threads commit, how many commits each makes, and where to.
+#[derive(Clone, Copy, Debug, PartialEq, Eq)]
+pub struct Asked {
+    pub backends: u32,
+    pub commits: u32,
+    pub place: Place,
+}
+
+impl Asked {
+    /// What the words behind the program's name ask for.
+    pub fn of_words(rt: HostRuntime) -> Result<Asked, Trouble> {
+        let mut words = env::args(&rt)?.skip(1);
+        let (backends, commits) = (number(words.next())?, number(words.next())?);
+        let place = match words.next() {
+            Some(word) => Place::of_word(word.as_str()).ok_or(Trouble::Usage)?,
+            None => return Err(Trouble::Usage),
+        };
+        if words.next().is_some() || backends > 1000 || commits > 1_000_000 {
+            return Err(Trouble::Usage);
+        }
+        Ok(Asked {
+            backends,
+            commits,
+            place,
+        })
+    }
+
+    /// How many commits all threads make.
+    pub fn all(self) -> u64 {
+        u64::from(self.backends).wrapping_mul(u64::from(self.commits))
+    }
+
+    /// Segments of 16 MiB that hold all records, each of which takes up 40 bytes.
+    pub fn segments(self) -> u32 {
+        let bytes = self.all().saturating_mul(41);
+        (bytes >> 24).saturating_add(2).min(4096) as u32
+    }
+
+    /// The calls of a disk that all commits make at most: each writes one page or two, and syncs.
+    pub fn calls(self) -> u32 {
+        self.all()
+            .saturating_mul(3)
+            .saturating_add(8192)
+            .min(1 << 30) as u32
+    }
+}
+
+fn number(word: Option<String>) -> Result<u32, Trouble> {
+    match word {
+        Some(word) => word.as_str().parse().ok().ok_or(Trouble::Usage),
+        None => Err(Trouble::Usage),
+    }
+}

@@ -1,0 +1,5 @@
+mod Rises
+mod Parts
+mod MomentsBehind
+mod PassMoments
+pub mod EveryMoment

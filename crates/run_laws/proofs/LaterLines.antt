@@ -1,0 +1,97 @@
+-- What a line adds to its pass's log, and what its pass knows then, stays behind later lines.
+use Rattle.std.proofs.Common.{ℕ, All, List, [], ◌∷◌, Some, None, subst, sym}
+use Rattle.log_answers.specs.declared.Cause.TheVariants.{Full, Disk, Down}
+use Rattle.wal_types.specs.declared.record.Record.{Record}
+use Rattle.wal_script.specs.Asked.{Asked, AskedLine, Insert, Commit, Flush}
+use Rattle.wal_core.specs.Views.{Filled, FlushPromise}
+use Rattle.told_lines.specs.declared.told.Told.{Told}
+use Rattle.told_lines.specs.declared.told.Told.TheVariants.{Wrote, Hard, Flushed, Refused}
+use Rattle.told_lines.proofs.AllLaws.{parts_all}
+use Rattle.pass_logs.specs.PassLogs.{PassLog}
+use Rattle.run_laws.specs.Played.{FindsFull, KnowsFault, Leaves, PassState, PlaysLines, Promises, Reserves}
+use Rattle.run_laws.proofs.LineFaults.{down_known}
+
+module _ (size limit pass : ℕ) where
+  pub lines_know : (faults : ℕ) (lines : List AskedLine) (told : List Told)
+      (before after : PassState) → PlaysLines size limit pass before lines told after
+      → KnowsFault faults before → KnowsFault faults after
+  lines_know faults [] [] before after plays knows = subst (KnowsFault faults) (sym plays) knows
+  lines_know faults [] (answer ∷ told) before after plays knows = absurd plays
+  lines_know faults (line ∷ lines) [] before after plays knows = absurd plays
+  lines_know faults (line ∷ lines) (answer ∷ told) before after plays knows =
+      lines_know faults lines told plays.0 after plays.2
+      (down_known size limit pass line.asked faults before plays.0
+      (subst (λ (t : Told). Leaves size limit pass line.asked t before plays.0)
+      ((plays.1).again faults knows) (plays.1).leaves))
+
+  module _ (P : Filled → Type 0) (Q : FlushPromise → Type 0) where
+    -- this holds of each place at which the log was full, and that of each promise
+    abbrev pub Held : PassLog → Type 0
+    Held l = All P l.filled × All Q l.promises
+
+    held_reserving : (value : Record) (start : ℕ) (before after : PassLog)
+        → Reserves size limit pass value start before after → Held after → Held before
+    held_reserving value start before after r held = subst Held r.log_is held
+
+    held_full : (value : Record) (free : ℕ) (before after : PassLog)
+        → FindsFull size limit pass value free before after → Held after → Held before
+    held_full value free before after f held =
+        let h = subst Held f.log_is held in
+        ((parts_all P before.filled _ h.0).0, h.1)
+
+    pub held_promising : (asked upto moment : ℕ) (before after : PassLog)
+        → Promises size limit pass asked upto moment before after → Held after → Held before
+    held_promising asked upto moment before after p held =
+        let h = subst Held p.log_is held in
+        (h.0, (parts_all Q before.promises _ h.1).0)
+
+    line_held : (asked : Asked) (told : Told) (before after : PassState)
+        → Leaves size limit pass asked told before after → Held after.log → Held before.log
+    line_held (Insert value) (Wrote start end) before after l held =
+        held_reserving value start.0 before.log after.log l.reserved held
+    line_held (Insert value) (Hard start end moment) before after l held = absurd l
+    line_held (Insert value) (Flushed upto moment) before after l held = absurd l
+    line_held (Insert value) (Refused (Full free) None) before after l held =
+        held_full value free before.log after.log l held
+    line_held (Insert value) (Refused (Full free) (Some start)) before after l held = absurd l
+    line_held (Insert value) (Refused (Disk faults) None) before after l held = absurd l
+    line_held (Insert value) (Refused (Disk faults) (Some start)) before after l held =
+        held_reserving value start.0 before.log after.log l.0 held
+    line_held (Insert value) (Refused (Down faults) None) before after l held =
+        subst Held l.0 held
+    line_held (Insert value) (Refused (Down faults) (Some start)) before after l held =
+        held_reserving value start.0 before.log after.log l.0 held
+    line_held (Commit value) (Wrote start end) before after l held = absurd l
+    line_held (Commit value) (Hard start end moment) before after l held =
+        held_reserving value start.0 before.log l.between (l.reserved).reserved
+        (held_promising end.0 l.upto moment l.between after.log l.promised held)
+    line_held (Commit value) (Flushed upto moment) before after l held = absurd l
+    line_held (Commit value) (Refused (Full free) None) before after l held =
+        held_full value free before.log after.log l held
+    line_held (Commit value) (Refused (Full free) (Some start)) before after l held = absurd l
+    line_held (Commit value) (Refused (Disk faults) None) before after l held = absurd l
+    line_held (Commit value) (Refused (Disk faults) (Some start)) before after l held =
+        held_reserving value start.0 before.log after.log l.0 held
+    line_held (Commit value) (Refused (Down faults) None) before after l held =
+        subst Held l.0 held
+    line_held (Commit value) (Refused (Down faults) (Some start)) before after l held =
+        held_reserving value start.0 before.log after.log l.0 held
+    line_held Flush (Wrote start end) before after l held = absurd l
+    line_held Flush (Hard start end moment) before after l held = absurd l
+    line_held Flush (Flushed upto moment) before after l held =
+        held_promising _ upto.0 moment before.log after.log l held
+    line_held Flush (Refused (Full free) reserved) before after l held = absurd l
+    line_held Flush (Refused (Disk faults) None) before after l held = subst Held l.0 held
+    line_held Flush (Refused (Disk faults) (Some start)) before after l held = absurd l
+    line_held Flush (Refused (Down faults) None) before after l held = subst Held l.0 held
+    line_held Flush (Refused (Down faults) (Some start)) before after l held = absurd l
+
+    pub lines_held : (lines : List AskedLine) (told : List Told) (before after : PassState)
+        → PlaysLines size limit pass before lines told after → Held after.log → Held before.log
+    lines_held [] [] before after plays held =
+        subst (λ (s : PassState). Held s.log) plays held
+    lines_held [] (answer ∷ told) before after plays held = absurd plays
+    lines_held (line ∷ lines) [] before after plays held = absurd plays
+    lines_held (line ∷ lines) (answer ∷ told) before after plays held =
+        line_held line.asked answer before plays.0 (plays.1).leaves
+        (lines_held lines told plays.0 after plays.2 held)

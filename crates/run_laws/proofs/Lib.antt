@@ -1,0 +1,12 @@
+pub mod LineEntries
+pub mod LineFaults
+pub mod Sorting
+pub mod RunOrder
+pub mod OwnEnds
+pub mod Counting
+pub mod FullLines
+pub mod LaterLines
+pub mod TellsLines
+pub mod RunTells
+pub mod TakingIn
+pub mod LineByLine

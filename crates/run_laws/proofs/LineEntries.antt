@@ -1,0 +1,92 @@
+-- A pass's entries are those that its lines are told.
+use Rattle.std.proofs.Common.{◌≡◌, ℕ, List, [], ◌∷◌, ◌++◌, Some, None, option_to_list, sym, ap, ◌∙◌, append_assoc, append-nil}
+use Rattle.byte_position.specs.Geometry.{IsSegmentSize}
+use Rattle.byte_position.specs.Position.{position_of}
+use Rattle.byte_position.proofs.PositionLaws.{position_of-address_of}
+use Rattle.log_answers.specs.declared.Cause.TheVariants.{Full, Disk, Down}
+use Rattle.wal_types.specs.declared.lsn.Lsn.{Lsn}
+use Rattle.wal_types.specs.declared.record.Record.{Record}
+use Rattle.wal_page.specs.Order.{Entry}
+use Rattle.wal_script.specs.Asked.{Asked, AskedLine, Insert, Commit, Flush}
+use Rattle.told_lines.specs.declared.told.Told.{Told}
+use Rattle.told_lines.specs.declared.told.Told.TheVariants.{Wrote, Hard, Flushed, Refused}
+use Rattle.told_lines.specs.Told.{entries_of, entry_at, entry_of}
+use Rattle.pass_logs.specs.PassLogs.{PassLog}
+use Rattle.run_laws.specs.Played.{Leaves, PassState, PlaysLines, Reserves}
+
+module _ (size limit pass : ℕ) (valid : IsSegmentSize size) where
+  -- the log's entries with one more, whose start is told
+  reserved_entry : (value : Record) (start : Lsn) (before after : PassLog)
+      → Reserves size limit pass value start.0 before after
+      → after.entries ≡ before.entries ++ option_to_list (entry_at size pass value (Some start))
+  reserved_entry value start before after r =
+      let at : position_of size start.0 ≡ r.at =
+      ap (position_of size) r.start_is ∙ position_of-address_of size valid r.at in
+      ap (λ (l : PassLog). l.entries) r.log_is
+      ∙ ap (λ (n : ℕ). before.entries
+      ++ (record { pass = Some pass; value = value; start = n }) ∷ []) (sym at)
+
+  -- the same log has no entry more
+  same_entries : (before after : PassLog) → after.entries ≡ before.entries
+      → after.entries ≡ before.entries ++ []
+  same_entries before after is = is ∙ sym (append-nil before.entries)
+
+  pub line_entries : (asked : Asked) (told : Told) (before after : PassState)
+      → Leaves size limit pass asked told before after
+      → (after.log).entries
+      ≡ (before.log).entries ++ option_to_list (entry_of size pass asked told)
+  line_entries (Insert value) (Wrote start end) before after l =
+      reserved_entry value start before.log after.log l.reserved
+  line_entries (Insert value) (Hard start end moment) before after l = absurd l
+  line_entries (Insert value) (Flushed upto moment) before after l = absurd l
+  line_entries (Insert value) (Refused (Full free) None) before after l =
+      same_entries before.log after.log (ap (λ (l : PassLog). l.entries) l.log_is)
+  line_entries (Insert value) (Refused (Full free) (Some start)) before after l = absurd l
+  line_entries (Insert value) (Refused (Disk faults) None) before after l = absurd l
+  line_entries (Insert value) (Refused (Disk faults) (Some start)) before after l =
+      reserved_entry value start before.log after.log l.0
+  line_entries (Insert value) (Refused (Down faults) None) before after l =
+      same_entries before.log after.log (ap (λ (l : PassLog). l.entries) l.0)
+  line_entries (Insert value) (Refused (Down faults) (Some start)) before after l =
+      reserved_entry value start before.log after.log l.0
+  line_entries (Commit value) (Wrote start end) before after l = absurd l
+  line_entries (Commit value) (Hard start end moment) before after l =
+      ap (λ (l : PassLog). l.entries) (l.promised).log_is
+      ∙ reserved_entry value start before.log l.between (l.reserved).reserved
+  line_entries (Commit value) (Flushed upto moment) before after l = absurd l
+  line_entries (Commit value) (Refused (Full free) None) before after l =
+      same_entries before.log after.log (ap (λ (l : PassLog). l.entries) l.log_is)
+  line_entries (Commit value) (Refused (Full free) (Some start)) before after l = absurd l
+  line_entries (Commit value) (Refused (Disk faults) None) before after l = absurd l
+  line_entries (Commit value) (Refused (Disk faults) (Some start)) before after l =
+      reserved_entry value start before.log after.log l.0
+  line_entries (Commit value) (Refused (Down faults) None) before after l =
+      same_entries before.log after.log (ap (λ (l : PassLog). l.entries) l.0)
+  line_entries (Commit value) (Refused (Down faults) (Some start)) before after l =
+      reserved_entry value start before.log after.log l.0
+  line_entries Flush (Wrote start end) before after l = absurd l
+  line_entries Flush (Hard start end moment) before after l = absurd l
+  line_entries Flush (Flushed upto moment) before after l =
+      same_entries before.log after.log (ap (λ (l : PassLog). l.entries) l.log_is)
+  line_entries Flush (Refused (Full free) reserved) before after l = absurd l
+  line_entries Flush (Refused (Disk faults) None) before after l =
+      same_entries before.log after.log (ap (λ (l : PassLog). l.entries) l.0)
+  line_entries Flush (Refused (Disk faults) (Some start)) before after l = absurd l
+  line_entries Flush (Refused (Down faults) None) before after l =
+      same_entries before.log after.log (ap (λ (l : PassLog). l.entries) l.0)
+  line_entries Flush (Refused (Down faults) (Some start)) before after l = absurd l
+
+  pub lines_entries : (lines : List AskedLine) (told : List Told) (before after : PassState)
+      → PlaysLines size limit pass before lines told after
+      → (after.log).entries ≡ (before.log).entries ++ entries_of size pass lines told
+  lines_entries [] [] before after plays =
+      same_entries before.log after.log (ap (λ (s : PassState). (s.log).entries) plays)
+  lines_entries [] (answer ∷ told) before after plays = absurd plays
+  lines_entries (line ∷ lines) [] before after plays = absurd plays
+  lines_entries (line ∷ lines) (answer ∷ told) before after plays =
+      let mid = plays.0 in
+      lines_entries lines told mid after plays.2
+      ∙ ap (λ (es : List Entry). es ++ entries_of size pass lines told)
+      (line_entries line.asked answer before mid (plays.1).leaves)
+      ∙ append_assoc (before.log).entries (option_to_list (entry_of size pass line.asked answer))
+      (entries_of size pass lines told)

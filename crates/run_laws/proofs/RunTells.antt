@@ -1,0 +1,150 @@
+-- All lines of a run are told what they may be told.
+use Rattle.std.proofs.Common.{◌≡◌, ◌≢◌, ℕ, ◌+◌, ◌≤◌, All, List, [], ◌∷◌, inl, inr, refl, subst, arith}
+use Rattle.std.proofs.lemmas.List.Elements.{All-cons, All-head, All-nil, All-tail, All-weaker}
+use mathlib.Core.Option.{some}
+use Rattle.byte_position.specs.Geometry.{IsSegmentSize}
+use Rattle.byte_position.specs.Position.{end_address_of, first_position}
+use Rattle.wal_page.specs.Order.{Entry, IsChained, end_position}
+use Rattle.wal_script.specs.Asked.{AskedLine}
+use Rattle.wal_core.specs.Words.{Opening, down_word, flushed_word, log_limit, moment_word}
+use Rattle.wal_core.specs.Views.{FlushPromise, Joined, View}
+use Rattle.wal_core.specs.Durable.{IsPromised}
+use Rattle.wal_core.specs.Moves.{joined_of}
+use Rattle.wal_core.specs.Ordered.{FrontEndsAt}
+use Rattle.closed_log.proofs.Promises.{told_rightly}
+use Rattle.told_lines.specs.declared.told.Told.{Told}
+use Rattle.told_lines.specs.Told.{IsFault, Logged, TellsAll}
+use Rattle.run_laws.specs.Played.{KnowsFault, state_at_first, pass_state_of}
+use Rattle.run_laws.specs.Ended.{HasTakenIn, IsClosedLog, IsKnownTo, PlayedAll, logged_at_end}
+use Rattle.run_laws.proofs.RunOrder.{accounted, unmapped, valid}
+use Rattle.run_laws.proofs.TellsLines.{tells}
+
+-- a promise is of what was reserved
+abbrev IsWithin : Logged → FlushPromise → Type 0
+IsWithin logged p = p.upto ≤ end_address_of logged.size (end_position logged.size logged.order)
+
+-- so is each of a pass that was taken in, and where it found the log full a front ends
+abbrev ArePromised : Logged → Joined → Type 0
+ArePromised logged j = All (IsWithin logged) j.promises
+
+abbrev AreFilled : Logged → List Entry → Joined → Type 0
+AreFilled logged found j =
+    All (FrontEndsAt logged.size j.number found logged.order j.entries) j.filled
+
+module _ (logged : Logged) (limit : ℕ) (found : List Entry) where
+  -- a pass of which both hold, and which knows faults that the disk told
+  record IsRight (w : View) : Type 0 where
+    filled : AreFilled logged found (joined_of w)
+    promised : ArePromised logged (joined_of w)
+    faulty : (faults : ℕ) → KnowsFault faults (pass_state_of w) → IsFault logged faults
+
+  all_tell : IsSegmentSize logged.size → IsChained logged.size logged.order
+      → limit ≡ first_position logged.size + logged.capacity → (pass : ℕ)
+      (script : List (List AskedLine)) (lists : List (List Told)) (others : List View)
+      → PlayedAll logged.size limit pass script lists others → All IsRight others
+      → TellsAll logged pass script lists
+  all_tell size_is chained limited pass [] [] [] played right = tt
+  all_tell size_is chained limited pass [] [] (w ∷ others) played right = absurd played
+  all_tell size_is chained limited pass [] (told ∷ lists) others played right = absurd played
+  all_tell size_is chained limited pass (lines ∷ script) [] others played right = absurd played
+  all_tell size_is chained limited pass (lines ∷ script) (told ∷ lists) [] played right =
+      absurd played
+  all_tell size_is chained limited pass (lines ∷ script) (told ∷ lists) (w ∷ others) played right =
+      let here = All-head IsRight w others right in
+      let entries = (w.reserving).entries in (
+        tells logged limit pass size_is chained limited found entries lines told state_at_first
+            (pass_state_of w) played.1 refl (
+              subst (λ (n : ℕ). All (FrontEndsAt logged.size n found logged.order entries)
+                  (w.reserving).filled) played.0 here.filled,
+              here.promised,
+            ) here.faulty,
+        all_tell size_is chained limited (pass + 1) script lists others played.2
+            (All-tail IsRight w others right),
+      )
+
+module _ (opening : Opening) (order : List Entry) (v : View) (c : IsClosedLog opening order v)
+    (script : List (List AskedLine)) (lists : List (List Told))
+    (taken : HasTakenIn opening v script lists) (last : ℕ)
+    (counted : (faults : ℕ) → (c.writer).fault ≡ some faults → faults ≤ last) where
+  abbrev size : ℕ
+  size = (opening.setup).segment_size
+
+  abbrev logged : Logged
+  logged = logged_at_end opening order last
+
+  -- what the first pass knows of faults is the down value, which the writer met
+  known_last : (down more : ℕ) → (down ≢ 0 → down ≡ down_word c.words) → more ≢ 0
+      → down ≡ more → more ≤ last
+  known_last down more is not_none same =
+      let is_down = is (λ none. not_none (omega (arith, same, none))) in
+      let met = (((c.closed).durable).down).is_met
+      (λ none. not_none (omega (arith, same, is_down, none))) in
+      omega (arith, same, is_down, counted (down_word c.words) met.0)
+
+  first_knows : (more : ℕ) → KnowsFault more (pass_state_of v) → more ≤ last
+  first_knows more knows =
+      let right = told_rightly opening c.words (some c.writer) c.views c.sound c.id v c.here in
+      elim knows.1 [
+        | inl met ↦ known_last (v.writing).down_met more right.down_met knows.0 met
+        | inr set ↦ known_last (v.writing).down_set more right.down_set knows.0 set
+      ]
+
+  faulty_of : (w : View) → IsKnownTo opening v w → (f : ℕ) → KnowsFault f (pass_state_of w)
+      → IsFault logged f
+  faulty_of w known f knows =
+      let more = known.kept f knows in
+      record {
+        rose = known.rose f knows;
+        upto = omega (arith, more.1, first_knows more.0 more.2);
+      }
+
+  promised_of : All (ArePromised (logged_at_end opening order last)) (v.reserving).joined
+  promised_of =
+      let right = told_rightly opening c.words (some c.writer) c.views c.sound c.id v c.here in
+      let positions = (c.closed).positions in
+      let Promised = IsPromised (flushed_word c.words) (moment_word c.words) in
+      All-weaker (λ (j : Joined). All Promised j.promises) (ArePromised logged)
+      (λ j all. All-weaker Promised (IsWithin logged)
+      (λ p is. omega (
+        arith,
+        is.upto_low,
+        positions.flushed_low,
+        positions.written_low,
+        positions.reserved,
+      )) j.promises all)
+      (v.reserving).joined right.joined_promised
+
+  abbrev FilledThere : View → Type 0
+  FilledThere w = AreFilled (logged_at_end opening order last) opening.found (joined_of w)
+
+  abbrev PromisedThere : View → Type 0
+  PromisedThere w = ArePromised (logged_at_end opening order last) (joined_of w)
+
+  abbrev Right : View → Type 0
+  Right = IsRight (logged_at_end opening order last) (log_limit opening.setup) opening.found
+
+  rights : (others : List View) → All (IsKnownTo opening v) others → All FilledThere others
+      → All PromisedThere others → All Right others
+  rights [] known filled promised = All-nil Right
+  rights (w ∷ others) known filled promised =
+      All-cons Right w others
+      (record {
+        filled = All-head FilledThere w others filled;
+        promised = All-head PromisedThere w others promised;
+        faulty = faulty_of w (All-head (IsKnownTo opening v) w others known);
+      })
+      (rights others (All-tail (IsKnownTo opening v) w others known)
+      (All-tail FilledThere w others filled) (All-tail PromisedThere w others promised))
+
+  pub run_tells : TellsAll (logged_at_end opening order last) 1 script lists
+  run_tells =
+      let part = (accounted opening order v c script lists taken).part in
+      let filled = subst (All (AreFilled logged opening.found)) taken.joined part.joined_filled in
+      let promised = subst (All (ArePromised logged)) taken.joined promised_of in
+      all_tell logged (log_limit opening.setup) opening.found
+      (valid opening order v c script lists taken)
+      (accounted opening order v c script lists taken).chained refl 1 script lists taken.others
+      taken.played
+      (rights taken.others taken.known
+      (unmapped (AreFilled logged opening.found) taken.others filled)
+      (unmapped (ArePromised logged) taken.others promised))

@@ -1,0 +1,160 @@
+-- Lines that were played are told what they may be told.
+use Rattle.std.proofs.Common.{◌≡◌, ℕ, ◌+◌, ◌≤◌, All, List, [], ◌∷◌, ◌++◌, length, take, Option, Some, None, option_to_list, refl, sym, ap, ◌∙◌, subst}
+use Rattle.std.proofs.Math.Seq.{take-append_seam}
+use Rattle.std.proofs.lemmas.List.Elements.{All-head}
+use Rattle.byte_position.specs.Geometry.{IsSegmentSize}
+use Rattle.byte_position.specs.Position.{position_of, address_of, end_address_of, first_position}
+use Rattle.byte_position.proofs.PositionLaws.{position_of-address_of}
+use Rattle.log_answers.specs.declared.Cause.{Cause}
+use Rattle.log_answers.specs.declared.Cause.TheVariants.{Full, Disk, Down}
+use Rattle.wal_types.specs.declared.lsn.Lsn.{Lsn}
+use Rattle.wal_types.specs.declared.record.Record.{Record}
+use Rattle.wal_page.specs.Order.{Entry, IsChained, end_position, position_behind, room_at}
+use Rattle.wal_script.specs.Asked.{Asked, AskedLine, Insert, Commit, Flush}
+use Rattle.wal_core.specs.Views.{Filled, FlushPromise}
+use Rattle.wal_core.specs.Ordered.{FrontEndsAt}
+use Rattle.told_lines.specs.declared.told.Told.{Told}
+use Rattle.told_lines.specs.declared.told.Told.TheVariants.{Wrote, Hard, Flushed, Refused}
+use Rattle.told_lines.specs.Told.{FitsLine, IsFault, IsPlaced, Logged, MayRefuseFlush, MayRefuseRecord, TellsFrom, behind_or, entries_of, entry_of}
+use Rattle.told_lines.proofs.AllLaws.{parts_all}
+use Rattle.pass_logs.specs.PassLogs.{PassLog}
+use Rattle.run_laws.specs.Played.{KnowsFault, Leaves, PassState, PlaysLines, Promises, RefusesFlush, RefusesRecord, Reserves, ReservesUpto, behind_last_own, end_of_own}
+use Rattle.run_laws.proofs.FullLines.{full_cause}
+use Rattle.run_laws.proofs.LineEntries.{line_entries, lines_entries}
+use Rattle.run_laws.proofs.LaterLines.{Held, lines_held, lines_know}
+
+-- the position behind some entries and one more, or none more
+behind_more : (size behind : ℕ) (es : List Entry) (e : Option Entry)
+    → behind_last_own size behind (es ++ option_to_list e)
+    ≡ behind_or size (behind_last_own size behind es) e
+behind_more size behind [] None = refl
+behind_more size behind [] (Some e) = refl
+behind_more size behind (f ∷ es) e = behind_more size (position_behind size f) es e
+
+module _ (logged : Logged) (limit pass : ℕ) (valid : IsSegmentSize logged.size)
+    (chained : IsChained logged.size logged.order)
+    (limited : limit ≡ first_position logged.size + logged.capacity)
+    (found all : List Entry) where
+  abbrev size : ℕ
+  size = logged.size
+
+  abbrev first : ℕ
+  first = first_position logged.size
+
+  -- each promise is of what was reserved
+  abbrev pub IsWithin : FlushPromise → Type 0
+  IsWithin p = p.upto ≤ end_address_of logged.size (end_position logged.size logged.order)
+
+  abbrev pub Ends : Filled → Type 0
+  Ends f = FrontEndsAt logged.size pass found logged.order all f
+
+  start_position : (value : Record) (start : Lsn) (before after : PassLog)
+      → (r : Reserves logged.size limit pass value start.0 before after)
+      → position_of logged.size start.0 ≡ r.at
+  start_position value start before after r =
+      ap (position_of size) r.start_is ∙ position_of-address_of size valid r.at
+
+  started : (value : Record) (start : Lsn) (before after : PassLog)
+      → Reserves logged.size limit pass value start.0 before after
+      → start.0 ≡ address_of logged.size (position_of logged.size start.0)
+  started value start before after r =
+      r.start_is ∙ ap (address_of size) (sym (start_position value start before after r))
+
+  placed : (value : Record) (start end : Lsn) (before after : PassLog)
+      → ReservesUpto logged.size limit pass value start.0 end.0 before after
+      → IsPlaced logged.size value start.0 end.0
+  placed value start end before after r = record {
+    starts = started value start before after r.reserved;
+    ends = r.end_is ∙ ap (λ (n : ℕ). end_address_of size (n + room_at size n value))
+        (sym (start_position value start before after r.reserved));
+  }
+
+  promised : (asked upto moment : ℕ) (before after : PassLog)
+      → Promises logged.size limit pass asked upto moment before after
+      → Held logged.size limit pass Ends IsWithin after
+      → (asked ≤ upto)
+      × (upto ≤ end_address_of logged.size (end_position logged.size logged.order))
+  promised asked upto moment before after p held =
+      let more : FlushPromise =
+      record { upto = upto; moment = moment; entries = length before.entries } in
+      let all_within = subst (All IsWithin) (ap (λ (l : PassLog). l.promises) p.log_is) held.1 in (
+        p.reached,
+        All-head IsWithin more [] (parts_all IsWithin before.promises (more ∷ []) all_within).1,
+      )
+
+  module _ (before after : PassState)
+      (held : Held logged.size limit pass Ends IsWithin after.log)
+      (faulty : (faults : ℕ) → KnowsFault faults after → IsFault logged faults)
+      (own : take (length (before.log).entries) all ≡ (before.log).entries) where
+    abbrev behind : ℕ
+    behind = behind_last_own logged.size (first_position logged.size) (before.log).entries
+
+    refuses : (value : Record) (cause : Cause) (reserved : Option Lsn)
+        → RefusesRecord logged.size limit pass value cause reserved before after
+        → MayRefuseRecord logged behind value cause reserved
+    refuses value (Full free) None l =
+        full_cause logged limit pass chained limited found all value free before.log after.log l
+        held.0 own
+    refuses value (Full free) (Some start) l = absurd l
+    refuses value (Disk faults) None l = absurd l
+    refuses value (Disk faults) (Some start) l =
+        (faulty faults l.1, started value start before.log after.log l.0)
+    refuses value (Down faults) None l = faulty faults l.1
+    refuses value (Down faults) (Some start) l =
+        (faulty faults l.1, started value start before.log after.log l.0)
+
+    refuses_flush : (cause : Cause) (reserved : Option Lsn)
+        → RefusesFlush logged.size limit pass cause reserved before after
+        → MayRefuseFlush logged cause reserved
+    refuses_flush (Full free) reserved l = absurd l
+    refuses_flush (Disk faults) None l = (faulty faults l.1, refl)
+    refuses_flush (Disk faults) (Some start) l = absurd l
+    refuses_flush (Down faults) None l = (faulty faults l.1, refl)
+    refuses_flush (Down faults) (Some start) l = absurd l
+
+    fits : (asked : Asked) (told : Told) → Leaves logged.size limit pass asked told before after
+        → FitsLine logged behind asked told
+    fits (Insert value) (Wrote start end) l = placed value start end before.log after.log l
+    fits (Insert value) (Hard start end moment) l = absurd l
+    fits (Insert value) (Flushed upto moment) l = absurd l
+    fits (Insert value) (Refused cause reserved) l = refuses value cause reserved l
+    fits (Commit value) (Wrote start end) l = absurd l
+    fits (Commit value) (Hard start end moment) l =
+        placed value start end before.log l.between l.reserved
+    fits (Commit value) (Flushed upto moment) l = absurd l
+    fits (Commit value) (Refused cause reserved) l = refuses value cause reserved l
+    fits Flush (Wrote start end) l = absurd l
+    fits Flush (Hard start end moment) l = absurd l
+    fits Flush (Flushed upto moment) l =
+        promised (end_of_own size (before.log).entries) upto.0 moment before.log after.log l held
+    fits Flush (Refused cause reserved) l = refuses_flush cause reserved l
+
+  pub tells : (lines : List AskedLine) (told : List Told) (before after : PassState)
+      → PlaysLines logged.size limit pass before lines told after → (after.log).entries ≡ all
+      → Held logged.size limit pass Ends IsWithin after.log
+      → ((faults : ℕ) → KnowsFault faults after → IsFault logged faults)
+      → TellsFrom logged pass
+      (behind_last_own logged.size (first_position logged.size) (before.log).entries) lines told
+  tells [] [] before after plays ends held faulty = tt
+  tells [] (answer ∷ told) before after plays ends held faulty = absurd plays
+  tells (line ∷ lines) [] before after plays ends held faulty = absurd plays
+  tells (line ∷ lines) (answer ∷ told) before after plays ends held faulty =
+      let mid = plays.0 in
+      let whole = sym ends
+      ∙ lines_entries size limit pass valid (line ∷ lines) (answer ∷ told) before after plays in
+      let own = ap (take (length (before.log).entries)) whole
+      ∙ take-append_seam (before.log).entries
+      (entries_of size pass (line ∷ lines) (answer ∷ told)) in
+      let held_mid =
+      lines_held size limit pass Ends IsWithin lines told mid after plays.2 held in
+      let faulty_mid : (faults : ℕ) → KnowsFault faults mid → IsFault logged faults =
+      λ faults knows. faulty faults
+      (lines_know size limit pass faults lines told mid after plays.2 knows) in
+      let more = ap (behind_last_own size first)
+      (line_entries size limit pass valid line.asked answer before mid (plays.1).leaves)
+      ∙ behind_more size first (before.log).entries
+      (entry_of size pass line.asked answer) in (
+        fits before mid held_mid faulty_mid own line.asked answer (plays.1).leaves,
+        subst (λ (n : ℕ). TellsFrom logged pass n lines told) more
+            (tells lines told mid after plays.2 ends held faulty),
+      )

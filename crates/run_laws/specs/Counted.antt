@@ -1,0 +1,9 @@
+-- Counts of answers of several backends.
+use Rattle.std.specs.Prelude.{ℕ, ◌+◌, List, [], ◌∷◌}
+use Rattle.told_lines.specs.declared.told.Told.{Told}
+use Rattle.told_lines.specs.Counts.{reserved_count}
+
+-- how many answers say that a record was reserved
+abbrev pub all_reserved_count : List (List Told) → ℕ
+all_reserved_count [] = 0
+all_reserved_count (told ∷ lists) = reserved_count told + all_reserved_count lists

@@ -1,0 +1,72 @@
+-- The end of a run of several backends: the log was closed by its first pass, which had taken in
+-- those that played the lines.
+use Rattle.std.specs.Prelude.{◌≡◌, ℕ, ◌+◌, ◌≤◌, All, List, [], ◌∷◌, map}
+use mathlib.Core.Option.{some}
+use Rattle.segment_disk.specs.Cause.{Rose}
+use Rattle.wal_page.specs.Order.{Entry}
+use Rattle.wal_script.specs.Asked.{AskedLine}
+use Rattle.told_lines.specs.declared.told.Told.{Told}
+use Rattle.told_lines.specs.Told.{Logged}
+use Rattle.told_lines.specs.Rooms.{capacity_of}
+use Rattle.wal_core.specs.Words.{Opening, log_limit}
+use Rattle.wal_core.specs.Views.{HasAt, Plain, View}
+use Rattle.wal_core.specs.Moves.{joined_of}
+use Rattle.wal_core.specs.Sound.{IsSound}
+use Rattle.closing_laws.specs.Closed.{IsClosed}
+use Rattle.run_laws.specs.Played.{KnowsFault, PassState, PlaysLines, state_at_first, pass_state_of}
+
+-- a log that held nothing at the opening was closed with this order, in a sound state in which this
+-- was the last pass, with its writer at home
+pub record IsClosedLog (opening : Opening) (order : List Entry) (v : View) : Type 0 where
+  pub words : List ℕ
+  pub writer : Plain
+  pub views : List View
+  pub id : ℕ
+  pub none_found : opening.found ≡ []
+  pub sound : IsSound opening words (some writer) views
+  pub order_is : sound.order ≡ order
+  pub here : HasAt views id v
+  pub closed : IsClosed opening order words (some writer) writer views id v
+
+-- each pass, from this number on, played its backend's lines
+abbrev pub PlayedAll : ℕ → ℕ → ℕ → List (List AskedLine) → List (List Told) → List View → Type 0
+PlayedAll size limit pass [] [] [] = Unit {0}
+PlayedAll size limit pass [] [] (w ∷ views) = ⊥
+PlayedAll size limit pass [] (told ∷ lists) views = ⊥
+PlayedAll size limit pass (lines ∷ script) [] views = ⊥
+PlayedAll size limit pass (lines ∷ script) (told ∷ lists) [] = ⊥
+PlayedAll size limit pass (lines ∷ script) (told ∷ lists) (w ∷ views) =
+    ((w.reserving).number ≡ pass)
+    × PlaysLines size limit pass state_at_first lines told (pass_state_of w)
+    × PlayedAll size limit (pass + 1) script lists views
+
+-- a pass knows this count of faults, or a greater one
+abbrev pub KnowsAtLeast : ℕ → PassState → Type 0
+KnowsAtLeast faults s = (more : ℕ) × (faults ≤ more) × KnowsFault more s
+
+-- what a pass knows of faults came since the opening, and the pass that took it in knows no less
+pub record IsKnownTo (opening : Opening) (v w : View) : Type 0 where
+  pub rose : (faults : ℕ) → KnowsFault faults (pass_state_of w) → Rose opening.faults faults
+  pub kept : (faults : ℕ) → KnowsFault faults (pass_state_of w)
+      → KnowsAtLeast faults (pass_state_of v)
+
+-- the first pass reserved nothing, and took in these, which played the script, numbered from 1
+pub record HasTakenIn (opening : Opening) (v : View) (script : List (List AskedLine))
+    (lists : List (List Told)) : Type 0 where
+  pub others : List View
+  pub number : (v.reserving).number ≡ 0
+  pub none : (v.reserving).entries ≡ []
+  pub joined : (v.reserving).joined ≡ map joined_of others
+  pub known : All (IsKnownTo opening v) others
+  pub played : PlayedAll (opening.setup).segment_size (log_limit opening.setup) 1 script lists
+      others
+
+-- the log that lines are told of, where its disk's count of faults was `last` at the end
+abbrev pub logged_at_end : Opening → List Entry → ℕ → Logged
+logged_at_end opening order last = record {
+  size = (opening.setup).segment_size;
+  capacity = capacity_of (opening.setup).segment_size (opening.setup).cap_segments;
+  order = order;
+  faults_at_open = opening.faults;
+  last = last;
+}

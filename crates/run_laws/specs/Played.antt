@@ -1,0 +1,141 @@
+-- What a line leaves of its pass, by what it is told. Everywhere `size` is the size of a segment in
+-- bytes, `limit` the byte position at which the log is full, and `pass` the pass's number.
+use Rattle.std.specs.Prelude.{◌≡◌, ◌≢◌, ◌⊎◌, ℕ, ◌+◌, ◌<◌, ◌≤◌, List, [], ◌∷◌, Option, Some, None}
+use Rattle.wal_types.specs.declared.lsn.Lsn.{Lsn}
+use Rattle.wal_types.specs.declared.record.Record.{Record}
+use Rattle.log_answers.specs.declared.Cause.{Cause}
+use Rattle.log_answers.specs.declared.Cause.TheVariants.{Full, Disk, Down}
+use Rattle.byte_position.specs.Position.{end_address_of, first_position}
+use Rattle.wal_page.specs.Order.{Entry, finish_of, position_behind, room_at, start_of}
+use Rattle.wal_script.specs.Asked.{Asked, AskedLine, Insert, Commit, Flush}
+use Rattle.told_lines.specs.declared.told.Told.{Told}
+use Rattle.told_lines.specs.declared.told.Told.TheVariants.{Wrote, Hard, Flushed, Refused}
+use Rattle.wal_core.specs.Views.{View}
+use Rattle.wal_core.specs.Moves.{entry_reserved}
+use Rattle.pass_logs.specs.PassLogs.{PassLog, log_of_view, log_with_entry, log_with_full, log_with_promise}
+
+-- what a pass has between two lines: its log, and the down values that it met and set, 0 for none
+pub record PassState : Type 0 where
+  pub log : PassLog
+  pub met : ℕ
+  pub set : ℕ
+
+abbrev pub pass_state_of : View → PassState
+pass_state_of v = record {
+  log = log_of_view v;
+  met = (v.writing).down_met;
+  set = (v.writing).down_set;
+}
+
+-- before its first line
+abbrev pub state_at_first : PassState
+state_at_first = record {
+  log = record { entries = []; filled = []; promises = [] };
+  met = 0;
+  set = 0;
+}
+
+-- the pass knows that the disk failed, at this count of faults
+abbrev pub KnowsFault : ℕ → PassState → Type 0
+KnowsFault faults s = (faults ≢ 0) × ((s.met ≡ faults) ⊎ (s.set ≡ faults))
+
+-- the byte position behind the last of some entries, or `behind` where there is none; and the
+-- address at which they end, the log's start where there is none
+abbrev pub behind_last_own : ℕ → ℕ → List Entry → ℕ
+behind_last_own size behind [] = behind
+behind_last_own size behind (e ∷ es) = behind_last_own size (position_behind size e) es
+
+abbrev pub end_of_own : ℕ → List Entry → ℕ
+end_of_own size es = end_address_of size (behind_last_own size (first_position size) es)
+
+module _ (size limit pass : ℕ) where
+  -- the record was reserved for the pass, and starts at this address
+  pub record Reserves (value : Record) (start : ℕ) (before after : PassLog) : Type 0 where
+    pub at : ℕ
+    pub start_is : start ≡ start_of size (entry_reserved pass at value)
+    pub log_is : after ≡ log_with_entry (entry_reserved pass at value) before
+
+  -- and it ends at that one
+  pub record ReservesUpto (value : Record) (start end : ℕ) (before after : PassLog) : Type 0 where
+    pub reserved : Reserves value start before after
+    pub end_is : end ≡ finish_of size (entry_reserved pass reserved.at value)
+
+  -- the log was found full: this many bytes were free, fewer than the record takes up
+  pub record FindsFull (value : Record) (free : ℕ) (before after : PassLog) : Type 0 where
+    pub at : ℕ
+    pub free_is : free + at ≡ limit
+    pub short : free < room_at size at value
+    pub log_is : after ≡ log_with_full at before
+
+  -- all below an address, no less than the one asked for, was promised from a moment on
+  pub record Promises (asked upto moment : ℕ) (before after : PassLog) : Type 0 where
+    pub reached : asked ≤ upto
+    pub log_is : after ≡ log_with_promise upto moment before
+
+  -- a record is reserved, then its end promised
+  pub record Seals (value : Record) (start end moment : ℕ) (before after : PassLog) : Type 0 where
+    pub between : PassLog
+    pub upto : ℕ
+    pub reserved : ReservesUpto value start end before between
+    pub promised : Promises end upto moment between after
+
+  -- the log is as it was, and the pass knows a fault
+  abbrev pub FindsDown : ℕ → PassState → PassState → Type 0
+  FindsDown faults before after = (after.log ≡ before.log) × KnowsFault faults after
+
+  -- the record was reserved all the same
+  abbrev pub FailsBehind : Record → ℕ → ℕ → PassState → PassState → Type 0
+  FailsBehind value start faults before after =
+      Reserves value start before.log after.log × KnowsFault faults after
+
+  -- an insert or a commit is refused
+  abbrev pub RefusesRecord : Record → Cause → Option Lsn → PassState → PassState → Type 0
+  RefusesRecord value (Full free) None before after = FindsFull value free before.log after.log
+  RefusesRecord value (Full free) (Some start) before after = ⊥
+  RefusesRecord value (Disk faults) None before after = ⊥
+  RefusesRecord value (Disk faults) (Some start) before after =
+      FailsBehind value start.0 faults before after
+  RefusesRecord value (Down faults) None before after = FindsDown faults before after
+  RefusesRecord value (Down faults) (Some start) before after =
+      FailsBehind value start.0 faults before after
+
+  -- a flush is refused
+  abbrev pub RefusesFlush : Cause → Option Lsn → PassState → PassState → Type 0
+  RefusesFlush (Full free) reserved before after = ⊥
+  RefusesFlush (Disk faults) None before after = FindsDown faults before after
+  RefusesFlush (Disk faults) (Some start) before after = ⊥
+  RefusesFlush (Down faults) None before after = FindsDown faults before after
+  RefusesFlush (Down faults) (Some start) before after = ⊥
+
+  -- what is left of a pass by a line that asks for this and is told that
+  abbrev pub Leaves : Asked → Told → PassState → PassState → Type 0
+  Leaves (Insert value) (Wrote start end) before after =
+      ReservesUpto value start.0 end.0 before.log after.log
+  Leaves (Insert value) (Hard start end moment) before after = ⊥
+  Leaves (Insert value) (Flushed upto moment) before after = ⊥
+  Leaves (Insert value) (Refused cause reserved) before after =
+      RefusesRecord value cause reserved before after
+  Leaves (Commit value) (Wrote start end) before after = ⊥
+  Leaves (Commit value) (Hard start end moment) before after =
+      Seals value start.0 end.0 moment before.log after.log
+  Leaves (Commit value) (Flushed upto moment) before after = ⊥
+  Leaves (Commit value) (Refused cause reserved) before after =
+      RefusesRecord value cause reserved before after
+  Leaves Flush (Wrote start end) before after = ⊥
+  Leaves Flush (Hard start end moment) before after = ⊥
+  Leaves Flush (Flushed upto moment) before after =
+      Promises (end_of_own size (before.log).entries) upto.0 moment before.log after.log
+  Leaves Flush (Refused cause reserved) before after = RefusesFlush cause reserved before after
+
+  -- and where the pass knew a fault, it is told again and nothing else
+  pub record PlaysLine (asked : Asked) (told : Told) (before after : PassState) : Type 0 where
+    pub leaves : Leaves asked told before after
+    pub again : (faults : ℕ) → KnowsFault faults before → told ≡ Refused (Down faults) None
+
+  -- line by line
+  abbrev pub PlaysLines : PassState → List AskedLine → List Told → PassState → Type 0
+  PlaysLines before [] [] after = after ≡ before
+  PlaysLines before [] (told ∷ others) after = ⊥
+  PlaysLines before (line ∷ lines) [] after = ⊥
+  PlaysLines before (line ∷ lines) (told ∷ others) after = (mid : PassState)
+      × PlaysLine line.asked told before mid × PlaysLines mid lines others after

@@ -1,0 +1,143 @@
+//! What a run of several backends leaves, by what its lines are told; proved by functions that do
+//! nothing.
+
+ghost use Rattle.std.specs.Prelude.{◌≡◌, ℕ, ◌+◌, ◌++◌, ◌≤◌, All, List, [], ◌∷◌, length, take};
+ghost use mathlib.Core.Option.{Option, some};
+ghost use Rattle.segment_disk.specs.Cause.{Rose};
+ghost use Rattle.byte_position.specs.Geometry.{IsSegmentSize};
+ghost use Rattle.byte_position.specs.Position.{first_position};
+ghost use Rattle.wal_types.specs.declared.record.Record.{Record};
+ghost use Rattle.wal_page.specs.Order.{Entry, IsChained, end_position};
+ghost use Rattle.wal_script.specs.Asked.{AskedLine};
+ghost use Rattle.told_lines.specs.declared.told.Told.{Told};
+ghost use Rattle.told_lines.specs.Counts.{reserved_count};
+ghost use Rattle.told_lines.specs.Told.{entries_of, order_from, AllDown, EachStaysDown, Logged, MayBeFull, RiseInLineOrder, StaysDown, TellsAll};
+ghost use Rattle.wal_core.specs.Words.{Opening, log_limit};
+ghost use Rattle.wal_core.specs.Views.{HasAt, Plain, View};
+ghost use Rattle.wal_core.specs.Moves.{after_join};
+ghost use Rattle.wal_core.specs.Sound.{IsSound};
+ghost use Rattle.wal_core.specs.Ordered.{entries_under, FrontEndsAt};
+ghost use Rattle.closing_laws.specs.Closed.{IsLastPass};
+ghost use Rattle.pass_logs.specs.PassLogs.{PassLog};
+ghost use Rattle.run_laws.specs.Counted.{all_reserved_count};
+ghost use Rattle.run_laws.specs.Played.{FindsFull, KnowsFault, PassState, PlaysLine, PlaysLines, behind_last_own, state_at_first, pass_state_of};
+ghost use Rattle.run_laws.specs.Ended.{HasTakenIn, IsClosedLog, logged_at_end};
+
+/// Lines are played one after another: one more may follow.
+pub fn lines_are_played_one_by_one()
+    ensures more { (size limit pass : ℕ) (before mid after : PassState) (lines : List AskedLine)
+        (told : List Told) (line : AskedLine) (answer : Told)
+        → PlaysLines size limit pass before lines told mid
+        → PlaysLine size limit pass line.asked answer mid after
+        → PlaysLines size limit pass before (lines ++ line ∷ []) (told ++ answer ∷ []) after }
+{}
+
+/// The first pass has taken in nobody at first; it may take in one pass more, behind the others,
+/// that played its lines; and it may go on without reserving.
+pub fn passes_are_taken_in()
+    ensures none { (opening : Opening) (v : View) → (v.reserving).number ≡ 0
+        → (v.reserving).entries ≡ [] → (v.reserving).joined ≡ [] → HasTakenIn opening v [] [] }
+    ensures more { (opening : Opening) (v w : View) (script : List (List AskedLine))
+        (lists : List (List Told)) (lines : List AskedLine) (told : List Told)
+        → HasTakenIn opening v script lists → (w.reserving).number ≡ 1 + length script
+        → (w.reserving).joined ≡ []
+        → PlaysLines (opening.setup).segment_size (log_limit opening.setup) (1 + length script)
+        state_at_first lines told (pass_state_of w)
+        → ((faults : ℕ) → KnowsFault faults (pass_state_of w) → Rose opening.faults faults)
+        → HasTakenIn opening (after_join v w) (script ++ lines ∷ []) (lists ++ told ∷ []) }
+    ensures still { (opening : Opening) (v new : View) (script : List (List AskedLine))
+        (lists : List (List Told)) → HasTakenIn opening v script lists
+        → (new.reserving).number ≡ (v.reserving).number
+        → (new.reserving).entries ≡ (v.reserving).entries
+        → (new.reserving).joined ≡ (v.reserving).joined
+        → ((faults : ℕ) → KnowsFault faults (pass_state_of v)
+        → KnowsFault faults (pass_state_of new))
+        → HasTakenIn opening new script lists }
+{}
+
+/// Where one pass is left of a log that held nothing at first, has all numbers and is about
+/// nothing, the log is closed.
+pub fn last_passes_close_logs()
+    ensures close { (opening : Opening) (words : List ℕ) (home : Option Plain)
+        (views : List View) (k : IsSound opening words home views) (id : ℕ) (v : View)
+        → HasAt views id v → IsLastPass opening v → opening.found ≡ []
+        → IsClosedLog opening k.order v }
+{}
+
+/// The entries that a pass reserves are those that its lines are told.
+pub fn played_entries()
+    ensures entries { (size limit pass : ℕ) (lines : List AskedLine) (told : List Told)
+        (before after : PassState) → IsSegmentSize size
+        → PlaysLines size limit pass before lines told after
+        → (after.log).entries ≡ (before.log).entries ++ entries_of size pass lines told }
+{}
+
+/// Once a pass is told a fault of the disk, each line behind it is told that fault.
+pub fn faults_are_told_again()
+    ensures stays { (size limit pass : ℕ) (lines : List AskedLine) (told : List Told)
+        (before after : PassState) → PlaysLines size limit pass before lines told after
+        → StaysDown told }
+    ensures known { (size limit pass faults : ℕ) (lines : List AskedLine) (told : List Told)
+        (before after : PassState) → PlaysLines size limit pass before lines told after
+        → KnowsFault faults before → AllDown faults told }
+    ensures each { (opening : Opening) (v : View) (script : List (List AskedLine))
+        (lists : List (List Told)) → HasTakenIn opening v script lists → EachStaysDown lists }
+{}
+
+/// The reserved order is that of what the script's lines are told.
+pub fn orders_are_told()
+    ensures order { (opening : Opening) (order : List Entry) (v : View)
+        → IsClosedLog opening order v → (script : List (List AskedLine))
+        (lists : List (List Told)) → HasTakenIn opening v script lists
+        → order_from (opening.setup).segment_size 1 script lists ≡ order }
+{}
+
+/// What each backend's lines are told to have reserved rises in the order of the lines.
+pub fn lines_are_told_in_order()
+    ensures rise { (opening : Opening) (order : List Entry) (v : View)
+        → IsClosedLog opening order v → (script : List (List AskedLine))
+        (lists : List (List Told)) → HasTakenIn opening v script lists
+        → RiseInLineOrder (opening.setup).segment_size 1 script lists }
+{}
+
+/// What one pass has in a front of an order ends no later than the front.
+pub fn own_entries_end_within()
+    ensures within { (size number : ℕ) (front : List Entry) → IsChained size front
+        → behind_last_own size (first_position size) (entries_under number front)
+        ≤ end_position size front }
+{}
+
+/// There are as many entries as answers that say that a record was reserved: of all backends
+/// together, and of each.
+pub fn records_are_counted()
+    ensures all { (opening : Opening) (order : List Entry) (v : View)
+        → IsClosedLog opening order v → (script : List (List AskedLine))
+        (lists : List (List Told)) → HasTakenIn opening v script lists
+        → length order ≡ all_reserved_count lists }
+    ensures one { (size limit pass : ℕ) (lines : List AskedLine) (told : List Told)
+        (before after : PassState) → PlaysLines size limit pass before lines told after
+        → length (entries_of size pass lines told) ≡ reserved_count told }
+{}
+
+/// A line that is told that the log is full had too few bytes left behind a front of the order,
+/// which has what the line's pass had reserved.
+pub fn full_has_its_cause()
+    ensures cause { (logged : Logged) (limit pass : ℕ) → IsChained logged.size logged.order
+        → limit ≡ first_position logged.size + logged.capacity → (found all : List Entry)
+        (value : Record) (free : ℕ) (before after : PassLog)
+        → FindsFull logged.size limit pass value free before after
+        → All (FrontEndsAt logged.size pass found logged.order all) after.filled
+        → take (length before.entries) all ≡ before.entries
+        → MayBeFull logged
+        (behind_last_own logged.size (first_position logged.size) before.entries) value free }
+{}
+
+/// Each line is told what it may be told of the log: `last` is no less than the count of faults
+/// that the writer met, where it met one.
+pub fn lines_are_told_as_they_may_be()
+    ensures tells { (opening : Opening) (order : List Entry) (v : View)
+        (c : IsClosedLog opening order v) (script : List (List AskedLine))
+        (lists : List (List Told)) → HasTakenIn opening v script lists → (last : ℕ)
+        → ((faults : ℕ) → (c.writer).fault ≡ some faults → faults ≤ last)
+        → TellsAll (logged_at_end opening order last) 1 script lists }
+{}

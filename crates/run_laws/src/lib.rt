@@ -1,0 +1,4 @@
+//! Laws of a run of several backends: what its log holds in the end, by what its lines were told.
+#![tactic(auto)]
+
+pub mod laws;

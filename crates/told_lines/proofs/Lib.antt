@@ -1,0 +1,8 @@
+pub mod AllLaws
+pub mod Orders
+pub mod FrontLengths
+pub mod Capacities
+pub mod AnswerCounts
+pub mod AnswerLoops
+pub mod MomentLaws
+pub mod LineCauses

@@ -1,0 +1,21 @@
+-- What a line is told.
+use Rattle.std.specs.Prelude.{Result, Ok, Err}
+use Rattle.log_answers.specs.declared.Receipt.{Receipt}
+use Rattle.log_answers.specs.declared.Hard as hard
+use Rattle.log_answers.specs.declared.Sealed.{Sealed}
+use Rattle.log_answers.specs.declared.Refused as refused
+use Rattle.told_lines.specs.declared.told.Told.{Told}
+use Rattle.told_lines.specs.declared.told.Told.TheVariants.{Wrote, Hard, Flushed, Refused}
+
+-- what a line is told, by what the log answered
+abbrev pub told_of_insert : Result Receipt refused.Refused → Told
+told_of_insert (Ok receipt) = Wrote receipt.start receipt.end
+told_of_insert (Err refusal) = Refused refusal.cause refusal.reserved
+
+abbrev pub told_of_commit : Result Sealed refused.Refused → Told
+told_of_commit (Ok sealed) = Hard sealed.start sealed.end sealed.moment
+told_of_commit (Err refusal) = Refused refusal.cause refusal.reserved
+
+abbrev pub told_of_flush : Result hard.Hard refused.Refused → Told
+told_of_flush (Ok done) = Flushed done.upto done.moment
+told_of_flush (Err refusal) = Refused refusal.cause refusal.reserved

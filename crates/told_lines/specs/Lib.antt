@@ -1,0 +1,7 @@
+pub mod Told
+pub mod Answered
+pub mod Counts
+pub mod Moments
+pub mod Crash
+pub mod Whole
+pub mod Rooms

@@ -1,0 +1,214 @@
+-- What lines are told, and the order that it makes.
+use Rattle.std.specs.Prelude.{◌≡◌, ℕ, ◌+◌, ◌<◌, ◌≤◌, ◌⊎◌, List, [], ◌∷◌, ◌++◌, length, take, Option, Some, None, option_to_list, nat_le, if◌then◌else◌}
+use Rattle.segment_disk.specs.Cause.{Rose}
+use Rattle.wal_types.specs.declared.lsn.Lsn.{Lsn}
+use Rattle.wal_types.specs.declared.record.Record.{Record}
+use Rattle.byte_position.specs.Position.{position_of, address_of, end_address_of, first_position}
+use Rattle.wal_page.specs.Order.{Entry, position_behind, rooms_of, end_position, room_at, room_behind}
+use Rattle.wal_script.specs.Asked.{AskedLine}
+use Rattle.wal_script.specs.Asked.{Asked}
+use Rattle.wal_script.specs.Asked.{Insert, Commit, Flush}
+use Rattle.told_lines.specs.declared.told.Told.{Told}
+use Rattle.told_lines.specs.declared.told.Told.TheVariants.{Wrote, Hard, Flushed, Refused}
+use Rattle.log_answers.specs.declared.Cause.{Cause}
+use Rattle.log_answers.specs.declared.Cause.TheVariants.{Full, Disk, Down}
+
+-- the start that was reserved for a line's record
+abbrev pub reserved_by : Told → Option Lsn
+reserved_by (Wrote start end) = Some start
+reserved_by (Hard start end moment) = Some start
+reserved_by (Flushed upto moment) = None
+reserved_by (Refused cause reserved) = reserved
+
+-- the entry that a line made, where it reserved one; `size` is that of a segment
+abbrev pub entry_at : ℕ → ℕ → Record → Option Lsn → Option Entry
+entry_at size pass value None = None
+entry_at size pass value (Some start) =
+    Some (record { pass = Some pass; value = value; start = position_of size start.0 })
+
+abbrev pub entry_of : ℕ → ℕ → Asked → Told → Option Entry
+entry_of size pass (Insert value) told = entry_at size pass value (reserved_by told)
+entry_of size pass (Commit value) told = entry_at size pass value (reserved_by told)
+entry_of size pass Flush told = None
+
+-- a backend's entries, in the order of its lines
+abbrev pub entries_of : ℕ → ℕ → List AskedLine → List Told → List Entry
+entries_of size pass [] told = []
+entries_of size pass (line ∷ lines) [] = []
+entries_of size pass (line ∷ lines) (told ∷ others) =
+    option_to_list (entry_of size pass line.asked told) ++ entries_of size pass lines others
+
+-- the entries of all backends, the first of which has this pass
+abbrev pub entries_from : ℕ → ℕ → List (List AskedLine) → List (List Told) → List Entry
+entries_from size pass [] told = []
+entries_from size pass (lines ∷ script) [] = []
+entries_from size pass (lines ∷ script) (told ∷ others) =
+    entries_of size pass lines told ++ entries_from size (pass + 1) script others
+
+-- an entry before the first that starts behind it
+abbrev pub insert_by_start : Entry → List Entry → List Entry
+insert_by_start e [] = e ∷ []
+insert_by_start e (f ∷ fs) = if nat_le e.start f.start then e ∷ f ∷ fs else f ∷ insert_by_start e fs
+
+abbrev pub sorted_by_start : List Entry → List Entry
+sorted_by_start [] = []
+sorted_by_start (e ∷ es) = insert_by_start e (sorted_by_start es)
+
+-- the entries of backends by their starts, where the first backend has this pass
+abbrev pub order_from : ℕ → ℕ → List (List AskedLine) → List (List Told) → List Entry
+order_from size pass script told = sorted_by_start (entries_from size pass script told)
+
+-- the reserved order: the entries of all backends, by their starts
+abbrev pub order_of : ℕ → List (List AskedLine) → List (List Told) → List Entry
+order_of size script told = order_from size 0 script told
+
+-- each starts behind the one before
+abbrev pub IsRising : List Entry → Type 0
+IsRising [] = Unit {0}
+IsRising (e ∷ []) = Unit {0}
+IsRising (e ∷ f ∷ es) = (e.start < f.start) × IsRising (f ∷ es)
+
+-- the log that lines are told of: its segment size, how many bytes it has for records, the order of
+-- its entries, and the disk's counts of faults at the opening and at the end
+pub record Logged : Type 0 where
+  pub size : ℕ
+  pub capacity : ℕ
+  pub order : List Entry
+  pub faults_at_open : ℕ
+  pub last : ℕ
+
+-- a place in the log: a record's start is the address of its byte position, its end the end form of
+-- the position behind it
+pub record IsPlaced (size : ℕ) (value : Record) (start end : ℕ) : Type 0 where
+  pub starts : start ≡ address_of size (position_of size start)
+  pub ends : end
+      ≡ end_address_of size (position_of size start + room_at size (position_of size start) value)
+
+-- the disk failed since the opening, and this was its count of faults then
+pub record IsFault (logged : Logged) (faults : ℕ) : Type 0 where
+  pub rose : Rose logged.faults_at_open faults
+  pub upto : faults ≤ logged.last
+
+-- too few bytes were left for the record behind some front of the order, which has the backend's
+-- earlier entries (they end at byte position `behind`)
+pub record MayBeFull (logged : Logged) (behind : ℕ) (value : Record) (free : ℕ) : Type 0 where
+  pub front : ℕ
+  pub within : front ≤ length logged.order
+  pub earlier : behind ≤ end_position logged.size (take front logged.order)
+  pub left : free + rooms_of logged.size (take front logged.order) ≡ logged.capacity
+  pub short : free < room_behind logged.size (take front logged.order) value
+
+-- why an insert or a commit may be refused: a fault in its own device calls comes once its record
+-- is reserved
+abbrev pub MayRefuseRecord : Logged → ℕ → Record → Cause → Option Lsn → Type 0
+MayRefuseRecord logged behind value (Full free) None = MayBeFull logged behind value free
+MayRefuseRecord logged behind value (Full free) (Some start) = ⊥
+MayRefuseRecord logged behind value (Disk faults) None = ⊥
+MayRefuseRecord logged behind value (Disk faults) (Some start) =
+    IsFault logged faults × (start.0 ≡ address_of logged.size (position_of logged.size start.0))
+MayRefuseRecord logged behind value (Down faults) None = IsFault logged faults
+MayRefuseRecord logged behind value (Down faults) (Some start) =
+    IsFault logged faults × (start.0 ≡ address_of logged.size (position_of logged.size start.0))
+
+-- why a flush may be refused: it reserves nothing, and needs no room
+abbrev pub MayRefuseFlush : Logged → Cause → Option Lsn → Type 0
+MayRefuseFlush logged (Full free) reserved = ⊥
+MayRefuseFlush logged (Disk faults) reserved = IsFault logged faults × (reserved ≡ None)
+MayRefuseFlush logged (Down faults) reserved = IsFault logged faults × (reserved ≡ None)
+
+-- what a line may be told, where its backend's earlier entries end at byte position `behind`: an
+-- insert that its record is written, a commit that it is durable, a flush that all is up to there
+-- at least and no further than the log goes
+abbrev pub FitsLine : Logged → ℕ → Asked → Told → Type 0
+FitsLine logged behind (Insert value) (Wrote start end) = IsPlaced logged.size value start.0 end.0
+FitsLine logged behind (Insert value) (Hard start end moment) = ⊥
+FitsLine logged behind (Insert value) (Flushed upto moment) = ⊥
+FitsLine logged behind (Insert value) (Refused cause reserved) =
+    MayRefuseRecord logged behind value cause reserved
+FitsLine logged behind (Commit value) (Wrote start end) = ⊥
+FitsLine logged behind (Commit value) (Hard start end moment) =
+    IsPlaced logged.size value start.0 end.0
+FitsLine logged behind (Commit value) (Flushed upto moment) = ⊥
+FitsLine logged behind (Commit value) (Refused cause reserved) =
+    MayRefuseRecord logged behind value cause reserved
+FitsLine logged behind Flush (Wrote start end) = ⊥
+FitsLine logged behind Flush (Hard start end moment) = ⊥
+FitsLine logged behind Flush (Flushed upto moment) =
+    (end_address_of logged.size behind ≤ upto.0)
+    × (upto.0 ≤ end_address_of logged.size (end_position logged.size logged.order))
+FitsLine logged behind Flush (Refused cause reserved) = MayRefuseFlush logged cause reserved
+
+-- the byte position at which a backend's entries end after one more line
+abbrev pub behind_or : ℕ → ℕ → Option Entry → ℕ
+behind_or size behind None = behind
+behind_or size behind (Some e) = position_behind size e
+
+-- one answer for each line, in order, each as it may be
+abbrev pub TellsFrom : Logged → ℕ → ℕ → List AskedLine → List Told → Type 0
+TellsFrom logged pass behind [] [] = Unit {0}
+TellsFrom logged pass behind [] (told ∷ others) = ⊥
+TellsFrom logged pass behind (line ∷ lines) [] = ⊥
+TellsFrom logged pass behind (line ∷ lines) (told ∷ others) =
+    FitsLine logged behind line.asked told
+    × TellsFrom logged pass
+    (behind_or logged.size behind (entry_of logged.size pass line.asked told)) lines others
+
+-- a list for each backend, the first of which has this pass, and one answer for each of its lines
+abbrev pub TellsAll : Logged → ℕ → List (List AskedLine) → List (List Told) → Type 0
+TellsAll logged pass [] [] = Unit {0}
+TellsAll logged pass [] (told ∷ others) = ⊥
+TellsAll logged pass (lines ∷ script) [] = ⊥
+TellsAll logged pass (lines ∷ script) (told ∷ others) =
+    TellsFrom logged pass (first_position logged.size) lines told
+    × TellsAll logged (pass + 1) script others
+
+-- each backend's entries rise in the order of its lines
+abbrev pub RiseInLineOrder : ℕ → ℕ → List (List AskedLine) → List (List Told) → Type 0
+RiseInLineOrder size pass [] told = Unit {0}
+RiseInLineOrder size pass (lines ∷ script) [] = Unit {0}
+RiseInLineOrder size pass (lines ∷ script) (told ∷ others) =
+    IsRising (entries_of size pass lines told) × RiseInLineOrder size (pass + 1) script others
+
+-- whether an answer says that the log is full, that a record is durable, that the line was refused
+abbrev pub IsFullAnswer : Told → Type 0
+IsFullAnswer (Wrote start end) = ⊥
+IsFullAnswer (Hard start end moment) = ⊥
+IsFullAnswer (Flushed upto moment) = ⊥
+IsFullAnswer (Refused (Full free) reserved) = Unit {0}
+IsFullAnswer (Refused (Disk faults) reserved) = ⊥
+IsFullAnswer (Refused (Down faults) reserved) = ⊥
+
+abbrev pub IsRefused : Told → Type 0
+IsRefused (Wrote start end) = ⊥
+IsRefused (Hard start end moment) = ⊥
+IsRefused (Flushed upto moment) = ⊥
+IsRefused (Refused cause reserved) = Unit {0}
+
+-- the fact holds of some answer of some backend
+abbrev pub SomeAnswer : (Told → Type 0) → List Told → Type 0
+SomeAnswer P [] = ⊥
+SomeAnswer P (told ∷ others) = P told ⊎ SomeAnswer P others
+
+abbrev pub SomeTold : (Told → Type 0) → List (List Told) → Type 0
+SomeTold P [] = ⊥
+SomeTold P (told ∷ others) = SomeAnswer P told ⊎ SomeTold P others
+
+-- each answer tells that the disk had failed, at this count of faults, and that nothing is reserved
+abbrev pub AllDown : ℕ → List Told → Type 0
+AllDown faults [] = Unit {0}
+AllDown faults (told ∷ others) = (told ≡ Refused (Down faults) None) × AllDown faults others
+
+-- behind an answer that tells a fault of the disk, each answer tells that fault
+abbrev pub StaysDown : List Told → Type 0
+StaysDown [] = Unit {0}
+StaysDown (Wrote start end ∷ others) = StaysDown others
+StaysDown (Hard start end moment ∷ others) = StaysDown others
+StaysDown (Flushed upto moment ∷ others) = StaysDown others
+StaysDown (Refused (Full free) reserved ∷ others) = StaysDown others
+StaysDown (Refused (Disk faults) reserved ∷ others) = AllDown faults others
+StaysDown (Refused (Down faults) reserved ∷ others) = AllDown faults others
+
+-- it does so for each backend
+abbrev pub EachStaysDown : List (List Told) → Type 0
+EachStaysDown [] = Unit {0}
+EachStaysDown (told ∷ others) = StaysDown told × EachStaysDown others

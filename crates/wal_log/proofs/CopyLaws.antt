@@ -1,0 +1,289 @@
+-- A copy under one lock: its next word lies far below the last address, and each step leaves a copy
+-- under that lock.
+use Rattle.std.proofs.Common.{◌≡◌, ℕ, ◌+◌, ◌*◌, ◌%◌, ◌^◌, ◌<◌, ◌≤◌, List, ◌∷◌, map, refl, sym, ap, ◌∙◌, subst, arith}
+use Rattle.atomic_table.proofs.Lists.{at_map}
+use Rattle.byte_position.specs.Geometry.{IsSegmentSize}
+use Rattle.byte_position.specs.Position.{end_address_of, first_position}
+use Rattle.byte_position.proofs.EndAddresses.{end_address_of-le_address_of, end_address_of-mono}
+use Rattle.byte_position.proofs.Rising.{address_of-bound}
+use Rattle.machine_words.proofs.Bounds.{limit_low}
+use Rattle.wal_page.specs.Order.{Entry, IsChained, end_position, finish_of, position_behind, rooms_of}
+use Rattle.wal_page.specs.EntryWords.{address_of_word, words_owned}
+use Rattle.wal_page.specs.Placed.{PlacedState, placed_end}
+use Rattle.wal_page.proofs.OrderLaws.{FollowsFrom-parts, rooms_of-append, rooms_of_cons}
+use Rattle.wal_core.specs.declared.setup.Setup.{Setup}
+use Rattle.wal_core.specs.Ringed.{IsOfOrder}
+use Rattle.wal_core.specs.Sound.{IsSound}
+use Rattle.wal_core.specs.Views.{Copy, Copying, Flight, HasAt, Working, flight_of}
+use Rattle.ring_laws.proofs.RingLaws.{copy-whole, last_word-ends}
+use Rattle.wal_rule.specs.Seats.{SeatView, view_on}
+use Rattle.wal_rule.specs.Stepping.{Stands}
+use Rattle.word_ring.specs.declared.copying.Copied.{Copied}
+use Rattle.word_ring.specs.declared.mapping.MapTry.{MapTry}
+use Rattle.word_ring.specs.declared.mapping.MapTry.TheVariants.{Mapped, There, Taken, Unwritten}
+use Rattle.word_ring.specs.Copied.{CopiesPage, copied_view, further, rest_of}
+use Rattle.word_ring.specs.Mapped.{IsOldPageUnwritten, TriesMapping, looked_view}
+use Rattle.word_ring.specs.Ring.{confirmed_view, end_of_page}
+use Rattle.wal_log.specs.declared.copying.CopyErr.{CopyErr}
+use Rattle.wal_log.specs.declared.copying.CopyErr.TheVariants as copies
+use Rattle.wal_log.specs.Copying.{IsSamePlace, TellsCopyErr}
+use Rattle.wal_log.specs.Downs.{KnowsNoFault}
+use Rattle.wal_log.specs.PassLogs.{log_of_pass}
+use Rattle.wal_log.specs.Standing.{CopiesUnderOneLock, KeepsPass, KeepsWork}
+use Rattle.wal_log.proofs.Keeping.{both_up, further_pass, meets_since, same_pass}
+
+-- an entry in flight ends at the order's end or before
+entry-within : (size : ℕ) (order : List Entry) → IsChained size order → (c : Copy)
+    → IsOfOrder size order c → position_behind size c.entry ≤ end_position size order
+entry-within size order chain c s =
+    let parts = FollowsFrom-parts size (first_position size) s.front (c.entry ∷ s.back)
+    (subst (IsChained size) s.are chain) in
+    let start : (c.entry).start ≡ first_position size + rooms_of size s.front = parts.1.0 in
+    let all : rooms_of size order
+    ≡ rooms_of size s.front + rooms_of size (c.entry ∷ s.back) =
+    ap (rooms_of size) s.are ∙ rooms_of-append size s.front (c.entry ∷ s.back) in
+    omega (arith, start, all, rooms_of_cons size c.entry s.back)
+
+module _ (v : SeatView) (stands : Stands v) (c : Copy) (is : (v.working).flight ≡ Copying c) where
+  abbrev size : ℕ
+  size = ((v.opening).setup).segment_size
+
+  abbrev sound : IsSound v.opening stands.words stands.home stands.views
+  sound = stands.sound
+
+  abbrev last : ℕ
+  last = end_position size sound.order
+
+  valid : IsSegmentSize size
+  valid = (sound.setup_is).size
+
+  of_order : IsOfOrder size sound.order c
+  of_order = (sound.ring).in_flight stands.id c
+      (subst (λ (f : Flight). HasAt (map flight_of stands.views) stands.id f) is
+      (at_map flight_of stands.views stands.id (view_on stands.first v) stands.here))
+
+  whole : (c.entry).start % 8 ≡ 0
+  whole = copy-whole size valid sound.order (sound.reserved).chained c of_order
+
+  -- behind its last word the entry ends
+  ends : address_of_word size c.entry (words_owned size c.entry) ≡ finish_of size c.entry
+  ends = last_word-ends size valid c.entry whole
+
+  end_low : end_address_of size last < 2 ^ 50
+  end_low =
+      let within = (sound.reserved).within in
+      omega (
+        arith,
+        within,
+        limit_low (v.opening).setup sound.setup_is,
+        end_address_of-le_address_of size valid last,
+        address_of-bound size valid last,
+      )
+
+  pub word_low : address_of_word size c.entry c.copied < 2 ^ 50
+  word_low =
+      let within = of_order.copied_within in
+      let inside = entry-within size sound.order (sound.reserved).chained c of_order in
+      let rises = end_address_of-mono size valid (position_behind size c.entry) last inside in
+      let ended = ends in
+      let low = end_low in
+      omega (arith, within, ended, rises, low)
+
+  -- where the next word is the one behind the entry's last, all are copied
+  pub whole_where_ended : address_of_word size c.entry c.copied ≡ finish_of size c.entry
+      → c.copied ≡ words_owned size c.entry
+  whole_where_ended here = let ended = ends in omega (arith, here, ended)
+
+-- ---- a copy under one lock
+
+module _ (setup : Setup) (lock : ℕ) (placed : PlacedState) (v : SeatView)
+    (c : CopiesUnderOneLock setup lock placed v) where
+  flight_is : (v.working).flight ≡ Copying c.copy
+  flight_is = ap (λ (w : Working). w.flight) c.working
+
+  module _ (stands : Stands v) (own : setup ≡ (v.opening).setup) where
+    rest_own : placed ≡ rest_of (v.opening).setup c.copy
+    rest_own = c.rest ∙ ap (λ (s : Setup). rest_of s c.copy) own
+
+    pub next_low : placed.next < 2 ^ 50
+    next_low =
+        let next = ap (λ (p : PlacedState). p.next) rest_own in
+        let low = word_low v stands c.copy flight_is in
+        omega (arith, next, low)
+
+    pub all_copied : (before : PlacedState) → IsSamePlace before placed
+        → placed.next ≡ placed_end before
+        → (c.copy).copied ≡ words_owned ((v.opening).setup).segment_size (c.copy).entry
+    all_copied before same ended =
+        let here : placed.next ≡ placed_end placed = ended ∙ sym (ap placed_end same) in
+        whole_where_ended v stands c.copy flight_is
+        (subst (λ (p : PlacedState). p.next ≡ placed_end p) rest_own here)
+
+-- ---- steps of a copy
+
+-- what steps of a copy keep: the lock, the words that are left, the pass and its log
+pub record StaysCopying (setup : Setup) (before after : PlacedState) (old new : SeatView) : Type 0
+  where
+    pub copies : (lock : ℕ) → CopiesUnderOneLock setup lock before old
+        → CopiesUnderOneLock setup lock after new
+    pub keeps : KeepsPass old new
+    pub log_is : log_of_pass new ≡ log_of_pass old
+
+module _ (setup : Setup) (p : PlacedState) (v : SeatView) where
+  pub stays : StaysCopying setup p p v v
+  stays = record {
+    copies = λ lock c. c;
+    keeps = same_pass v;
+    log_is = refl;
+  }
+
+  pub confirmed_stays : (end : ℕ) → StaysCopying setup p p v (confirmed_view end v)
+  confirmed_stays end = record {
+    copies = λ lock c. record {
+      copy = c.copy;
+      working = c.working;
+      under = c.under;
+      rest = c.rest;
+      place = c.place;
+      stage = c.stage;
+      hold = c.hold;
+    };
+    keeps = record {
+      opening = refl;
+      live = refl;
+      number = refl;
+      spare = refl;
+      spare_end = refl;
+      joined = refl;
+      rises = omega arith;
+      down = λ faults knows. knows;
+    };
+    log_is = refl;
+  }
+
+  pub looked_stays : (at written : ℕ) → StaysCopying setup p p v (looked_view at written v)
+  looked_stays at written = record {
+    copies = λ lock c. record {
+      copy = c.copy;
+      working = c.working;
+      under = c.under;
+      rest = c.rest;
+      place = c.place;
+      stage = c.stage;
+      hold = c.hold;
+    };
+    keeps = record {
+      opening = refl;
+      live = refl;
+      number = refl;
+      spare = refl;
+      spare_end = refl;
+      joined = refl;
+      rises = omega arith;
+      down = λ faults knows. knows;
+    };
+    log_is = refl;
+  }
+
+  -- so many words more are copied
+  pub copied_stays : (count : ℕ)
+      → StaysCopying setup p (record p { next = p.next + 8 * count }) v (copied_view count v)
+  copied_stays count = record {
+    copies = λ lock c.
+        let further_on : address_of_word setup.segment_size (c.copy).entry (c.copy).copied
+        + 8 * count
+        ≡ address_of_word setup.segment_size (c.copy).entry ((c.copy).copied + count) =
+        omega arith in
+        record {
+          copy = record c.copy { copied = (c.copy).copied + count };
+          working = ap (λ (w : Working). record w { flight = further count w.flight }) c.working;
+          under = c.under;
+          rest = ap (λ (q : PlacedState). record q { next = q.next + 8 * count }) c.rest
+              ∙ ap (λ (n : ℕ). record (rest_of setup c.copy) { next = n }) further_on;
+          place = c.place;
+          stage = c.stage;
+          hold = c.hold;
+        };
+    keeps = record {
+      opening = refl;
+      live = refl;
+      number = refl;
+      spare = refl;
+      spare_end = refl;
+      joined = refl;
+      rises = omega arith;
+      down = λ faults knows. knows;
+    };
+    log_is = refl;
+  }
+
+module _ (setup : Setup) (p q r : PlacedState) (u v w : SeatView) where
+  pub stays_on : StaysCopying setup p q u v → StaysCopying setup q r v w
+      → StaysCopying setup p r u w
+  stays_on x y = record {
+    copies = λ lock c. y.copies lock (x.copies lock c);
+    keeps = further_pass u v w x.keeps y.keeps;
+    log_is = y.log_is ∙ x.log_is;
+  }
+
+-- a page's end is met, and then its words are copied, or one try is made to map a page
+module _ (setup : Setup) (p : PlacedState) (old met new : SeatView) (end : ℕ)
+    (is : met ≡ confirmed_view end old) where
+  met_stays : StaysCopying setup p p old met
+  met_stays = subst (λ (w : SeatView). StaysCopying setup p p old w) (sym is)
+      (confirmed_stays setup p old end)
+
+  pub page_copied : (q : PlacedState) (stop : Copied) → CopiesPage met new p q stop
+      → StaysCopying setup p q old new
+  page_copied q stop k = stays_on setup p p q old met new met_stays
+      (subst (λ (w : SeatView). StaysCopying setup p q met w) (sym k.view_is)
+      (subst (λ (s : PlacedState). StaysCopying setup p s met (copied_view k.count met))
+      (sym k.placed_is) (copied_stays setup p met k.count)))
+
+  tried : (page : ℕ) (t : MapTry) → TriesMapping setup page met new t
+      → StaysCopying setup p p met new
+  tried page Mapped k = subst (λ (w : SeatView). StaysCopying setup p p met w) (sym k.3)
+      (stays_on setup p p p met (looked_view k.0 k.1 met)
+      (confirmed_view (k.0 + 8192) (looked_view k.0 k.1 met))
+      (looked_stays setup p met k.0 k.1)
+      (confirmed_stays setup p (looked_view k.0 k.1 met) (k.0 + 8192)))
+  tried page There k = subst (λ (w : SeatView). StaysCopying setup p p met w) (sym k.3)
+      (looked_stays setup p met k.0 k.1)
+  tried page (Taken turn) k = subst (λ (w : SeatView). StaysCopying setup p p met w)
+      (sym k.1) (stays setup p met)
+  tried page (Unwritten told) k = subst (λ (w : SeatView). StaysCopying setup p p met w)
+      (sym k.3) (looked_stays setup p met k.0 told)
+
+  pub map_tried : (page : ℕ) (t : MapTry) → TriesMapping setup page met new t
+      → StaysCopying setup p p old new
+  map_tried page t k = stays_on setup p p p old met new met_stays (tried page t k)
+
+-- what is written ends far below the last address, where a page that is asked for does
+pub written_low : (setup : Setup) (page at told : ℕ) → page < 2 ^ 40 → at < end_of_page page
+    → IsOldPageUnwritten setup at told → told < 2 ^ 60
+written_low setup page at told low met old = omega (arith, low, met, old)
+
+-- work that stays leaves a copy under its lock
+pub work_stays : (setup : Setup) (lock : ℕ) (p : PlacedState) (old new : SeatView)
+    → KeepsWork old new → new.hold ≡ old.hold → CopiesUnderOneLock setup lock p old
+    → CopiesUnderOneLock setup lock p new
+work_stays setup lock p old new keeps hold c = record {
+  copy = c.copy;
+  working = keeps.working ∙ c.working;
+  under = c.under;
+  rest = c.rest;
+  place = keeps.place ∙ c.place;
+  stage = keeps.stage ∙ c.stage;
+  hold = hold ∙ c.hold;
+}
+
+-- why a copy was given up, since an earlier view from which no down value was set
+pub copy_since : (old between new : SeatView) → KnowsNoFault old → KnowsNoFault between
+    → (e : CopyErr) → TellsCopyErr between new e → TellsCopyErr old new e
+copy_since old between new before up (copies.Disk faults) told = told
+copy_since old between new before up (copies.Down faults) told =
+    meets_since old between new faults (both_up old between before up) told
+
+-- a record that was at the same place is so still
+pub same_place : (a b c : PlacedState) → IsSamePlace a b → IsSamePlace b c → IsSamePlace a c
+same_place a b c x y = y ∙ ap (λ (p : PlacedState). record p { next = c.next }) x

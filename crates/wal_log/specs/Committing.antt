@@ -1,0 +1,63 @@
+-- What a commit answers and leaves of its pass: an insert, then a flush to its record's end.
+use Rattle.std.specs.Prelude.{◌≡◌, ℕ, ◌≤◌, Result, Ok, Err, Option, Some, None}
+use Rattle.wal_types.specs.declared.lsn.Lsn.{Lsn}
+use Rattle.record_spelling.specs.Spelling.{Assembled}
+use Rattle.wal_page.specs.Order.{Entry, finish_of, start_of}
+use Rattle.log_answers.specs.declared.Cause.{Cause}
+use Rattle.log_answers.specs.declared.Cause.TheVariants as causes
+use Rattle.log_answers.specs.declared.Refused.{Refused}
+use Rattle.log_answers.specs.declared.Sealed.{Sealed}
+use Rattle.wal_core.specs.declared.setup.Setup.{Setup}
+use Rattle.wal_rule.specs.Seats.{SeatView}
+use Rattle.wal_log.specs.declared.inserting.InsertErr.{InsertErr}
+use Rattle.wal_log.specs.declared.inserting.InsertErr.TheVariants.{Full, Disk, Down}
+use Rattle.byte_position.specs.Position.{position_of}
+use Rattle.wal_log.specs.Downs.{KnowsNoFault}
+use Rattle.wal_log.specs.Hands.{IsLatestPromise}
+use Rattle.wal_log.specs.Inserting.{IsOwnEntry, RefusesInsert}
+use Rattle.wal_log.specs.PassLogs.{log_of_pass, log_with_entry, log_with_promise}
+
+-- the record was reserved, the places told are its entry's, and behind it the pass was told that
+-- all below an address which is no less than its end is durable from the moment on
+pub record IsSealed (setup : Setup) (body : Assembled) (old new : SeatView) (sealed : Sealed)
+    : Type 0 where
+  pub entry : Entry
+  pub upto : ℕ
+  pub own : IsOwnEntry setup body old entry
+  pub log_is : log_of_pass new
+      ≡ log_with_promise upto sealed.moment (log_with_entry entry (log_of_pass old))
+  pub reached : finish_of setup.segment_size entry ≤ upto
+  pub since : (old.opening).moment ≤ sealed.moment
+  pub latest : IsLatestPromise upto sealed.moment old
+  pub seen : position_of setup.segment_size upto ≤ (new.reserving).seen
+  pub start_is : sealed.start.0 ≡ start_of setup.segment_size entry
+  pub end_is : sealed.end.0 ≡ finish_of setup.segment_size entry
+  pub up : KnowsNoFault new
+
+-- why a commit is refused
+abbrev pub RefusesCommit : Setup → Assembled → SeatView → SeatView → Cause → Option Lsn → Type 0
+RefusesCommit setup body old new (causes.Full free) None =
+    RefusesInsert setup body old new (Full free)
+RefusesCommit setup body old new (causes.Full free) (Some start) = ⊥
+RefusesCommit setup body old new (causes.Disk faults) None = ⊥
+RefusesCommit setup body old new (causes.Disk faults) (Some start) =
+    RefusesInsert setup body old new (Disk faults start)
+RefusesCommit setup body old new (causes.Down faults) reserved =
+    RefusesInsert setup body old new (Down faults reserved)
+
+-- an insert was refused
+abbrev pub refused_of_insert : InsertErr → Refused
+refused_of_insert (Full free) = record { cause = causes.Full free; reserved = None }
+refused_of_insert (Disk faults start) =
+    record { cause = causes.Disk faults; reserved = Some start }
+refused_of_insert (Down faults start) = record { cause = causes.Down faults; reserved = start }
+
+-- what is answered where the pass knows of a failed disk
+abbrev pub commit_known_down : ℕ → Result Sealed Refused
+commit_known_down faults = Err (record { cause = causes.Down faults; reserved = None })
+
+-- commit: the log's setup, the record, the pass's view before it, the answer, and the view after it
+abbrev pub AnswersCommit : Setup → Assembled → SeatView → Result Sealed Refused → SeatView → Type 0
+AnswersCommit setup body old (Ok sealed) new = IsSealed setup body old new sealed
+AnswersCommit setup body old (Err refused) new =
+    RefusesCommit setup body old new refused.cause refused.reserved

@@ -1,0 +1,86 @@
+-- What an insert answers, and what it leaves of its pass.
+use Rattle.std.specs.Prelude.{◌≡◌, ℕ, ◌+◌, ◌-◌, ◌<◌, ◌≤◌, Result, Ok, Err, Some, None}
+use Rattle.wal_types.specs.declared.record.Record.{Record}
+use Rattle.record_spelling.specs.Spelling.{Assembled, IsWritable, assembled}
+use Rattle.wal_page.specs.Order.{Entry, assembled_room_at, finish_of, position_behind, start_of}
+use Rattle.wal_types.specs.declared.lsn.Lsn.{Lsn}
+use Rattle.log_answers.specs.declared.Receipt.{Receipt}
+use Rattle.wal_core.specs.declared.setup.Setup.{Setup}
+use Rattle.wal_core.specs.Moves.{entry_reserved}
+use Rattle.wal_core.specs.Words.{log_limit}
+use Rattle.wal_rule.specs.Seats.{SeatView}
+use Rattle.wal_log.specs.declared.copying.CopyErr.{CopyErr}
+use Rattle.wal_log.specs.declared.copying.CopyErr.TheVariants as copies
+use Rattle.wal_log.specs.declared.inserting.InsertErr.{InsertErr}
+use Rattle.wal_log.specs.declared.inserting.InsertErr.TheVariants.{Full, Disk, Down}
+use Rattle.wal_log.specs.Downs.{KnowsNoFault, MeetsDown, SetsDownItself}
+use Rattle.wal_log.specs.PassLogs.{log_of_pass, log_with_entry, log_with_full}
+
+-- an entry is one of the pass that the body's record makes, behind all that the pass had seen, and
+-- within the log
+pub record IsOwnEntry (setup : Setup) (body : Assembled) (old : SeatView) (e : Entry) : Type 0 where
+  pub value : Record
+  pub writable : IsWritable value
+  pub of_body : assembled value ≡ body
+  pub at : ℕ
+  pub entry_is : e ≡ entry_reserved (old.reserving).number at value
+  pub behind_seen : (old.reserving).seen ≤ at
+  pub within : at + assembled_room_at setup.segment_size at body ≤ log_limit setup
+
+-- this entry was reserved: the pass's log has it last, and the pass has seen all before its end
+pub record HasReserved (setup : Setup) (body : Assembled) (old new : SeatView) (e : Entry) : Type 0
+  where
+    pub own : IsOwnEntry setup body old e
+    pub log_is : log_of_pass new ≡ log_with_entry e (log_of_pass old)
+    pub seen : position_behind setup.segment_size e ≤ (new.reserving).seen
+
+-- fewer bytes were left behind a position than the record takes up; the pass had seen nothing
+-- behind it
+pub record FindsLogFull (setup : Setup) (body : Assembled) (free : ℕ) (old new : SeatView) : Type 0
+  where
+    pub at : ℕ
+    pub behind_seen : (old.reserving).seen ≤ at
+    pub within : at ≤ log_limit setup
+    pub free_is : free ≡ log_limit setup - at
+    pub short : free < assembled_room_at setup.segment_size at body
+    pub seen : at ≤ (new.reserving).seen
+    pub log_is : log_of_pass new ≡ log_with_full at (log_of_pass old)
+
+-- the record was reserved, the places told are its entry's, and the disk was not known to have
+-- failed
+pub record IsReceipt (setup : Setup) (body : Assembled) (old new : SeatView) (receipt : Receipt)
+    : Type 0 where
+  pub entry : Entry
+  pub reserved : HasReserved setup body old new entry
+  pub start_is : receipt.start.0 ≡ start_of setup.segment_size entry
+  pub end_is : receipt.end.0 ≡ finish_of setup.segment_size entry
+  pub up : KnowsNoFault new
+
+-- the record was reserved, with this start
+pub record IsStarted (setup : Setup) (body : Assembled) (old new : SeatView) (start : ℕ) : Type 0
+  where
+    pub entry : Entry
+    pub reserved : HasReserved setup body old new entry
+    pub start_is : start ≡ start_of setup.segment_size entry
+
+-- why an insert is refused, and whether its record was reserved all the same
+abbrev pub RefusesInsert : Setup → Assembled → SeatView → SeatView → InsertErr → Type 0
+RefusesInsert setup body old new (Full free) =
+    FindsLogFull setup body free old new × KnowsNoFault new
+RefusesInsert setup body old new (Disk faults start) =
+    IsStarted setup body old new start.0 × SetsDownItself faults new
+RefusesInsert setup body old new (Down faults None) =
+    (log_of_pass new ≡ log_of_pass old) × MeetsDown faults old new
+RefusesInsert setup body old new (Down faults (Some start)) =
+    IsStarted setup body old new start.0 × MeetsDown faults old new
+
+-- a record that starts here was not copied whole
+abbrev pub insert_err_of_copy : Lsn → CopyErr → InsertErr
+insert_err_of_copy start (copies.Disk faults) = Disk faults start
+insert_err_of_copy start (copies.Down faults) = Down faults (Some start)
+
+-- insert: the log's setup, the record, the pass's view before it, the answer, and the view after it
+abbrev pub AnswersInsert : Setup → Assembled → SeatView → Result Receipt InsertErr → SeatView
+    → Type 0
+AnswersInsert setup body old (Ok receipt) new = IsReceipt setup body old new receipt
+AnswersInsert setup body old (Err e) new = RefusesInsert setup body old new e

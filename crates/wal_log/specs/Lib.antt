@@ -1,0 +1,13 @@
+pub mod Downs
+pub mod PassLogs
+pub mod Standing
+pub mod Hands
+pub mod Writing
+pub mod Logs
+pub mod Opening
+pub mod Flushing
+pub mod Inserting
+pub mod Beginning
+pub mod Copying
+pub mod Committing
+pub mod Closing

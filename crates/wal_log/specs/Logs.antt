@@ -1,0 +1,24 @@
+-- A log that passes share, and its passes between two calls.
+use Rattle.wal_core.specs.Words.{Opening}
+use Rattle.wal_core.specs.declared.setup.Setup.{Setup}
+use Rattle.wal_rule.specs.declared.pass.Pass.{Pass}
+use Rattle.wal_rule.specs.declared.table.LogTable.{LogTable}
+use Rattle.wal_rule.specs.Passes.{view_of_pass}
+use Rattle.wal_rule.specs.Seats.{IsAtRest}
+use Rattle.wal_rule.specs.Tables.{IsPassOn, opening_of_table}
+use Rattle.wal_log.specs.declared.wal.Wal.{Wal}
+
+abbrev pub table_of : {D : Type 0} → Wal D → LogTable D
+table_of wal = wal.table
+
+-- what was fixed when the log was opened
+abbrev pub opening_of_log : {D : Type 0} → Wal D → Opening
+opening_of_log wal = opening_of_table (table_of wal)
+
+abbrev pub setup_of_log : {D : Type 0} → Wal D → Setup
+setup_of_log wal = (opening_of_log wal).setup
+
+-- a pass of a log, which is about nothing
+pub record IsPassOfLog {D : Type 0} (wal : Wal D) (pass : Pass) : Type 0 where
+  pub of_log : IsPassOn (table_of wal) pass
+  pub rests : IsAtRest (view_of_pass pass)

@@ -1,0 +1,94 @@
+// A record is inserted and made durable (PostgreSQL's xact.c, RecordTransactionCommit).
+ghost use Rattle.std.specs.Prelude.{◌≡◌, [], Err, None};
+ghost use Rattle.wal_rule.specs.Passes.{view_of_pass};
+ghost use Rattle.wal_rule.specs.Seats.{IsAtRest};
+ghost use Rattle.wal_rule.specs.Tables.{IsSeatOn};
+ghost use Rattle.wal_log.specs.Committing.{AnswersCommit, commit_known_down, refused_of_insert};
+ghost use Rattle.wal_rule.specs.Downs.{KnowsDown};
+ghost use Rattle.wal_log.specs.Logs.{IsPassOfLog, setup_of_log};
+ghost use Rattle.wal_log.specs.Standing.{KeepsPass};
+
+use crate::flushing::FlushErr;
+use crate::inserting::InsertErr;
+use crate::wal::Wal;
+use log_answers::{Cause, Receipt, Refused, Sealed};
+use record_spelling::Body;
+use segment_disk::Disk;
+use std::sync::Wait;
+use wal_rule::{LogSeat, Pass};
+
+impl From<InsertErr> for Refused {
+    ghost from_gives = { λ e refused. refused ≡ refused_of_insert e };
+
+    fn from(e: InsertErr) -> Refused {
+        match e {
+            InsertErr::Full { free } => Refused {
+                cause: Cause::Full { free },
+                reserved: None,
+            },
+            InsertErr::Disk { faults, start } => Refused {
+                cause: Cause::Disk { faults },
+                reserved: Some(start),
+            },
+            InsertErr::Down { faults, start } => Refused {
+                cause: Cause::Down { faults },
+                reserved: start,
+            },
+        }
+    }
+}
+
+impl<D: Disk> Wal<D> {
+    /// Puts a record behind all that is reserved, and makes it durable: an insert, then a flush to
+    /// the record's end. Where the flush is refused, the record's start is told.
+    pub fn commit<R: Wait>(&self, rt: &R, pass: &mut Pass, body: &Body) -> Result<Sealed, Refused>
+        requires pass { IsPassOfLog self.now pass.old }
+        ensures commits { AnswersCommit (setup_of_log self.now) body.now
+            (view_of_pass pass.old) result (view_of_pass pass.new) }
+        ensures down_again { (faults : _) → KnowsDown faults (view_of_pass pass.old)
+            → result ≡ commit_known_down faults }
+        ensures keeps { KeepsPass (view_of_pass pass.old) (view_of_pass pass.new) }
+        ensures pass { IsPassOfLog self.now pass.new }
+    {
+        let number = pass.number;
+        let mut seat = pass.seat();
+        let answer = self.commit_on(rt, &mut seat, number, body);
+        pass.put_back(seat);
+        answer
+    }
+
+    fn commit_on<R: Wait>(
+        &self,
+        rt: &R,
+        seat: &mut LogSeat<D>,
+        number: u32,
+        body: &Body,
+    ) -> Result<Sealed, Refused>
+        requires seat { IsSeatOn self.now.table seat.old }
+        requires number { number ≡ seat.old.me.0.reserving.number }
+        requires rests { IsAtRest seat.old.me.0 × (seat.old.me.1 ≡ []) }
+        ensures commits { AnswersCommit self.now.shape body.now seat.old.me.0 result seat.new.me.0 }
+        ensures down_again { (faults : _) → KnowsDown faults seat.old.me.0
+            → result ≡ commit_known_down faults }
+        ensures keeps { KeepsPass seat.old.me.0 seat.new.me.0 }
+        ensures rests { IsAtRest seat.new.me.0 × (seat.new.me.1 ≡ []) }
+        ensures seat { IsSeatOn self.now.table seat.new }
+    {
+        let Receipt { start, end } = self.insert_on(rt, seat, number, body)?;
+        match self.flush_on(rt, seat, number, end) {
+            Ok(hard) => Ok(Sealed {
+                start,
+                end,
+                moment: hard.moment,
+            }),
+            Err(FlushErr::Disk { faults }) => Err(InsertErr::Disk { faults, start }.into()),
+            Err(FlushErr::Down { faults }) => Err(InsertErr::Down {
+                faults,
+                start: Some(start),
+            }
+            .into()),
+            // The pass has seen its own record reserved, up to its end.
+            Err(FlushErr::Unreserved { .. }) => unreachable!(),
+        }
+    }
+}

@@ -1,0 +1,26 @@
+//! A write-ahead log that several passes fill side by side: it is opened on a disk, its passes
+//! insert, flush and commit as threads, and it is closed (PostgreSQL's xlog.c, XLogInsertRecord,
+//! XLogFlush).
+#![tactic(auto)]
+
+mod beginning;
+mod closing;
+mod committing;
+mod copying;
+mod flushing;
+mod inserting;
+pub mod numbers;
+mod opening;
+mod splitting;
+mod turns;
+mod wal;
+mod writing;
+
+pub use closing::Closed;
+pub use flushing::FlushErr;
+pub use inserting::InsertErr;
+pub use log_answers::{Cause, Hard, Receipt, Refused as CommitErr, Sealed};
+pub use opening::{OpenFault, OpenFaultKind};
+pub use wal::Wal;
+pub use wal_core::Setup;
+pub use wal_rule::Pass;

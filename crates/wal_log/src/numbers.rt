@@ -1,0 +1,10 @@
+//! Which numbers a pass has behind a call, so that its caller knows when it has all of them.
+
+ghost use Rattle.wal_rule.specs.Closing.{KeepsNumbers};
+ghost use Rattle.wal_rule.specs.Seats.{SeatView};
+ghost use Rattle.wal_log.specs.Standing.{KeepsPass};
+
+/// A call that leaves of a pass what `KeepsPass` says takes no number away.
+pub fn calls_keep_numbers()
+    ensures { (old new : SeatView) → KeepsPass old new → KeepsNumbers old new }
+{}

@@ -1,0 +1,127 @@
+-- A log that was opened on a disk and closed leaves one order, and keeps what it promised.
+use Rattle.std.proofs.Common.{◌≡◌, ℕ, ◌^◌, ◌<◌, ◌≤◌, List, length, Option, Some, IfSome, refl, sym, ap, ◌∙◌, subst, arith}
+use mathlib.Core.Option.{some}
+use Rattle.segment_disk.specs.Tape.{Tape}
+use Rattle.flush_core.specs.Pages.{HoldsNothing}
+use Rattle.wal_page.specs.Order.{Entry}
+use Rattle.wal_core.specs.declared.setup.Setup.{Setup}
+use Rattle.wal_core.specs.Suited.{BeganSuited}
+use Rattle.wal_core.specs.Views.{FlushPromise, View}
+use Rattle.wal_core.specs.Words.{Opening, end_form}
+use Rattle.wal_core.proofs.Tapes.{at_told}
+use Rattle.wal_rule.specs.declared.pass.Pass.{Pass}
+use Rattle.wal_rule.specs.Closing.{ClosesWith}
+use Rattle.wal_rule.specs.Passes.{view_of_pass}
+use Rattle.wal_rule.specs.Slotted.{slot_disk, slot_plain}
+use Rattle.wal_rule.specs.Tables.{began_of_table}
+use Rattle.wal_rule.proofs.OpeningTold.{began_suited}
+use Rattle.closed_log.specs.Closed.{IsClosedOn, WasPromised}
+use Rattle.closed_log.specs.Rising.{LogsAreOfOrder}
+use Rattle.closed_log.specs.Whole.{HoldsWhole}
+use Rattle.closed_log.proofs.Fronts.{survive}
+use Rattle.closed_log.proofs.Promises.{within_words}
+use Rattle.closed_log.proofs.ReadWhole.{whole}
+use Rattle.closed_log.proofs.Risen.{risen}
+use Rattle.closed_log.proofs.Timeliness.{timely}
+use Rattle.wal_log.specs.declared.closing.Closed.{Closed}
+use Rattle.wal_log.specs.declared.wal.Wal.{Wal}
+use Rattle.wal_log.specs.Logs.{opening_of_log, setup_of_log, table_of}
+use Rattle.wal_log_laws.specs.Keeping.{IsClosedFrom, KeepsPromises, LeavesOrder, end_of_order, last_view}
+
+-- ---- what a closed log keeps
+
+module _ (opening : Opening) (order : List Entry) (t : Tape) (v : View)
+    (c : IsClosedOn opening order t v) where
+  whole_as_promised : (entries : List Entry) (p : FlushPromise) → WasPromised v entries p
+      → end_of_order opening.setup order ≤ p.upto
+      → HoldsWhole (opening.setup).segment_size t order
+  whole_as_promised entries p was reaches =
+      let low = (within_words opening c.words (some c.writer) c.views c.sound c.id v c.here entries
+      p was).upto_low in
+      whole opening order t v c (omega (arith, low, reaches))
+
+  keeps_promises : LogsAreOfOrder opening order v.reserving → KeepsPromises opening order t v
+  keeps_promises logs = record {
+    closed = c;
+    logs = logs;
+    fronts = survive opening order t v c;
+    timely = timely opening order t v c;
+    flushed = whole opening order t v c;
+    promised = whole_as_promised;
+  }
+
+-- ---- what a log leaves
+
+module _ {D : Type 0} (tape : D → Option Tape) (moment faults : D → ℕ)
+    (counts : (disk : D) → IfSome (tape disk) (λ t. moment disk ≡ length t.calls))
+    (setup : Setup) (disk : D) (wal : Wal D) (pass : Pass) (closed : Closed D)
+    (run : IsClosedFrom tape moment faults setup disk wal pass closed)
+    (narrow : setup.sysid < 2 ^ 64) where
+  abbrev opening : Opening
+  opening = opening_of_log wal
+
+  abbrev began : Option Tape
+  began = began_of_table tape (table_of wal)
+
+  abbrev mine : View
+  mine = last_view tape wal pass
+
+  abbrev ends : ClosesWith tape moment faults (began_of_table tape (table_of wal))
+      (opening_of_log wal) (view_of_pass pass) (run.closes).writer (run.closes).position
+  ends = (run.closes).closes
+
+  abbrev order : List Entry
+  order = (((run.closes).closes).sound).order
+
+  logs : LogsAreOfOrder (opening_of_log wal) (((run.closes).closes).sound).order
+      (view_of_pass pass).reserving
+  logs = risen opening order ends.words ends.views (view_of_pass pass).reserving
+      (ends.closed).accounted
+
+  ends_there : closed.end.0 ≡ end_of_order (setup_of_log wal) (((run.closes).closes).sound).order
+  ends_there = (run.closes).end_is ∙ ap (λ (n : ℕ). end_form (setup_of_log wal) n)
+      (ends.position_is ∙ ((ends.closed).free).position)
+
+  -- the tape at the opening counts up to the moment of the opening
+  counted : IfSome (began_of_table tape (table_of wal))
+      (λ (t : Tape). (opening_of_log wal).moment ≡ length t.calls)
+  counted =
+      let moment_is = ap (λ (o : Opening). o.moment) (run.opened).opening in
+      let now = subst (λ (n : ℕ). IfSome (tape disk) (λ (t : Tape). n ≡ length t.calls))
+      (sym moment_is) (counts disk) in
+      subst (λ (o : Option Tape). IfSome o (λ (t : Tape). opening.moment ≡ length t.calls))
+      (sym (run.opened).began) now
+
+  module _ (nothing : HoldsNothing (tape disk)) (t : Tape) (told : tape closed.disk ≡ Some t) where
+    tape_is : tape (slot_disk (run.closes).writer) ≡ Some t
+    tape_is = ap tape (run.closes).disk_is ∙ told
+
+    began_on : BeganSuited (opening_of_log wal) t
+    began_on = at_told (BeganSuited opening) (tape (slot_disk (run.closes).writer)) t tape_is
+        (began_suited opening began (tape (slot_disk (run.closes).writer))
+        (subst HoldsNothing (sym (run.opened).began) nothing) counted (ends.of_log).on_first
+        (ends.of_log).goes_on)
+
+    closed_on : IsClosedOn (opening_of_log wal) (((run.closes).closes).sound).order t
+        (last_view tape wal pass)
+    closed_on = record {
+      words = ends.words;
+      writer = slot_plain tape moment (run.closes).writer;
+      views = ends.views;
+      id = ends.id;
+      sound = ends.sound;
+      order_is = refl;
+      here = ends.here;
+      closed = ends.closed;
+      narrow = subst (λ (n : ℕ). n < 2 ^ 64)
+          (sym (ap (λ (o : Opening). (o.setup).sysid) (run.opened).opening)) narrow;
+      tape_is = tape_is;
+      began = began_on;
+    }
+
+    keeps : KeepsPromises (opening_of_log wal) (((run.closes).closes).sound).order t
+        (last_view tape wal pass)
+    keeps = keeps_promises opening order t mine closed_on logs
+
+  pub leaves_order : (order : List Entry) × LeavesOrder tape disk wal pass closed order
+  leaves_order = (order, record { end_is = ends_there; logs = logs; keeps = keeps })

@@ -1,0 +1,4 @@
+pub mod Grown
+pub mod Promised
+pub mod Closes
+pub mod Survivors

@@ -1,0 +1,108 @@
+-- What a pass was told is promised to its log, and stays promised.
+use Rattle.std.proofs.Common.{inl, inr, ℕ, Contains, List, sym, ap, subst, arith}
+use Rattle.std.proofs.lemmas.List.Elements.{Contains-append_left, Contains-push}
+use Rattle.record_spelling.specs.Spelling.{Assembled}
+use Rattle.log_answers.specs.declared.Sealed.{Sealed}
+use Rattle.segment_disk.specs.Tape.{DiskState}
+use Rattle.wal_page.specs.Order.{Entry, finish_of}
+use Rattle.wal_core.specs.declared.setup.Setup.{Setup}
+use Rattle.wal_core.specs.Views.{FlushPromise}
+use Rattle.wal_rule.specs.Seats.{SeatView, view_on}
+use Rattle.closed_log.specs.Closed.{WasPromised}
+use Rattle.wal_log.specs.Committing.{IsSealed}
+use Rattle.wal_log.specs.Flushing.{IsToldHard}
+use Rattle.wal_log.specs.Inserting.{HasReserved}
+use Rattle.wal_log.specs.PassLogs.{PassLog, log_of_pass, log_with_entry}
+use Rattle.wal_log_laws.specs.Growing.{HasGrown, HasLog, IsFrontOf}
+use Rattle.wal_log_laws.specs.Told.{HasEntry, HasPromise, Promises, promise_to}
+
+-- ---- what a call tells
+
+pub reserved : (setup : Setup) (body : Assembled) (old new : SeatView) (e : Entry)
+    → HasReserved setup body old new e → Contains (log_of_pass new).entries e
+reserved setup body old new e has = subst (λ (l : PassLog). Contains l.entries e)
+    (sym has.log_is) (Contains-push (old.reserving).entries e)
+
+pub told_promises : (asked upto moment : ℕ) (old new : SeatView)
+    → IsToldHard asked upto moment old new
+    → Promises (log_of_pass new) asked (promise_to (log_of_pass old) upto moment)
+told_promises asked upto moment old new told = record {
+  in_log = subst (λ (l : PassLog). Contains l.promises (promise_to (log_of_pass old) upto moment))
+      (sym told.log_is) (Contains-push old.promises (promise_to (log_of_pass old) upto moment));
+  reaches = told.reached;
+}
+
+module _ (setup : Setup) (body : Assembled) (old new : SeatView) (sealed : Sealed)
+    (s : IsSealed setup body old new sealed) where
+  abbrev promise : FlushPromise
+  promise = promise_to (log_with_entry s.entry (log_of_pass old)) s.upto sealed.moment
+
+  pub commit_reserved : Contains (log_of_pass new).entries s.entry
+  commit_reserved = subst (λ (l : PassLog). Contains l.entries s.entry) (sym s.log_is)
+      (Contains-push (old.reserving).entries s.entry)
+
+  promise_in_log : Contains (log_of_pass new).promises
+      (promise_to (log_with_entry s.entry (log_of_pass old)) s.upto sealed.moment)
+  promise_in_log = subst (λ (l : PassLog). Contains l.promises promise) (sym s.log_is)
+      (Contains-push old.promises promise)
+
+  pub commit_promises : Promises (log_of_pass new) (finish_of setup.segment_size s.entry)
+      (promise_to (log_with_entry s.entry (log_of_pass old)) s.upto sealed.moment)
+  commit_promises = record { in_log = promise_in_log; reaches = s.reached }
+
+  pub commit_tells : Contains (log_of_pass new).entries s.entry
+      × Promises (log_of_pass new) sealed.end.0
+      (promise_to (log_with_entry s.entry (log_of_pass old)) s.upto sealed.moment)
+  commit_tells = (
+    commit_reserved,
+    record {
+      in_log = promise_in_log;
+      reaches = (let end = s.end_is in let far = s.reached in omega (arith, end, far));
+    },
+  )
+
+-- ---- what a pass has once the log grew
+
+-- what a front has, the whole has
+still_has : {A : Type 0} → (front whole : List A) (x : A) → IsFrontOf front whole
+    → Contains front x → Contains whole x
+still_has {A} front whole x goes has = subst (λ (xs : List A). Contains xs x) (sym goes.1)
+    (Contains-append_left front goes.0 x has)
+
+pub still_entry : (l : PassLog) (v : SeatView) (e : Entry) → Contains l.entries e
+    → HasGrown l v → HasEntry e v
+still_entry l v e has grown = (
+  grown.0,
+  grown.2,
+  still_has l.entries (grown.0).entries e (grown.1).entries has,
+)
+
+pub still_promise : (l : PassLog) (v : SeatView) (address : ℕ) (p : FlushPromise)
+    → Promises l address p → HasGrown l v → HasPromise address p v
+still_promise l v address p has grown = (
+  grown.0,
+  grown.2,
+  record {
+    in_log = still_has l.promises (grown.0).promises p (grown.1).promises has.in_log;
+    reaches = has.reaches;
+  },
+)
+
+-- ---- what is closed
+
+promised_in : (first : DiskState) (l : PassLog) (v : SeatView) (p : FlushPromise)
+    → HasLog l v → Contains l.promises p → WasPromised (view_on first v) l.entries p
+promised_in first l v p (inl own) has = inl (
+  ap (λ (x : PassLog). x.entries) own,
+  subst (λ (x : PassLog). Contains x.promises p) own has,
+)
+promised_in first l v p (inr its) has = inr (
+  its.0,
+  its.1,
+  ap (λ (x : PassLog). x.entries) its.2,
+  subst (λ (x : PassLog). Contains x.promises p) its.2 has,
+)
+
+pub was_promised : (first : DiskState) (v : SeatView) (address : ℕ) (p : FlushPromise)
+    (has : HasPromise address p v) → WasPromised (view_on first v) (has.0).entries p
+was_promised first v address p has = promised_in first has.0 v p has.1 (has.2).in_log

@@ -1,0 +1,28 @@
+-- How the log of a pass grows, and who has it once its pass was taken in.
+use Rattle.std.specs.Prelude.{◌≡◌, ◌⊎◌, Contains, List, ◌++◌}
+use Rattle.wal_core.specs.Views.{Joined}
+use Rattle.wal_rule.specs.Seats.{SeatView}
+use Rattle.wal_log.specs.PassLogs.{PassLog, log_of_pass}
+
+-- a list has all of another one first, and then more
+abbrev pub IsFrontOf : {A : Type 0} → List A → List A → Type 0
+IsFrontOf {A} front whole = (back : List A) × (whole ≡ front ++ back)
+
+-- a log grew to another one: what it had stays, and new things stand behind
+pub record GrowsTo (old new : PassLog) : Type 0 where
+  pub entries : IsFrontOf old.entries new.entries
+  pub filled : IsFrontOf old.filled new.filled
+  pub promises : IsFrontOf old.promises new.promises
+
+-- the log of a pass that was taken in
+abbrev pub log_joined : Joined → PassLog
+log_joined j = record { entries = j.entries; filled = j.filled; promises = j.promises }
+
+-- a pass has a log: it is its own, or that of a pass that it took in
+abbrev pub HasLog : PassLog → SeatView → Type 0
+HasLog l v = (l ≡ log_of_pass v)
+    ⊎ ((j : Joined) × Contains (v.reserving).joined j × (l ≡ log_joined j))
+
+-- a pass has a log that grew from this one
+abbrev pub HasGrown : PassLog → SeatView → Type 0
+HasGrown l v = (grown : PassLog) × GrowsTo l grown × HasLog grown v

@@ -1,0 +1,90 @@
+-- What the number of a load says, by the machine's invariant of the state in which it was met.
+use Rattle.std.proofs.Common.{◌≡◌, ◌≢◌, ℕ, ◌<◌, ◌≤◌, ◌^◌, All, map, true, inl, inr, arith, sym, ◌∙◌, subst}
+use Rattle.std.proofs.lemmas.List.Elements.{All-weaker}
+use Rattle.atomic_table.proofs.Lists.{at_map}
+use Rattle.segment_disk.specs.Cause.{Rose}
+use Rattle.machine_words.proofs.Bounds.{limit_low}
+use Rattle.wal_core.specs.Words.{down_word, flushed_word, moment_word, position_word, prev_word}
+use Rattle.wal_core.specs.Views.{FlushPromise, reserving_of, told_of}
+use Rattle.wal_core.specs.Durable.{IsPromised, IsToldRightly}
+use Rattle.wal_core.specs.Moves.{unlocked}
+use Rattle.wal_core.specs.Steps.{StepKind, load_down, load_flushed, load_moment, load_position}
+use Rattle.order_laws.proofs.OrderSteps.{unlocked-is}
+use Rattle.wal_rule.specs.Downs.{KnowsDown}
+use Rattle.wal_rule.specs.Seats.{SeatView, view_on}
+use Rattle.wal_rule.specs.Stepping.{Meets, Stands}
+
+-- ---- what a view was told
+
+module _ (v : SeatView) (s : Stands v) where
+  abbrev down : ℕ
+  down = down_word s.words
+
+  told_rightly : IsToldRightly v.opening (s.sound).order (flushed_word s.words)
+      (moment_word s.words) down (s.sound).writer (told_of (view_on s.first v))
+  told_rightly = ((s.sound).durable).views s.id (told_of (view_on s.first v))
+      (at_map told_of s.views s.id (view_on s.first v) s.here)
+
+  -- the word has the down value that it knows
+  known_is : (faults : ℕ) → KnowsDown faults v → faults ≡ down
+  known_is faults (some_are, inl met) = sym met
+      ∙ told_rightly.down_met (λ (e : v.down_met ≡ 0). some_are (sym met ∙ e))
+  known_is faults (some_are, inr set) = sym set
+      ∙ told_rightly.down_set (λ (e : v.down_set ≡ 0). some_are (sym set ∙ e))
+
+  -- a down value is a fault since the opening
+  down_since : down ≢ 0 → Rose (v.opening).faults down
+  down_since some_are = ((s.sound).durable).fault_rose down
+      (((s.sound).durable).down_is some_are)
+
+  pub known_rose : (faults : ℕ) → KnowsDown faults v → Rose (v.opening).faults faults
+  known_rose faults knows =
+      let is : faults ≡ down = known_is faults knows in
+      subst (λ (n : ℕ). Rose (v.opening).faults n) (sym is)
+      (down_since (λ (e : down ≡ 0). knows.0 (is ∙ e)))
+
+  pub known_same : (f g : ℕ) → KnowsDown f v → KnowsDown g v → f ≡ g
+  known_same f g one other = known_is f one ∙ sym (known_is g other)
+
+-- ---- what a load met
+
+module _ (v : SeatView) (met : ℕ) where
+  -- no pass has seen more than is reserved, and a position is far below the last of 64 bits
+  pub position_met : Meets v load_position met → (v.reserving).live ≡ true
+      → ((v.reserving).seen ≤ unlocked met) × (met < 2 ^ 60)
+  position_met m live =
+      let s : Stands v = m.before in
+      let setup = (v.opening).setup in
+      let holds = (s.sound).reserved in
+      let part = holds.views s.id v.reserving
+      (at_map reserving_of s.views s.id (view_on s.first v) s.here) live in
+      let end = unlocked-is setup (v.opening).found (s.sound).order (position_word s.words)
+      (prev_word s.words) (map reserving_of s.views) holds ((s.sound).setup_is).size in
+      let low = limit_low setup (s.sound).setup_is in
+      let met_is : met ≡ position_word s.words = m.met_is in (
+        omega (arith, part.seen, end, met_is),
+        omega (arith, low, holds.within, holds.position_is, holds.one_bit, met_is),
+      )
+
+  pub down_met_known : Meets v load_down met → (faults : ℕ) → KnowsDown faults v → met ≡ faults
+  down_met_known m faults knows = m.met_is ∙ sym (known_is v m.before faults knows)
+
+  pub down_met_rose : Meets v load_down met → met ≢ 0 → Rose (v.opening).faults met
+  down_met_rose m some_are = subst (λ (n : ℕ). Rose (v.opening).faults n) (sym m.met_is)
+      (down_since v m.before (λ (e : down v m.before ≡ 0). some_are (m.met_is ∙ e)))
+
+  abbrev promised : {e : StepKind} → Meets v e met → FlushPromise → Type 0
+  promised m = IsPromised (flushed_word (m.before).words) (moment_word (m.before).words)
+
+  -- the pass was promised nothing beyond the flushed address, and nothing of a later moment
+  pub flushed_met : Meets v load_flushed met
+      → All (λ (p : FlushPromise). p.upto ≤ met) v.promises
+  flushed_met m = All-weaker (promised m) (λ (p : FlushPromise). p.upto ≤ met)
+      (λ p is. subst (λ (n : ℕ). p.upto ≤ n) (sym m.met_is) is.upto_low) v.promises
+      (told_rightly v m.before).own_promised
+
+  pub moment_met : Meets v load_moment met
+      → All (λ (p : FlushPromise). p.moment ≤ met) v.promises
+  moment_met m = All-weaker (promised m) (λ (p : FlushPromise). p.moment ≤ met)
+      (λ p is. subst (λ (n : ℕ). p.moment ≤ n) (sym m.met_is) is.moment_low) v.promises
+      (told_rightly v m.before).own_promised

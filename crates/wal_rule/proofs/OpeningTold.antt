@@ -1,0 +1,29 @@
+-- A tape that goes on from the one at the opening tells what the disk held then.
+use Rattle.std.specs.Prelude.{IfSome}
+use Rattle.std.proofs.Common.{◌≡◌, ℕ, List, ◌++◌, length, take, sym, ap, ◌∙◌, subst, Some, None}
+use Rattle.std.proofs.Math.Seq.{take-append_seam}
+use Rattle.segment_disk.specs.declared.disk.Call.{Call}
+use Rattle.segment_disk.specs.Tape.{DiskState, Tape, after_calls, state_at, state_now}
+use Rattle.flush_core.specs.Pages.{HoldsNothing}
+use Rattle.wal_core.specs.Suited.{BeganSuited, IsSuited}
+use Rattle.wal_core.specs.Words.{Opening}
+use Rattle.wal_rule.specs.Slotted.{GoesOnFrom, first_on}
+
+-- the state at a moment that the earlier tape counted
+state_then : (b t : Tape) (moment : ℕ) → moment ≡ length b.calls → t.at_first ≡ b.at_first
+    → GoesOnFrom (Some b) t → state_at t moment ≡ state_now b
+state_then b t moment counted same goes =
+    ap (λ (d : DiskState). after_calls d (take moment t.calls)) same
+    ∙ ap (λ (calls : List Call). after_calls b.at_first (take moment calls)) goes.1
+    ∙ ap (λ (n : ℕ). after_calls b.at_first (take n (b.calls ++ goes.0))) counted
+    ∙ ap (λ (calls : List Call). after_calls b.at_first calls)
+    (take-append_seam b.calls goes.0)
+
+pub began_suited : (opening : Opening) (began now : Rattle.std.specs.Prelude.Option Tape)
+    → HoldsNothing began → IfSome began (λ (t : Tape). opening.moment ≡ length t.calls)
+    → IfSome now (λ (t : Tape). t.at_first ≡ first_on began) → IfSome now (GoesOnFrom began)
+    → IfSome now (BeganSuited opening)
+began_suited opening began None none_there counted same goes = tt
+began_suited opening None (Some t) none_there counted same goes = absurd goes
+began_suited opening (Some b) (Some t) none_there counted same goes =
+    subst IsSuited (sym (state_then b t opening.moment counted same goes)) none_there

@@ -1,0 +1,18 @@
+//! What a table's disk held at the opening, told by its tape at any later time.
+
+ghost use Rattle.std.specs.Prelude.{◌≡◌, IfSome, Option, length};
+ghost use Rattle.segment_disk.specs.Tape.{Tape};
+ghost use Rattle.flush_core.specs.Pages.{HoldsNothing};
+ghost use Rattle.wal_core.specs.Suited.{BeganSuited};
+ghost use Rattle.wal_core.specs.Words.{Opening};
+ghost use Rattle.wal_rule.specs.Slotted.{GoesOnFrom, first_on};
+
+/// Where a disk held no segment when its log was opened, a tape that goes on from the one then
+/// tells so: the machine's `BeganSuited`, on which rests what crashes leave. What is asked of the
+/// tape now is what `IsOfLog` says of the writer's disk.
+pub fn tapes_tell_the_opening()
+    ensures { (opening : Opening) (began now : Option Tape) → HoldsNothing began
+        → IfSome began (λ t. opening.moment ≡ length t.calls)
+        → IfSome now (λ t. t.at_first ≡ first_on began) → IfSome now (GoesOnFrom began)
+        → IfSome now (BeganSuited opening) }
+{}

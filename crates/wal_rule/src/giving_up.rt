@@ -1,0 +1,22 @@
+// A pass gives up a copy that it cannot end.
+ghost use Rattle.std.specs.Prelude.{◌≡◌};
+ghost use Rattle.wal_rule.specs.Seats.{IsStrandedSeat, seat_without_work};
+ghost use Rattle.wal_rule.specs.Tables.{IsSeatOn};
+
+use crate::plays::GivesUp;
+use crate::table::{LogSeat, LogTable};
+use segment_disk::Disk;
+
+impl<D: Disk> LogTable<D> {
+    /// Behind a fault of the disk that the pass met or set, gives up its copy with its locks: they
+    /// stay with a seat of their own, with which nobody steps any more.
+    pub fn give_up(&self, seat: &mut LogSeat<D>)
+        requires seat { IsSeatOn self.now seat.old }
+        requires stranded { IsStrandedSeat seat.old.me.0 }
+        ensures view { seat.new.me ≡ (seat_without_work seat.old.me.0, seat.old.me.1) }
+        ensures seat { IsSeatOn self.now seat.new }
+    {
+        drop(self.table.shared.split_seat::<GivesUp>(seat));
+        self.look(seat);
+    }
+}
