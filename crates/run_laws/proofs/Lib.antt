@@ -10,3 +10,9 @@ pub mod TellsLines
 pub mod RunTells
 pub mod TakingIn
 pub mod LineByLine
+pub mod LinePromises
+pub mod LateLines
+pub mod RunCrashes
+pub mod RefusedLines
+pub mod FullScripts
+pub mod LastFlush

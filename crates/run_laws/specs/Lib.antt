@@ -1,3 +1,4 @@
 pub mod Played
 pub mod Ended
 pub mod Counted
+pub mod Reached

@@ -1,0 +1,61 @@
+//! How a run ends where its disk did not fail, and why its log was full; proved by functions that
+//! do nothing.
+
+ghost use Rattle.std.specs.Prelude.{◌≡◌, ℕ, ◌^◌, ◌<◌, ◌≤◌, Contains, IfSome, List};
+ghost use mathlib.Core.Option.{none};
+ghost use Rattle.byte_position.specs.Position.{end_address_of};
+ghost use Rattle.wal_page.specs.Order.{Entry, end_position};
+ghost use Rattle.wal_script.specs.Asked.{AskedLine};
+ghost use Rattle.told_lines.specs.declared.told.Told.{Told};
+ghost use Rattle.told_lines.specs.Told.{IsFullAnswer, IsRefused, SomeTold};
+ghost use Rattle.told_lines.specs.Rooms.{all_rooms_asked, capacity_of};
+ghost use Rattle.told_lines.specs.Whole.{IsWhole};
+ghost use Rattle.wal_core.specs.Words.{Opening, flushed_word};
+ghost use Rattle.wal_core.specs.Views.{FlushPromise, View};
+ghost use Rattle.wal_core.specs.Suited.{BeganSuited};
+ghost use Rattle.run_laws.specs.Ended.{HasTakenIn, IsClosedLog};
+ghost use Rattle.run_laws.specs.Reached.{ReachesAll};
+
+/// Where the disk did not fail, a line is refused only where some line found the log full.
+pub fn refusals_without_a_fault()
+    ensures full { (opening : Opening) (order : List Entry) (v : View)
+        (c : IsClosedLog opening order v) (script : List (List AskedLine))
+        (lists : List (List Told)) → HasTakenIn opening v script lists
+        → (c.writer).fault ≡ none → SomeTold IsRefused lists → SomeTold IsFullAnswer lists }
+{}
+
+/// Where a line found the log full, the script's records take up more than the log has for them,
+/// on any disk.
+pub fn full_logs_have_too_much_asked_of_them()
+    ensures more { (opening : Opening) (order : List Entry) (v : View)
+        → IsClosedLog opening order v → (script : List (List AskedLine))
+        (lists : List (List Told)) → HasTakenIn opening v script lists
+        → SomeTold IsFullAnswer lists
+        → capacity_of (opening.setup).segment_size (opening.setup).cap_segments
+        < all_rooms_asked script }
+{}
+
+/// Where the disk did not fail, a promise to the first pass of all that the lines were told of is
+/// one of all of the order.
+pub fn last_flush_reaches()
+    ensures reach { (opening : Opening) (order : List Entry) (v : View)
+        (c : IsClosedLog opening order v) (script : List (List AskedLine))
+        (lists : List (List Told)) → HasTakenIn opening v script lists
+        → (c.writer).fault ≡ none → (p : FlushPromise) → Contains (v.writing).promises p
+        → ReachesAll (opening.setup).segment_size p.upto lists
+        → end_address_of (opening.setup).segment_size
+        (end_position (opening.setup).segment_size order) ≤ flushed_word c.words }
+{}
+
+/// Then, where the disk tells what it holds, and held what a log may begin on, all of the order is
+/// there for good.
+pub fn runs_leave_whole_logs()
+    ensures whole { (opening : Opening) (order : List Entry) (v : View)
+        (c : IsClosedLog opening order v) (script : List (List AskedLine))
+        (lists : List (List Told)) → HasTakenIn opening v script lists
+        → (c.writer).fault ≡ none → (p : FlushPromise) → Contains (v.writing).promises p
+        → ReachesAll (opening.setup).segment_size p.upto lists
+        → (opening.setup).sysid < 2 ^ 64
+        → IfSome (c.writer).tape (BeganSuited opening)
+        → IsWhole (opening.setup).segment_size (c.writer).tape order }
+{}
