@@ -16,3 +16,5 @@ pub mod RunCrashes
 pub mod RefusedLines
 pub mod FullScripts
 pub mod LastFlush
+pub mod LineGrowth
+pub mod MomentsTold

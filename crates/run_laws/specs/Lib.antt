@@ -2,3 +2,4 @@ pub mod Played
 pub mod Ended
 pub mod Counted
 pub mod Reached
+pub mod Latest

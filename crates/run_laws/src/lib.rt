@@ -4,3 +4,4 @@
 pub mod crashing;
 pub mod endings;
 pub mod laws;
+pub mod rising;
