@@ -11,7 +11,7 @@ use Rattle.wal_core.specs.Ordered.{entries_under, FrontEndsAt}
 use Rattle.told_lines.specs.Told.{Logged, MayBeFull}
 use Rattle.told_lines.proofs.AllLaws.{parts_all}
 use Rattle.pass_logs.specs.PassLogs.{PassLog}
-use Rattle.run_laws.specs.Played.{FindsFull, behind_last_own}
+use Rattle.run_laws.specs.Played.{AddsFull, behind_last_own}
 use Rattle.run_laws.proofs.OwnEnds.{ends_within}
 
 module _ (logged : Logged) (limit pass : ℕ) (chained : IsChained logged.size logged.order)
@@ -44,7 +44,7 @@ module _ (logged : Logged) (limit pass : ℕ) (chained : IsChained logged.size l
       }
 
   pub full_cause : (value : Record) (free : ℕ) (before after : PassLog)
-      → FindsFull logged.size limit pass value free before after
+      → AddsFull logged.size limit pass value free before after
       → All (FrontEndsAt logged.size pass found logged.order all) after.filled
       → take (length before.entries) all ≡ before.entries
       → MayBeFull logged

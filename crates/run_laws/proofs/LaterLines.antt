@@ -8,7 +8,7 @@ use Rattle.told_lines.specs.declared.told.Told.{Told}
 use Rattle.told_lines.specs.declared.told.Told.TheVariants.{Wrote, Hard, Flushed, Refused}
 use Rattle.told_lines.proofs.AllLaws.{parts_all}
 use Rattle.pass_logs.specs.PassLogs.{PassLog}
-use Rattle.run_laws.specs.Played.{FindsFull, KnowsFault, Leaves, PassState, PlaysLines, Promises, Reserves}
+use Rattle.run_laws.specs.Played.{AddsFull, KnowsFault, Leaves, PassState, PlaysLines, AddsPromise, Reserves}
 use Rattle.run_laws.proofs.LineFaults.{down_known}
 
 module _ (size limit pass : ℕ) where
@@ -34,13 +34,13 @@ module _ (size limit pass : ℕ) where
     held_reserving value start before after r held = subst Held r.log_is held
 
     held_full : (value : Record) (free : ℕ) (before after : PassLog)
-        → FindsFull size limit pass value free before after → Held after → Held before
+        → AddsFull size limit pass value free before after → Held after → Held before
     held_full value free before after f held =
         let h = subst Held f.log_is held in
         ((parts_all P before.filled _ h.0).0, h.1)
 
     pub held_promising : (asked upto moment : ℕ) (before after : PassLog)
-        → Promises size limit pass asked upto moment before after → Held after → Held before
+        → AddsPromise size limit pass asked upto moment before after → Held after → Held before
     held_promising asked upto moment before after p held =
         let h = subst Held p.log_is held in
         (h.0, (parts_all Q before.promises _ h.1).0)

@@ -11,7 +11,7 @@ use Rattle.wal_core.specs.Moves.{entry_reserved}
 use Rattle.told_lines.specs.declared.told.Told.{Told}
 use Rattle.told_lines.specs.declared.told.Told.TheVariants.{Wrote, Hard, Flushed, Refused}
 use Rattle.pass_logs.specs.PassLogs.{PassLog, log_with_entry, log_with_promise}
-use Rattle.run_laws.specs.Played.{Leaves, PassState, PlaysLines, RefusesFlush, RefusesRecord, Reserves, end_of_own}
+use Rattle.run_laws.specs.Played.{Leaves, PassState, PlaysLines, RefusesFlushLine, RefusesRecordLine, Reserves, end_of_own}
 
 -- entries may be added, but no promise
 pub record AddsNoPromise (before after : PassLog) : Type 0 where
@@ -64,7 +64,7 @@ module _ (size limit pass : ℕ) where
 
   record_refused : (value : Record) (cause : Cause) (reserved : Option Lsn)
       (before after : PassState)
-      → RefusesRecord size limit pass value cause reserved before after
+      → RefusesRecordLine size limit pass value cause reserved before after
       → AddsNoPromise before.log after.log
   record_refused value (Full free) None before after l = nothing_added before.log after.log
       (ap (λ (l : PassLog). l.entries) l.log_is) (ap (λ (l : PassLog). l.promises) l.log_is)
@@ -77,7 +77,7 @@ module _ (size limit pass : ℕ) where
       entry_added value start.0 before.log after.log l.0
 
   flush_refused : (cause : Cause) (reserved : Option Lsn) (before after : PassState)
-      → RefusesFlush size limit pass cause reserved before after
+      → RefusesFlushLine size limit pass cause reserved before after
       → AddsNoPromise before.log after.log
   flush_refused (Full free) reserved before after l = absurd l
   flush_refused (Disk faults) None before after l = same_log before.log after.log l.0

@@ -9,7 +9,7 @@ use Rattle.told_lines.specs.Crash.{SaysDurable}
 use Rattle.told_lines.specs.Told.{SomeAnswer}
 use Rattle.told_lines.proofs.AllLaws.{parts_all}
 use Rattle.pass_logs.specs.PassLogs.{PassLog}
-use Rattle.run_laws.specs.Played.{Leaves, PassState, PlaysLines, Promises}
+use Rattle.run_laws.specs.Played.{Leaves, PassState, PlaysLines, AddsPromise}
 use Rattle.run_laws.proofs.LaterLines.{lines_held}
 
 -- nothing is asked of the places at which the log was full
@@ -49,7 +49,7 @@ module _ (Q : FlushPromise → Type 0) where
 
   module _ (size limit pass : ℕ) where
     newest : (address asked upto moment : ℕ) → address ≤ upto → (before after : PassLog)
-        → Promises size limit pass asked upto moment before after → All Q after.promises
+        → AddsPromise size limit pass asked upto moment before after → All Q after.promises
         → IsPromisedSo address moment (length after.entries)
     newest address asked upto moment within before after p all =
         let q : FlushPromise =

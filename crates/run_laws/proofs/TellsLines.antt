@@ -18,7 +18,7 @@ use Rattle.told_lines.specs.declared.told.Told.TheVariants.{Wrote, Hard, Flushed
 use Rattle.told_lines.specs.Told.{FitsLine, IsFault, IsPlaced, Logged, MayRefuseFlush, MayRefuseRecord, TellsFrom, behind_or, entries_of, entry_of}
 use Rattle.told_lines.proofs.AllLaws.{parts_all}
 use Rattle.pass_logs.specs.PassLogs.{PassLog}
-use Rattle.run_laws.specs.Played.{KnowsFault, Leaves, PassState, PlaysLines, Promises, RefusesFlush, RefusesRecord, Reserves, ReservesUpto, behind_last_own, end_of_own}
+use Rattle.run_laws.specs.Played.{KnowsFault, Leaves, PassState, PlaysLines, AddsPromise, RefusesFlushLine, RefusesRecordLine, Reserves, ReservesUpto, behind_last_own, end_of_own}
 use Rattle.run_laws.proofs.FullLines.{full_cause}
 use Rattle.run_laws.proofs.LineEntries.{line_entries, lines_entries}
 use Rattle.run_laws.proofs.LaterLines.{Held, lines_held, lines_know}
@@ -70,7 +70,7 @@ module _ (logged : Logged) (limit pass : ℕ) (valid : IsSegmentSize logged.size
   }
 
   promised : (asked upto moment : ℕ) (before after : PassLog)
-      → Promises logged.size limit pass asked upto moment before after
+      → AddsPromise logged.size limit pass asked upto moment before after
       → Held logged.size limit pass Ends IsWithin after
       → (asked ≤ upto)
       × (upto ≤ end_address_of logged.size (end_position logged.size logged.order))
@@ -90,7 +90,7 @@ module _ (logged : Logged) (limit pass : ℕ) (valid : IsSegmentSize logged.size
     behind = behind_last_own logged.size (first_position logged.size) (before.log).entries
 
     refuses : (value : Record) (cause : Cause) (reserved : Option Lsn)
-        → RefusesRecord logged.size limit pass value cause reserved before after
+        → RefusesRecordLine logged.size limit pass value cause reserved before after
         → MayRefuseRecord logged behind value cause reserved
     refuses value (Full free) None l =
         full_cause logged limit pass chained limited found all value free before.log after.log l
@@ -104,7 +104,7 @@ module _ (logged : Logged) (limit pass : ℕ) (valid : IsSegmentSize logged.size
         (faulty faults l.1, started value start before.log after.log l.0)
 
     refuses_flush : (cause : Cause) (reserved : Option Lsn)
-        → RefusesFlush logged.size limit pass cause reserved before after
+        → RefusesFlushLine logged.size limit pass cause reserved before after
         → MayRefuseFlush logged cause reserved
     refuses_flush (Full free) reserved l = absurd l
     refuses_flush (Disk faults) None l = (faulty faults l.1, refl)

@@ -61,14 +61,14 @@ module _ (size limit pass : ℕ) where
     pub end_is : end ≡ finish_of size (entry_reserved pass reserved.at value)
 
   -- the log was found full: this many bytes were free, fewer than the record takes up
-  pub record FindsFull (value : Record) (free : ℕ) (before after : PassLog) : Type 0 where
+  pub record AddsFull (value : Record) (free : ℕ) (before after : PassLog) : Type 0 where
     pub at : ℕ
     pub free_is : free + at ≡ limit
     pub short : free < room_at size at value
     pub log_is : after ≡ log_with_full at before
 
   -- all below an address, no less than the one asked for, was promised from a moment on
-  pub record Promises (asked upto moment : ℕ) (before after : PassLog) : Type 0 where
+  pub record AddsPromise (asked upto moment : ℕ) (before after : PassLog) : Type 0 where
     pub reached : asked ≤ upto
     pub log_is : after ≡ log_with_promise upto moment before
 
@@ -77,7 +77,7 @@ module _ (size limit pass : ℕ) where
     pub between : PassLog
     pub upto : ℕ
     pub reserved : ReservesUpto value start end before between
-    pub promised : Promises end upto moment between after
+    pub promised : AddsPromise end upto moment between after
 
   -- the log is as it was, and the pass knows a fault
   abbrev pub FindsDown : ℕ → PassState → PassState → Type 0
@@ -89,23 +89,23 @@ module _ (size limit pass : ℕ) where
       Reserves value start before.log after.log × KnowsFault faults after
 
   -- an insert or a commit is refused
-  abbrev pub RefusesRecord : Record → Cause → Option Lsn → PassState → PassState → Type 0
-  RefusesRecord value (Full free) None before after = FindsFull value free before.log after.log
-  RefusesRecord value (Full free) (Some start) before after = ⊥
-  RefusesRecord value (Disk faults) None before after = ⊥
-  RefusesRecord value (Disk faults) (Some start) before after =
+  abbrev pub RefusesRecordLine : Record → Cause → Option Lsn → PassState → PassState → Type 0
+  RefusesRecordLine value (Full free) None before after = AddsFull value free before.log after.log
+  RefusesRecordLine value (Full free) (Some start) before after = ⊥
+  RefusesRecordLine value (Disk faults) None before after = ⊥
+  RefusesRecordLine value (Disk faults) (Some start) before after =
       FailsBehind value start.0 faults before after
-  RefusesRecord value (Down faults) None before after = FindsDown faults before after
-  RefusesRecord value (Down faults) (Some start) before after =
+  RefusesRecordLine value (Down faults) None before after = FindsDown faults before after
+  RefusesRecordLine value (Down faults) (Some start) before after =
       FailsBehind value start.0 faults before after
 
   -- a flush is refused
-  abbrev pub RefusesFlush : Cause → Option Lsn → PassState → PassState → Type 0
-  RefusesFlush (Full free) reserved before after = ⊥
-  RefusesFlush (Disk faults) None before after = FindsDown faults before after
-  RefusesFlush (Disk faults) (Some start) before after = ⊥
-  RefusesFlush (Down faults) None before after = FindsDown faults before after
-  RefusesFlush (Down faults) (Some start) before after = ⊥
+  abbrev pub RefusesFlushLine : Cause → Option Lsn → PassState → PassState → Type 0
+  RefusesFlushLine (Full free) reserved before after = ⊥
+  RefusesFlushLine (Disk faults) None before after = FindsDown faults before after
+  RefusesFlushLine (Disk faults) (Some start) before after = ⊥
+  RefusesFlushLine (Down faults) None before after = FindsDown faults before after
+  RefusesFlushLine (Down faults) (Some start) before after = ⊥
 
   -- what is left of a pass by a line that asks for this and is told that
   abbrev pub Leaves : Asked → Told → PassState → PassState → Type 0
@@ -114,18 +114,18 @@ module _ (size limit pass : ℕ) where
   Leaves (Insert value) (Hard start end moment) before after = ⊥
   Leaves (Insert value) (Flushed upto moment) before after = ⊥
   Leaves (Insert value) (Refused cause reserved) before after =
-      RefusesRecord value cause reserved before after
+      RefusesRecordLine value cause reserved before after
   Leaves (Commit value) (Wrote start end) before after = ⊥
   Leaves (Commit value) (Hard start end moment) before after =
       Seals value start.0 end.0 moment before.log after.log
   Leaves (Commit value) (Flushed upto moment) before after = ⊥
   Leaves (Commit value) (Refused cause reserved) before after =
-      RefusesRecord value cause reserved before after
+      RefusesRecordLine value cause reserved before after
   Leaves Flush (Wrote start end) before after = ⊥
   Leaves Flush (Hard start end moment) before after = ⊥
   Leaves Flush (Flushed upto moment) before after =
-      Promises (end_of_own size (before.log).entries) upto.0 moment before.log after.log
-  Leaves Flush (Refused cause reserved) before after = RefusesFlush cause reserved before after
+      AddsPromise (end_of_own size (before.log).entries) upto.0 moment before.log after.log
+  Leaves Flush (Refused cause reserved) before after = RefusesFlushLine cause reserved before after
 
   -- and where the pass knew a fault, it is told again and nothing else
   pub record PlaysLine (asked : Asked) (told : Told) (before after : PassState) : Type 0 where

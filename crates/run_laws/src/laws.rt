@@ -20,7 +20,7 @@ ghost use Rattle.wal_core.specs.Ordered.{entries_under, FrontEndsAt};
 ghost use Rattle.closing_laws.specs.Closed.{IsLastPass};
 ghost use Rattle.pass_logs.specs.PassLogs.{PassLog};
 ghost use Rattle.run_laws.specs.Counted.{all_reserved_count};
-ghost use Rattle.run_laws.specs.Played.{FindsFull, KnowsFault, PassState, PlaysLine, PlaysLines, behind_last_own, state_at_first, pass_state_of};
+ghost use Rattle.run_laws.specs.Played.{AddsFull, KnowsFault, PassState, PlaysLine, PlaysLines, behind_last_own, state_at_first, pass_state_of};
 ghost use Rattle.run_laws.specs.Ended.{HasTakenIn, IsClosedLog, logged_at_end};
 
 /// Lines are played one after another: one more may follow.
@@ -125,7 +125,7 @@ pub fn full_has_its_cause()
     ensures cause { (logged : Logged) (limit pass : ℕ) → IsChained logged.size logged.order
         → limit ≡ first_position logged.size + logged.capacity → (found all : List Entry)
         (value : Record) (free : ℕ) (before after : PassLog)
-        → FindsFull logged.size limit pass value free before after
+        → AddsFull logged.size limit pass value free before after
         → All (FrontEndsAt logged.size pass found logged.order all) after.filled
         → take (length before.entries) all ≡ before.entries
         → MayBeFull logged

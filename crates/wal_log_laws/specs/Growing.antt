@@ -1,5 +1,6 @@
 -- How the log of a pass grows, and who has it once its pass was taken in.
 use Rattle.std.specs.Prelude.{◌≡◌, ◌⊎◌, Contains, List, ◌++◌}
+use Rattle.pass_logs.specs.PassLogs.{log_of_joined}
 use Rattle.wal_core.specs.Views.{Joined}
 use Rattle.wal_rule.specs.Seats.{SeatView}
 use Rattle.wal_log.specs.PassLogs.{PassLog, log_of_pass}
@@ -14,14 +15,10 @@ pub record GrowsTo (old new : PassLog) : Type 0 where
   pub filled : IsFrontOf old.filled new.filled
   pub promises : IsFrontOf old.promises new.promises
 
--- the log of a pass that was taken in
-abbrev pub log_joined : Joined → PassLog
-log_joined j = record { entries = j.entries; filled = j.filled; promises = j.promises }
-
 -- a pass has a log: it is its own, or that of a pass that it took in
 abbrev pub HasLog : PassLog → SeatView → Type 0
 HasLog l v = (l ≡ log_of_pass v)
-    ⊎ ((j : Joined) × Contains (v.reserving).joined j × (l ≡ log_joined j))
+    ⊎ ((j : Joined) × Contains (v.reserving).joined j × (l ≡ log_of_joined j))
 
 -- a pass has a log that grew from this one
 abbrev pub HasGrown : PassLog → SeatView → Type 0
