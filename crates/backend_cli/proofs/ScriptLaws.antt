@@ -1,9 +1,11 @@
 -- What a script means, read from a source: no more of it is needed than a byte beyond the limit.
-use Rattle.std.proofs.Common.{◌≡◌, ℕ, ◌+◌, ◌<◌, inl, inr, List, length, take, Err, count_by, ltb, sym, ap, ◌∙◌, arith, lt-ltb, take_all, take-take, length-take-le, if◌then◌else◌, ◌==◌}
+use Rattle.std.proofs.Common.{◌≡◌, ℕ, ◌+◌, ◌<◌, inl, inr, false, List, [], length, take, Err, count_by, ltb, sym, ap, ◌∙◌, arith, lt-ltb, take_all, take-take, length-take-le, if◌then◌else◌, ◌==◌}
 use Rattle.std.proofs.lemmas.Bool.{cond-true, cases_lt}
 use Rattle.wal_script.specs.declared.line.ScriptFault.TheVariants as faults
 use Rattle.wal_script.specs.Text.{lines_of}
-use Rattle.wal_script.specs.Meaning.{lines_meaning, script_limit, one_backend, meaning_of}
+use Rattle.wal_script.specs.Meaning.{script_limit}
+use Rattle.wal_script.specs.Replay.{backends_from}
+use Rattle.wal_script.specs.Run.{backends_meaning, lines_alone}
 
 -- what is judged by a limit, and beyond it by what stands within, is judged by a front that goes on one byte beyond it
 limited_front : {X : Type 0} (limit : ℕ) (bytes : List ℕ) (refusal meaning : List ℕ → X)
@@ -21,6 +23,6 @@ limited_front limit bytes refusal meaning =
     ]
 
 -- a script beyond its limit is refused at the same line, whatever stands behind the first byte too many
-pub meaning_of_front : (bytes : List ℕ) → meaning_of (take (script_limit + 1) bytes) ≡ meaning_of bytes
+pub meaning_of_front : (bytes : List ℕ) → backends_meaning (take (script_limit + 1) bytes) ≡ backends_meaning bytes
 meaning_of_front bytes =
-    ap one_backend (limited_front script_limit bytes (λ (within : List ℕ). Err (record { line = count_by (λ (c : ℕ). c == 10) within + 1; fault = faults.Length })) (λ (script : List ℕ). lines_meaning 1 (lines_of script)))
+    limited_front script_limit bytes (λ (within : List ℕ). Err (record { line = count_by (λ (c : ℕ). c == 10) within + 1; fault = faults.Length })) (λ (script : List ℕ). lines_alone (backends_from false 1 [] [] (lines_of script)))

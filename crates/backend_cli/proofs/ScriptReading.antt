@@ -4,7 +4,8 @@ use Rattle.wal_script.specs.Asked.{AskedLine}
 use Rattle.wal_script.specs.declared.line.Refusal.{Refusal}
 use Rattle.wal_script.specs.declared.parser.ParseError.{ParseError}
 use Rattle.wal_script.specs.declared.parser.ParseError.TheVariants as errors
-use Rattle.wal_script.specs.Meaning.{backend_meaning, one_backend, meaning_of, script_limit}
+use Rattle.wal_script.specs.Meaning.{script_limit}
+use Rattle.wal_script.specs.Run.{backends_meaning}
 use Rattle.wal_script.specs.Reading.{RefusesScript}
 use Rattle.backend_cli.specs.Outcome.{outcome_unparsed}
 use Rattle.backend_cli.specs.Outside.{SourceView}
@@ -13,17 +14,12 @@ use Rattle.backend_cli.specs.Reading.{IsFront, ReadsScript, ScriptMeans}
 use Rattle.backend_cli.proofs.ScriptLaws.{meaning_of_front}
 
 -- a front of what a source had left, up to one byte past the limit, means what all of it means
-front_means : (left : Option (List ℕ)) (script : List ℕ) (meaning : Result (List (List AskedLine)) Refusal) → IsFront (script_limit + 1) left script → meaning_of script ≡ meaning → IfSome left (λ bytes. meaning_of bytes ≡ meaning)
+front_means : (left : Option (List ℕ)) (script : List ℕ) (meaning : Result (List (List AskedLine)) Refusal) → IsFront (script_limit + 1) left script → backends_meaning script ≡ meaning → IfSome left (λ bytes. backends_meaning bytes ≡ meaning)
 front_means None script meaning is means = tt
-front_means (Some bytes) script meaning is means = sym (meaning_of_front bytes) ∙ ap meaning_of (sym is) ∙ means
+front_means (Some bytes) script meaning is means = sym (meaning_of_front bytes) ∙ ap backends_meaning (sym is) ∙ means
 
-pub read_script_means : (before after : SourceView) (meaning : Result (List (List AskedLine)) Refusal) → ScriptMeans before after meaning → IfSome before.left (λ bytes. meaning_of bytes ≡ meaning)
+pub read_script_means : (before after : SourceView) (meaning : Result (List (List AskedLine)) Refusal) → ScriptMeans before after meaning → IfSome before.left (λ bytes. backends_meaning bytes ≡ meaning)
 read_script_means before after meaning means = front_means before.left means.0 meaning means.1.is_front means.2
-
--- a script that is refused as one backend's is so as a run's
-pub refuses_run : (error : ParseError) (script : List ℕ) → RefusesScript error (backend_meaning script) → RefusesScript error (meaning_of script)
-refuses_run errors.Memory script refuses = tt
-refuses_run (errors.Refused refusal) script refuses = ap one_backend refuses
 
 -- a script that has no meaning ends the command so
 module _ {X : Type 0} (by : List ℕ → Result X Refusal) (before after : SourceView) where

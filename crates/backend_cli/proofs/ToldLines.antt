@@ -2,7 +2,7 @@
 use Rattle.std.proofs.Common.{◌≡◌, ℕ, ◌+◌, Bor, Some, Option, ◌<◌, List, ◌∷◌, ◌++◌, length, drop, get_or, ap, ap₂, ◌∙◌, sym}
 use Rattle.std.proofs.iter.Yields.{fronts}
 use Rattle.std.proofs.lemmas.Iterator.{zips}
-use Rattle.std.proofs.lemmas.List.{drop_more}
+use Rattle.std.proofs.lemmas.List.{at_drop_more, drop_more}
 use Rattle.std.proofs.lemmas.Slice.Zip.{zip_turn}
 use Rattle.std.specs.Iterator.{Yields}
 use Rattle.std.specs.Iterator.Adapters.{zip_first, zip_second}
@@ -12,7 +12,8 @@ use Rattle.std.specs.declared.slice.Iter.{Iter}
 use Rattle.wal_script.specs.declared.line.Line.{Line}
 use Rattle.told_lines.specs.declared.told.Told.{Told}
 use Rattle.backend_cli.specs.Texts.{told_line}
-use Rattle.backend_cli.specs.Printing.{told_lines}
+use Rattle.backend_lanes.specs.declared.backend.Backend.{Backend}
+use Rattle.backend_cli.specs.Printing.{told_lines, told_lines_upward}
 
 -- the line of the first of them stands in front
 pub told_lines-drop : (backend i : ℕ) (lines : List Line) (told : List Told) (line : Line) (answer : Told) → i < length lines → i < length told → line ≡ get_or lines i line → answer ≡ get_or told i answer
@@ -29,3 +30,12 @@ pub told_lines-next : (backend : ℕ) (lines : List Line) (told : List Told) (pa
 told_lines-next backend lines told pairs start now next result first second yielded pair is steps =
     let turn = zip_turn lines told pairs start now next result first second yielded pair is steps in
     told_lines-drop backend (length pairs) lines told pair.0.now pair.1.now turn.0 turn.1 (turn.2 pair.0.now) (turn.3 pair.1.now)
+
+-- the lines of the next backend stand in front
+pub told_lines_upward-drop : (backends : List Backend) (number : ℕ) (b : Backend) (lines : List Line) (told : List Told) → number < length backends → b ≡ get_or backends number b → lines ≡ b.lines.items → told ≡ b.told.items
+    → told_lines_upward number (drop number backends) ≡ told_lines number lines told ++ told_lines_upward (number + 1) (drop (number + 1) backends)
+told_lines_upward-drop backends number b lines told within is lines_are told_are =
+    let rest = told_lines_upward (number + 1) (drop (number + 1) backends) in
+    at_drop_more (told_lines_upward number) backends number b within
+    ∙ ap (λ (x : Backend). told_lines number x.lines.items x.told.items ++ rest) (sym is)
+    ∙ ap₂ (λ (l : List Line) (t : List Told). told_lines number l t ++ rest) (sym lines_are) (sym told_are)

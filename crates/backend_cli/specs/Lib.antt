@@ -1,10 +1,7 @@
 pub mod Texts
-pub mod Tracked
-pub mod Steps
 pub mod Outcome
 pub mod Outside
 pub mod Run
-pub mod Whole
 pub mod Dumping
 pub mod Reading
 pub mod Printing

@@ -5,6 +5,8 @@ use Rattle.wal_types.specs.LsnText.{lsn_text}
 use Rattle.wal_script.specs.Names.{fault_name}
 use Rattle.wal_script.specs.declared.parser.ParseError.{ParseError}
 use Rattle.wal_script.specs.declared.parser.ParseError.TheVariants as errors
+use Rattle.wal_log.specs.declared.opening.OpenFaultKind.{OpenFaultKind}
+use Rattle.wal_log.specs.declared.opening.OpenFaultKind.TheVariants as opens
 use Rattle.wal_reader.specs.Names.{damage_name}
 use Rattle.wal_reader.specs.declared.found.Stopped.{Stopped as LogStop}
 use Rattle.wal_reader.specs.declared.found.Stopped.TheVariants as stops
@@ -22,6 +24,13 @@ outcome_unread failures.Source = SourceFault
 abbrev pub outcome_unparsed : ParseError → Outcome
 outcome_unparsed errors.Memory = OutOfMemory
 outcome_unparsed (errors.Refused refusal) = ScriptRefused refusal
+
+-- and one whose log was not opened; its setup is one that a log can have
+abbrev pub outcome_unopened : OpenFaultKind → Outcome
+outcome_unopened opens.BadSetup = OutOfMemory
+outcome_unopened opens.Memory = OutOfMemory
+outcome_unopened (opens.Disk faults) = DiskFault
+outcome_unopened opens.NotEmpty = NotEmpty
 
 -- the exit status
 abbrev pub status_of : Outcome → ℕ

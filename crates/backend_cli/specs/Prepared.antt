@@ -1,27 +1,39 @@
 -- What a run makes ready before it opens the log.
-use Rattle.std.specs.Prelude.{◌≡◌, ℕ, ◌<◌, ◌≤◌, List, [], ◌∷◌, length, Result, Ok, Err, Vec, vec_capacity}
+use Rattle.std.specs.Prelude.{◌≡◌, ℕ, ◌+◌, ◌<◌, ◌≤◌, List, length, Result, Ok, Err, Vec}
 use Rattle.std.specs.declared.alloc.Global.{Global}
 use Rattle.wal_script.specs.Asked.{AskedLine}
 use Rattle.wal_script.specs.declared.line.Line.{Line}
 use Rattle.wal_script.specs.declared.line.Refusal.{Refusal}
-use Rattle.wal_script.specs.Meaning.{meaning_of}
-use Rattle.serial_log.specs.declared.shape.Shape.{Shape}
-use Rattle.backend_cli.specs.declared.run.Prepared.{Prepared}
+use Rattle.wal_script.specs.Replay.{most_backends}
+use Rattle.wal_script.specs.ReplayReading.{AreBackendsOf}
+use Rattle.wal_script.specs.Run.{backends_meaning}
+use Rattle.wal_core.specs.declared.setup.Setup.{Setup}
+use Rattle.command_words.specs.declared.commands.RunOptions.{RunOptions}
+use Rattle.backend_lanes.specs.Backends.{IsRoomFor, scripts_of}
+use Rattle.backend_lanes.specs.declared.playing.Room.{Room}
 use Rattle.backend_cli.specs.declared.outcome.Outcome.{Outcome}
 use Rattle.backend_cli.specs.declared.outcome.Outcome.TheVariants.{OutOfMemory, SourceFault, ScriptRefused}
 use Rattle.backend_cli.specs.Outside.{SourceView}
 use Rattle.backend_cli.specs.Reading.{ScriptMeans, ScriptMeansBy}
 use Rattle.segment_disk.specs.Cause.{RoseByOne}
-use Rattle.wal_script.specs.Bodies.{AreLinesOf}
 
--- the lines that are asked for, room for a log, and room for what the lines are told
-pub record IsPrepared (shape : Shape) (asked : List AskedLine) (prepared : Prepared) : Type 0 where
-  pub lines : AreLinesOf asked prepared.lines.items
-  pub log : prepared.log ≡ shape
-  pub told : prepared.told.items ≡ []
-  pub told_room : length prepared.lines.items ≤ vec_capacity prepared.told
-  pub lists : prepared.lists.items ≡ []
-  pub lists_room : 0 < vec_capacity prepared.lists
+-- backends whose lines ask for this, some but no more than there may be, with all room that they
+-- need
+pub record IsPreparedFor (script : List (List AskedLine)) (room : Room) : Type 0 where
+  pub lines : AreBackendsOf script (scripts_of room.backends.items)
+  pub enough : IsRoomFor (scripts_of room.backends.items) room
+  pub some : 0 < length script
+  pub few : length script ≤ most_backends
+
+-- the sizes of a run's log: a pass for each backend, and one more that opens it
+abbrev pub run_setup : RunOptions → ℕ → Setup
+run_setup options backends = record {
+  segment_size = options.geometry;
+  ring_pages = options.ring_pages;
+  cap_segments = options.cap_segments;
+  sysid = 1;
+  passes = backends + 1;
+}
 
 -- why nothing was made ready: memory, the source, or the script, which means what `by` says, and
 -- nothing else
@@ -35,18 +47,19 @@ IsUnpreparedBy by before after others = ⊥
 
 -- the same of a run
 abbrev pub IsUnprepared : SourceView → SourceView → Outcome → Type 0
-IsUnprepared before after outcome = IsUnpreparedBy meaning_of before after outcome
+IsUnprepared before after outcome = IsUnpreparedBy backends_meaning before after outcome
 
--- reading the lines of a script
-abbrev pub ReadsLines : SourceView → SourceView → Result (Vec Line Global) Outcome → Type 0
-ReadsLines before after (Ok lines) =
-    (asked : List AskedLine) × ScriptMeans before after (Ok (asked ∷ []))
-    × AreLinesOf asked lines.items
-ReadsLines before after (Err outcome) = IsUnprepared before after outcome
+-- reading the lines of a script's backends
+abbrev pub ReadsBackends : SourceView → SourceView → Result (Vec (Vec Line Global) Global) Outcome
+    → Type 0
+ReadsBackends before after (Ok backends) =
+    (script : List (List AskedLine)) × ScriptMeans before after (Ok script)
+    × AreBackendsOf script backends.items
+ReadsBackends before after (Err outcome) = IsUnprepared before after outcome
 
 -- making all ready
-abbrev pub Prepares : SourceView → SourceView → Shape → Result Prepared Outcome → Type 0
-Prepares before after shape (Ok prepared) =
-    (asked : List AskedLine) × ScriptMeans before after (Ok (asked ∷ []))
-    × IsPrepared shape asked prepared
-Prepares before after shape (Err outcome) = IsUnprepared before after outcome
+abbrev pub Prepares : SourceView → SourceView → Result Room Outcome → Type 0
+Prepares before after (Ok room) =
+    (script : List (List AskedLine)) × ScriptMeans before after (Ok script)
+    × IsPreparedFor script room
+Prepares before after (Err outcome) = IsUnprepared before after outcome

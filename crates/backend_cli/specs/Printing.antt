@@ -1,5 +1,5 @@
 -- Lines and answers as they are printed.
-use Rattle.std.specs.Prelude.{ℕ, ◌+◌, ◌-◌, ◌/◌, ◌≡◌, Bool, List, [], ◌∷◌, ◌++◌, codes, ◌==◌, if◌then◌else◌}
+use Rattle.std.specs.Prelude.{ℕ, ◌+◌, ◌-◌, ◌/◌, ◌≡◌, Bool, List, [], ◌∷◌, ◌++◌, codes, length, ◌==◌, if◌then◌else◌}
 use Rattle.std.specs.Fmt.{decimal}
 use Rattle.byte_position.specs.Position.{end_address_of, first_position}
 use Rattle.wal_types.specs.LsnText.{lsn_text}
@@ -8,7 +8,9 @@ use Rattle.backend_cli.specs.declared.printing.Summary.{Summary}
 use Rattle.wal_script.specs.declared.line.Line.{Line}
 use Rattle.told_lines.specs.declared.told.Told.{Told}
 use Rattle.backend_cli.specs.Texts.{told_line}
-use Rattle.told_lines.specs.Counts.{reserved_count, commits_of}
+use Rattle.told_lines.specs.Counts.{all_commits_of}
+use Rattle.run_laws.specs.Counted.{all_reserved_count}
+use Rattle.backend_lanes.specs.declared.backend.Backend.{Backend}
 
 -- a told line for each line
 abbrev pub told_lines : ℕ → List Line → List Told → List ℕ
@@ -24,14 +26,26 @@ summary_line s =
     codes " bytes " ∷ decimal s.bytes ∷ codes " end " ∷ lsn_text s.end.0 ∷ codes " segments " ∷
     decimal s.segments ∷ codes "\n" ∷ [])
 
--- all that is printed of a backend's lines
-abbrev pub printed_text : Bool → List Line → List Told → Summary → List ℕ
-printed_text list lines told s = (if list then told_lines 0 lines told else []) ++ summary_line s
+-- so many answers as lines
+abbrev pub HasAnswers : Backend → Type 0
+HasAnswers backend = length backend.lines.items ≡ length backend.told.items
 
--- what a summary says of a log of which so many bytes are taken up, and of what its lines were told
-pub record Summarizes (size used : ℕ) (told : List Told) (s : Summary) : Type 0 where
-  pub records : s.records ≡ reserved_count told
-  pub commits : s.commits ≡ commits_of told
+-- the told lines of all backends, from a number on
+abbrev pub told_lines_upward : ℕ → List Backend → List ℕ
+told_lines_upward number [] = []
+told_lines_upward number (backend ∷ backends) =
+    told_lines number backend.lines.items backend.told.items
+    ++ told_lines_upward (number + 1) backends
+
+-- all that is printed of what backends were told
+abbrev pub printed_text : Bool → List Backend → Summary → List ℕ
+printed_text list backends s =
+    (if list then told_lines_upward 0 backends else []) ++ summary_line s
+
+-- what a summary says of a log of which so many bytes are taken up, and of what lines were told
+pub record Summarizes (size used : ℕ) (lists : List (List Told)) (s : Summary) : Type 0 where
+  pub records : s.records ≡ all_reserved_count lists
+  pub commits : s.commits ≡ all_commits_of lists
   pub bytes : s.bytes ≡ used
   pub end : s.end.0 ≡ end_address_of size (first_position size + used)
   pub segments : s.segments ≡ (if used == 0 then 0 else (s.end.0 - 1) / size)

@@ -5,7 +5,8 @@ use Rattle.segment_disk.specs.Cause.{RoseByOne}
 use Rattle.segment_disk.specs.Stream.{LosesFront}
 use Rattle.wal_script.specs.Asked.{AskedLine}
 use Rattle.wal_script.specs.declared.line.Refusal.{Refusal}
-use Rattle.wal_script.specs.Meaning.{meaning_of, script_limit}
+use Rattle.wal_script.specs.Meaning.{script_limit}
+use Rattle.wal_script.specs.Run.{backends_meaning}
 use Rattle.backend_cli.specs.declared.reading.ReadFailure.{ReadFailure}
 use Rattle.backend_cli.specs.declared.reading.ReadFailure.TheVariants.{Memory, Source}
 use Rattle.backend_cli.specs.Outside.{SourceView}
@@ -47,7 +48,7 @@ ScriptMeansBy by before after meaning =
 
 -- the script of a run
 abbrev pub ScriptMeans : SourceView → SourceView → Result (List (List AskedLine)) Refusal → Type 0
-ScriptMeans before after meaning = ScriptMeansBy meaning_of before after meaning
+ScriptMeans before after meaning = ScriptMeansBy backends_meaning before after meaning
 
 -- bytes were read off a source, no more than were asked for, and the source did not fail
 pub record HasRead (most : ℕ) (before now : SourceView) (bytes : List ℕ) : Type 0 where

@@ -7,10 +7,12 @@ use Rattle.wal_script.specs.Asked.{AskedLine}
 use Rattle.backend_cli.specs.declared.outcome.Outcome.{Outcome}
 use Rattle.backend_cli.specs.declared.outcome.Outcome.TheVariants.{Done, OutOfMemory, SourceFault, ScriptRefused, NotEmpty, DiskFault, LogFull, SinkFault}
 use Rattle.told_lines.specs.declared.told.Told.{Told}
-use Rattle.told_lines.specs.Told.{TellsAll, EachStaysDown, order_of, RiseInLineOrder, IsFullAnswer, IsRefused, SomeTold}
+use Rattle.told_lines.specs.Told.{TellsAll, EachStaysDown, order_from, RiseInLineOrder, IsFullAnswer, IsRefused, SomeTold}
 use Rattle.told_lines.specs.Moments.{EachRises}
 use Rattle.told_lines.specs.Crash.{EachIsTimely, SurvivesCrashes}
-use Rattle.told_lines.specs.Rooms.{all_rooms_asked}
+use Rattle.told_lines.specs.Rooms.{all_rooms_asked, capacity_of}
+use Rattle.command_words.specs.declared.commands.GenOptions.{GenOptions}
+use Rattle.generated_lines.specs.Generated.{generated_script}
 use Rattle.told_lines.specs.Whole.{IsWhole}
 use Rattle.backend_cli.specs.Texts.{run_text}
 use Rattle.backend_cli.specs.Reading.{ScriptMeans}
@@ -42,6 +44,15 @@ EndsUnopened outside DiskFault =
     MeansSome outside × RoseByOne outside.disk_before outside.disk_after
 EndsUnopened outside others = ⊥
 
+-- the same of a run whose script is known
+abbrev pub EndsUnplayed : Outside → Outcome → Type 0
+EndsUnplayed outside OutOfMemory = outside.disk_after ≡ outside.disk_before
+EndsUnplayed outside NotEmpty =
+    IfSome outside.tape_before (λ t. IsSome (page_of_segment (state_now t 1) 0))
+    × (outside.disk_after ≡ outside.disk_before)
+EndsUnplayed outside DiskFault = RoseByOne outside.disk_before outside.disk_after
+EndsUnplayed outside others = ⊥
+
 -- how a run ends that opened the log: a disk's fault, else a full log, else a sink's fault, else
 -- all is done
 abbrev pub EndsOpened : Outside → List (List Told) → Outcome → Type 0
@@ -56,38 +67,54 @@ EndsOpened outside told SinkFault =
     × Rose outside.sink_before outside.sink_after
 EndsOpened outside told others = ⊥
 
--- a run that opened the log, of the script with these lines that the source handed out: what it
--- told and made of them
+-- a run that opened the log, of the script with these lines: what it told and made of them
 pub record HoldsOpened (outside : Outside) (size capacity : ℕ) (list : Bool) (outcome : Outcome)
     (script : List (List AskedLine)) (lists : List (List Told)) : Type 0 where
-  pub means : ScriptMeans outside.source_before outside.source_after (Ok script)
   pub empty : IfSome outside.tape_before (λ t. page_of_segment (state_now t 1) 0 ≡ None)
   pub told : TellsAll (record {
     size = size;
     capacity = capacity;
-    order = order_of size script lists;
+    order = order_from size 1 script lists;
     faults_at_open = outside.disk_before;
     last = outside.disk_after;
-  }) 0 script lists
+  }) 1 script lists
   pub stays_down : EachStaysDown lists
-  pub gapless : IsChained size (order_of size script lists)
-  pub in_line_order : RiseInLineOrder size 0 script lists
+  pub gapless : IsChained size (order_from size 1 script lists)
+  pub in_line_order : RiseInLineOrder size 1 script lists
   pub moments : EachRises outside.moment_before lists outside.moment_after
   pub crash : HoldsNothing outside.tape_before → IfSome outside.tape_after
-      (SurvivesCrashes size outside.moment_before (order_of size script lists) lists)
+      (SurvivesCrashes size outside.moment_before (order_from size 1 script lists) lists)
   pub no_late_receipt : HoldsNothing outside.tape_before → IfSome outside.tape_after
-      (λ t. EachIsTimely size outside.moment_before (order_of size script lists) t 0 script lists)
+      (λ t. EachIsTimely size outside.moment_before (order_from size 1 script lists) t 1 script lists)
   pub whole : outside.disk_after ≡ outside.disk_before → outside.disk_before < 2 ^ 64 - 1
       → HoldsNothing outside.tape_before
-      → IsWhole size outside.tape_after (order_of size script lists)
+      → IsWhole size outside.tape_after (order_from size 1 script lists)
   pub printed : Took outside.taken_before outside.taken_after outside.sink_before outside.sink_after
-      (run_text size list script lists (order_of size script lists))
+      (run_text size list script lists (order_from size 1 script lists))
   pub ends : EndsOpened outside lists outcome
   pub full : SomeTold IsFullAnswer lists → capacity < all_rooms_asked script
 
--- a run: without told lists the log was not opened, and nothing was touched
+-- the run of a script that is known: without told lists the log was not opened, and nothing was
+-- touched
+abbrev pub PlayHolds : Outside → ℕ → ℕ → Bool → Outcome → List (List AskedLine)
+    → List (List Told) → Type 0
+PlayHolds outside size capacity list outcome script [] =
+    EndsUnplayed outside outcome × IsUntouched outside
+PlayHolds outside size capacity list outcome script (told ∷ others) =
+    HoldsOpened outside size capacity list outcome script (told ∷ others)
+
+-- the same of the script that the source handed out
 abbrev pub RunHolds : Outside → ℕ → ℕ → Bool → Outcome → List (List Told) → Type 0
 RunHolds outside size capacity list outcome [] = EndsUnopened outside outcome × IsUntouched outside
 RunHolds outside size capacity list outcome (told ∷ others) =
     (script : List (List AskedLine))
+    × ScriptMeans outside.source_before outside.source_after (Ok script)
     × HoldsOpened outside size capacity list outcome script (told ∷ others)
+
+-- the run of lines that are made: no script is read
+pub record GenHolds (outside : Outside) (options : GenOptions) (outcome : Outcome)
+    (lists : List (List Told)) : Type 0 where
+  pub unread : outside.source_after ≡ outside.source_before
+  pub plays : PlayHolds outside options.run.geometry
+      (capacity_of options.run.geometry options.run.cap_segments) options.run.list outcome
+      (generated_script options.lines) lists

@@ -1,11 +1,10 @@
 //! The program's commands over sources, sinks and disks handed in.
 #![tactic(auto)]
 
-mod answer;
 mod dump;
+mod generate;
 mod laws;
 mod outcome;
-mod play;
 mod printing;
 mod program;
 mod reading;
@@ -13,13 +12,10 @@ mod replay;
 mod run;
 mod told;
 
-pub use laws::{
-    answers_tell_the_order, answers_tell_the_promises, faults_are_told_again,
-    full_logs_have_too_much_asked_of_them, held_logs_survive_whole, lines_are_told_as_they_may_be,
-    read_scripts_mean_all_that_was_left,
-};
+pub use backend_lanes::Gate;
+pub use laws::read_scripts_mean_all_that_was_left;
 pub use log_answers::Cause;
 pub use outcome::Outcome;
-pub use program::{Ended, Gate, pgwal};
+pub use program::{Ended, pgwal};
 pub use told::ToldLists;
 pub use told_lines::Told;

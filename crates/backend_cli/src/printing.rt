@@ -1,10 +1,12 @@
-ghost use Rattle.std.specs.Prelude.{◌≡◌, [], ◌∷◌, length, codes};
+ghost use Rattle.std.specs.Prelude.{◌≡◌, ◌≤◌, All, [], ◌∷◌, length, codes};
 ghost use Rattle.std.specs.Fmt.{decimal};
 ghost use Rattle.wal_types.specs.LsnText.{lsn_text};
 ghost use Rattle.waldump_text.specs.Put.{Puts, joined};
 ghost use Rattle.backend_cli.specs.Texts.{told_line, answer_text, cause_text, reserved_text};
-ghost use Rattle.backend_cli.specs.Printing.{told_lines, summary_line};
+ghost use Rattle.wal_script.specs.Replay.{most_backends};
+ghost use Rattle.backend_cli.specs.Printing.{HasAnswers, told_lines, told_lines_upward, summary_line};
 
+use backend_lanes::Backend;
 use log_answers::Cause;
 use segment_disk::Sink;
 use told_lines::Told;
@@ -195,6 +197,19 @@ pub(crate) fn put_told_lines<O: Sink>(
 {
     for (line, answer) in lines.iter().zip(told) {
         put_told(out, backend, line.number, answer)?;
+    }
+    Ok(())
+}
+
+/// Puts the told lines of all backends, in order.
+pub(crate) fn put_told_lists<O: Sink>(out: &mut O, backends: &[Backend]) -> Result<(), SinkFault>
+    requires answered { All HasAnswers backends.now }
+    requires few { length backends.now ≤ most_backends }
+    ensures { Puts (O.taken out.old) (O.taken out.new) (O.faults out.old) (O.faults out.new)
+        (told_lines_upward 0 backends.now) result }
+{
+    for (number, backend) in backends.iter().enumerate() {
+        put_told_lines(out, number as u32, &backend.lines, &backend.told)?;
     }
     Ok(())
 }

@@ -1,5 +1,6 @@
 ghost use Rattle.std.specs.Prelude.{◌≡◌, map, string_bytes};
 ghost use Rattle.waldump_text.specs.Put.{joined};
+ghost use Rattle.command_words.specs.Given.{IsInRange};
 ghost use Rattle.command_line.specs.Asking.{AsksInRange, asks};
 ghost use Rattle.command_line.specs.Texts.{help, version};
 ghost use Rattle.backend_cli.specs.Outcome.{status_of, outcome_text};
@@ -8,23 +9,19 @@ ghost use Rattle.backend_cli.specs.Obeying.{AsksNoCommand, AsksReplay, AsksRun, 
 ghost use Rattle.backend_cli.specs.declared.outcome.Outcome.{Outcome};
 
 use crate::dump::list;
+use crate::generate::run_generated;
 use crate::outcome::Outcome;
 use crate::replay::replay;
 use crate::run::{Finished, run};
 use crate::told::ToldLists;
+use backend_lanes::Gate;
 use command_line::{Request, asked, help_text, version_text};
 use command_words::Command;
 use segment_disk::{Disk, Sink, Source};
-use serial_log::Shape;
 use std::alloc::{AllocError, Global};
 use std::sync::Wait;
 use std::thread::Threads;
 use waldump_text::put;
-
-/// Stands before each line of a script. The real one does nothing.
-pub trait Gate {
-    fn pass(&self, backend: u32, line: u32);
-}
 
 /// How the program ended: its exit status, the disk, and what each line of each backend was told
 /// (no list where no log was opened).
@@ -51,8 +48,37 @@ fn explain<O: Sink, D: Disk>(alloc: Global, text: &str, disk: D, out: &mut O) ->
     }
 }
 
+// Does what a command asks for, and says how it ended.
+fn obey_command<R: Threads + Wait + Sync, S: Source, O: Sink, D: Disk + Send, G: Gate + Sync>(
+    rt: &R,
+    alloc: Global,
+    command: &Command,
+    script: &mut S,
+    disk: D,
+    out: &mut O,
+    gate: &G,
+) -> Finished<D>
+    requires in_range { IsInRange command.now }
+    ensures obeys { Obeys (Request.Command command.now) (outside_of
+        (source_view S.left S.handed S.ends_told S.faults script.old)
+        (source_view S.left S.handed S.ends_told S.faults script.new)
+        D.tape D.moment D.faults disk result.disk O.taken O.faults out.old out.new)
+        result.outcome result.told }
+    ensures as_handed_in { AsksRun (Request.Command command.now)
+        → result.outcome ≡ Outcome.OutOfMemory → result.disk ≡ disk }
+    ensures replayed { AsksReplay (Request.Command command.now) → result.disk ≡ disk }
+{
+    match command {
+        Command::Run(options) => run(rt, alloc, options, script, disk, out, gate),
+        Command::Gen(options) => run_generated(rt, alloc, options, disk, out, gate),
+        Command::Replay(options) => replay(alloc, options, script, disk, out),
+        Command::Dump(options) => list(alloc, options, disk, out),
+    }
+}
+
 // Does what is asked for, and says how it ended.
-fn obey<S: Source, O: Sink, D: Disk, G: Gate>(
+fn obey<R: Threads + Wait + Sync, S: Source, O: Sink, D: Disk + Send, G: Gate + Sync>(
+    rt: &R,
     alloc: Global,
     request: Request,
     script: &mut S,
@@ -79,21 +105,13 @@ fn obey<S: Source, O: Sink, D: Disk, G: Gate>(
         },
         Request::Help => explain(alloc, help_text(), disk, out),
         Request::Version => explain(alloc, version_text(), disk, out),
-        Request::Command(Command::Run(options)) => {
-            let shape = Shape::new(
-                options.geometry,
-                options.ring_pages,
-                options.cap_segments,
-            ).unwrap();
-            run(alloc, shape, options.list, script, disk, out, gate)
-        }
-        Request::Command(Command::Replay(options)) => replay(alloc, options, script, disk, out),
-        Request::Command(Command::Dump(options)) => list(alloc, options, disk, out),
+        Request::Command(command) => obey_command(rt, alloc, command, script, disk, out, gate),
     }
 }
 
 // Does what the words ask for, where memory suffices to read them.
-fn obey_words<S: Source, O: Sink, D: Disk, G: Gate>(
+fn obey_words<R: Threads + Wait + Sync, S: Source, O: Sink, D: Disk + Send, G: Gate + Sync>(
+    rt: &R,
     alloc: Global,
     words: &[String],
     script: &mut S,
@@ -115,7 +133,7 @@ fn obey_words<S: Source, O: Sink, D: Disk, G: Gate>(
         → result.disk ≡ disk }
 {
     match asked(alloc, words) {
-        Ok(request) => obey(alloc, request, script, disk, out, gate),
+        Ok(request) => obey(rt, alloc, request, script, disk, out, gate),
         Err(AllocError) => Finished {
             outcome: Outcome::OutOfMemory,
             disk,
@@ -127,10 +145,10 @@ fn obey_words<S: Source, O: Sink, D: Disk, G: Gate>(
 /// Does what the words of a command line ask for.
 ///
 /// `words` begin with the program's name. Standard output goes to `out`; `err` takes the line of a
-/// status that is not 0. The threads of `rt` are not used yet: a run has one backend, and a replay
-/// has its backends' turns one after another.
+/// status that is not 0. The backends of a run are threads of `rt`, one for each where it can be
+/// made; a replay has its backends' turns one after another.
 pub fn pgwal<R: Threads + Wait + Sync, S: Source, O: Sink, E: Sink, D: Disk + Send, G: Gate + Sync>(
-    _rt: &R,
+    rt: &R,
     alloc: Global,
     words: &[String],
     script: &mut S,
@@ -167,7 +185,7 @@ pub fn pgwal<R: Threads + Wait + Sync, S: Source, O: Sink, E: Sink, D: Disk + Se
         outcome,
         disk,
         told,
-    } = obey_words(alloc, words, script, disk, out, gate);
+    } = obey_words(rt, alloc, words, script, disk, out, gate);
     // A fault while the status is told changes no status.
     let _ = outcome.tell(err);
     Ended {

@@ -1,29 +1,39 @@
-ghost use Rattle.std.specs.Prelude.{◌≡◌, ◌≤◌, ◌<◌, All, List, [], ◌∷◌, length, Ok, IfOk, IsTrue, false, not};
+ghost use Rattle.std.specs.Prelude.{◌≡◌, ◌≤◌, ◌↔◌, ◌^◌, ◌+◌, ℕ, All, IfSome, List, [], Ok, IsTrue, false, length, not, vec_len};
+ghost use Rattle.byte_position.specs.Position.{end_address_of, first_position};
+ghost use Rattle.command_words.specs.Given.{IsShapeInRange};
+ghost use Rattle.wal_core.specs.Sound.{IsSetup};
 ghost use Rattle.wal_script.specs.Asked.{AskedLine};
-ghost use Rattle.wal_script.specs.Bodies.{AreLinesOf};
+ghost use Rattle.wal_script.specs.Replay.{most_backends};
 ghost use Rattle.waldump_text.specs.Put.{Puts};
+ghost use Rattle.wal_log.specs.declared.opening.OpenFaultKind.TheVariants.{BadSetup};
 ghost use Rattle.told_lines.specs.Rooms.{capacity_of};
-ghost use Rattle.told_lines.specs.Told.{SomeAnswer, IsFullAnswer};
-ghost use Rattle.told_lines.specs.Counts.{reserved_count, commits_of};
-ghost use Rattle.backend_cli.specs.Printing.{printed_text, Summarizes};
-ghost use Rattle.backend_cli.specs.Concluding.{Concludes};
-ghost use Rattle.backend_cli.specs.Run.{RunHolds};
+ghost use Rattle.told_lines.specs.Told.{SomeTold, SomeAnswer, IsFullAnswer};
+ghost use Rattle.told_lines.specs.Counts.{all_commits_of, commits_of, reserved_count};
+ghost use Rattle.run_laws.specs.Counted.{all_reserved_count};
+ghost use Rattle.backend_lanes.specs.Backends.{lists_of};
+ghost use Rattle.backend_cli.specs.Printing.{HasAnswers, Summarizes, printed_text};
+ghost use Rattle.backend_cli.specs.Concluding.{Concludes, IsConcluded};
+ghost use Rattle.backend_cli.specs.Run.{PlayHolds, RunHolds};
 ghost use Rattle.backend_cli.specs.Outside.{SourceView, outside_of, source_view};
-ghost use Rattle.backend_cli.specs.Prepared.{Prepares, ReadsLines, IsPrepared};
+ghost use Rattle.backend_cli.specs.Prepared.{IsPreparedFor, Prepares, ReadsBackends, run_setup};
+ghost use Rattle.backend_cli.specs.Outcome.{outcome_unopened};
 ghost use Rattle.backend_cli.specs.Reading.{ScriptMeans};
 
 use crate::outcome::Outcome;
-use crate::play::play;
-use crate::printing::{Summary, put_told_lines};
-use crate::program::Gate;
+use crate::printing::{Summary, put_told_lists};
 use crate::reading::read_script;
 use crate::told::ToldLists;
+use backend_lanes::{Backend, Gate, Played, Room, play_backends};
 use byte_position::Geometry;
+use command_words::RunOptions;
 use segment_disk::{Disk, Sink, Source};
-use serial_log::{Log, LogMemory, OpenFailure, Shape};
 use std::alloc::{AllocError, Global};
+use std::sync::Wait;
+use std::thread::Threads;
 use told_lines::Told;
-use wal_script::{Line, parse};
+use wal_log::{Closed, OpenFaultKind, Setup, Wal};
+use wal_script::{Line, parse_backends};
+use wal_types::Lsn;
 use waldump_text::SinkFault;
 
 /// How a command ended: its outcome, the disk, and what its lines were told.
@@ -34,52 +44,43 @@ pub(crate) struct Finished<D> {
     pub told: ToldLists,
 }
 
-// What a run needs before it opens the log: all that takes memory.
-#[derive(Drop)]
-struct Prepared {
-    lines: Vec<Line>,
-    log: LogMemory,
-    // Room for what the lines are told.
-    told: Vec<Told>,
-    lists: Vec<Vec<Told>>,
-}
-
 /// The system id of each log that this program writes.
 pub(crate) const SYSTEM_ID: u64 = 1;
 
-fn lines_of<S: Source>(alloc: Global, source: &mut S) -> Result<Vec<Line>, Outcome>
-    ensures { ReadsLines
+fn backends_of<S: Source>(alloc: Global, source: &mut S) -> Result<Vec<Vec<Line>>, Outcome>
+    ensures { ReadsBackends
         (source_view S.left S.handed S.ends_told S.faults source.old)
         (source_view S.left S.handed S.ends_told S.faults source.new) result }
 {
     let script = read_script(alloc, source)?;
-    Ok(parse(alloc, &script)?)
+    Ok(parse_backends(alloc, &script)?)
 }
 
-// Takes all room for a script's lines.
-fn room_for(alloc: Global, shape: Shape, lines: Vec<Line>) -> Result<Prepared, AllocError>
-    ensures { (asked : List AskedLine) → AreLinesOf asked lines.items
-        → IfOk result (λ prepared. IsPrepared shape asked prepared) }
-{
-    let told = Vec::with_capacity(alloc, lines.len())?;
-    Ok(Prepared {
-        lines,
-        log: LogMemory::new(alloc, shape)?,
-        told,
-        lists: Vec::with_capacity(alloc, 1)?,
-    })
-}
-
-// Reads the script and takes all room.
-fn prepare<S: Source>(alloc: Global, shape: &Shape, source: &mut S) -> Result<Prepared, Outcome>
+// Reads the script and takes all room that its backends need.
+fn prepare<S: Source>(alloc: Global, source: &mut S) -> Result<Room, Outcome>
     ensures { Prepares
         (source_view S.left S.handed S.ends_told S.faults source.old)
-        (source_view S.left S.handed S.ends_told S.faults source.new) shape.now result }
+        (source_view S.left S.handed S.ends_told S.faults source.new) result }
 {
-    let lines = lines_of(alloc, source)?;
-    match room_for(alloc, *shape, lines) {
-        Ok(prepared) => Ok(prepared),
+    let backends = backends_of(alloc, source)?;
+    match Room::of(alloc, backends) {
+        Ok(room) => Ok(room),
         Err(AllocError) => Err(Outcome::OutOfMemory),
+    }
+}
+
+fn setup_of(options: &RunOptions, backends: u32) -> Setup
+    requires in_range { IsShapeInRange options.now.ring_pages options.now.cap_segments }
+    requires few { backends ≤ most_backends }
+    ensures value { result ≡ run_setup options.now backends }
+    ensures can_be { IsSetup result }
+{
+    Setup {
+        segment_size: options.geometry.segment_size(),
+        ring_pages: options.ring_pages,
+        cap_segments: options.cap_segments,
+        sysid: SYSTEM_ID,
+        passes: backends + 1,
     }
 }
 
@@ -109,29 +110,58 @@ fn commits_in(told: &[Told]) -> u64
     count
 }
 
-// Whether a line found the log full.
-fn found_full(told: &[Told]) -> bool
-    ensures full { IsTrue result → SomeAnswer IsFullAnswer told.now }
-    ensures room { result ≡ false → SomeAnswer IsFullAnswer told.now → ⊥ }
+// How many lines of all backends reserved a record.
+fn all_records_in(backends: &[Backend]) -> u64
+    requires { all_reserved_count (lists_of backends.now) ≤ 2 ^ 42 }
+    ensures { result ≡ all_reserved_count (lists_of backends.now) }
 {
-    for answer in told {
-        if answer.is_full() {
-            return true;
-        }
+    let mut count = 0;
+    for backend in backends {
+        count += records_in(&backend.told);
     }
-    false
+    count
 }
 
-// What the summary says of a log and of what its lines were told.
-fn summary_of<D: Disk>(geometry: Geometry, log: &Log<D>, told: &[Told]) -> Summary
-    requires { log.now.size ≡ geometry }
-    ensures { Summarizes geometry log.now.bytes told.now result }
+// How many of them were told that their commit is durable.
+fn all_commits_in(backends: &[Backend]) -> u64
+    requires { all_reserved_count (lists_of backends.now) ≤ 2 ^ 42 }
+    ensures { result ≡ all_commits_of (lists_of backends.now) }
 {
-    let bytes = log.bytes();
-    let end = log.end();
+    let mut count = 0;
+    for backend in backends {
+        count += commits_in(&backend.told);
+    }
+    count
+}
+
+// Whether a line of a backend found the log full.
+fn has_found_full(backend: &Backend) -> bool
+    ensures { IsTrue result ↔ SomeAnswer IsFullAnswer backend.now.told.items }
+{
+    backend.told.iter().any(|answer| answer.is_full())
+}
+
+// Whether a line of some backend found the log full.
+fn found_full(backends: &[Backend]) -> bool
+    ensures full { IsTrue result → SomeTold IsFullAnswer (lists_of backends.now) }
+    ensures room { result ≡ false → SomeTold IsFullAnswer (lists_of backends.now) → ⊥ }
+{
+    backends.iter().any(has_found_full)
+}
+
+// What the summary says of a log that ends there, and of what its lines were told.
+fn summary_of(geometry: Geometry, end: Lsn, backends: &[Backend]) -> Summary
+    requires few { all_reserved_count (lists_of backends.now) ≤ 2 ^ 42 }
+    requires end { (used : ℕ) × (end.0
+        ≡ end_address_of geometry (first_position geometry + used)) }
+    ensures { (used : ℕ) → end.0 ≡ end_address_of geometry (first_position geometry + used)
+        → Summarizes geometry used (lists_of backends.now) result }
+{
+    let start = geometry.position_of(Lsn(geometry.segment_size()));
+    let bytes = geometry.position_of(end) - start;
     Summary {
-        records: records_in(told),
-        commits: commits_in(told),
+        records: all_records_in(backends),
+        commits: all_commits_in(backends),
         bytes,
         end,
         segments: if bytes == 0 {
@@ -146,27 +176,27 @@ fn summary_of<D: Disk>(geometry: Geometry, log: &Log<D>, told: &[Told]) -> Summa
 fn print<O: Sink>(
     out: &mut O,
     list: bool,
-    lines: &[Line],
-    told: &[Told],
+    backends: &[Backend],
     summary: &Summary,
 ) -> Result<(), SinkFault>
-    requires { length lines.now ≡ length told.now }
+    requires answered { All HasAnswers backends.now }
+    requires few { length backends.now ≤ most_backends }
     ensures { Puts (O.taken out.old) (O.taken out.new) (O.faults out.old) (O.faults out.new)
-        (printed_text list lines.now told.now summary.now) result }
+        (printed_text list backends.now summary.now) result }
 {
     if list {
-        put_told_lines(out, 0, lines, told)?;
+        put_told_lists(out, backends)?;
     }
     summary.put(out)
 }
 
 // How a run that opened the log concludes: the first of its causes.
-fn conclusion(down: Option<u64>, told: &[Told], is_printed: bool) -> Outcome
-    ensures { Concludes down told.now (not is_printed) result }
+fn conclusion(down: Option<u64>, backends: &[Backend], is_printed: bool) -> Outcome
+    ensures { Concludes down (lists_of backends.now) (not is_printed) result }
 {
     if down.is_some() {
         Outcome::DiskFault
-    } else if found_full(told) {
+    } else if found_full(backends) {
         Outcome::LogFull
     } else if is_printed {
         Outcome::Done
@@ -175,83 +205,109 @@ fn conclusion(down: Option<u64>, told: &[Told], is_printed: bool) -> Outcome
     }
 }
 
-fn run_prepared<O: Sink, D: Disk, G: Gate>(
+// How a run ends whose log was not opened.
+fn outcome_unopened(kind: OpenFaultKind) -> Outcome
+    requires { kind ≡ BadSetup → ⊥ }
+    ensures { result ≡ outcome_unopened kind }
+{
+    match kind {
+        OpenFaultKind::BadSetup => unreachable!(),
+        OpenFaultKind::Memory => Outcome::OutOfMemory,
+        OpenFaultKind::Disk { .. } => Outcome::DiskFault,
+        OpenFaultKind::NotEmpty => Outcome::NotEmpty,
+    }
+}
+
+// A disk's moment is the number of its counted calls: a law of its trait.
+fn calls_are_counted<D: Disk>(disk: &D)
+    ensures { IfSome (D.tape disk.now) (λ t. D.moment disk.now ≡ length t.calls) }
+{}
+
+pub(crate) fn run_prepared<R: Threads + Wait + Sync, O: Sink, D: Disk + Send, G: Gate + Sync>(
+    rt: &R,
     alloc: Global,
-    shape: Shape,
-    list: bool,
-    prepared: Prepared,
+    options: &RunOptions,
+    room: Room,
     disk: D,
     out: &mut O,
     gate: &G,
 ) -> Finished<D>
-    requires { (asked : List AskedLine) × IsPrepared shape asked prepared }
-    ensures holds { (before after : SourceView) (asked : List AskedLine)
-        → ScriptMeans before after (Ok (asked ∷ [])) → IsPrepared shape asked prepared
-        → RunHolds (outside_of before after
+    requires in_range { IsShapeInRange options.now.ring_pages options.now.cap_segments }
+    requires prepared { (script : List (List AskedLine)) × IsPreparedFor script room }
+    ensures holds { (before after : SourceView) (script : List (List AskedLine))
+        → IsPreparedFor script room → PlayHolds (outside_of before after
         D.tape D.moment D.faults disk result.disk O.taken O.faults out.old out.new)
-        shape.geometry (capacity_of shape.geometry shape.cap_segments)
-        list result.outcome result.told }
-    ensures no_memory { result.outcome ≡ Outcome.OutOfMemory → ⊥ }
+        options.now.geometry (capacity_of options.now.geometry options.now.cap_segments)
+        options.now.list result.outcome script result.told }
+    ensures as_handed_in { result.outcome ≡ Outcome.OutOfMemory → result.disk ≡ disk }
 {
-    let Prepared {
-        lines,
-        log: memory,
-        mut told,
-        lists,
-    } = prepared;
-    let geometry = shape.geometry;
-    match Log::open(disk, SYSTEM_ID, memory) {
-        Err(OpenFailure::Disk(disk)) => Finished {
-            outcome: Outcome::DiskFault,
-            disk,
+    calls_are_counted(&disk);
+    let setup = setup_of(options, room.backends.len() as u32);
+    match Wal::open(alloc, disk, setup) {
+        Err(fault) => Finished {
+            outcome: outcome_unopened(fault.kind),
+            disk: fault.disk,
             told: ToldLists::none(alloc),
         },
-        Err(OpenFailure::NotEmpty(disk)) => Finished {
-            outcome: Outcome::NotEmpty,
-            disk,
-            told: ToldLists::none(alloc),
-        },
-        Ok(mut log) => {
-            play(&mut log, gate, &lines, &mut told);
-            // No line asked for this flush, so none is told its answer; where it fails the log is
-            // down.
-            let end = log.end();
-            let _ = log.flush(end);
-            let summary = summary_of(geometry, &log, &told);
-            let is_printed = print(out, list, &lines, &told, &summary).is_ok();
-            Finished {
-                outcome: conclusion(log.down(), &told, is_printed),
-                disk: log.into_disk(),
-                told: ToldLists::one(lists, told),
-            }
+        Ok((log, first)) => {
+            let start = Lsn(options.geometry.segment_size());
+            let played = play_backends(rt, log, first, room, gate, start);
+            conclude(options, played, out)
         }
+    }
+}
+
+// Prints what a run told, and tells how it ended.
+fn conclude<O: Sink, D>(options: &RunOptions, played: Played<D>, out: &mut O) -> Finished<D>
+    requires answered { All HasAnswers played.backends.items }
+    requires few_backends { vec_len played.backends ≤ most_backends }
+    requires few { all_reserved_count (lists_of played.backends.items) ≤ 2 ^ 42 }
+    requires end { (used : ℕ) × (played.closed.end.0 ≡ end_address_of options.now.geometry
+        (first_position options.now.geometry + used)) }
+    ensures concluded { (used : ℕ) → played.closed.end.0 ≡ end_address_of options.now.geometry
+        (first_position options.now.geometry + used)
+        → IsConcluded options.now.geometry options.now.list used played.backends.items
+        played.closed.down (O.taken out.old) (O.taken out.new) (O.faults out.old)
+        (O.faults out.new) result.outcome }
+    ensures disk { result.disk ≡ played.closed.disk }
+    ensures told { result.told ≡ lists_of played.backends.items }
+{
+    let Played { closed, backends } = played;
+    let Closed { disk, end, down } = closed;
+    let summary = summary_of(options.geometry, end, &backends);
+    let is_printed = print(out, options.list, &backends, &summary).is_ok();
+    Finished {
+        outcome: conclusion(down, &backends, is_printed),
+        disk,
+        told: ToldLists::of_backends(backends),
     }
 }
 
 /// Runs a script. In this order, so that a refusal leaves the disk as it came: the script is read
 /// to its end and understood, all memory is taken, the log is opened (one read, no counted call),
-/// each line is done, all is flushed to the log's end, and what was told is printed. So want of
-/// memory and a refused script come before the first device call, and a sink's fault loses only
-/// what is printed.
-pub(crate) fn run<S: Source, O: Sink, D: Disk, G: Gate>(
+/// the lines of all backends are done side by side, all is flushed to the log's end, and what was
+/// told is printed. So want of memory and a refused script come before the first device call, and
+/// a sink's fault loses only what is printed.
+pub(crate) fn run<R: Threads + Wait + Sync, S: Source, O: Sink, D: Disk + Send, G: Gate + Sync>(
+    rt: &R,
     alloc: Global,
-    shape: Shape,
-    list: bool,
+    options: &RunOptions,
     source: &mut S,
     disk: D,
     out: &mut O,
     gate: &G,
 ) -> Finished<D>
+    requires in_range { IsShapeInRange options.now.ring_pages options.now.cap_segments }
     ensures holds { RunHolds (outside_of
         (source_view S.left S.handed S.ends_told S.faults source.old)
         (source_view S.left S.handed S.ends_told S.faults source.new)
         D.tape D.moment D.faults disk result.disk O.taken O.faults out.old out.new)
-        shape.geometry (capacity_of shape.geometry shape.cap_segments)
-        list result.outcome result.told }
+        options.now.geometry (capacity_of options.now.geometry options.now.cap_segments)
+        options.now.list result.outcome result.told }
     ensures as_handed_in { result.outcome ≡ Outcome.OutOfMemory → result.disk ≡ disk }
 {
-    match prepare(alloc, &shape, source) {
-        Ok(prepared) => run_prepared(alloc, shape, list, prepared, disk, out, gate),
+    match prepare(alloc, source) {
+        Ok(room) => run_prepared(rt, alloc, options, room, disk, out, gate),
         Err(outcome) => Finished {
             outcome,
             disk,

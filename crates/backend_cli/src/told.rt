@@ -1,5 +1,7 @@
-ghost use Rattle.std.specs.Prelude.{◌≡◌, ◌==◌, ◌<◌, [], ◌∷◌, length, map, slice_index_or, vec_capacity};
+ghost use Rattle.std.specs.Prelude.{◌≡◌, ◌==◌, ◌<◌, ◌^◌, [], length, slice_index_or};
+ghost use Rattle.backend_lanes.specs.Backends.{lists_of};
 
+use backend_lanes::Backend;
 use std::alloc::Global;
 use std::marker::Model;
 use told_lines::Told;
@@ -7,18 +9,19 @@ use told_lines::Told;
 /// What each backend's lines were told, in order, seen by contracts as a list of lists.
 #[derive(Debug, Drop)]
 pub struct ToldLists {
-    lists: Vec<Vec<Told>>,
+    backends: Vec<Backend>,
 }
 
 impl Model for ToldLists {
-    ghost use Rattle.std.specs.Prelude.{List, map, length, ◌<◌, ◌^◌};
+    ghost use Rattle.std.specs.Prelude.{List, length, ◌<◌, ◌^◌};
+    ghost use Rattle.backend_lanes.specs.Backends.{lists_of};
     ghost use Rattle.told_lines.specs.declared.told.Told.{Told};
 
     ghost Value = { List (List Told) };
 
-    ghost view = { λ t. map (λ told. told.items) t.lists.items };
+    ghost view = { λ t. lists_of t.backends.items };
 
-    ghost invariant = { λ t. length t.lists.items < 2 ^ 32 };
+    ghost invariant = { λ t. length t.backends.items < 2 ^ 32 };
 }
 
 impl ToldLists {
@@ -27,31 +30,29 @@ impl ToldLists {
         ensures { result ≡ [] }
     {
         ToldLists {
-            lists: Vec::new(alloc),
+            backends: Vec::new(alloc),
         }
     }
 
-    // The list of one backend, put into a vector that has room for it.
-    pub(crate) fn one(mut room: Vec<Vec<Told>>, told: Vec<Told>) -> ToldLists
-        requires empty { room.items ≡ [] }
-        requires room { 0 < vec_capacity room }
-        ensures { result ≡ told.items ∷ [] }
+    // What the lines of these backends were told.
+    pub(crate) fn of_backends(backends: Vec<Backend>) -> ToldLists
+        requires { length backends.items < 2 ^ 32 }
+        ensures { result ≡ lists_of backends.items }
     {
-        room.push_reserved(told);
-        ToldLists { lists: room }
+        ToldLists { backends }
     }
 
     /// How many backends have a list.
     pub fn len(&self) -> u32
         ensures { result ≡ length self.now }
     {
-        self.lists.len() as u32
+        self.backends.len() as u32
     }
 
     pub fn is_empty(&self) -> bool
         ensures { result ≡ (length self.now == 0) }
     {
-        self.lists.is_empty()
+        self.backends.is_empty()
     }
 
     /// What a backend's lines were told.
@@ -59,6 +60,6 @@ impl ToldLists {
         requires { backend < length self.now }
         ensures { result.now ≡ slice_index_or self.now backend [] }
     {
-        self.lists[backend as usize].as_slice()
+        self.backends[backend as usize].told.as_slice()
     }
 }

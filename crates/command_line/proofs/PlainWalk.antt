@@ -1,5 +1,5 @@
 -- `clap`'s walk over words of the plain form.
-use Rattle.std.proofs.Common.{◌≡◌, ◌∙◌, Bool, true, false, List, [], ◌∷◌, ◌++◌, Option, Some, None, refl, ap, sym, subst, codes}
+use Rattle.std.proofs.Common.{◌≡◌, ℕ, ◌∙◌, Bool, true, false, List, [], ◌∷◌, ◌++◌, Option, Some, None, refl, ap, sym, subst, codes}
 use Rattle.std.specs.Str.{bytes_eq, chars}
 use Rattle.std.specs.Char.{encode_utf8}
 use Rattle.std.proofs.lemmas.List.{append-nil}
@@ -30,22 +30,22 @@ row_with name value = record {
   reading = reading.AsWritten;
 }
 
--- where the walk stands between two options, behind the command's name
-abbrev pub between : List Row → Option (Text × List Text) → Walk
-between rows pending = record {
+-- where the walk stands between two options, behind the words that are none
+abbrev pub between : ℕ → List Row → Option (Text × List Text) → Walk
+between position rows pending = record {
   held = record { rows = rows; pending = pending; skip = 0 };
   waiting = idle;
-  position = 2;
+  position = position;
   is_trailing = false;
   stopped = None;
 }
 
 -- and where it waits for a value
-abbrev pub awaiting : Text → List Row → Walk
-awaiting name rows = record {
+abbrev pub awaiting : ℕ → Text → List Row → Walk
+awaiting position name rows = record {
   held = record { rows = rows; pending = Some (name, []); skip = 0 };
   waiting = option name;
-  position = 2;
+  position = position;
   is_trailing = false;
   stopped = None;
 }
@@ -70,57 +70,57 @@ new_row id value rows absent =
     rw kept (absent_row id (more_values CommandLine (value ∷ [])) (row_with id value ∷ []) rows absent)
 
 -- the word of an option with a value
-pub opens : (o : Valued) (rows : List Row) (pending : Option (Text × List Text)) (into : List Row) → Settles rows pending into → turn_fault level [] (between rows pending) (45 ∷ 45 ∷ option_name o) ≡ []
-opens seg_option rows pending into h = ap (λ kinds. or_else kinds []) h.sound
-opens ring_option rows pending into h = ap (λ kinds. or_else kinds []) h.sound
-opens cap_option rows pending into h = ap (λ kinds. or_else kinds []) h.sound
-opens crash_option rows pending into h = ap (λ kinds. or_else kinds []) h.sound
-opens rmgr_option rows pending into h = ap (λ kinds. or_else kinds []) h.sound
-opens xid_option rows pending into h = ap (λ kinds. or_else kinds []) h.sound
-opens relation_option rows pending into h = ap (λ kinds. or_else kinds []) h.sound
-opens block_option rows pending into h = ap (λ kinds. or_else kinds []) h.sound
-opens fork_option rows pending into h = ap (λ kinds. or_else kinds []) h.sound
-opens start_option rows pending into h = ap (λ kinds. or_else kinds []) h.sound
-opens end_option rows pending into h = ap (λ kinds. or_else kinds []) h.sound
-opens limit_option rows pending into h = ap (λ kinds. or_else kinds []) h.sound
+pub opens : (position : ℕ) (o : Valued) (rows : List Row) (pending : Option (Text × List Text)) (into : List Row) → Settles rows pending into → turn_fault level [] (between position rows pending) (45 ∷ 45 ∷ option_name o) ≡ []
+opens position seg_option rows pending into h = ap (λ kinds. or_else kinds []) h.sound
+opens position ring_option rows pending into h = ap (λ kinds. or_else kinds []) h.sound
+opens position cap_option rows pending into h = ap (λ kinds. or_else kinds []) h.sound
+opens position crash_option rows pending into h = ap (λ kinds. or_else kinds []) h.sound
+opens position rmgr_option rows pending into h = ap (λ kinds. or_else kinds []) h.sound
+opens position xid_option rows pending into h = ap (λ kinds. or_else kinds []) h.sound
+opens position relation_option rows pending into h = ap (λ kinds. or_else kinds []) h.sound
+opens position block_option rows pending into h = ap (λ kinds. or_else kinds []) h.sound
+opens position fork_option rows pending into h = ap (λ kinds. or_else kinds []) h.sound
+opens position start_option rows pending into h = ap (λ kinds. or_else kinds []) h.sound
+opens position end_option rows pending into h = ap (λ kinds. or_else kinds []) h.sound
+opens position limit_option rows pending into h = ap (λ kinds. or_else kinds []) h.sound
 
-pub opened : (o : Valued) (rows : List Row) (pending : Option (Text × List Text)) (into : List Row) → Settles rows pending into → walked rules [] (between rows pending) (45 ∷ 45 ∷ option_name o) ≡ awaiting (option_name o) into
+pub opened : (position : ℕ) (o : Valued) (rows : List Row) (pending : Option (Text × List Text)) (into : List Row) → Settles rows pending into → walked rules [] (between position rows pending) (45 ∷ 45 ∷ option_name o) ≡ awaiting position (option_name o) into
 unfolding walked
-opened seg_option rows pending into h = ap (awaiting (codes "seg")) h.rows_are
-opened ring_option rows pending into h = ap (awaiting (codes "ring")) h.rows_are
-opened cap_option rows pending into h = ap (awaiting (codes "cap")) h.rows_are
-opened crash_option rows pending into h = ap (awaiting (codes "crash")) h.rows_are
-opened rmgr_option rows pending into h = ap (awaiting (codes "rmgr")) h.rows_are
-opened xid_option rows pending into h = ap (awaiting (codes "xid")) h.rows_are
-opened relation_option rows pending into h = ap (awaiting (codes "relation")) h.rows_are
-opened block_option rows pending into h = ap (awaiting (codes "block")) h.rows_are
-opened fork_option rows pending into h = ap (awaiting (codes "fork")) h.rows_are
-opened start_option rows pending into h = ap (awaiting (codes "start")) h.rows_are
-opened end_option rows pending into h = ap (awaiting (codes "end")) h.rows_are
-opened limit_option rows pending into h = ap (awaiting (codes "limit")) h.rows_are
+opened position seg_option rows pending into h = ap (awaiting position (codes "seg")) h.rows_are
+opened position ring_option rows pending into h = ap (awaiting position (codes "ring")) h.rows_are
+opened position cap_option rows pending into h = ap (awaiting position (codes "cap")) h.rows_are
+opened position crash_option rows pending into h = ap (awaiting position (codes "crash")) h.rows_are
+opened position rmgr_option rows pending into h = ap (awaiting position (codes "rmgr")) h.rows_are
+opened position xid_option rows pending into h = ap (awaiting position (codes "xid")) h.rows_are
+opened position relation_option rows pending into h = ap (awaiting position (codes "relation")) h.rows_are
+opened position block_option rows pending into h = ap (awaiting position (codes "block")) h.rows_are
+opened position fork_option rows pending into h = ap (awaiting position (codes "fork")) h.rows_are
+opened position start_option rows pending into h = ap (awaiting position (codes "start")) h.rows_are
+opened position end_option rows pending into h = ap (awaiting position (codes "end")) h.rows_are
+opened position limit_option rows pending into h = ap (awaiting position (codes "limit")) h.rows_are
 
 -- the letter of an option with a value
-pub letter_opens : (o : Letter) (rows : List Row) (pending : Option (Text × List Text)) (into : List Row) → Settles rows pending into → turn_fault level [] (between rows pending) (45 ∷ letter_of o ∷ []) ≡ []
+pub letter_opens : (position : ℕ) (o : Letter) (rows : List Row) (pending : Option (Text × List Text)) (into : List Row) → Settles rows pending into → turn_fault level [] (between position rows pending) (45 ∷ letter_of o ∷ []) ≡ []
 unfolding flags_fault chars encode_utf8 bundle_met
-letter_opens rmgr_letter rows pending into h = ap (λ kinds. or_else kinds []) h.sound
-letter_opens xid_letter rows pending into h = ap (λ kinds. or_else kinds []) h.sound
-letter_opens relation_letter rows pending into h = ap (λ kinds. or_else kinds []) h.sound
-letter_opens block_letter rows pending into h = ap (λ kinds. or_else kinds []) h.sound
-letter_opens fork_letter rows pending into h = ap (λ kinds. or_else kinds []) h.sound
-letter_opens start_letter rows pending into h = ap (λ kinds. or_else kinds []) h.sound
-letter_opens end_letter rows pending into h = ap (λ kinds. or_else kinds []) h.sound
-letter_opens limit_letter rows pending into h = ap (λ kinds. or_else kinds []) h.sound
+letter_opens position rmgr_letter rows pending into h = ap (λ kinds. or_else kinds []) h.sound
+letter_opens position xid_letter rows pending into h = ap (λ kinds. or_else kinds []) h.sound
+letter_opens position relation_letter rows pending into h = ap (λ kinds. or_else kinds []) h.sound
+letter_opens position block_letter rows pending into h = ap (λ kinds. or_else kinds []) h.sound
+letter_opens position fork_letter rows pending into h = ap (λ kinds. or_else kinds []) h.sound
+letter_opens position start_letter rows pending into h = ap (λ kinds. or_else kinds []) h.sound
+letter_opens position end_letter rows pending into h = ap (λ kinds. or_else kinds []) h.sound
+letter_opens position limit_letter rows pending into h = ap (λ kinds. or_else kinds []) h.sound
 
-pub letter_opened : (o : Letter) (rows : List Row) (pending : Option (Text × List Text)) (into : List Row) → Settles rows pending into → walked rules [] (between rows pending) (45 ∷ letter_of o ∷ []) ≡ awaiting (option_name (lettered_option o)) into
+pub letter_opened : (position : ℕ) (o : Letter) (rows : List Row) (pending : Option (Text × List Text)) (into : List Row) → Settles rows pending into → walked rules [] (between position rows pending) (45 ∷ letter_of o ∷ []) ≡ awaiting position (option_name (lettered_option o)) into
 unfolding walked bundle_met chars encode_utf8
-letter_opened rmgr_letter rows pending into h = ap (awaiting (codes "rmgr")) h.rows_are
-letter_opened xid_letter rows pending into h = ap (awaiting (codes "xid")) h.rows_are
-letter_opened relation_letter rows pending into h = ap (awaiting (codes "relation")) h.rows_are
-letter_opened block_letter rows pending into h = ap (awaiting (codes "block")) h.rows_are
-letter_opened fork_letter rows pending into h = ap (awaiting (codes "fork")) h.rows_are
-letter_opened start_letter rows pending into h = ap (awaiting (codes "start")) h.rows_are
-letter_opened end_letter rows pending into h = ap (awaiting (codes "end")) h.rows_are
-letter_opened limit_letter rows pending into h = ap (awaiting (codes "limit")) h.rows_are
+letter_opened position rmgr_letter rows pending into h = ap (awaiting position (codes "rmgr")) h.rows_are
+letter_opened position xid_letter rows pending into h = ap (awaiting position (codes "xid")) h.rows_are
+letter_opened position relation_letter rows pending into h = ap (awaiting position (codes "relation")) h.rows_are
+letter_opened position block_letter rows pending into h = ap (awaiting position (codes "block")) h.rows_are
+letter_opened position fork_letter rows pending into h = ap (awaiting position (codes "fork")) h.rows_are
+letter_opened position start_letter rows pending into h = ap (awaiting position (codes "start")) h.rows_are
+letter_opened position end_letter rows pending into h = ap (awaiting position (codes "end")) h.rows_are
+letter_opened position limit_letter rows pending into h = ap (awaiting position (codes "limit")) h.rows_are
 
 -- a word that is no option
 pub record IsPlainWord (word : Text) : Type 0 where
@@ -133,34 +133,34 @@ is_plain_word [] plain = record { dashes = refl; long = refl; short = refl }
 is_plain_word (c ∷ cs) plain = record { dashes = rw plain refl; long = rw plain refl; short = rw plain refl }
 
 -- its value
-pub value_passes : (o : Valued) (value : Text) (rows : List Row) → IsPlainWord value → turn_fault level [] (awaiting (option_name o) rows) value ≡ []
-value_passes seg_option value rows plain = rw (plain.dashes, plain.long, plain.short) refl
-value_passes ring_option value rows plain = rw (plain.dashes, plain.long, plain.short) refl
-value_passes cap_option value rows plain = rw (plain.dashes, plain.long, plain.short) refl
-value_passes crash_option value rows plain = rw (plain.dashes, plain.long, plain.short) refl
-value_passes rmgr_option value rows plain = rw (plain.dashes, plain.long, plain.short) refl
-value_passes xid_option value rows plain = rw (plain.dashes, plain.long, plain.short) refl
-value_passes relation_option value rows plain = rw (plain.dashes, plain.long, plain.short) refl
-value_passes block_option value rows plain = rw (plain.dashes, plain.long, plain.short) refl
-value_passes fork_option value rows plain = rw (plain.dashes, plain.long, plain.short) refl
-value_passes start_option value rows plain = rw (plain.dashes, plain.long, plain.short) refl
-value_passes end_option value rows plain = rw (plain.dashes, plain.long, plain.short) refl
-value_passes limit_option value rows plain = rw (plain.dashes, plain.long, plain.short) refl
+pub value_passes : (position : ℕ) (o : Valued) (value : Text) (rows : List Row) → IsPlainWord value → turn_fault level [] (awaiting position (option_name o) rows) value ≡ []
+value_passes position seg_option value rows plain = rw (plain.dashes, plain.long, plain.short) refl
+value_passes position ring_option value rows plain = rw (plain.dashes, plain.long, plain.short) refl
+value_passes position cap_option value rows plain = rw (plain.dashes, plain.long, plain.short) refl
+value_passes position crash_option value rows plain = rw (plain.dashes, plain.long, plain.short) refl
+value_passes position rmgr_option value rows plain = rw (plain.dashes, plain.long, plain.short) refl
+value_passes position xid_option value rows plain = rw (plain.dashes, plain.long, plain.short) refl
+value_passes position relation_option value rows plain = rw (plain.dashes, plain.long, plain.short) refl
+value_passes position block_option value rows plain = rw (plain.dashes, plain.long, plain.short) refl
+value_passes position fork_option value rows plain = rw (plain.dashes, plain.long, plain.short) refl
+value_passes position start_option value rows plain = rw (plain.dashes, plain.long, plain.short) refl
+value_passes position end_option value rows plain = rw (plain.dashes, plain.long, plain.short) refl
+value_passes position limit_option value rows plain = rw (plain.dashes, plain.long, plain.short) refl
 
-pub value_taken : (o : Valued) (value : Text) (rows : List Row) → IsPlainWord value → walked rules [] (awaiting (option_name o) rows) value ≡ between rows (Some (option_name o, value ∷ []))
+pub value_taken : (position : ℕ) (o : Valued) (value : Text) (rows : List Row) → IsPlainWord value → walked rules [] (awaiting position (option_name o) rows) value ≡ between position rows (Some (option_name o, value ∷ []))
 unfolding walked
-value_taken seg_option value rows plain = rw (plain.dashes, plain.long, plain.short) refl
-value_taken ring_option value rows plain = rw (plain.dashes, plain.long, plain.short) refl
-value_taken cap_option value rows plain = rw (plain.dashes, plain.long, plain.short) refl
-value_taken crash_option value rows plain = rw (plain.dashes, plain.long, plain.short) refl
-value_taken rmgr_option value rows plain = rw (plain.dashes, plain.long, plain.short) refl
-value_taken xid_option value rows plain = rw (plain.dashes, plain.long, plain.short) refl
-value_taken relation_option value rows plain = rw (plain.dashes, plain.long, plain.short) refl
-value_taken block_option value rows plain = rw (plain.dashes, plain.long, plain.short) refl
-value_taken fork_option value rows plain = rw (plain.dashes, plain.long, plain.short) refl
-value_taken start_option value rows plain = rw (plain.dashes, plain.long, plain.short) refl
-value_taken end_option value rows plain = rw (plain.dashes, plain.long, plain.short) refl
-value_taken limit_option value rows plain = rw (plain.dashes, plain.long, plain.short) refl
+value_taken position seg_option value rows plain = rw (plain.dashes, plain.long, plain.short) refl
+value_taken position ring_option value rows plain = rw (plain.dashes, plain.long, plain.short) refl
+value_taken position cap_option value rows plain = rw (plain.dashes, plain.long, plain.short) refl
+value_taken position crash_option value rows plain = rw (plain.dashes, plain.long, plain.short) refl
+value_taken position rmgr_option value rows plain = rw (plain.dashes, plain.long, plain.short) refl
+value_taken position xid_option value rows plain = rw (plain.dashes, plain.long, plain.short) refl
+value_taken position relation_option value rows plain = rw (plain.dashes, plain.long, plain.short) refl
+value_taken position block_option value rows plain = rw (plain.dashes, plain.long, plain.short) refl
+value_taken position fork_option value rows plain = rw (plain.dashes, plain.long, plain.short) refl
+value_taken position start_option value rows plain = rw (plain.dashes, plain.long, plain.short) refl
+value_taken position end_option value rows plain = rw (plain.dashes, plain.long, plain.short) refl
+value_taken position limit_option value rows plain = rw (plain.dashes, plain.long, plain.short) refl
 
 pub value_settles : (o : Valued) (value : Text) (rows : List Row) → has_row (option_name o) rows ≡ false → Settles rows (Some (option_name o, value ∷ [])) (rows ++ row_with (option_name o) value ∷ [])
 value_settles seg_option value rows absent = record { rows_are = new_row (codes "seg") value rows absent; sound = rw absent refl }
@@ -177,44 +177,44 @@ value_settles end_option value rows absent = record { rows_are = new_row (codes 
 value_settles limit_option value rows absent = record { rows_are = new_row (codes "limit") value rows absent; sound = rw absent refl }
 
 -- the word of an option without a value
-pub switch_passes : (o : Switch) (rows : List Row) (pending : Option (Text × List Text)) (into : List Row) → Settles rows pending into → has_row (switch_name o) into ≡ false → turn_fault level [] (between rows pending) (45 ∷ 45 ∷ switch_name o) ≡ []
-switch_passes list_switch rows pending into h absent =
+pub switch_passes : (position : ℕ) (o : Switch) (rows : List Row) (pending : Option (Text × List Text)) (into : List Row) → Settles rows pending into → has_row (switch_name o) into ≡ false → turn_fault level [] (between position rows pending) (45 ∷ 45 ∷ switch_name o) ≡ []
+switch_passes position list_switch rows pending into h absent =
     let fresh : has_row (codes "list") (settled_rows rules pending rows) ≡ false = subst (λ (l : List Row). has_row (codes "list") l ≡ false) (sym h.rows_are) absent in
     rw (h.sound, fresh) refl
-switch_passes fullpage_switch rows pending into h absent =
+switch_passes position fullpage_switch rows pending into h absent =
     let fresh : has_row (codes "fullpage") (settled_rows rules pending rows) ≡ false = subst (λ (l : List Row). has_row (codes "fullpage") l ≡ false) (sym h.rows_are) absent in
     rw (h.sound, fresh) refl
-switch_passes quiet_switch rows pending into h absent =
+switch_passes position quiet_switch rows pending into h absent =
     let fresh : has_row (codes "quiet") (settled_rows rules pending rows) ≡ false = subst (λ (l : List Row). has_row (codes "quiet") l ≡ false) (sym h.rows_are) absent in
     rw (h.sound, fresh) refl
 
-pub switch_taken : (o : Switch) (rows : List Row) (pending : Option (Text × List Text)) (into : List Row) → Settles rows pending into → has_row (switch_name o) into ≡ false → walked rules [] (between rows pending) (45 ∷ 45 ∷ switch_name o) ≡ between (into ++ row_with (switch_name o) (codes "true") ∷ []) None
+pub switch_taken : (position : ℕ) (o : Switch) (rows : List Row) (pending : Option (Text × List Text)) (into : List Row) → Settles rows pending into → has_row (switch_name o) into ≡ false → walked rules [] (between position rows pending) (45 ∷ 45 ∷ switch_name o) ≡ between position (into ++ row_with (switch_name o) (codes "true") ∷ []) None
 unfolding walked
-switch_taken list_switch rows pending into h absent =
-    ap (λ (l : List Row). between (with_values (codes "list") reading.AsWritten CommandLine (codes "true" ∷ []) (without (codes "list") l)) None) h.rows_are
-    ∙ ap (λ (l : List Row). between l None) (new_row (codes "list") (codes "true") into absent)
-switch_taken fullpage_switch rows pending into h absent =
-    ap (λ (l : List Row). between (with_values (codes "fullpage") reading.AsWritten CommandLine (codes "true" ∷ []) (without (codes "fullpage") l)) None) h.rows_are
-    ∙ ap (λ (l : List Row). between l None) (new_row (codes "fullpage") (codes "true") into absent)
-switch_taken quiet_switch rows pending into h absent =
-    ap (λ (l : List Row). between (with_values (codes "quiet") reading.AsWritten CommandLine (codes "true" ∷ []) (without (codes "quiet") l)) None) h.rows_are
-    ∙ ap (λ (l : List Row). between l None) (new_row (codes "quiet") (codes "true") into absent)
+switch_taken position list_switch rows pending into h absent =
+    ap (λ (l : List Row). between position (with_values (codes "list") reading.AsWritten CommandLine (codes "true" ∷ []) (without (codes "list") l)) None) h.rows_are
+    ∙ ap (λ (l : List Row). between position l None) (new_row (codes "list") (codes "true") into absent)
+switch_taken position fullpage_switch rows pending into h absent =
+    ap (λ (l : List Row). between position (with_values (codes "fullpage") reading.AsWritten CommandLine (codes "true" ∷ []) (without (codes "fullpage") l)) None) h.rows_are
+    ∙ ap (λ (l : List Row). between position l None) (new_row (codes "fullpage") (codes "true") into absent)
+switch_taken position quiet_switch rows pending into h absent =
+    ap (λ (l : List Row). between position (with_values (codes "quiet") reading.AsWritten CommandLine (codes "true" ∷ []) (without (codes "quiet") l)) None) h.rows_are
+    ∙ ap (λ (l : List Row). between position l None) (new_row (codes "quiet") (codes "true") into absent)
 
 -- and the letter of one
-pub switch_letter_passes : (o : SwitchLetter) (rows : List Row) (pending : Option (Text × List Text)) (into : List Row) → Settles rows pending into → has_row (switch_name (lettered_switch o)) into ≡ false → turn_fault level [] (between rows pending) (45 ∷ switch_letter_of o ∷ []) ≡ []
+pub switch_letter_passes : (position : ℕ) (o : SwitchLetter) (rows : List Row) (pending : Option (Text × List Text)) (into : List Row) → Settles rows pending into → has_row (switch_name (lettered_switch o)) into ≡ false → turn_fault level [] (between position rows pending) (45 ∷ switch_letter_of o ∷ []) ≡ []
 unfolding flags_fault chars encode_utf8 bundle_met
-switch_letter_passes fullpage_letter rows pending into h absent =
+switch_letter_passes position fullpage_letter rows pending into h absent =
     let fresh : has_row (codes "fullpage") (settled_rows rules pending rows) ≡ false = subst (λ (l : List Row). has_row (codes "fullpage") l ≡ false) (sym h.rows_are) absent in
     rw (h.sound, fresh) refl
-switch_letter_passes quiet_letter rows pending into h absent =
+switch_letter_passes position quiet_letter rows pending into h absent =
     let fresh : has_row (codes "quiet") (settled_rows rules pending rows) ≡ false = subst (λ (l : List Row). has_row (codes "quiet") l ≡ false) (sym h.rows_are) absent in
     rw (h.sound, fresh) refl
 
-pub switch_letter_taken : (o : SwitchLetter) (rows : List Row) (pending : Option (Text × List Text)) (into : List Row) → Settles rows pending into → has_row (switch_name (lettered_switch o)) into ≡ false → walked rules [] (between rows pending) (45 ∷ switch_letter_of o ∷ []) ≡ between (into ++ row_with (switch_name (lettered_switch o)) (codes "true") ∷ []) None
+pub switch_letter_taken : (position : ℕ) (o : SwitchLetter) (rows : List Row) (pending : Option (Text × List Text)) (into : List Row) → Settles rows pending into → has_row (switch_name (lettered_switch o)) into ≡ false → walked rules [] (between position rows pending) (45 ∷ switch_letter_of o ∷ []) ≡ between position (into ++ row_with (switch_name (lettered_switch o)) (codes "true") ∷ []) None
 unfolding walked bundle_met chars encode_utf8
-switch_letter_taken fullpage_letter rows pending into h absent =
-    ap (λ (l : List Row). between (with_values (codes "fullpage") reading.AsWritten CommandLine (codes "true" ∷ []) (without (codes "fullpage") l)) None) h.rows_are
-    ∙ ap (λ (l : List Row). between l None) (new_row (codes "fullpage") (codes "true") into absent)
-switch_letter_taken quiet_letter rows pending into h absent =
-    ap (λ (l : List Row). between (with_values (codes "quiet") reading.AsWritten CommandLine (codes "true" ∷ []) (without (codes "quiet") l)) None) h.rows_are
-    ∙ ap (λ (l : List Row). between l None) (new_row (codes "quiet") (codes "true") into absent)
+switch_letter_taken position fullpage_letter rows pending into h absent =
+    ap (λ (l : List Row). between position (with_values (codes "fullpage") reading.AsWritten CommandLine (codes "true" ∷ []) (without (codes "fullpage") l)) None) h.rows_are
+    ∙ ap (λ (l : List Row). between position l None) (new_row (codes "fullpage") (codes "true") into absent)
+switch_letter_taken position quiet_letter rows pending into h absent =
+    ap (λ (l : List Row). between position (with_values (codes "quiet") reading.AsWritten CommandLine (codes "true" ∷ []) (without (codes "quiet") l)) None) h.rows_are
+    ∙ ap (λ (l : List Row). between position l None) (new_row (codes "quiet") (codes "true") into absent)

@@ -1,6 +1,6 @@
 -- What `clap` makes of words of the plain form.
-use Rattle.std.proofs.Common.{◌≡◌, ◌∙◌, Bool, true, false, ◌&&◌, ◌||◌, not, List, [], ◌∷◌, ◌++◌, Option, Some, None, refl, ap, sym, subst, codes, is_some, map, if◌then◌else◌}
-use Rattle.std.specs.Prelude.{find, fold, option_and_then, slice_get}
+use Rattle.std.proofs.Common.{◌≡◌, ℕ, ◌∙◌, Bool, true, false, ◌&&◌, ◌||◌, not, List, [], ◌∷◌, ◌++◌, Option, Some, None, refl, ap, sym, subst, codes, is_some, map, if◌then◌else◌}
+use Rattle.std.specs.Prelude.{IfSome, find, fold, option_and_then, slice_get}
 use Rattle.std.specs.List.{list_all}
 use Rattle.std.specs.Option.{option_map_or}
 use Rattle.std.specs.Str.{bytes_eq}
@@ -15,7 +15,7 @@ use Rattle.command_words.specs.declared.commands.Command.{Command as Task}
 use Rattle.command_line.specs.declared.asking.Request.TheVariants.{Command}
 use Rattle.command_line.specs.Asking.{asks, given_in, is_set, request_of}
 use Rattle.command_line.specs.Syntax.{declared_command}
-use Rattle.command_line.specs.Plain.{Switch, Use, Valued, are_plain, are_plain_behind, begins_with_hyphen, block_letter, block_option, cap_option, crash_option, end_letter, end_option, fork_letter, fork_option, fullpage_letter, fullpage_switch, given_by, is_switched, letter_of, lettered, lettered_option, lettered_switch, limit_letter, limit_option, list_switch, option_name, pair_given, quiet_letter, quiet_switch, relation_letter, relation_option, ring_option, rmgr_letter, rmgr_option, seg_option, start_letter, start_option, switch_letter_of, switch_name, switched, switched_by_letter, value_for, valued, words_of_uses, xid_letter, xid_option}
+use Rattle.command_line.specs.Plain.{Switch, Use, Valued, are_plain, are_plain_behind, begins_with_hyphen, block_letter, block_option, cap_option, crash_option, end_letter, end_option, fork_letter, fork_option, fullpage_letter, fullpage_switch, given_by, is_switched, letter_of, lettered, lettered_option, lettered_switch, limit_letter, limit_option, list_switch, name_words, option_name, pair_given, quiet_letter, quiet_switch, relation_letter, relation_option, ring_option, rmgr_letter, rmgr_option, seg_option, start_letter, start_option, switch_letter_of, switch_name, switched, switched_by_letter, value_for, valued, words_of_uses, xid_letter, xid_option}
 use Rattle.command_line.proofs.PlainWalk.{IsPlainWord, Settles, absent_row, between, is_plain_word, letter_opened, letter_opens, level, opened, opens, row_with, rules, switch_letter_passes, switch_letter_taken, switch_passes, switch_taken, value_passes, value_settles, value_taken}
 use Rattle.command_line.proofs.Requests.{asks-taken, none_entered}
 use Rattle.clap.specs.declared.parser.matches.ValueSource.TheVariants.{DefaultValue}
@@ -24,16 +24,21 @@ use Rattle.std.proofs.lemmas.Slice.Eq.{bytes_eq-Decides}
 abbrev row_for : Text × Text → Row
 row_for p = row_with p.0 p.1
 
--- the rows of the command's name and of the options so far
-abbrev rows_behind : Text → List (Text × Text) → List Row
-rows_behind command pairs = row_with (codes "command") command ∷ map row_for pairs
+-- the rows of the words before the options
+abbrev name_rows : Text → Option Text → List Row
+name_rows command None = row_with (codes "command") command ∷ []
+name_rows command (Some topic) = row_with (codes "command") command ∷ row_with (codes "topic") topic ∷ []
+
+-- and with those of the options so far
+abbrev rows_behind : Text → Option Text → List (Text × Text) → List Row
+rows_behind command topic pairs = name_rows command topic ++ map row_for pairs
 
 map_more : (pairs : List (Text × Text)) (p : Text × Text) → map row_for (pairs ++ p ∷ []) ≡ map row_for pairs ++ row_for p ∷ []
 map_more [] p = refl
 map_more (q ∷ pairs) p = ap (λ l. row_for q ∷ l) (map_more pairs p)
 
-rows_more : (command : Text) (pairs : List (Text × Text)) (p : Text × Text) → rows_behind command pairs ++ row_for p ∷ [] ≡ rows_behind command (pairs ++ p ∷ [])
-rows_more command pairs p = ap (λ l. row_with (codes "command") command ∷ l) (sym (map_more pairs p))
+rows_more : (command : Text) (topic : Option Text) (pairs : List (Text × Text)) (p : Text × Text) → rows_behind command topic pairs ++ row_for p ∷ [] ≡ rows_behind command topic (pairs ++ p ∷ [])
+rows_more command topic pairs p = append_assoc (name_rows command topic) (map row_for pairs) (row_for p ∷ []) ∙ ap (λ l. name_rows command topic ++ l) (sym (map_more pairs p))
 
 -- a name that has no value has no row
 no_row : (name : Text) (pairs : List (Text × Text)) → is_some (value_for name pairs) ≡ false → has_row name (map row_for pairs) ≡ false
@@ -44,24 +49,28 @@ no_row name (p ∷ pairs) absent = go (bytes_eq p.0 name) refl (no_row name pair
     go true e rest = let bad : true ≡ false = rw e at absent in cc
     go false e rest = rw e (rest (rw e at absent))
 
-no_option_row : (o : Valued) (command : Text) (pairs : List (Text × Text)) → is_some (value_for (option_name o) pairs) ≡ false → has_row (option_name o) (rows_behind command pairs) ≡ false
-no_option_row seg_option command pairs absent = no_row (codes "seg") pairs absent
-no_option_row ring_option command pairs absent = no_row (codes "ring") pairs absent
-no_option_row cap_option command pairs absent = no_row (codes "cap") pairs absent
-no_option_row crash_option command pairs absent = no_row (codes "crash") pairs absent
-no_option_row rmgr_option command pairs absent = no_row (codes "rmgr") pairs absent
-no_option_row xid_option command pairs absent = no_row (codes "xid") pairs absent
-no_option_row relation_option command pairs absent = no_row (codes "relation") pairs absent
-no_option_row block_option command pairs absent = no_row (codes "block") pairs absent
-no_option_row fork_option command pairs absent = no_row (codes "fork") pairs absent
-no_option_row start_option command pairs absent = no_row (codes "start") pairs absent
-no_option_row end_option command pairs absent = no_row (codes "end") pairs absent
-no_option_row limit_option command pairs absent = no_row (codes "limit") pairs absent
+no_row_behind : (name command : Text) (topic : Option Text) (pairs : List (Text × Text)) → bytes_eq (codes "command") name ≡ false → bytes_eq (codes "topic") name ≡ false → is_some (value_for name pairs) ≡ false → has_row name (rows_behind command topic pairs) ≡ false
+no_row_behind name command None pairs no_command no_topic absent = rw no_command (no_row name pairs absent)
+no_row_behind name command (Some topic) pairs no_command no_topic absent = rw (no_command, no_topic) (no_row name pairs absent)
 
-no_switch_row : (o : Switch) (command : Text) (pairs : List (Text × Text)) → is_some (value_for (switch_name o) pairs) ≡ false → has_row (switch_name o) (rows_behind command pairs) ≡ false
-no_switch_row list_switch command pairs absent = no_row (codes "list") pairs absent
-no_switch_row fullpage_switch command pairs absent = no_row (codes "fullpage") pairs absent
-no_switch_row quiet_switch command pairs absent = no_row (codes "quiet") pairs absent
+no_option_row : (o : Valued) (command : Text) (topic : Option Text) (pairs : List (Text × Text)) → is_some (value_for (option_name o) pairs) ≡ false → has_row (option_name o) (rows_behind command topic pairs) ≡ false
+no_option_row seg_option command topic pairs absent = no_row_behind (codes "seg") command topic pairs refl refl absent
+no_option_row ring_option command topic pairs absent = no_row_behind (codes "ring") command topic pairs refl refl absent
+no_option_row cap_option command topic pairs absent = no_row_behind (codes "cap") command topic pairs refl refl absent
+no_option_row crash_option command topic pairs absent = no_row_behind (codes "crash") command topic pairs refl refl absent
+no_option_row rmgr_option command topic pairs absent = no_row_behind (codes "rmgr") command topic pairs refl refl absent
+no_option_row xid_option command topic pairs absent = no_row_behind (codes "xid") command topic pairs refl refl absent
+no_option_row relation_option command topic pairs absent = no_row_behind (codes "relation") command topic pairs refl refl absent
+no_option_row block_option command topic pairs absent = no_row_behind (codes "block") command topic pairs refl refl absent
+no_option_row fork_option command topic pairs absent = no_row_behind (codes "fork") command topic pairs refl refl absent
+no_option_row start_option command topic pairs absent = no_row_behind (codes "start") command topic pairs refl refl absent
+no_option_row end_option command topic pairs absent = no_row_behind (codes "end") command topic pairs refl refl absent
+no_option_row limit_option command topic pairs absent = no_row_behind (codes "limit") command topic pairs refl refl absent
+
+no_switch_row : (o : Switch) (command : Text) (topic : Option Text) (pairs : List (Text × Text)) → is_some (value_for (switch_name o) pairs) ≡ false → has_row (switch_name o) (rows_behind command topic pairs) ≡ false
+no_switch_row list_switch command topic pairs absent = no_row_behind (codes "list") command topic pairs refl refl absent
+no_switch_row fullpage_switch command topic pairs absent = no_row_behind (codes "fullpage") command topic pairs refl refl absent
+no_switch_row quiet_switch command topic pairs absent = no_row_behind (codes "quiet") command topic pairs refl refl absent
 
 both : (a b : Bool) → (a && b) ≡ true → (a ≡ true) × (b ≡ true)
 both true b h = (refl, h)
@@ -73,15 +82,17 @@ not_true false h = refl
 
 -- where the walk stands at the end of words, none of which is refused
 record Walks (start : Walk) (words : List Text) (into : List Row) : Type 0 where
+  position : ℕ
   rows : List Row
   pending : Option (Text × List Text)
   passes : walk_fault level [] start words ≡ []
-  ends : fold (walked rules []) start words ≡ between rows pending
+  ends : fold (walked rules []) start words ≡ between position rows pending
   settles : Settles rows pending into
 
 walk_one : (start now : Walk) (word : Text) (words : List Text) (into : List Row) → turn_fault level [] start word ≡ [] → walked rules [] start word ≡ now → Walks now words into → Walks start (word ∷ words) into
 unfolding walk_fault
 walk_one start now word words into passes goes w = record {
+  position = w.position;
   rows = w.rows;
   pending = w.pending;
   passes = ap (λ kinds. or_else kinds (walk_fault level [] (walked rules [] start word) words)) passes ∙ (ap (λ (n : Walk). walk_fault level [] n words) goes ∙ w.passes);
@@ -89,79 +100,91 @@ walk_one start now word words into passes goes w = record {
   settles = w.settles;
 }
 
-walks_uses : (uses : List Use) (command : Text) (pairs : List (Text × Text)) (rows : List Row) (pending : Option (Text × List Text)) → are_plain_behind pairs uses ≡ true → Settles rows pending (rows_behind command pairs)
-    → Walks (between rows pending) (words_of_uses uses) (rows_behind command (pairs ++ map pair_given uses))
+walks_uses : (position : ℕ) (uses : List Use) (command : Text) (topic : Option Text) (pairs : List (Text × Text)) (rows : List Row) (pending : Option (Text × List Text)) → are_plain_behind pairs uses ≡ true → Settles rows pending (rows_behind command topic pairs)
+    → Walks (between position rows pending) (words_of_uses uses) (rows_behind command topic (pairs ++ map pair_given uses))
 unfolding walk_fault
-walks_uses [] command pairs rows pending plain settles = record {
+walks_uses position [] command topic pairs rows pending plain settles = record {
+  position = position;
   rows = rows;
   pending = pending;
   passes = refl;
   ends = refl;
   settles = rw (append-nil pairs) settles;
 }
-walks_uses (valued o value ∷ uses) command pairs rows pending plain settles =
+walks_uses position (valued o value ∷ uses) command topic pairs rows pending plain settles =
     let first = both _ _ plain in
     let second = both _ _ first.0 in
     let starts = is_plain_word value (not_true _ second.0) in
-    let fresh = no_option_row o command pairs (not_true _ second.1) in
-    let into = rows_behind command pairs in
-    let now : Settles into (Some (option_name o, value ∷ [])) (rows_behind command (pairs ++ (option_name o, value) ∷ [])) =
-    subst (λ (l : List Row). Settles into (Some (option_name o, value ∷ [])) l) (rows_more command pairs (option_name o, value)) (value_settles o value into fresh) in
-    let rest : Walks (between into (Some (option_name o, value ∷ []))) (words_of_uses uses) (rows_behind command (pairs ++ (option_name o, value) ∷ map pair_given uses)) =
-    subst (λ (l : List (Text × Text)). Walks (between into (Some (option_name o, value ∷ []))) (words_of_uses uses) (rows_behind command l)) (append_assoc pairs ((option_name o, value) ∷ []) (map pair_given uses))
-    (walks_uses uses command (pairs ++ (option_name o, value) ∷ []) into (Some (option_name o, value ∷ [])) first.1 now) in
-    walk_one _ _ (45 ∷ 45 ∷ option_name o) _ _ (opens o rows pending into settles) (opened o rows pending into settles)
-    (walk_one _ _ value _ _ (value_passes o value into starts) (value_taken o value into starts) rest)
-walks_uses (lettered letter value ∷ uses) command pairs rows pending plain settles =
+    let fresh = no_option_row o command topic pairs (not_true _ second.1) in
+    let into = rows_behind command topic pairs in
+    let now : Settles into (Some (option_name o, value ∷ [])) (rows_behind command topic (pairs ++ (option_name o, value) ∷ [])) =
+    subst (λ (l : List Row). Settles into (Some (option_name o, value ∷ [])) l) (rows_more command topic pairs (option_name o, value)) (value_settles o value into fresh) in
+    let rest : Walks (between position into (Some (option_name o, value ∷ []))) (words_of_uses uses) (rows_behind command topic (pairs ++ (option_name o, value) ∷ map pair_given uses)) =
+    subst (λ (l : List (Text × Text)). Walks (between position into (Some (option_name o, value ∷ []))) (words_of_uses uses) (rows_behind command topic l)) (append_assoc pairs ((option_name o, value) ∷ []) (map pair_given uses))
+    (walks_uses position uses command topic (pairs ++ (option_name o, value) ∷ []) into (Some (option_name o, value ∷ [])) first.1 now) in
+    walk_one _ _ (45 ∷ 45 ∷ option_name o) _ _ (opens position o rows pending into settles) (opened position o rows pending into settles)
+    (walk_one _ _ value _ _ (value_passes position o value into starts) (value_taken position o value into starts) rest)
+walks_uses position (lettered letter value ∷ uses) command topic pairs rows pending plain settles =
     let o = lettered_option letter in
     let first = both _ _ plain in
     let second = both _ _ first.0 in
     let starts = is_plain_word value (not_true _ second.0) in
-    let fresh = no_option_row o command pairs (not_true _ second.1) in
-    let into = rows_behind command pairs in
-    let now : Settles into (Some (option_name o, value ∷ [])) (rows_behind command (pairs ++ (option_name o, value) ∷ [])) =
-    subst (λ (l : List Row). Settles into (Some (option_name o, value ∷ [])) l) (rows_more command pairs (option_name o, value)) (value_settles o value into fresh) in
-    let rest : Walks (between into (Some (option_name o, value ∷ []))) (words_of_uses uses) (rows_behind command (pairs ++ (option_name o, value) ∷ map pair_given uses)) =
-    subst (λ (l : List (Text × Text)). Walks (between into (Some (option_name o, value ∷ []))) (words_of_uses uses) (rows_behind command l)) (append_assoc pairs ((option_name o, value) ∷ []) (map pair_given uses))
-    (walks_uses uses command (pairs ++ (option_name o, value) ∷ []) into (Some (option_name o, value ∷ [])) first.1 now) in
-    walk_one _ _ (45 ∷ letter_of letter ∷ []) _ _ (letter_opens letter rows pending into settles) (letter_opened letter rows pending into settles)
-    (walk_one _ _ value _ _ (value_passes o value into starts) (value_taken o value into starts) rest)
-walks_uses (switched o ∷ uses) command pairs rows pending plain settles =
+    let fresh = no_option_row o command topic pairs (not_true _ second.1) in
+    let into = rows_behind command topic pairs in
+    let now : Settles into (Some (option_name o, value ∷ [])) (rows_behind command topic (pairs ++ (option_name o, value) ∷ [])) =
+    subst (λ (l : List Row). Settles into (Some (option_name o, value ∷ [])) l) (rows_more command topic pairs (option_name o, value)) (value_settles o value into fresh) in
+    let rest : Walks (between position into (Some (option_name o, value ∷ []))) (words_of_uses uses) (rows_behind command topic (pairs ++ (option_name o, value) ∷ map pair_given uses)) =
+    subst (λ (l : List (Text × Text)). Walks (between position into (Some (option_name o, value ∷ []))) (words_of_uses uses) (rows_behind command topic l)) (append_assoc pairs ((option_name o, value) ∷ []) (map pair_given uses))
+    (walks_uses position uses command topic (pairs ++ (option_name o, value) ∷ []) into (Some (option_name o, value ∷ [])) first.1 now) in
+    walk_one _ _ (45 ∷ letter_of letter ∷ []) _ _ (letter_opens position letter rows pending into settles) (letter_opened position letter rows pending into settles)
+    (walk_one _ _ value _ _ (value_passes position o value into starts) (value_taken position o value into starts) rest)
+walks_uses position (switched o ∷ uses) command topic pairs rows pending plain settles =
     let first = both (not (is_some (value_for (switch_name o) pairs))) (are_plain_behind (pairs ++ (switch_name o, codes "true") ∷ []) uses) plain in
-    let into = rows_behind command pairs in
-    let fresh = no_switch_row o command pairs (not_true _ first.0) in
-    let more = rows_behind command (pairs ++ (switch_name o, codes "true") ∷ []) in
-    let are : into ++ row_with (switch_name o) (codes "true") ∷ [] ≡ more = rows_more command pairs (switch_name o, codes "true") in
+    let into = rows_behind command topic pairs in
+    let fresh = no_switch_row o command topic pairs (not_true _ first.0) in
+    let more = rows_behind command topic (pairs ++ (switch_name o, codes "true") ∷ []) in
+    let are : into ++ row_with (switch_name o) (codes "true") ∷ [] ≡ more = rows_more command topic pairs (switch_name o, codes "true") in
     let now : Settles more None more = record { rows_are = refl; sound = refl } in
-    let rest : Walks (between more None) (words_of_uses uses) (rows_behind command (pairs ++ (switch_name o, codes "true") ∷ map pair_given uses)) =
-    subst (λ (l : List (Text × Text)). Walks (between more None) (words_of_uses uses) (rows_behind command l)) (append_assoc pairs ((switch_name o, codes "true") ∷ []) (map pair_given uses))
-    (walks_uses uses command (pairs ++ (switch_name o, codes "true") ∷ []) more None first.1 now) in
-    walk_one _ _ (45 ∷ 45 ∷ switch_name o) _ _ (switch_passes o rows pending into settles fresh)
-    (switch_taken o rows pending into settles fresh ∙ ap (λ (l : List Row). between l None) are) rest
-walks_uses (switched_by_letter letter ∷ uses) command pairs rows pending plain settles =
+    let rest : Walks (between position more None) (words_of_uses uses) (rows_behind command topic (pairs ++ (switch_name o, codes "true") ∷ map pair_given uses)) =
+    subst (λ (l : List (Text × Text)). Walks (between position more None) (words_of_uses uses) (rows_behind command topic l)) (append_assoc pairs ((switch_name o, codes "true") ∷ []) (map pair_given uses))
+    (walks_uses position uses command topic (pairs ++ (switch_name o, codes "true") ∷ []) more None first.1 now) in
+    walk_one _ _ (45 ∷ 45 ∷ switch_name o) _ _ (switch_passes position o rows pending into settles fresh)
+    (switch_taken position o rows pending into settles fresh ∙ ap (λ (l : List Row). between position l None) are) rest
+walks_uses position (switched_by_letter letter ∷ uses) command topic pairs rows pending plain settles =
     let o = lettered_switch letter in
     let first = both (not (is_some (value_for (switch_name o) pairs))) (are_plain_behind (pairs ++ (switch_name o, codes "true") ∷ []) uses) plain in
-    let into = rows_behind command pairs in
-    let fresh = no_switch_row o command pairs (not_true _ first.0) in
-    let more = rows_behind command (pairs ++ (switch_name o, codes "true") ∷ []) in
-    let are : into ++ row_with (switch_name o) (codes "true") ∷ [] ≡ more = rows_more command pairs (switch_name o, codes "true") in
+    let into = rows_behind command topic pairs in
+    let fresh = no_switch_row o command topic pairs (not_true _ first.0) in
+    let more = rows_behind command topic (pairs ++ (switch_name o, codes "true") ∷ []) in
+    let are : into ++ row_with (switch_name o) (codes "true") ∷ [] ≡ more = rows_more command topic pairs (switch_name o, codes "true") in
     let now : Settles more None more = record { rows_are = refl; sound = refl } in
-    let rest : Walks (between more None) (words_of_uses uses) (rows_behind command (pairs ++ (switch_name o, codes "true") ∷ map pair_given uses)) =
-    subst (λ (l : List (Text × Text)). Walks (between more None) (words_of_uses uses) (rows_behind command l)) (append_assoc pairs ((switch_name o, codes "true") ∷ []) (map pair_given uses))
-    (walks_uses uses command (pairs ++ (switch_name o, codes "true") ∷ []) more None first.1 now) in
-    walk_one _ _ (45 ∷ switch_letter_of letter ∷ []) _ _ (switch_letter_passes letter rows pending into settles fresh)
-    (switch_letter_taken letter rows pending into settles fresh ∙ ap (λ (l : List Row). between l None) are) rest
+    let rest : Walks (between position more None) (words_of_uses uses) (rows_behind command topic (pairs ++ (switch_name o, codes "true") ∷ map pair_given uses)) =
+    subst (λ (l : List (Text × Text)). Walks (between position more None) (words_of_uses uses) (rows_behind command topic l)) (append_assoc pairs ((switch_name o, codes "true") ∷ []) (map pair_given uses))
+    (walks_uses position uses command topic (pairs ++ (switch_name o, codes "true") ∷ []) more None first.1 now) in
+    walk_one _ _ (45 ∷ switch_letter_of letter ∷ []) _ _ (switch_letter_passes position letter rows pending into settles fresh)
+    (switch_letter_taken position letter rows pending into settles fresh ∙ ap (λ (l : List Row). between position l None) are) rest
 
 -- the command's name goes to the first positional
-named : (command : Text) → IsPlainWord command → (turn_fault level [] (walk_from nothing_held) command ≡ []) × (walked rules [] (walk_from nothing_held) command ≡ between [] (Some (codes "command", command ∷ [])))
+named : (command : Text) → IsPlainWord command → (turn_fault level [] (walk_from nothing_held) command ≡ []) × (walked rules [] (walk_from nothing_held) command ≡ between 2 [] (Some (codes "command", command ∷ [])))
 unfolding walked
 named command plain = (rw (plain.dashes, plain.long, plain.short) refl, rw (plain.dashes, plain.long, plain.short) refl)
 
-walks : (command : Text) (uses : List Use) → begins_with_hyphen command ≡ false → are_plain uses ≡ true → Walks (walk_from nothing_held) (command ∷ words_of_uses uses) (rows_behind command (map pair_given uses))
-walks command uses plain_name plain =
+-- and the word behind it to the second
+followed : (command topic : Text) → IsPlainWord topic → (turn_fault level [] (between 2 [] (Some (codes "command", command ∷ []))) topic ≡ []) × (walked rules [] (between 2 [] (Some (codes "command", command ∷ []))) topic ≡ between 3 (name_rows command None) (Some (codes "topic", topic ∷ [])))
+unfolding walked
+followed command topic plain = (rw (plain.dashes, plain.long, plain.short) refl, rw (plain.dashes, plain.long, plain.short) refl)
+
+walks : (command : Text) (topic : Option Text) (uses : List Use) → begins_with_hyphen command ≡ false → IfSome topic (λ word. begins_with_hyphen word ≡ false) → are_plain uses ≡ true → Walks (walk_from nothing_held) (name_words command topic ++ words_of_uses uses) (rows_behind command topic (map pair_given uses))
+walks command None uses plain_name plain_topic plain =
     let begun = named command (is_plain_word command plain_name) in
     walk_one _ _ command _ _ begun.0 begun.1
-    (walks_uses uses command [] [] (Some (codes "command", command ∷ [])) plain (record { rows_are = refl; sound = refl }))
+    (walks_uses 2 uses command None [] [] (Some (codes "command", command ∷ [])) plain (record { rows_are = refl; sound = refl }))
+walks command (Some topic) uses plain_name plain_topic plain =
+    let begun = named command (is_plain_word command plain_name) in
+    let behind = followed command topic (is_plain_word topic plain_topic) in
+    walk_one _ _ command _ _ begun.0 begun.1
+    (walk_one _ _ topic _ _ behind.0 behind.1
+    (walks_uses 3 uses command (Some topic) [] (name_rows command None) (Some (codes "topic", topic ∷ [])) plain (record { rows_are = refl; sound = refl })))
 
 -- ---- defaults
 
@@ -320,28 +343,40 @@ no_topic (lettered limit_letter value ∷ uses) = no_topic uses
 no_topic (switched_by_letter fullpage_letter ∷ uses) = no_topic uses
 no_topic (switched_by_letter quiet_letter ∷ uses) = no_topic uses
 
+first_of-command : (command : Text) (topic : Option Text) (pairs : List (Text × Text)) → first_of (codes "command") (rows_behind command topic pairs) ≡ Some command
+first_of-command command None pairs = refl
+first_of-command command (Some topic) pairs = refl
+
+first_of-topic : (command : Text) (topic : Option Text) (uses : List Use) → first_of (codes "topic") (rows_behind command topic (map pair_given uses)) ≡ topic
+first_of-topic command None uses = first_of-pairs (codes "topic") (map pair_given uses) ∙ no_topic uses
+first_of-topic command (Some topic) uses = refl
+
+first_of-behind : (name command : Text) (topic : Option Text) (pairs : List (Text × Text)) → bytes_eq (codes "command") name ≡ false → bytes_eq (codes "topic") name ≡ false → first_of name (rows_behind command topic pairs) ≡ value_for name pairs
+first_of-behind name command None pairs no_command no_topic = rw no_command (first_of-pairs name pairs)
+first_of-behind name command (Some topic) pairs no_command no_topic = rw (no_command, no_topic) (first_of-pairs name pairs)
+
 -- the words given, where the defaults stand behind those of the words
-all_given : (command : Text) (uses : List Use) → given_in (fold with_default (rows_behind command (map pair_given uses)) rules) ≡ given_by command uses
-all_given command uses =
+all_given : (command : Text) (topic : Option Text) (uses : List Use) → given_in (fold with_default (rows_behind command topic (map pair_given uses)) rules) ≡ given_by command topic uses
+all_given command topic uses =
     let pairs = map pair_given uses in
-    let rows = rows_behind command pairs in
-    let command_is : first_of (codes "command") (fold with_default rows rules) ≡ Some command = first_kept_by_all (codes "command") rules rows refl in
-    let topic_is : first_of (codes "topic") (fold with_default rows rules) ≡ None = first_kept_by_all (codes "topic") rules rows refl ∙ (first_of-pairs (codes "topic") pairs ∙ no_topic uses) in
-    let seg_is : first_of (codes "seg") (fold with_default rows rules) ≡ value_for (codes "seg") pairs = first_kept_by_all (codes "seg") rules rows refl ∙ first_of-pairs (codes "seg") pairs in
-    let ring_is : first_of (codes "ring") (fold with_default rows rules) ≡ value_for (codes "ring") pairs = first_kept_by_all (codes "ring") rules rows refl ∙ first_of-pairs (codes "ring") pairs in
-    let cap_is : first_of (codes "cap") (fold with_default rows rules) ≡ value_for (codes "cap") pairs = first_kept_by_all (codes "cap") rules rows refl ∙ first_of-pairs (codes "cap") pairs in
-    let crash_is : first_of (codes "crash") (fold with_default rows rules) ≡ value_for (codes "crash") pairs = first_kept_by_all (codes "crash") rules rows refl ∙ first_of-pairs (codes "crash") pairs in
-    let list_is : is_set (codes "list") (fold with_default rows rules) ≡ is_switched (codes "list") pairs = switch_kept_by_all (codes "list") rules rows refl ∙ ap is_on (first_of-pairs (codes "list") pairs) in
-    let rmgr_is : first_of (codes "rmgr") (fold with_default rows rules) ≡ value_for (codes "rmgr") pairs = first_kept_by_all (codes "rmgr") rules rows refl ∙ first_of-pairs (codes "rmgr") pairs in
-    let xid_is : first_of (codes "xid") (fold with_default rows rules) ≡ value_for (codes "xid") pairs = first_kept_by_all (codes "xid") rules rows refl ∙ first_of-pairs (codes "xid") pairs in
-    let relation_is : first_of (codes "relation") (fold with_default rows rules) ≡ value_for (codes "relation") pairs = first_kept_by_all (codes "relation") rules rows refl ∙ first_of-pairs (codes "relation") pairs in
-    let block_is : first_of (codes "block") (fold with_default rows rules) ≡ value_for (codes "block") pairs = first_kept_by_all (codes "block") rules rows refl ∙ first_of-pairs (codes "block") pairs in
-    let fork_is : first_of (codes "fork") (fold with_default rows rules) ≡ value_for (codes "fork") pairs = first_kept_by_all (codes "fork") rules rows refl ∙ first_of-pairs (codes "fork") pairs in
-    let fullpage_is : is_set (codes "fullpage") (fold with_default rows rules) ≡ is_switched (codes "fullpage") pairs = switch_kept_by_all (codes "fullpage") rules rows refl ∙ ap is_on (first_of-pairs (codes "fullpage") pairs) in
-    let start_is : first_of (codes "start") (fold with_default rows rules) ≡ value_for (codes "start") pairs = first_kept_by_all (codes "start") rules rows refl ∙ first_of-pairs (codes "start") pairs in
-    let end_is : first_of (codes "end") (fold with_default rows rules) ≡ value_for (codes "end") pairs = first_kept_by_all (codes "end") rules rows refl ∙ first_of-pairs (codes "end") pairs in
-    let limit_is : first_of (codes "limit") (fold with_default rows rules) ≡ value_for (codes "limit") pairs = first_kept_by_all (codes "limit") rules rows refl ∙ first_of-pairs (codes "limit") pairs in
-    let quiet_is : is_set (codes "quiet") (fold with_default rows rules) ≡ is_switched (codes "quiet") pairs = switch_kept_by_all (codes "quiet") rules rows refl ∙ ap is_on (first_of-pairs (codes "quiet") pairs) in
+    let rows = rows_behind command topic pairs in
+    let command_is : first_of (codes "command") (fold with_default rows rules) ≡ Some command = first_kept_by_all (codes "command") rules rows refl ∙ first_of-command command topic pairs in
+    let topic_is : first_of (codes "topic") (fold with_default rows rules) ≡ topic = first_kept_by_all (codes "topic") rules rows refl ∙ first_of-topic command topic uses in
+    let seg_is : first_of (codes "seg") (fold with_default rows rules) ≡ value_for (codes "seg") pairs = first_kept_by_all (codes "seg") rules rows refl ∙ first_of-behind (codes "seg") command topic pairs refl refl in
+    let ring_is : first_of (codes "ring") (fold with_default rows rules) ≡ value_for (codes "ring") pairs = first_kept_by_all (codes "ring") rules rows refl ∙ first_of-behind (codes "ring") command topic pairs refl refl in
+    let cap_is : first_of (codes "cap") (fold with_default rows rules) ≡ value_for (codes "cap") pairs = first_kept_by_all (codes "cap") rules rows refl ∙ first_of-behind (codes "cap") command topic pairs refl refl in
+    let crash_is : first_of (codes "crash") (fold with_default rows rules) ≡ value_for (codes "crash") pairs = first_kept_by_all (codes "crash") rules rows refl ∙ first_of-behind (codes "crash") command topic pairs refl refl in
+    let list_is : is_set (codes "list") (fold with_default rows rules) ≡ is_switched (codes "list") pairs = switch_kept_by_all (codes "list") rules rows refl ∙ ap is_on (first_of-behind (codes "list") command topic pairs refl refl) in
+    let rmgr_is : first_of (codes "rmgr") (fold with_default rows rules) ≡ value_for (codes "rmgr") pairs = first_kept_by_all (codes "rmgr") rules rows refl ∙ first_of-behind (codes "rmgr") command topic pairs refl refl in
+    let xid_is : first_of (codes "xid") (fold with_default rows rules) ≡ value_for (codes "xid") pairs = first_kept_by_all (codes "xid") rules rows refl ∙ first_of-behind (codes "xid") command topic pairs refl refl in
+    let relation_is : first_of (codes "relation") (fold with_default rows rules) ≡ value_for (codes "relation") pairs = first_kept_by_all (codes "relation") rules rows refl ∙ first_of-behind (codes "relation") command topic pairs refl refl in
+    let block_is : first_of (codes "block") (fold with_default rows rules) ≡ value_for (codes "block") pairs = first_kept_by_all (codes "block") rules rows refl ∙ first_of-behind (codes "block") command topic pairs refl refl in
+    let fork_is : first_of (codes "fork") (fold with_default rows rules) ≡ value_for (codes "fork") pairs = first_kept_by_all (codes "fork") rules rows refl ∙ first_of-behind (codes "fork") command topic pairs refl refl in
+    let fullpage_is : is_set (codes "fullpage") (fold with_default rows rules) ≡ is_switched (codes "fullpage") pairs = switch_kept_by_all (codes "fullpage") rules rows refl ∙ ap is_on (first_of-behind (codes "fullpage") command topic pairs refl refl) in
+    let start_is : first_of (codes "start") (fold with_default rows rules) ≡ value_for (codes "start") pairs = first_kept_by_all (codes "start") rules rows refl ∙ first_of-behind (codes "start") command topic pairs refl refl in
+    let end_is : first_of (codes "end") (fold with_default rows rules) ≡ value_for (codes "end") pairs = first_kept_by_all (codes "end") rules rows refl ∙ first_of-behind (codes "end") command topic pairs refl refl in
+    let limit_is : first_of (codes "limit") (fold with_default rows rules) ≡ value_for (codes "limit") pairs = first_kept_by_all (codes "limit") rules rows refl ∙ first_of-behind (codes "limit") command topic pairs refl refl in
+    let quiet_is : is_set (codes "quiet") (fold with_default rows rules) ≡ is_switched (codes "quiet") pairs = switch_kept_by_all (codes "quiet") rules rows refl ∙ ap is_on (first_of-behind (codes "quiet") command topic pairs refl refl) in
     rw (command_is, topic_is, seg_is, ring_is, cap_is, crash_is, list_is, rmgr_is, xid_is, relation_is, block_is, fork_is, fullpage_is, start_is, end_is, limit_is, quiet_is) refl
 
 none_of : (a b c d e : Kinds) → a ≡ [] → b ≡ [] → c ≡ [] → d ≡ [] → e ≡ [] → or_else a (or_else b (or_else c (or_else d e))) ≡ []
@@ -359,18 +394,18 @@ passes_level words has_subcommand below into w none =
     w.passes none (ap (λ (n : Walk). settle_fault rules false n.held) w.ends ∙ w.settles.sound) (fine_defaults (settled rules end).rows rules refl) (checked (finished rules end) has_subcommand)
 
 -- words of the plain form ask for what they spell
-pub plain_words_ask : (program command : Text) (uses : List Use) → begins_with_hyphen command ≡ false → are_plain uses ≡ true
-    → asks (program ∷ command ∷ words_of_uses uses) ≡ request_of (given_by command uses)
-plain_words_ask program command uses plain_name plain =
-    let words : List Text = program ∷ command ∷ words_of_uses uses in
-    let given : List Text = command ∷ words_of_uses uses in
-    let w = walks command uses plain_name plain in
-    let into = rows_behind command (map pair_given uses) in
+pub plain_words_ask : (program command : Text) (topic : Option Text) (uses : List Use) → begins_with_hyphen command ≡ false → IfSome topic (λ word. begins_with_hyphen word ≡ false) → are_plain uses ≡ true
+    → asks (program ∷ name_words command topic ++ words_of_uses uses) ≡ request_of (given_by command topic uses)
+plain_words_ask program command topic uses plain_name plain_topic plain =
+    let given : List Text = name_words command topic ++ words_of_uses uses in
+    let words : List Text = program ∷ given in
+    let w = walks command topic uses plain_name plain_topic plain in
+    let into = rows_behind command topic (map pair_given uses) in
     let stop = (walk rules [] nothing_held given).stopped in
     let none : fault_of declared_command words ≡ [] = passes_level given _ (entered_fault (built declared_command) stop) into w (none_entered (built declared_command) stop refl) in
     let rows : matches_of declared_command words ≡ fold with_default into rules =
     ap (λ (n : Walk). finished rules n.held) w.ends ∙ ap (λ (l : List Row). fold with_default l rules) w.settles.rows_are in
-    sym (asks-taken words (fold with_default into rules) none (sym rows)) ∙ ap request_of (all_given command uses)
+    sym (asks-taken words (fold with_default into rules) none (sym rows)) ∙ ap request_of (all_given command topic uses)
 
 -- words that make a command do not ask for help
 no_help : (name : Text) (given : Given) (task : Task) → named_by (Some name) given ≡ Some task → bytes_eq name (codes "help") ≡ false
@@ -384,7 +419,7 @@ no_help name given task made = go (bytes_eq name (codes "help")) refl
     go false e = e
 
 -- those that make a command ask for it
-pub plain_words_ask_for_commands : (program command : Text) (uses : List Use) (task : Task) → begins_with_hyphen command ≡ false → are_plain uses ≡ true
-    → command_of (given_by command uses) ≡ Some task → asks (program ∷ command ∷ words_of_uses uses) ≡ Command task
-plain_words_ask_for_commands program command uses task plain_name plain made =
-    plain_words_ask program command uses plain_name plain ∙ rw (no_help command (given_by command uses) task made, made) refl
+pub plain_words_ask_for_commands : (program command : Text) (topic : Option Text) (uses : List Use) (task : Task) → begins_with_hyphen command ≡ false → IfSome topic (λ word. begins_with_hyphen word ≡ false) → are_plain uses ≡ true
+    → command_of (given_by command topic uses) ≡ Some task → asks (program ∷ name_words command topic ++ words_of_uses uses) ≡ Command task
+plain_words_ask_for_commands program command topic uses task plain_name plain_topic plain made =
+    plain_words_ask program command topic uses plain_name plain_topic plain ∙ rw (no_help command (given_by command topic uses) task made, made) refl

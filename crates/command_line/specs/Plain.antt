@@ -1,5 +1,6 @@
--- Words of the plain form: the program's name, the name of what is to be done, and options in any
--- order, each at most once, by its name or its letter, with its value in the next word.
+-- Words of the plain form: the program's name, the name of what is to be done, maybe a word behind
+-- it, and options in any order, each at most once, by its name or its letter, with its value in the
+-- next word.
 use Rattle.std.specs.Prelude.{Bool, true, false, ◌&&◌, not, List, [], ◌∷◌, ◌++◌, Option, Some, None, codes, find, ℕ, is_some, map, option_map, ◌==◌}
 use Rattle.std.specs.Option.{option_map_or}
 use Rattle.std.specs.Str.{bytes_eq}
@@ -148,13 +149,18 @@ are_plain_behind pairs (first ∷ uses) =
 abbrev pub are_plain : List Use → Bool
 are_plain uses = are_plain_behind [] uses
 
+-- the words before the options: the command's name, and what may stand behind it
+abbrev pub name_words : Text → Option Text → List Text
+name_words command None = command ∷ []
+name_words command (Some topic) = command ∷ topic ∷ []
+
 -- the words given, option by option
-abbrev pub given_by : Text → List Use → Given
-given_by command uses =
+abbrev pub given_by : Text → Option Text → List Use → Given
+given_by command topic uses =
     let pairs = map pair_given uses in
     record {
       command = Some command;
-      topic = None;
+      topic = topic;
       seg = value_for (codes "seg") pairs;
       ring = value_for (codes "ring") pairs;
       cap = value_for (codes "cap") pairs;

@@ -25,12 +25,12 @@ list_rule = record (long_rule (codes "list")) { action = Some SetTrue }
 abbrev pub word_rules : List Rule
 word_rules = new_rule (codes "command") ∷ new_rule (codes "topic") ∷ []
 
--- the log's shape: the segments' size, which all commands take, and what `run` and `replay` take
+-- the log's shape: the segments' size, which all commands take, and what all but `dump` take
 abbrev pub shape_rules : List Rule
 shape_rules =
     long_rule (codes "seg") ∷ long_rule (codes "ring") ∷ long_rule (codes "cap") ∷ []
 
--- what `run` alone takes, and what `replay` alone
+-- what `run` and `gen` alone take, and what `replay` alone
 abbrev pub script_rules : List Rule
 script_rules = list_rule ∷ long_rule (codes "crash") ∷ []
 

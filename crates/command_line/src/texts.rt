@@ -9,7 +9,9 @@ const VERSION_LINE: &str = "pgwal 0.1
 const HELP: &str = "pgwal writes a write-ahead log in PostgreSQL 16's format, and lists it.
 
 pgwal run [--seg N] [--ring N] [--cap N] [--list]
-    Writes a log into the folder pg_wal, from the script on standard input.
+    Writes a log into the folder pg_wal, from the script on standard input. The script has the
+    lines of at most 64 backends, with a line B between two of them; the backends do their lines
+    side by side.
     --seg N    a segment's size in bytes, a power of two from 1048576 to 1073741824
                (16777216 where it is not given)
     --ring N   how many pages the log keeps in memory, 4 to 64 (64)
@@ -17,6 +19,15 @@ pgwal run [--seg N] [--ring N] [--cap N] [--list]
     --list     prints a line for each line of the script
     Example: an insert and a commit
         printf 'I 700 10 00 aabb\\nC 700 0\\n' | pgwal run --list
+
+pgwal gen N [--seg N] [--ring N] [--cap N] [--list]
+    Writes a log into the folder pg_wal as run does, of lines that are made in place of a script:
+    four backends have N lines each, 1 to 100000. Each tenth line commits, and the others insert
+    up to 1499 bytes, one of ten with a page's image.
+    --seg N, --ring N, --cap N, --list
+               as for run
+    Example: four thousand lines, with segments of 1 MiB
+        pgwal gen 1000 --seg 1048576
 
 pgwal replay [--seg N] [--ring N] [--cap N] [--crash old|new|odd]
     Plays the script on standard input turn by turn on a machine of its own, prints how many of

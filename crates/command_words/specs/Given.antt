@@ -1,14 +1,15 @@
 -- The command that the words of a command line make, each word in the place that it was given for.
-use Rattle.std.specs.Prelude.{ℕ, ◌≤◌, Bool, ◌&&◌, ◌||◌, not, List, Option, Some, None, is_some, option_map, codes, if◌then◌else◌}
+use Rattle.std.specs.Prelude.{ℕ, ◌≤◌, Bool, ◌&&◌, ◌||◌, not, List, Option, Some, None, is_some, option_and_then, option_map, codes, if◌then◌else◌}
 use Rattle.std.specs.Borrow.{Bor}
 use Rattle.std.specs.Str.{bytes_eq}
 use Rattle.listing_filter.specs.Keeping.{everything_from}
 use Rattle.listing_filter.specs.Names.{fork_named}
 use Rattle.listing_filter.specs.declared.Filter.{Filter}
-use Rattle.command_words.specs.Meanings.{block_number_of, cap_segments_of, crash_of, limit_of, lsn_of, manager_of, relation_of, ring_pages_of, segment_size_of, xid_of}
+use Rattle.command_words.specs.Meanings.{block_number_of, cap_segments_of, crash_of, limit_of, line_count_of, lsn_of, manager_of, relation_of, ring_pages_of, segment_size_of, xid_of}
 use Rattle.command_words.specs.declared.commands.Command.{Command}
-use Rattle.command_words.specs.declared.commands.Command.TheVariants.{Run, Dump, Replay}
+use Rattle.command_words.specs.declared.commands.Command.TheVariants.{Run, Gen, Dump, Replay}
 use Rattle.command_words.specs.declared.commands.CrashPick.TheVariants.{New}
+use Rattle.command_words.specs.declared.commands.RunOptions.{RunOptions}
 use Rattle.command_words.specs.declared.given.GivenWords.{GivenWords}
 
 -- the words given: of the command's name, of what stands behind it, and of each option
@@ -86,9 +87,9 @@ default_ring_pages = 64
 abbrev pub default_cap_segments : ℕ
 default_cap_segments = 64
 
--- an option is given that only `run` or `replay` takes
-abbrev pub gives_run_or_replay : Given → Bool
-gives_run_or_replay g = is_some g.ring || is_some g.cap || g.list || is_some g.crash
+-- an option is given that only `run`, `gen` or `replay` takes
+abbrev pub gives_run_gen_or_replay : Given → Bool
+gives_run_gen_or_replay g = is_some g.ring || is_some g.cap || g.list || is_some g.crash
 
 -- one that says which records are listed
 abbrev pub gives_selection : Given → Bool
@@ -104,8 +105,8 @@ gives_extent g = is_some g.start || is_some g.end || is_some g.limit || g.quiet
 abbrev pub gives_dump : Given → Bool
 gives_dump g = gives_selection g || gives_extent g
 
--- the log's shape, which `run` and `replay` share: the segments' size, the ring's pages, and how
--- many segments it may fill
+-- the log's shape, which `run`, `gen` and `replay` share: the segments' size, the ring's pages, and
+-- how many segments it may fill
 abbrev pub shape_of : Given → Option (ℕ × ℕ × ℕ)
 shape_of g = do
   size ← or_default default_segment_size segment_size_of g.seg
@@ -113,16 +114,28 @@ shape_of g = do
   cap_segments ← or_default default_cap_segments cap_segments_of g.cap
   Some (size, ring_pages, cap_segments)
 
--- what `run` is asked to do, with its own options alone
-abbrev pub run_of : Given → Option Command
-run_of g = if is_some g.topic || gives_dump g || is_some g.crash then None else do
+-- the options of a run, with no others
+abbrev pub run_options_of : Given → Option RunOptions
+run_options_of g = if gives_dump g || is_some g.crash then None else do
   shape ← shape_of g
-  Some (Run (record {
+  Some (record {
     geometry = shape.0;
     ring_pages = shape.1;
     cap_segments = shape.2;
     list = g.list;
-  }))
+  })
+
+-- what `run` is asked to do, with its own options alone
+abbrev pub run_of : Given → Option Command
+run_of g = if is_some g.topic then None else option_map Run (run_options_of g)
+
+-- what `gen` is asked to do: a run, with its options, of as many lines of each backend as the word
+-- behind the command's name says
+abbrev pub gen_of : Given → Option Command
+gen_of g = do
+  lines ← option_and_then line_count_of g.topic
+  options ← run_options_of g
+  Some (Gen (record { lines = lines; run = options }))
 
 -- what `replay` is asked to do, with its own options alone; a crash leaves what was written last
 -- where nothing else is given
@@ -173,7 +186,7 @@ filter_of size g = do
 
 -- what `dump` is asked to do, with its own options alone
 abbrev pub dump_of : Given → Option Command
-dump_of g = if is_some g.topic || gives_run_or_replay g then None else do
+dump_of g = if is_some g.topic || gives_run_gen_or_replay g then None else do
   size ← or_default default_segment_size segment_size_of g.seg
   filter ← filter_of size g
   Some (Dump (record { geometry = size; filter = filter }))
@@ -183,8 +196,9 @@ abbrev pub named : Option (List ℕ) → Given → Option Command
 named None g = None
 named (Some name) g =
     if bytes_eq name (codes "run") then run_of g
+    else (if bytes_eq name (codes "gen") then gen_of g
     else (if bytes_eq name (codes "replay") then replay_of g
-    else (if bytes_eq name (codes "dump") then dump_of g else None))
+    else (if bytes_eq name (codes "dump") then dump_of g else None)))
 
 -- the command that the words make, with its own options alone
 abbrev pub command_of : Given → Option Command
@@ -195,8 +209,11 @@ abbrev pub IsShapeInRange : ℕ → ℕ → Type 0
 IsShapeInRange ring_pages cap_segments =
     (4 ≤ ring_pages) × (ring_pages ≤ 64) × (1 ≤ cap_segments) × (cap_segments ≤ 4096)
 
--- the log of a run or a replay has such a shape
+-- the log of a run or a replay has such a shape, and `gen` makes 1 to 100000 lines of each backend
 abbrev pub IsInRange : Command → Type 0
 IsInRange (Run options) = IsShapeInRange options.ring_pages options.cap_segments
+IsInRange (Gen options) =
+    (1 ≤ options.lines) × (options.lines ≤ 100000)
+    × IsShapeInRange options.run.ring_pages options.run.cap_segments
 IsInRange (Replay options) = IsShapeInRange options.ring_pages options.cap_segments
 IsInRange (Dump options) = Unit {0}

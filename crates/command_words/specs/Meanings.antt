@@ -31,6 +31,10 @@ ring_pages_of word = number_within 4 64 word
 abbrev pub cap_segments_of : List ℕ → Option ℕ
 cap_segments_of word = number_within 1 4096 word
 
+-- the word behind `gen`: how many lines each backend has
+abbrev pub line_count_of : List ℕ → Option ℕ
+line_count_of word = number_within 1 100000 word
+
 -- `--crash`: which words of the disk a crash leaves, in exact case
 abbrev pub crash_of : List ℕ → Option CrashPick
 crash_of word =

@@ -13,6 +13,15 @@ pub struct RunOptions {
     pub list: bool,
 }
 
+/// What `gen` is asked to do.
+#[derive(Clone, Copy, Debug)]
+pub struct GenOptions {
+    /// How many lines each backend has.
+    pub lines: u32,
+    /// The run of these lines.
+    pub run: RunOptions,
+}
+
 /// The image that a crash leaves, of those that it may leave: a word is undecided where its page
 /// was written since its segment's last sync.
 #[derive(Clone, Copy, Debug)]
@@ -50,6 +59,8 @@ pub struct DumpOptions {
 pub enum Command {
     /// Runs a script.
     Run(RunOptions),
+    /// Runs lines that are made.
+    Gen(GenOptions),
     /// Plays a script of several backends turn by turn, and lists the log that a crash leaves.
     Replay(ReplayOptions),
     /// Lists the log.

@@ -1,11 +1,11 @@
 ghost use Rattle.std.specs.Prelude.{◌≡◌, ◌||◌, IfSome, is_some, option_map};
-ghost use Rattle.command_words.specs.Meanings.{block_number_of, cap_segments_of, crash_of, limit_of, lsn_of, manager_of, relation_of, ring_pages_of, segment_size_of, xid_of};
+ghost use Rattle.command_words.specs.Meanings.{block_number_of, cap_segments_of, crash_of, limit_of, line_count_of, lsn_of, manager_of, relation_of, ring_pages_of, segment_size_of, xid_of};
 ghost use Rattle.command_words.specs.declared.commands.CrashPick.TheVariants.{New};
-ghost use Rattle.command_words.specs.Given.{IsInRange, IsShapeInRange, command_of, default_segment_size, dump_of, filter_of, gives_dump, gives_extent, gives_run_or_replay, gives_selection, given_of, lacks_relation, or_default, replay_of, run_of, settled, shape_of, text_of, with_block_rules, with_extent, with_record_rules};
+ghost use Rattle.command_words.specs.Given.{IsInRange, IsShapeInRange, command_of, default_segment_size, dump_of, filter_of, gen_of, gives_dump, gives_extent, gives_run_gen_or_replay, gives_selection, given_of, lacks_relation, or_default, replay_of, run_of, run_options_of, settled, shape_of, text_of, with_block_rules, with_extent, with_record_rules};
 
-use crate::commands::{Command, CrashPick, DumpOptions, ReplayOptions, RunOptions};
+use crate::commands::{Command, CrashPick, DumpOptions, GenOptions, ReplayOptions, RunOptions};
 use crate::meanings::{
-    block_number, cap_segments, crash, fork, limit, lsn, manager, relation, ring_pages,
+    block_number, cap_segments, crash, fork, limit, line_count, lsn, manager, relation, ring_pages,
     segment_size, xid,
 };
 use byte_position::Geometry;
@@ -23,7 +23,7 @@ const DEFAULT_CAP_SEGMENTS: u32 = 64;
 pub struct GivenWords<'a> {
     /// The command's name.
     pub command: Option<&'a str>,
-    /// What stands behind the command's name: `help` alone takes it.
+    /// What stands behind the command's name: `gen` and `help` alone take it.
     pub topic: Option<&'a str>,
     /// The segments' size in bytes.
     pub seg: Option<&'a str>,
@@ -31,7 +31,7 @@ pub struct GivenWords<'a> {
     pub ring: Option<&'a str>,
     /// How many segments the log may fill.
     pub cap: Option<&'a str>,
-    /// Whether a line is printed for each line told: `run` alone takes it.
+    /// Whether a line is printed for each line told: `run` and `gen` alone take it.
     pub list: bool,
     /// Which words of the disk a crash leaves: `replay` alone takes it.
     pub crash: Option<&'a str>,
@@ -66,6 +66,7 @@ impl GivenWords<'_> {
     {
         match self.command? {
             "run" => self.run(),
+            "gen" => self.generated_run(),
             "replay" => self.replay(),
             "dump" => self.dump(),
             _ => None,
@@ -76,16 +77,19 @@ impl GivenWords<'_> {
         ensures command { result ≡ run_of (given_of self.now) }
         ensures in_range { IfSome result IsInRange }
     {
-        if self.topic.is_some() || self.gives_dump() || self.crash.is_some() {
+        if self.topic.is_some() {
             return None;
         }
-        let (geometry, ring_pages, cap_segments) = self.shape()?;
-        Some(Command::Run(RunOptions {
-            geometry,
-            ring_pages,
-            cap_segments,
-            list: self.list,
-        }))
+        Some(Command::Run(self.run_options()?))
+    }
+
+    fn generated_run(&self) -> Option<Command>
+        ensures command { result ≡ gen_of (given_of self.now) }
+        ensures in_range { IfSome result IsInRange }
+    {
+        let lines = line_count(self.topic?)?;
+        let run = self.run_options()?;
+        Some(Command::Gen(GenOptions { lines, run }))
     }
 
     fn replay(&self) -> Option<Command>
@@ -109,7 +113,7 @@ impl GivenWords<'_> {
         ensures command { result ≡ dump_of (given_of self.now) }
         ensures in_range { IfSome result IsInRange }
     {
-        if self.topic.is_some() || self.gives_run_or_replay() {
+        if self.topic.is_some() || self.gives_run_gen_or_replay() {
             return None;
         }
         let geometry = self.geometry()?;
@@ -117,9 +121,9 @@ impl GivenWords<'_> {
         Some(Command::Dump(DumpOptions { geometry, filter }))
     }
 
-    // Whether an option is given that only `run` or `replay` takes.
-    fn gives_run_or_replay(&self) -> bool
-        ensures { result ≡ gives_run_or_replay (given_of self.now) }
+    // Whether an option is given that only `run`, `gen` or `replay` takes.
+    fn gives_run_gen_or_replay(&self) -> bool
+        ensures { result ≡ gives_run_gen_or_replay (given_of self.now) }
     {
         self.ring.is_some() || self.cap.is_some() || self.list || self.crash.is_some()
     }
@@ -148,6 +152,24 @@ impl GivenWords<'_> {
         ensures { result ≡ gives_extent (given_of self.now) }
     {
         self.start.is_some() || self.end.is_some() || self.limit.is_some() || self.quiet
+    }
+
+    // The options of a run, where no other is given.
+    fn run_options(&self) -> Option<RunOptions>
+        ensures value { result ≡ run_options_of (given_of self.now) }
+        ensures in_range { IfSome result (λ options.
+            IsShapeInRange options.ring_pages options.cap_segments) }
+    {
+        if self.gives_dump() || self.crash.is_some() {
+            return None;
+        }
+        let (geometry, ring_pages, cap_segments) = self.shape()?;
+        Some(RunOptions {
+            geometry,
+            ring_pages,
+            cap_segments,
+            list: self.list,
+        })
     }
 
     // The log's shape: its segments' size, its ring's pages, and how many segments it may fill.

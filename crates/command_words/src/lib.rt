@@ -5,9 +5,9 @@ mod commands;
 mod given;
 mod meanings;
 
-pub use commands::{Command, CrashPick, DumpOptions, ReplayOptions, RunOptions};
+pub use commands::{Command, CrashPick, DumpOptions, GenOptions, ReplayOptions, RunOptions};
 pub use given::GivenWords;
 pub use meanings::{
-    block_number, cap_segments, crash, fork, limit, lsn, manager, relation, ring_pages,
+    block_number, cap_segments, crash, fork, limit, line_count, lsn, manager, relation, ring_pages,
     segment_size, xid,
 };

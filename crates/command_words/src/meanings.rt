@@ -2,7 +2,7 @@
 
 ghost use Rattle.std.specs.Prelude.{◌≡◌, ◌<◌, ◌≤◌, IfSome, codes, is_some, option_map};
 ghost use Rattle.listing_filter.specs.Names.{fork_named, is_same_name};
-ghost use Rattle.command_words.specs.Meanings.{block_number_of, cap_segments_of, crash_of, cut_at_slash, hexadecimal_of, limit_of, lsn_of, manager_of, number_behind_custom, number_within, object_of, relation_of, ring_pages_of, segment_size_of, xid_of};
+ghost use Rattle.command_words.specs.Meanings.{block_number_of, cap_segments_of, crash_of, cut_at_slash, hexadecimal_of, limit_of, line_count_of, lsn_of, manager_of, number_behind_custom, number_within, object_of, relation_of, ring_pages_of, segment_size_of, xid_of};
 
 use crate::commands::CrashPick;
 use byte_position::Geometry;
@@ -14,6 +14,8 @@ const MIN_RING_PAGES: u64 = 4;
 const MAX_RING_PAGES: u64 = 64;
 
 const MAX_CAP_SEGMENTS: u64 = 4096;
+
+const MAX_LINES: u64 = 100_000;
 
 // The largest number of a block (PostgreSQL's MaxBlockNumber of block.h).
 const MAX_BLOCK_NUMBER: u64 = 4_294_967_294;
@@ -58,6 +60,15 @@ pub fn cap_segments(word: &str) -> Option<u32>
 {
     let segments = number_within(word, 1, MAX_CAP_SEGMENTS)?;
     Some(segments as u32)
+}
+
+/// How many lines each backend has, as the word behind `gen` says: 1 to 100000.
+pub fn line_count(word: &str) -> Option<u32>
+    ensures value { result ≡ line_count_of word.now }
+    ensures within { IfSome result (λ n. (1 ≤ n) × (n ≤ 100000)) }
+{
+    let lines = number_within(word, 1, MAX_LINES)?;
+    Some(lines as u32)
 }
 
 /// Which words of the disk a crash leaves, as the word of `--crash` says: `old`, `new` or `odd`.

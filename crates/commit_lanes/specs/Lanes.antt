@@ -1,6 +1,5 @@
--- The lanes of a log: whose passes they have, and which numbers.
-use Rattle.std.specs.Prelude.{◌≡◌, ◌⊎◌, ℕ, ◌<◌, All, Any, List, length, slice_index_or}
-use Rattle.order_laws.specs.Shared.{HasNumber}
+-- The lanes of a log: whose passes they have, and what these keep.
+use Rattle.std.specs.Prelude.{◌≡◌, ℕ, ◌<◌, All, List, length, slice_index_or}
 use Rattle.wal_rule.specs.Passes.{view_of_pass}
 use Rattle.wal_rule.specs.Seats.{SeatView}
 use Rattle.wal_log.specs.Logs.{IsPassOfLog}
@@ -24,12 +23,3 @@ AreLanesOf wal lanes = All (IsCommitLane wal) lanes
 abbrev pub KeepPasses : List Lane → List Lane → Type 0
 KeepPasses old new = (k : ℕ) (d : Lane) → k < length old
     → KeepsPass (view_of_lane (slice_index_or old k d)) (view_of_lane (slice_index_or new k d))
-
--- one of these lanes has a number
-abbrev pub SomeLaneHas : ℕ → List Lane → Type 0
-SomeLaneHas number lanes = Any (λ lane. HasNumber number (view_of_lane lane).reserving) lanes
-
--- each number of a log is this view's or a lane's
-abbrev pub ShareNumbers : ℕ → SeatView → List Lane → Type 0
-ShareNumbers passes v lanes = (number : ℕ) → number < passes
-    → HasNumber number v.reserving ⊎ SomeLaneHas number lanes

@@ -1,11 +1,13 @@
 // Lanes are split off a log's first pass, work side by side, and are taken in again.
-ghost use Rattle.std.specs.Prelude.{◌≡◌, ◌-◌, ◌≤◌, IfOk, OnOk, vec_len};
+ghost use Rattle.std.specs.Prelude.{◌≡◌, ◌-◌, ◌≤◌, IfOk, OnOk, map, vec_len};
 ghost use Rattle.closing_laws.specs.Closed.{HasAllNumbers};
 ghost use Rattle.wal_rule.specs.Passes.{view_of_pass};
 ghost use Rattle.wal_log.specs.Logs.{IsPassOfLog, setup_of_log};
-ghost use Rattle.commit_lanes.specs.Lanes.{AreLanesOf, KeepPasses, ShareNumbers};
+ghost use Rattle.pass_numbers.specs.Sharing.{ShareNumbers};
+ghost use Rattle.commit_lanes.specs.Lanes.{AreLanesOf, KeepPasses, view_of_lane};
 
 use crate::lane::{Commit, Lane};
+use pass_numbers::laws::passes_share_numbers;
 use segment_disk::Disk;
 use std::alloc::{AllocError, Global};
 use std::sync::Wait;
@@ -13,7 +15,6 @@ use std::thread;
 use std::thread::Threads;
 use wal_log::numbers::calls_keep_numbers;
 use wal_log::{Pass, Wal};
-use wal_rule::numbers::seats_keep_numbers;
 
 /// Each backend makes its list of commits, in a thread of its own where one can be made, with a
 /// pass that is split off the first one and taken in again. Gives the lists with what was told.
@@ -33,6 +34,7 @@ pub fn commit_side_by_side<D: Disk + Send, R: Threads + Wait + Sync>(
         (view_of_pass first.new).reserving) }
 {
     calls_keep_numbers();
+    passes_share_numbers();
     let mut lanes = split_lanes(alloc, log, first, work)?;
     run_lanes(rt, log, &mut lanes);
     join_lanes(alloc, log, first, lanes)
@@ -52,9 +54,9 @@ fn split_lanes<D: Disk>(
     ensures pass { IsPassOfLog log.now first.new }
     ensures lanes { IfOk result (λ lanes. AreLanesOf log.now lanes.items) }
     ensures numbers { IfOk result (λ lanes. ShareNumbers (setup_of_log log.now).passes
-        (view_of_pass first.new) lanes.items) }
+        (view_of_pass first.new) (map (λ lane. view_of_lane lane) lanes.items)) }
 {
-    seats_keep_numbers();
+    passes_share_numbers();
     let mut lanes = Vec::with_capacity(alloc, work.len())?;
     for commits in work {
         let pass = log.split(first);
@@ -83,12 +85,12 @@ fn join_lanes<D: Disk>(
     requires pass { IsPassOfLog log.now first.old }
     requires lanes { AreLanesOf log.now lanes.items }
     requires numbers { ShareNumbers (setup_of_log log.now).passes (view_of_pass first.old)
-        lanes.items }
+        (map (λ lane. view_of_lane lane) lanes.items) }
     ensures pass { IsPassOfLog log.now first.new }
     ensures numbers { OnOk result (HasAllNumbers (setup_of_log log.now).passes
         (view_of_pass first.new).reserving) }
 {
-    seats_keep_numbers();
+    passes_share_numbers();
     let mut work = Vec::with_capacity(alloc, lanes.len())?;
     for lane in lanes {
         let Lane { pass, commits } = lane;

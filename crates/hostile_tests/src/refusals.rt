@@ -39,7 +39,7 @@ fn a_refused_line_is_told_with_its_kind(rt: HostRuntime) -> Result<(), Fail> {
         b"pgwal: script line 3: count\n",
     )?;
     refused(&rt, alloc, b"C 1 -0", b"pgwal: script line 1: number\n")?;
-    refused(&rt, alloc, b"B", b"pgwal: script line 1: backends\n")?;
+    refused(&rt, alloc, b"C 1 0\nB 1", b"pgwal: script line 2: count\n")?;
     refused(&rt, alloc, b"I 1 10 zz", b"pgwal: script line 1: hex\n")?;
     refused(
         &rt,

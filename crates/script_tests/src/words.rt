@@ -36,6 +36,19 @@ fn shape(alloc: Global, words: &[&str]) -> Result<Option<(u32, u32)>, AllocError
     })
 }
 
+// How many lines each backend has, the segment size, and whether lines are listed, where made lines
+// are asked for.
+fn generated(alloc: Global, words: &[&str]) -> Result<Option<(u32, u64, bool)>, AllocError> {
+    Ok(match request(alloc, words)? {
+        Request::Command(Command::Gen(options)) => Some((
+            options.lines,
+            options.run.geometry.segment_size(),
+            options.run.list,
+        )),
+        _ => None,
+    })
+}
+
 // The log's shape, and what a crash leaves, where a replay is asked for.
 fn replay(
     alloc: Global,
@@ -78,6 +91,7 @@ fn extent(alloc: Global, words: &[&str]) -> Result<Option<(Option<u64>, bool)>, 
 fn kind(alloc: Global, words: &[&str]) -> Result<&'static str, AllocError> {
     Ok(match request(alloc, words)? {
         Request::Command(Command::Run(_)) => "run",
+        Request::Command(Command::Gen(_)) => "gen",
         Request::Command(Command::Replay(_)) => "replay",
         Request::Command(Command::Dump(_)) => "dump",
         Request::Help => "help",
@@ -112,6 +126,22 @@ fn runs_take_a_ring_and_a_cap(rt: HostRuntime) -> Result<(), Fail> {
     assert!(rt; is_refused(alloc, &["pgwal", "run", "--ring", "3"])?);
     assert!(rt; is_refused(alloc, &["pgwal", "run", "--cap", "0"])?);
     assert!(rt; is_refused(alloc, &["pgwal", "dump", "--ring", "4"])?);
+    Ok(())
+}
+
+#[test]
+fn lines_are_made_as_many_as_asked_for(rt: HostRuntime) -> Result<(), Fail> {
+    let alloc = rt.alloc();
+    let least = ["pgwal", "gen", "1"];
+    let most = ["pgwal", "--list", "gen", "100000", "--seg", "1048576"];
+    assert_eq!(rt; generated(alloc, &least)?, Some((1, 16 * MEBIBYTE, false)));
+    assert_eq!(rt; generated(alloc, &most)?, Some((100_000, MEBIBYTE, true)));
+    assert!(rt; is_refused(alloc, &["pgwal", "gen"])?);
+    assert!(rt; is_refused(alloc, &["pgwal", "gen", "0"])?);
+    assert!(rt; is_refused(alloc, &["pgwal", "gen", "100001"])?);
+    assert!(rt; is_refused(alloc, &["pgwal", "gen", "1", "1"])?);
+    assert!(rt; is_refused(alloc, &["pgwal", "gen", "1", "--crash", "old"])?);
+    assert!(rt; is_refused(alloc, &["pgwal", "gen", "1", "--xid", "1"])?);
     Ok(())
 }
 

@@ -43,3 +43,17 @@ fn a_disk_with_segment_1_is_not_empty(rt: HostRuntime) -> Result<(), Fail> {
     assert_eq!(rt; (disk.moment(), disk.faults()), (1, 0));
     Ok(())
 }
+
+#[test]
+fn a_read_that_fails_is_told(rt: HostRuntime) -> Result<(), Fail> {
+    let alloc = rt.alloc();
+    // The disk's first read fails.
+    let disk = MemDisk::new(alloc, 4, 100, Vec::new(alloc), vec![in alloc; 1; 1]?)?;
+    let Err(fault) = Wal::open(alloc, disk, SETUP) else {
+        panic!(rt; "a read that fails");
+    };
+    let OpenFault { disk, kind } = fault;
+    assert_eq!(rt; kind, OpenFaultKind::Disk { faults: 1 });
+    assert_eq!(rt; (disk.moment(), disk.faults()), (0, 1));
+    Ok(())
+}

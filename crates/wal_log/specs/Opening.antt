@@ -29,8 +29,7 @@ module _ {D : Type 0} (tape : D → Option Tape) (moment faults : D → ℕ) whe
   -- why a log was not opened, and what is left of the disk
   abbrev pub TellsOpenFault : Setup → D → D → OpenFaultKind → Type 0
   TellsOpenFault setup old new BadSetup = (IsSetup setup → ⊥) × (new ≡ old)
-  TellsOpenFault setup old new Memory = IsSetup setup × IsUncalled tape moment old new
-      × (faults new ≡ faults old)
+  TellsOpenFault setup old new Memory = IsSetup setup × (new ≡ old)
   TellsOpenFault setup old new (Disk told) = IsSetup setup × IsUncalled tape moment old new
       × RoseByOne (faults old) (faults new) × (told ≡ faults new)
   TellsOpenFault setup old new NotEmpty = IsSetup setup × IsUncalled tape moment old new

@@ -19,6 +19,8 @@ use Rattle.wal_core.specs.Sound.{IsSound}
 use Rattle.wal_core.specs.Steps.{Abandons, StepKind, MayStep, Moves, SplitsOff, TakesIn, returned, slot_in, slot_out, word_of_step, value_behind, home_behind, view_behind}
 use Rattle.wal_core.specs.Steps as machine
 use Rattle.step_laws.proofs.EveryStep.{step_keeps}
+use Rattle.moment_laws.specs.Rising.{MomentsKeepRising}
+use Rattle.moment_laws.proofs.EveryMoment.{steps_rise}
 use Rattle.wal_rule.specs.declared.writer.LogWriter.{LogWriter}
 use Rattle.wal_rule.specs.Seats.{IsAtRest, IsStrandedSeat, SeatHold, SeatLent, SeatView, SeatWriter, behind, hold_on, plain_on, seat_after_join, seat_after_split, seat_orphan, seat_spent, seat_split_off, seat_without_work, view_on}
 use Rattle.wal_rule.specs.Slotted.{IsOfLog, first_on, slot_plain}
@@ -31,6 +33,19 @@ use Rattle.wal_rule.proofs.QuietSteps.{home_on, may_go_in, may_on, value_on, vie
 pub either_if : (b : Bool) (x y : ℕ) → either b x y ≡ (if b then x else y)
 either_if true x y = refl
 either_if false x y = refl
+
+-- a sound state of the machine in which moments rise
+abbrev pub SoundAndRises : Opening → List ℕ → Option Plain → List View → Type 0
+SoundAndRises opening words home views = (sound : IsSound opening words home views)
+    × MomentsKeepRising opening words home views sound
+
+-- a step of the machine leaves another one
+kept_behind : (opening : Opening) (s t : machine.State)
+    → SoundAndRises opening s.words s.home s.views → machine.Step s t
+    → SoundAndRises opening t.words t.home t.views
+kept_behind opening s t k step =
+    let sound : IsSound opening t.words t.home t.views = step_keeps opening s t k.0 step in
+    (sound, steps_rise opening s t k.0 k.1 step sound)
 
 module _ {D : Type 0} (tape : D → Rattle.std.specs.Prelude.Option Tape) (moment faults : D → ℕ)
     (opening : Opening) (began : Rattle.std.specs.Prelude.Option Tape) where
@@ -66,15 +81,15 @@ module _ {D : Type 0} (tape : D → Rattle.std.specs.Prelude.Option Tape) (momen
     mine = view_on first me.0
 
     -- one step of the machine, of the state that the table's is
-    pub stepped_sound : (e : StepKind) → MayStep mine e → (s : State (LogWriter D) SeatView) → Held s
+    pub stepped : (e : StepKind) → MayStep mine e → (s : State (LogWriter D) SeatView) → Held s
         → get_elem? s.views id ≡ some me.0 → (home : Option Plain) (w : SeatView)
         → home ≡ home_behind mine e (home_of tape moment faults s.homes)
         → view_on first w ≡ view_behind mine e (slice_index s.words (word_of_step mine e))
         (home_of tape moment faults s.homes)
-        → IsSound opening (set s.words (word_of_step mine e)
+        → SoundAndRises opening (set s.words (word_of_step mine e)
         (value_behind mine e (slice_index s.words (word_of_step mine e)))) home
         (map (view_on first) (set s.views id w))
-    stepped_sound e may s k here home w home_is is =
+    stepped e may s k here home w home_is is =
         let met : ℕ = slice_index s.words (word_of_step mine e) in
         let old : List View = map (view_on first) s.views in
         let before : machine.State =
@@ -84,7 +99,7 @@ module _ {D : Type 0} (tape : D → Rattle.std.specs.Prelude.Option Tape) (momen
           home = home;
           views = map (view_on first) (set s.views id w);
         } in
-        step_keeps opening before after k.sound (Moves id e met (record {
+        kept_behind opening before after (k.sound, k.rises) (Moves id e met (record {
           view = mine;
           live = (at_map (view_on first) s.views id me.0 here, live);
           may = may;
@@ -148,16 +163,16 @@ module _ {D : Type 0} (tape : D → Rattle.std.specs.Prelude.Option Tape) (momen
         let home : Option Plain = home_of tape moment faults s.homes in
         let met : ℕ = slice_index s.words (word_of_step mine e) in
         let w : SeatView = behind e met none me.0 in
-        let sound = subst (λ (n : ℕ). IsSound opening (set s.words (word_of_step mine e) n) home
-        (map (view_on first) (set s.views id w)))
+        let kept = subst (λ (n : ℕ). SoundAndRises opening
+        (set s.words (word_of_step mine e) n) home (map (view_on first) (set s.views id w)))
         (sym (value met ∙ value_on first me.0 e quiet met))
-        (stepped_sound e (may_on first me.0 e quiet may) s k here home w
+        (stepped e (may_on first me.0 e quiet may) s k here home w
         (home_on first me.0 e quiet home) (view_on_behind first me.0 e quiet met home none)) in (
           w,
           keeps,
           tt,
-          record { one = k.one; of_log = k.of_log; sound = sound },
-          (refl, stands_in s k here _ home w (seat_steady me.0 e quiet met none).0 sound),
+          record { one = k.one; of_log = k.of_log; sound = kept.0; rises = kept.1 },
+          (refl, stands_in s k here _ home w (seat_steady me.0 e quiet met none).0 kept.0),
         ))
 
     -- the same of a load, which tells also that its number was met
@@ -243,7 +258,7 @@ module _ {D : Type 0} (tape : D → Rattle.std.specs.Prelude.Option Tape) (momen
         let p : Plain = slot_plain tape moment found.0 in
         let of_log : IsOfLog tape faults began opening found.0 = k.of_log found.0 found.1 in
         let w : SeatView = behind slot_out met (some p) me.0 in
-        let sound = stepped_sound slot_out turned s k here
+        let kept = stepped slot_out turned s k here
         (home_of tape moment faults (set s.homes 0 none)) w (home_none s.homes k.one)
         (taken_out first p of_log.on_first me.0 met
         ∙ ap (λ (h : Option Plain). view_behind mine slot_out met h) (sym found.2)) in (
@@ -254,7 +269,8 @@ module _ {D : Type 0} (tape : D → Rattle.std.specs.Prelude.Option Tape) (momen
             one = length-set s.homes 0 none ∙ k.one;
             of_log = λ x at. absurd (some-ne-none x (some-injective (some x) none
                 (sym at ∙ set_here s.homes 0 none (omega arith))));
-            sound = sound;
+            sound = kept.0;
+            rises = kept.1;
           },
           (
             found.0,
@@ -265,7 +281,7 @@ module _ {D : Type 0} (tape : D → Rattle.std.specs.Prelude.Option Tape) (momen
                   (sym told_is) of_log);
               me_is = refl;
             },
-            stands_in s k here _ _ w refl sound,
+            stands_in s k here _ _ w refl kept.0,
           ),
         )
 
@@ -284,15 +300,17 @@ module _ {D : Type 0} (tape : D → Rattle.std.specs.Prelude.Option Tape) (momen
         ∙ ap (λ (x : SeatWriter). some (plain_on first x)) has.kept
         ∙ ap (λ (x : Plain). some x)
         (back_plain first (slot_plain tape moment w) (has.of_log).on_first) in
+        let kept = stepped slot_in (may_go_in first me.0 may) s k here
+        (home_of tape moment faults (set s.homes 0 (some w))) v
+        (home_some s.homes w k.one ∙ sym returned_is) refl in
         let back : IsRuled tape moment faults opening began (set s.words 11 met)
         (set s.homes 0 (some w)) (set s.views id v) = record {
           one = length-set s.homes 0 (some w) ∙ k.one;
           of_log = λ x at. subst (λ (y : LogWriter D). IsOfLog tape faults began opening y)
               (some-injective w x (some-injective (some w) (some x)
               (sym (set_here s.homes 0 (some w) (omega arith)) ∙ at))) has.of_log;
-          sound = stepped_sound slot_in (may_go_in first me.0 may) s k here
-              (home_of tape moment faults (set s.homes 0 (some w))) v
-              (home_some s.homes w k.one ∙ sym returned_is) refl;
+          sound = kept.0;
+          rises = kept.1;
         } in (
           v,
           gives,
@@ -319,21 +337,18 @@ module _ {D : Type 0} (tape : D → Rattle.std.specs.Prelude.Option Tape) (momen
         home = home;
         views = map f (left ++ seat_split_off v ∷ []);
       } in
-      record {
-        one = k.one;
-        of_log = k.of_log;
-        sound = step_keeps opening before after k.sound (SplitsOff id (record {
-          view = f v;
-          live = (at_map f s.views id v here, live);
-          may = may;
-          words = refl;
-          home = refl;
-          views = map-append f left (seat_split_off v ∷ [])
-              ∙ ap (λ (us : List View). us ++ split_off (f v) ∷ [])
-              (map-set f s.views id (seat_after_split v)
-              ∙ ap (λ (u : View). set old id u) (split_left first v));
-        }));
-      }
+      let kept = kept_behind opening before after (k.sound, k.rises) (SplitsOff id (record {
+        view = f v;
+        live = (at_map f s.views id v here, live);
+        may = may;
+        words = refl;
+        home = refl;
+        views = map-append f left (seat_split_off v ∷ [])
+            ∙ ap (λ (us : List View). us ++ split_off (f v) ∷ [])
+            (map-set f s.views id (seat_after_split v)
+            ∙ ap (λ (u : View). set old id u) (split_left first v));
+      })) in
+      record { one = k.one; of_log = k.of_log; sound = kept.0; rises = kept.1 }
 
   pub gives_up : (id : ℕ) (v : SeatView) → (v.reserving).live ≡ true → IsStrandedSeat v
       → Splits Held id v (seat_without_work v) (seat_orphan v)
@@ -348,21 +363,18 @@ module _ {D : Type 0} (tape : D → Rattle.std.specs.Prelude.Option Tape) (momen
         home = home;
         views = map f (left ++ seat_orphan v ∷ []);
       } in
-      record {
-        one = k.one;
-        of_log = k.of_log;
-        sound = step_keeps opening before after k.sound (Abandons id (record {
-          view = f v;
-          live = (at_map f s.views id v here, live);
-          may = strands_on first v stranded;
-          words = refl;
-          home = refl;
-          views = map-append f left (seat_orphan v ∷ [])
-              ∙ ap (λ (us : List View). us ++ orphan_of (f v) ∷ [])
-              (map-set f s.views id (seat_without_work v)
-              ∙ ap (λ (u : View). set old id u) (given_up first v));
-        }));
-      }
+      let kept = kept_behind opening before after (k.sound, k.rises) (Abandons id (record {
+        view = f v;
+        live = (at_map f s.views id v here, live);
+        may = strands_on first v stranded;
+        words = refl;
+        home = refl;
+        views = map-append f left (seat_orphan v ∷ [])
+            ∙ ap (λ (us : List View). us ++ orphan_of (f v) ∷ [])
+            (map-set f s.views id (seat_without_work v)
+            ∙ ap (λ (u : View). set old id u) (given_up first v));
+      })) in
+      record { one = k.one; of_log = k.of_log; sound = kept.0; rises = kept.1 }
 
   pub joins_in : (id : ℕ) (v : SeatView) (other : ℕ) (w : SeatView)
       → (v.reserving).live ≡ true → (w.reserving).live ≡ true → IsAtRest w
@@ -381,23 +393,20 @@ module _ {D : Type 0} (tape : D → Rattle.std.specs.Prelude.Option Tape) (momen
       } in
       let found : get_elem? s.views other ≡ some w =
       sym (set_else s.views id other (seat_after_join v w) apart) ∙ there in
-      record {
-        one = k.one;
-        of_log = k.of_log;
-        sound = step_keeps opening before after k.sound (TakesIn id other (record {
-          view = f v;
-          other_view = f w;
-          live = (at_map f s.views id v here, live);
-          other_live = (at_map f s.views other w found, alive);
-          apart = λ e. apart (sym e);
-          may = rests_on first w rests;
-          words = refl;
-          home = refl;
-          views = ap (λ (x : SeatView). map f (set both other x)) is
-              ∙ map-set f both other (seat_spent w)
-              ∙ ap (λ (us : List View). set us other (spent (f w)))
-              (map-set f s.views id (seat_after_join v w)
-              ∙ ap (λ (u : View). set old id u) (joined first v w))
-              ∙ set_comm old id other (after_join (f v) (f w)) (spent (f w)) (λ e. apart (sym e));
-        }));
-      }
+      let kept = kept_behind opening before after (k.sound, k.rises) (TakesIn id other (record {
+        view = f v;
+        other_view = f w;
+        live = (at_map f s.views id v here, live);
+        other_live = (at_map f s.views other w found, alive);
+        apart = λ e. apart (sym e);
+        may = rests_on first w rests;
+        words = refl;
+        home = refl;
+        views = ap (λ (x : SeatView). map f (set both other x)) is
+            ∙ map-set f both other (seat_spent w)
+            ∙ ap (λ (us : List View). set us other (spent (f w)))
+            (map-set f s.views id (seat_after_join v w)
+            ∙ ap (λ (u : View). set old id u) (joined first v w))
+            ∙ set_comm old id other (after_join (f v) (f w)) (spent (f w)) (λ e. apart (sym e));
+      })) in
+      record { one = k.one; of_log = k.of_log; sound = kept.0; rises = kept.1 }

@@ -10,6 +10,7 @@ use Rattle.wal_core.specs.Sound.{IsSound}
 use Rattle.wal_core.proofs.Lists.{part_at}
 use Rattle.closing_laws.specs.Closed.{HasAllNumbers, IsClosed, IsLastPass}
 use Rattle.closing_laws.proofs.ClosingLaws.{closed}
+use Rattle.moment_laws.proofs.EveryMoment.{logs_rise}
 use Rattle.wal_rule.specs.declared.writer.LogWriter.{LogWriter}
 use Rattle.wal_rule.specs.Closing.{ClosesWith}
 use Rattle.wal_rule.specs.Ruled.{IsRuled, home_of}
@@ -79,4 +80,5 @@ module _ {D : Type 0} (tape : D → Rattle.std.specs.Prelude.Option Tape) (momen
           here = here;
           sound = f.0;
           closed = f.1;
+          in_order = logs_rise opening s.words home views k.sound k.rises id mine here;
         }

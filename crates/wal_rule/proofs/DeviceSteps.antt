@@ -12,7 +12,6 @@ use Rattle.flush_core.specs.declared.writer.DiskFault.{DiskFault}
 use Rattle.wal_core.specs.Words.{Opening}
 use Rattle.wal_core.specs.Views.{Hold, Idle, Lent, Out, Plain, Turned, View}
 use Rattle.wal_core.specs.Moves.{Done, Failed, Outcome, is_counted, is_done, with_hold, with_outcome}
-use Rattle.wal_core.specs.Sound.{IsSound}
 use Rattle.wal_core.specs.Steps.{IsCallFault, MayStep, StepKind, create, sync, write, home_behind, value_behind, view_behind, with_call_on, word_of_step}
 use Rattle.wal_rule.specs.declared.writer.LogWriter.{LogWriter}
 use Rattle.wal_rule.specs.Called.{DeviceCall, DeviceCallEnds, IsCalled, IsWriteLow, creates, step_of_call, syncs, writer_behind, writes}
@@ -22,7 +21,7 @@ use Rattle.wal_rule.specs.Stepping.{MaySeat, Stands}
 use Rattle.wal_rule.specs.Ruled.{HasInHand, IsRuled, home_of}
 use Rattle.wal_rule.proofs.SeatLaws.{again_tape, back_plain}
 use Rattle.wal_rule.proofs.QuietSteps.{out_on}
-use Rattle.wal_rule.proofs.Allowed.{stands_in, stepped_sound}
+use Rattle.wal_rule.proofs.Allowed.{SoundAndRises, stands_in, stepped}
 use Rattle.wal_rule.proofs.Addresses.{starts_in_pages}
 
 -- ---- the writer behind a call, as a seat tells it
@@ -492,21 +491,25 @@ module _ {D : Type 0} (tape : D → Rattle.std.specs.Prelude.Option Tape) (momen
         let home : Option Plain = home_of tape moment faults s.homes in
         let word : ℕ = word_of_step v made in
         let after : List SeatView = set s.views id told in
-        let sound : IsSound opening (set s.words word (slice_index s.words word)) home
+        let kept : SoundAndRises opening (set s.words word (slice_index s.words word)) home
         (map (view_on first) after) = subst
-        (λ (n : ℕ). IsSound opening (set s.words word n) home (map (view_on first) after))
+        (λ (n : ℕ). SoundAndRises opening (set s.words word n) home (map (view_on first) after))
         (value_called v call (called.ends).outcome (slice_index s.words word))
-        (stepped_sound tape moment faults opening began slots id me live made
+        (stepped tape moment faults opening began slots id me live made
         (may_made may) s k here home told (home_called v call (called.ends).outcome home)
-        (told_view (slice_index s.words word) home)) in (
+        (told_view (slice_index s.words word) home)) in
+        let left : SoundAndRises opening (set s.words 11 (slice_index s.words 11)) home
+        (map (view_on first) after) = subst (λ (i : ℕ).
+        SoundAndRises opening (set s.words i (slice_index s.words i)) home
+        (map (view_on first) after)) (word_called v call (called.ends).outcome) kept in (
           told,
           keeps,
           tt,
           record {
             one = k.one;
             of_log = k.of_log;
-            sound = subst (λ (i : ℕ). IsSound opening (set s.words i (slice_index s.words i)) home
-                (map (view_on first) after)) (word_called v call (called.ends).outcome) sound;
+            sound = left.0;
+            rises = left.1;
           },
           (
             subst (λ (o : Opening).
@@ -515,7 +518,7 @@ module _ {D : Type 0} (tape : D → Rattle.std.specs.Prelude.Option Tape) (momen
                 DeviceCallEnds tape moment faults d opening call result me.0 (told, me.1))
                 (sym began_is) (call_ended may)),
             stands_in tape moment faults opening began slots id me live s k here _ home told
-                (call_steady call (called.ends).outcome me.0).0 sound,
+                (call_steady call (called.ends).outcome me.0).0 left.0,
           ),
         )
 

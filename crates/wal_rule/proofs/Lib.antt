@@ -3,6 +3,8 @@ pub mod QuietSteps
 pub mod Steady
 pub mod Allowed
 pub mod Opens
+pub mod Begins
+pub mod Live
 pub mod CallsEnd
 pub mod Places
 pub mod PassNumbers

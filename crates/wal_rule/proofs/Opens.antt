@@ -4,9 +4,11 @@ use Rattle.std.specs.Prelude.{IsSome}
 use Rattle.std.proofs.Common.{◌≡◌, ℕ, List, [], ◌∷◌, map, append-nil, arith, refl, sym, ◌∙◌, subst, Some, None}
 use mathlib.Core.Option.{some, some-injective, some-ne-none}
 use Rattle.segment_disk.specs.Tape.{Tape}
+use Rattle.wal_core.specs.Views.{Plain}
 use Rattle.wal_core.specs.Words.{Opening}
 use Rattle.wal_core.specs.Opened.{AreFirstWords, IsFirstWriter, IsNew}
 use Rattle.step_laws.proofs.OpeningLaws.{logs_begin}
+use Rattle.moment_laws.proofs.EveryMoment.{first_rises}
 use Rattle.wal_rule.specs.declared.writer.LogWriter.{LogWriter}
 use Rattle.wal_rule.specs.Seats.{first_seat_view}
 use Rattle.wal_rule.specs.Slotted.{GoesOnFrom, IsOfLog, first_on, slot_disk, slot_plain, slot_segment_size}
@@ -47,7 +49,10 @@ module _ {D : Type 0} (tape : D → Rattle.std.specs.Prelude.Option Tape) (momen
       → IsFirstWriter opening (slot_plain tape moment writer)
       → IsRuled tape moment faults opening (tape disk) words (map some items)
       (first_seat_view opening ∷ [])
-  opens items are of_log new first begins = subst
+  opens items are of_log new first begins =
+      let plain : Plain = slot_plain tape moment writer in
+      let sound = logs_begin opening words plain new first begins in
+      subst
       (λ (xs : List (LogWriter D)). IsRuled tape moment faults opening (tape disk) words
       (map some xs) (first_seat_view opening ∷ []))
       (sym are)
@@ -56,5 +61,6 @@ module _ {D : Type 0} (tape : D → Rattle.std.specs.Prelude.Option Tape) (momen
         of_log = λ w at. subst
             (λ (x : LogWriter D). IsOfLog tape faults (tape disk) opening x)
             (some-injective writer w (some-injective (some writer) (some w) at)) of_log;
-        sound = logs_begin opening words (slot_plain tape moment writer) new first begins;
+        sound = sound;
+        rises = first_rises opening words (some plain) sound;
       })

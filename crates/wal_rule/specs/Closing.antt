@@ -7,13 +7,15 @@ use Rattle.wal_core.specs.Views.{HasAt, View}
 use Rattle.wal_core.specs.Sound.{IsSound}
 use Rattle.order_laws.specs.Shared.{HasNumber}
 use Rattle.closing_laws.specs.Closed.{IsClosed}
+use Rattle.moment_laws.specs.Rising.{LogsRise, promised_of}
 use Rattle.wal_rule.specs.declared.writer.LogWriter.{LogWriter}
 use Rattle.wal_rule.specs.Slotted.{IsOfLog, first_on, slot_plain}
 use Rattle.wal_rule.specs.Seats.{SeatView, view_on}
 
 -- a table ended with this view of its last seat, this writer and this number of the position: the
 -- writer is the log's, and stood at home in a sound state of the machine, in which this was the
--- last pass, of this number among the views, and the position's word
+-- last pass, of this number among the views, and the position's word; and the moments rise that the
+-- pass's log was promised, and each log that it took in
 pub record ClosesWith {D : Type 0} (tape : D → Rattle.std.specs.Prelude.Option Tape)
     (moment faults : D → ℕ) (began : Rattle.std.specs.Prelude.Option Tape) (opening : Opening)
     (v : SeatView) (w : LogWriter D) (position : ℕ) : Type 0 where
@@ -26,6 +28,7 @@ pub record ClosesWith {D : Type 0} (tape : D → Rattle.std.specs.Prelude.Option
   pub sound : IsSound opening words (some (slot_plain tape moment w)) views
   pub closed : IsClosed opening sound.order words (some (slot_plain tape moment w))
       (slot_plain tape moment w) views id (view_on (first_on began) v)
+  pub in_order : LogsRise opening (promised_of (view_on (first_on began) v))
 
 -- one view has each number that the other one had
 abbrev pub KeepsNumbers : SeatView → SeatView → Type 0

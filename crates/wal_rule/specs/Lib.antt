@@ -6,5 +6,7 @@ pub mod Downs
 pub mod Passes
 pub mod Tables
 pub mod Ruled
+pub mod Beginning
+pub mod Opening
 pub mod Called
 pub mod Closing

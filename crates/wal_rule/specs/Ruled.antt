@@ -1,4 +1,5 @@
--- The rule of the table: the machine's invariant of the words, the home slot and the views.
+-- The rule of the table: the machine's invariant of the words, the home slot and the views, and
+-- that moments rise.
 use Rattle.std.specs.Prelude.{◌≡◌, ℕ, List, [], ◌∷◌, length, map}
 use mathlib.Core.Option.{Option, none, some}
 use lib.ListN.{get_elem?}
@@ -7,6 +8,7 @@ use Rattle.wal_core.specs.Words.{Opening}
 use Rattle.wal_core.specs.Views.{Plain}
 use Rattle.wal_core.specs.Sound.{IsSound}
 use Rattle.wal_core.specs.Steps.{slot_out}
+use Rattle.moment_laws.specs.Rising.{MomentsKeepRising}
 use Rattle.wal_rule.specs.declared.writer.LogWriter.{LogWriter}
 use Rattle.wal_rule.specs.Slotted.{IsOfLog, first_on, slot_plain}
 use Rattle.wal_rule.specs.Seats.{HasWriter, SeatLent, SeatView, behind, first_lent, view_on, writer_told}
@@ -35,6 +37,8 @@ module _ {D : Type 0} (tape : D → Rattle.std.specs.Prelude.Option Tape) (momen
       pub of_log : (w : LogWriter D) → get_elem? homes 0 ≡ some (some w)
           → IsOfLog tape faults began opening w
       pub sound : IsSound opening words (home_of homes) (map (view_on (first_on began)) views)
+      pub rises : MomentsKeepRising opening words (home_of homes)
+          (map (view_on (first_on began)) views) sound
 
     -- a seat took this writer of its log out of the slot, behind this number met
     pub record IsOutOf (began : Rattle.std.specs.Prelude.Option Tape) (opening : Opening)

@@ -23,6 +23,7 @@ mod table;
 mod turns;
 mod writer;
 
+pub use opening::OpenErr;
 pub use pass::Pass;
 pub use plays::OfKind;
 pub use seats::{Founding, PassView};

@@ -1,27 +1,45 @@
-// A table is made, of a log that holds nothing.
-ghost use Rattle.std.specs.Prelude.{◌≡◌, [], ◌∷◌, IfErr, IfOk};
+// A table is made, of a log that holds nothing. All its memory is taken before its disk is read.
+ghost use Rattle.std.specs.Prelude.{◌≡◌, [], ◌∷◌, IfErr, IfOk, IfSome, None};
+ghost use Rattle.segment_disk.specs.Tape.{page_of_segment, state_now};
 ghost use Rattle.wal_core.specs.Opened.{AreFirstWords, IsFirstWriter, IsNew};
+ghost use Rattle.wal_rule.specs.Beginning.{IsUncalledWriter, reading_view, waiting_view};
 ghost use Rattle.wal_rule.specs.Founded.{disk_of_founding, founded_opening};
+ghost use Rattle.wal_rule.specs.Opening.{TellsOpenErr};
 ghost use Rattle.wal_rule.specs.Seats.{first_seat_view};
 ghost use Rattle.wal_rule.specs.Slotted.{slot_disk, slot_plain, slot_segment_size};
-ghost use Rattle.wal_rule.specs.Tables.{IsSeatOn};
+ghost use Rattle.wal_rule.specs.Tables.{IsSeatOn, began_of_table, opening_of_table, table_number};
 
+use crate::plays::{BeganOn, Begins, GoesToRead, WaitsAgain};
 use crate::seats::Founding;
 use crate::table::{LogSeat, LogTable};
 use crate::writer::LogWriter;
 use atomic_table::{Refused, Table};
 use segment_disk::Disk;
 use std::alloc::{AllocFailed, Global};
+use std::marker::Brand;
+
+const WRITE_TURN: usize = 11;
+
+/// Why a table was not opened. The disk comes back.
+#[derive(Drop)]
+pub enum OpenErr<D> {
+    /// There is no memory; the disk was not read.
+    Memory(D),
+    /// The read of the first page failed.
+    Disk(D),
+    /// Page 0 of segment 1 is there.
+    NotEmpty(D),
+}
 
 impl<D: Disk> LogTable<D> {
-    /// The table of a log that holds nothing, and the seat of its first pass. Where there is no
-    /// memory the writer comes back.
+    /// The table of a log that holds nothing, and the seat of its first pass. Once it has all its
+    /// memory, it reads page 0 of segment 1, which must not be there: its only device call.
     pub fn open(
         alloc: Global,
         words: &[u64],
         writer: LogWriter<D>,
         founding: &Founding<D>,
-    ) -> Result<(LogTable<D>, LogSeat<D>), LogWriter<D>>
+    ) -> Result<(LogTable<D>, LogSeat<D>), OpenErr<D>>
         requires new { IsNew (founded_opening founding.now) }
         requires words { AreFirstWords (founded_opening founding.now) words.now }
         requires writer { IsFirstWriter (founded_opening founding.now)
@@ -32,22 +50,119 @@ impl<D: Disk> LogTable<D> {
         ensures key { IfOk result (λ t. t.0.table.shared.key ≡ founding.now) }
         ensures seat { IfOk result (λ t. (t.1.me
             ≡ (first_seat_view (founded_opening founding.now), [])) × IsSeatOn t.0 t.1) }
-        ensures back { IfErr result (λ w. w ≡ writer) }
+        ensures empty { IfOk result (λ t. IfSome (D.tape (slot_disk writer))
+            (λ t. page_of_segment (state_now t 1) 0 ≡ None)) }
+        ensures refused { IfErr result
+            (λ e. TellsOpenErr D.tape D.moment D.faults (slot_disk writer) e) }
     {
         let mut slots = Vec::new(alloc);
         if let Err(failed) = slots.push(writer) {
             let AllocFailed { value } = failed;
             slots.destroy_empty();
-            return Err(value);
+            return Err(OpenErr::Memory(value.into_disk()));
         }
         match Table::new(alloc, words, slots, founding) {
-            Ok((table, mut seat)) => {
-                let table = LogTable { table };
-                table.look(&mut seat);
-                Ok((table, seat))
-            }
-            Err(Refused { slots }) => Err(only_one(slots)),
+            Ok((table, seat)) => LogTable { table }.begin::<Brand>(seat),
+            Err(Refused { slots }) => Err(OpenErr::Memory(only_one(slots).into_disk())),
         }
+    }
+
+    // Reads the first page of a table's disk. Where it is not there, the table is begun.
+    fn begin<B: BeganOn>(
+        self,
+        mut seat: LogSeat<D>,
+    ) -> Result<(LogTable<D>, LogSeat<D>), OpenErr<D>>
+        requires new { IsNew (opening_of_table self) }
+        requires table { seat.table_id ≡ table_number self }
+        requires waits { seat.me
+            ≡ (waiting_view (opening_of_table self) (opening_of_table self).faults, []) }
+        requires began { B.began ≡ began_of_table D.tape self }
+        requires counted { D.moment (disk_of_founding self.table.shared.key)
+            ≡ (opening_of_table self).moment }
+        requires failed { D.faults (disk_of_founding self.table.shared.key)
+            ≡ (opening_of_table self).faults }
+        ensures same { IfOk result (λ t. t.0 ≡ self) }
+        ensures seat { IfOk result (λ t. (t.1.me
+            ≡ (first_seat_view (opening_of_table self), [])) × IsSeatOn self t.1) }
+        ensures empty { IfOk result (λ t. IfSome (began_of_table D.tape self)
+            (λ t. page_of_segment (state_now t 1) 0 ≡ None)) }
+        ensures refused { IfErr result (λ e. TellsOpenErr D.tape D.moment D.faults
+            (disk_of_founding self.table.shared.key) e) }
+    {
+        self.lend_to_read::<B>(&mut seat);
+        let writer = seat.slot_mut(&self.table.shared, 0);
+        match writer.has_first_page() {
+            Ok(false) => {
+                self.start(&mut seat);
+                Ok((self, seat))
+            }
+            Ok(true) => Err(OpenErr::NotEmpty(self.end_unbegun(seat))),
+            Err(_) => Err(OpenErr::Disk(self.end_unbegun(seat))),
+        }
+    }
+
+    // Takes the writer, so that its disk is read.
+    fn lend_to_read<B: BeganOn>(&self, seat: &mut LogSeat<D>)
+        requires table { seat.old.table_id ≡ table_number self.now }
+        requires waits { seat.old.me ≡ (
+          waiting_view (opening_of_table self.now)
+              (opening_of_table self.now).faults,
+          [],
+        ) }
+        requires began { B.began ≡ began_of_table D.tape self.now }
+        ensures table { seat.new.table_id ≡ table_number self.now }
+        ensures reads { (w : _) × IsUncalledWriter D.tape D.moment (opening_of_table self.now)
+            (began_of_table D.tape self.now) w
+            × (D.faults (slot_disk w) ≡ (opening_of_table self.now).faults)
+            × (seat.new.me ≡ (reading_view (opening_of_table self.now), (0, w) ∷ [])) }
+    {
+        self.table.shared.load::<GoesToRead<D, B>>(seat, WRITE_TURN);
+    }
+
+    // Gives the writer back, and makes the seat the first pass's.
+    fn start(&self, seat: &mut LogSeat<D>)
+        requires new { IsNew (opening_of_table self.now) }
+        requires table { seat.old.table_id ≡ table_number self.now }
+        requires reads { (w : _) × IsUncalledWriter D.tape D.moment (opening_of_table self.now)
+            (began_of_table D.tape self.now) w
+            × (D.faults (slot_disk w) ≡ (opening_of_table self.now).faults)
+            × (seat.old.me ≡ (reading_view (opening_of_table self.now), (0, w) ∷ [])) }
+        ensures view { seat.new.me ≡ (first_seat_view (opening_of_table self.now), []) }
+        ensures seat { IsSeatOn self.now seat.new }
+    {
+        self.table.shared.load::<Begins>(seat, WRITE_TURN);
+    }
+
+    // Ends a table that is not begun: the disk comes back as it is in the seat's hand.
+    fn end_unbegun(self, mut seat: LogSeat<D>) -> D
+        requires table { seat.table_id ≡ table_number self }
+        requires reads { (w : _) × IsUncalledWriter D.tape D.moment (opening_of_table self)
+            (began_of_table D.tape self) w
+            × (seat.me ≡ (reading_view (opening_of_table self), (0, w) ∷ [])) }
+        ensures disk { (D.tape result ≡ began_of_table D.tape self)
+            × (D.moment result ≡ (opening_of_table self).moment) }
+        ensures failed { (w : _) → seat.me.1 ≡ (0, w) ∷ []
+            → D.faults result ≡ D.faults (slot_disk w) }
+    {
+        self.wait_again(&mut seat);
+        let LogTable { table } = self;
+        let mut closed = table.close_with(seat);
+        let writer = closed.take(0);
+        closed.free();
+        writer.into_disk()
+    }
+
+    // Gives the writer back, with the table not begun.
+    fn wait_again(&self, seat: &mut LogSeat<D>)
+        requires table { seat.old.table_id ≡ table_number self.now }
+        requires reads { (w : _) × IsUncalledWriter D.tape D.moment (opening_of_table self.now)
+            (began_of_table D.tape self.now) w
+            × (seat.old.me ≡ (reading_view (opening_of_table self.now), (0, w) ∷ [])) }
+        ensures table { seat.new.table_id ≡ table_number self.now }
+        ensures waits { (w : _) → seat.old.me.1 ≡ (0, w) ∷ [] → seat.new.me
+            ≡ (waiting_view (opening_of_table self.now) (D.faults (slot_disk w)), []) }
+    {
+        self.table.shared.load::<WaitsAgain<D>>(seat, WRITE_TURN);
     }
 }
 

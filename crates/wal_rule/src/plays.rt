@@ -1,12 +1,14 @@
 // What each step tells its pass: the view behind it.
-ghost use Rattle.std.specs.Prelude.{◌≡◌, [], None, Ok, Option, Result};
+ghost use Rattle.std.specs.Prelude.{◌≡◌, [], ◌∷◌, None, Ok, Option, Result};
 ghost use mathlib.Core.Option.{none};
 ghost use Rattle.segment_disk.specs.Tape.{Tape};
 ghost use Rattle.flush_core.specs.declared.writer.DiskFault.{DiskFault};
 ghost use Rattle.wal_core.specs.Steps.{StepKind, load_position, slot_in};
+ghost use Rattle.wal_rule.specs.Beginning.{IsUncalledWriter, reading_view, waiting_view};
 ghost use Rattle.wal_rule.specs.Called.{DeviceCall, DeviceCallEnds, syncs};
 ghost use Rattle.wal_rule.specs.Ruled.{IsOutOf};
-ghost use Rattle.wal_rule.specs.Seats.{SeatView, behind, no_view, seat_after_join, seat_after_split, seat_orphan, seat_split_off, seat_without_work};
+ghost use Rattle.wal_rule.specs.Seats.{SeatView, behind, first_seat_view, no_view, seat_after_join, seat_after_split, seat_orphan, seat_split_off, seat_without_work};
+ghost use Rattle.wal_rule.specs.Slotted.{slot_disk};
 ghost use Rattle.wal_rule.specs.Stepping.{Meets, Stands};
 
 use crate::seats::PassView;
@@ -103,6 +105,36 @@ pub struct SlotIn;
 
 impl<D> Play<LogWriter<D>, PassView> for SlotIn {
     ghost then = { λ st m r n. (n ≡ (behind slot_in r none m.0, [])) × Stands n.0 };
+}
+
+/// The writer of a table that is not begun goes out, and its disk may be read.
+pub struct GoesToRead<D, B: BeganOn> {
+    disk: PhantomData<D>,
+    began: PhantomData<B>,
+}
+
+impl<D: Disk, B: BeganOn> Play<LogWriter<D>, PassView> for GoesToRead<D, B> {
+    ghost then = { λ st m r n. (w : _)
+        × IsUncalledWriter D.tape D.moment (m.0).opening B.began w
+        × (D.faults (slot_disk w) ≡ (m.0).down_set)
+        × (n ≡ (reading_view (m.0).opening, (0, w) ∷ [])) };
+}
+
+/// The writer comes back, and the table is begun.
+pub struct Begins;
+
+impl<D> Play<LogWriter<D>, PassView> for Begins {
+    ghost then = { λ st m r n. (n ≡ (first_seat_view (m.0).opening, [])) × Stands n.0 };
+}
+
+/// The writer comes back, and the table is still not begun.
+pub struct WaitsAgain<D> {
+    disk: PhantomData<D>,
+}
+
+impl<D: Disk> Play<LogWriter<D>, PassView> for WaitsAgain<D> {
+    ghost then = { λ st m r n. (w : _) → m.1 ≡ (0, w) ∷ []
+        → n ≡ (waiting_view (m.0).opening (D.faults (slot_disk w)), []) };
 }
 
 /// A load that changes nothing of what the pass knows.

@@ -1,9 +1,8 @@
 // The table and its rule.
 ghost use Rattle.std.specs.Prelude.{◌≡◌};
 ghost use Rattle.wal_core.specs.Words.{word_count};
+ghost use Rattle.wal_rule.specs.Beginning.{HoldsRule, waiting_view};
 ghost use Rattle.wal_rule.specs.Founded.{disk_of_founding, founded_opening};
-ghost use Rattle.wal_rule.specs.Ruled.{IsRuled};
-ghost use Rattle.wal_rule.specs.Seats.{first_seat_view};
 
 use crate::seats::{Founding, PassView};
 use crate::writer::LogWriter;
@@ -12,16 +11,16 @@ use segment_disk::Disk;
 use std::alloc::Global;
 use std::marker::PhantomData;
 
-/// The rule of the table of a log on a disk: the machine's invariant.
+/// The rule of the table of a log on a disk: the machine's invariant, once the table is begun.
 pub struct LogRule<D> {
     disk: PhantomData<D>,
 }
 
 impl<D: Disk> TableRule<LogWriter<D>, PassView, Founding<D>> for LogRule<D> {
-    ghost holds = { λ key s. IsRuled D.tape D.moment D.faults (founded_opening key)
+    ghost holds = { λ key s. HoldsRule D.tape D.moment D.faults (founded_opening key)
         (D.tape (disk_of_founding key)) s.words s.homes s.views };
 
-    ghost first = { λ key. first_seat_view (founded_opening key) };
+    ghost first = { λ key. waiting_view (founded_opening key) key.faults };
 }
 
 /// A seat of the table: what one backend steps with.

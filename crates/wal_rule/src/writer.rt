@@ -1,7 +1,8 @@
 // The writer in the table's slot.
-ghost use Rattle.std.specs.Prelude.{◌≡◌, ◌*◌, ◌/◌, ◌<◌, ◌≤◌, ◌^◌, Some};
+ghost use Rattle.std.specs.Prelude.{◌≡◌, ◌↔◌, ◌*◌, ◌/◌, ◌<◌, ◌≤◌, ◌^◌, IfOk, IfSome, IsSome, IsTrue, Some};
 ghost use Rattle.byte_position.specs.Geometry.{pages_of};
-ghost use Rattle.segment_disk.specs.Tape.{create_call, sync_call, write_call};
+ghost use Rattle.segment_disk.specs.Cause.{HasCause};
+ghost use Rattle.segment_disk.specs.Tape.{IsUncalled, create_call, page_of_segment, state_now, sync_call, write_call};
 ghost use Rattle.wal_core.specs.declared.setup.Setup.{Setup};
 ghost use Rattle.wal_core.specs.Moves.{after_create, after_sync, after_write};
 ghost use Rattle.wal_core.specs.Opened.{IsFirstWriter};
@@ -157,6 +158,18 @@ impl<D: Disk> LogWriter<D> {
         }
     }
 
+    /// Whether page 0 of segment 1 is there.
+    pub(crate) fn has_first_page(&mut self) -> Result<bool, Failed>
+        ensures there { IfOk result (λ there. IfSome (D.tape (slot_disk self.old)) (λ t.
+            IsTrue there ↔ IsSome (page_of_segment (state_now t 1) 0))) }
+        ensures same { slot_plain D.tape D.moment self.new ≡ slot_plain D.tape D.moment self.old }
+        ensures size { slot_segment_size self.new ≡ slot_segment_size self.old }
+        ensures cause { HasCause (D.faults (slot_disk self.old)) (D.faults (slot_disk self.new))
+            result }
+    {
+        read_first_page(&mut self.disk, self.geometry)
+    }
+
     // Keeps the disk's count of faults.
     fn fail(&mut self, _failed: Failed) -> DiskFault
         ensures told { result.faults ≡ D.faults self.old.disk }
@@ -166,6 +179,17 @@ impl<D: Disk> LogWriter<D> {
         self.fault = Some(faults);
         DiskFault { faults }
     }
+}
+
+// Whether page 0 of segment 1 is there.
+fn read_first_page<D: Disk>(disk: &mut D, geometry: Geometry) -> Result<bool, Failed>
+    ensures there { IfOk result (λ there. IfSome (D.tape disk.old) (λ t.
+        IsTrue there ↔ IsSome (page_of_segment (state_now t 1) 0))) }
+    ensures uncalled { IsUncalled D.tape D.moment disk.old disk.new }
+    ensures cause { HasCause (D.faults disk.old) (D.faults disk.new) result }
+{
+    let mut page = [0; PAGE_SIZE as usize];
+    disk.read_page(geometry, 1, 0, &mut page)
 }
 
 // The law of plain numbers.

@@ -1,20 +1,20 @@
--- A full answer that is found is among all, and where none is found so far none is.
-use Rattle.std.proofs.Common.{inl, inr}
-use Rattle.wal_types.specs.declared.lsn.Lsn.{Lsn}
-use Rattle.told_lines.specs.declared.told.Told.TheVariants.{Wrote}
-use Rattle.told_lines.specs.Told.{IsFullAnswer}
-use Rattle.told_lines.proofs.AnswerLoops.{SomeAnswer-take, SomeAnswer-get_or}
+use Rattle.std.proofs.Common.{◌≡◌, true, rules, tests}
+use Rattle.std.proofs.lemmas.Iterator.{cases_from_any, YieldsList-from_slice}
+use Rattle.std.specs.Prelude.{◌↔◌, IsTrue}
+use Rattle.told_lines.specs.Told.{IsFullAnswer, SomeAnswer, SomeTold}
+use Rattle.backend_lanes.specs.Backends.{lists_of}
+use Rattle.backend_lanes.specs.declared.backend.Backend.{Backend}
+use Rattle.backend_cli.proofs.AnySome.{some_from_any}
 use Rattle.backend_cli.proofs.run.found_full.Goals as goal
 
-pub returns-then-is_full-clause-full : goal.returns-then-is_full-clause-full
-returns-then-is_full-clause-full c =
-    let none : Lsn = record { 0 = 0 } in
-    λ found. SomeAnswer-get_or IsFullAnswer c.args.told.now c.loop-answer.answer-index (Wrote none none) c.loop-answer-test.true (c.is_full.ensures.0 c.if-is_full.true)
-
-pub loop-answer-preserved : goal.loop-answer-preserved
-loop-answer-preserved c =
-    let none : Lsn = record { 0 = 0 } in
-    λ some. elim (SomeAnswer-take IsFullAnswer c.args.told.now c.loop-answer.answer-index (Wrote none none) c.loop-answer-test.true some) [
-      | inl before ↦ c.loop-answer.invariant before
-      | inr here ↦ (let found = c.is_full.ensures.1 here in let no : ⊥ = cc in no)
-    ]
+pub returns : goal.returns
+returns c =
+    let backends = c.args.backends.now in
+    let Finds : Backend → Type 0 = λ b. SomeAnswer IsFullAnswer b.told.items in
+    let decides : IsTrue c.any.result ↔ SomeTold IsFullAnswer (lists_of backends) =
+    some_from_any (λ bs. SomeTold IsFullAnswer (lists_of bs)) Finds (λ none. none) (λ x xs found. found) (λ x xs found. found) backends c.any.result
+    (cases_from_any _ _ _ Finds (λ b. Finds b → ⊥) c.any.ensures.ran (YieldsList-from_slice backends cc) (λ x q k. search (rules, tests)) (λ x q k. search (rules, tests))) in
+    record {
+      full = decides.0;
+      room = λ fails found. (let is : c.any.result ≡ true = decides.1 found in cc);
+    }

@@ -1,97 +1,131 @@
--- The lines are played from the log's opening on, the log is flushed to its end, and what was told is printed.
-use Rattle.std.proofs.Common.{◌≡◌, ◌+◌, length, ap, ◌≤◌, ◌^◌, sym, ◌∙◌, subst, ℕ, arith, rules}
-use Rattle.std.specs.Prelude.{not}
-use Rattle.byte_position.specs.Geometry.{IsSegmentSize}
-use Rattle.serial_log.specs.declared.shape.Shape.{Shape}
-use Rattle.serial_log.specs.LogState.{log_disk}
-use Rattle.byte_position.specs.Position.{end_address_of, first_position}
-use Rattle.serial_log.specs.History.{at_opening, end_of}
+-- The lines are played from the log's opening on, and what was told is printed.
+use Rattle.std.proofs.Common.{◌≡◌, List, [], arith, subst, sym}
 use Rattle.told_lines.specs.Rooms.{capacity_of}
-use Rattle.serial_log.specs.Opening.{RefusesToOpen}
-use Rattle.serial_log.specs.Steps.{Flushes}
-use Rattle.told_lines.proofs.Capacities.{capacity_of-le}
-use Rattle.wal_script.specs.Bodies.{AreLinesOf}
-use Rattle.backend_cli.specs.Printing.{Summarizes, printed_text}
-use Rattle.backend_cli.specs.Concluding.{Concludes}
+use Rattle.told_lines.specs.declared.told.Told.{Told}
+use Rattle.backend_lanes.specs.Backends.{lists_of}
 use Rattle.backend_cli.specs.Outside.{outside_of}
-use Rattle.backend_cli.specs.Run.{RunHolds}
-use Rattle.backend_cli.specs.declared.outcome.Outcome.TheVariants.{DiskFault, NotEmpty}
-use Rattle.backend_cli.specs.Steps.{Plays, events_of}
-use Rattle.told_lines.specs.Moments.{MomentsRise}
-use Rattle.waldump_text.specs.Put.{Puts}
-use Rattle.backend_cli.proofs.LastFlush.{behind_flush}
-use Rattle.backend_cli.proofs.OwnEnds.{own_at_opening}
-use Rattle.backend_cli.proofs.PlayLaws.{length-AreLinesOf}
-use Rattle.backend_cli.proofs.MomentLaws.{tracked_at_opening}
-use Rattle.serial_log.proofs.StepLaws.{IsSameLog-trans}
-use Rattle.backend_cli.proofs.RunLaws.{opened_holds, failed_to_open, found_a_log, no_memory}
+use Rattle.backend_cli.specs.Run.{PlayHolds}
+use Rattle.backend_cli.specs.declared.outcome.Outcome.{Outcome}
+use Rattle.backend_cli.specs.declared.outcome.Outcome.TheVariants.{OutOfMemory}
+use Rattle.backend_cli.proofs.RunBackends.{all_answered, as_many_prepared, as_many_told, told_holds}
+use Rattle.backend_cli.proofs.RunEnds.{no_memory}
+use Rattle.backend_cli.proofs.RunLaws.{end_told, few_reserved, opened_holds}
+use Rattle.backend_cli.proofs.RunUnopened.{same_without_memory, unopened_holds}
 use Rattle.backend_cli.proofs.run.run_prepared.Goals as goal
 
-pub returns-clause-holds : goal.returns-clause-holds
-returns-clause-holds g c = λ before after asked means ready.
+pub overflow_cast-len : goal.overflow_cast-len
+overflow_cast-len g c =
+    let ready = c.requires.prepared in
+    omega (arith, c.len.ensures, as_many_prepared ready.0 c.args.room ready.1, (ready.1).few)
+
+pub setup_of-setup-requires-clause-few : goal.setup_of-setup-requires-clause-few
+setup_of-setup-requires-clause-few g c =
+    let ready = c.requires.prepared in
+    omega (arith, c.len.ensures, as_many_prepared ready.0 c.args.room ready.1, (ready.1).few)
+
+pub conclude-requires-clause-answered : goal.conclude-requires-clause-answered
+conclude-requires-clause-answered g c =
+    let ready = c.requires.prepared in
+    let played = c.play_backends-played.ensures ready.0 (ready.1).lines in
+    all_answered ready.0 c.play_backends-played.result.backends.items played.each
+
+pub conclude-requires-clause-few_backends : goal.conclude-requires-clause-few_backends
+conclude-requires-clause-few_backends g c =
+    let ready = c.requires.prepared in
+    let played = c.play_backends-played.ensures ready.0 (ready.1).lines in
+    omega (
+      arith,
+      as_many_told ready.0 c.play_backends-played.result.backends.items played.each,
+      (ready.1).few,
+    )
+
+pub conclude-requires-clause-few : goal.conclude-requires-clause-few
+conclude-requires-clause-few g c =
+    let ready = c.requires.prepared in
+    let played = c.play_backends-played.ensures ready.0 (ready.1).lines in
+    few_reserved _ _ _ _ c.args.options.now _ _ c.setup_of-setup.ensures.value _ _
+    c.in-Ok.ensures.opened c.calls_are_counted.ensures _ _ _ played
+
+pub conclude-requires-clause-end : goal.conclude-requires-clause-end
+conclude-requires-clause-end g c =
+    let ready = c.requires.prepared in
+    let played = c.play_backends-played.ensures ready.0 (ready.1).lines in (
+      _,
+      end_told _ _ _ _ c.args.options.now _ _ c.setup_of-setup.ensures.value _ _
+          c.in-Ok.ensures.opened c.calls_are_counted.ensures _ _ _ played,
+    )
+
+-- ---- the log was opened
+
+pub returns-in-Ok-clause-holds : goal.returns-in-Ok-clause-holds
+returns-in-Ok-clause-holds g c = λ before after script ready.
     let tape = g.D.Disk.tape in
     let moment = g.D.Disk.moment in
     let faults = g.D.Disk.faults in
+    let sunk = g.O.Sink.taken in
+    let sink_faults = g.O.Sink.faults in
+    let options = c.args.options.now in
     let disk = c.args.disk in
-    let opened = c.in-Ok.log in
-    let played_log = c.play.new.log in
-    let log = c.flush.new.self in
-    let told = c.play.new.told.items in
-    let size = c.args.shape.geometry in
-    let capacity = capacity_of size c.args.shape.cap_segments in
-    let are = subst (AreLinesOf asked) (sym c.deref.ensures.value) ready.lines in
-    let played = c.play.ensures.plays asked are (tape disk) (faults disk) (at_opening opened.size) c.in-Ok.ensures.opened in
-    let flushed = c.flush.ensures.flushes (tape disk) (faults disk) played.0 played.2 in
-    let same = IsSameLog-trans opened played_log log c.play.ensures.same c.flush.ensures.leaves.same_log in
-    let made = c.in-Ok.ensures.shape in
-    let size_is : opened.size ≡ size = made.0 ∙ ap (λ (r : Shape). r.geometry) ready.log in
-    let capacity_is : opened.capacity ≡ capacity = made.1 ∙ ap (λ (r : Shape). capacity_of r.geometry r.cap_segments) ready.log in
-    let by_size = subst (λ (n : ℕ). Plays n opened.capacity (faults disk) (at_opening n) (events_of 0 asked told) played.0) size_is (played.1 (own_at_opening opened.size 0)) in
-    let plays = subst (λ (n : ℕ). Plays size n (faults disk) (at_opening size) (events_of 0 asked told) played.0) capacity_is by_size in
-    let valid : IsSegmentSize c.args.shape.geometry = search rules in
-    let small : capacity ≤ 2 ^ 42 = capacity_of-le size c.args.shape.cap_segments valid c.args.shape.cap_high in
-    let end = c.end-end.result.0 in
-    let all : end ≡ end_of played_log.size played.0.entries = c.end-end.ensures ∙ ap (λ (n : ℕ). end_address_of played_log.size (first_position played_log.size + n)) played.2.bytes in
-    let all_now : end ≡ end_of log.size played.0.entries = subst (λ (n : ℕ). end ≡ end_of n played.0.entries) (sym c.flush.ensures.leaves.same_log.size) all in
-    let behind = behind_flush log.size (faults disk) played.0 end all_now c.flush.result flushed.0 (subst (λ (n : ℕ). Flushes n (faults disk) played.0 end c.flush.result flushed.0) (sym c.flush.ensures.leaves.same_log.size) flushed.1) in
-    let summarizes = subst (λ t. Summarizes size log.bytes t c.summary_of-summary.result) c.deref-in-Ok.ensures.value c.summary_of-summary.ensures in
-    let puts = subst (λ t. Puts (g.O.Sink.taken c.args.out.now) (g.O.Sink.taken c.print.new.out) (g.O.Sink.faults c.args.out.now) (g.O.Sink.faults c.print.new.out) (printed_text c.args.list c.args.prepared.lines.items t c.summary_of-summary.result) c.print.result) c.deref-in-Ok-3.ensures.value
-    (subst (λ t. Puts (g.O.Sink.taken c.args.out.now) (g.O.Sink.taken c.print.new.out) (g.O.Sink.faults c.args.out.now) (g.O.Sink.faults c.print.new.out) (printed_text c.args.list t c.deref-in-Ok-3.result.now c.summary_of-summary.result) c.print.result) c.deref-in-Ok-2.ensures.value c.print.ensures) in
-    let concludes = subst (λ b. Concludes c.down.result told (not b) c.conclusion.result) c.is_ok-is_printed.ensures.value
-    (subst (λ t. Concludes c.down.result t (not c.is_ok-is_printed.result) c.conclusion.result) c.deref-in-Ok-4.ensures.value c.conclusion.ensures) in
-    let same_length : length asked ≡ length told = omega (arith, length-AreLinesOf asked c.deref.result.now are, c.play.ensures.each) in
-    let reached = c.play.ensures.moments _ (tracked_at_opening _ tape moment faults disk opened c.in-Ok.ensures.opened c.in-Ok.ensures.moment c.in-Ok.ensures.uncalled.same_moment) in
-    let rises : MomentsRise (moment disk) told (moment (log_disk log)) = (reached.0, reached.1, omega (arith, reached.2.kept, reached.2.within, c.flush.ensures.leaves.moment_never_falls)) in
-    opened_holds _ tape moment faults disk log played.0 flushed.0 flushed.2 behind size capacity c.args.list c.conclusion.result asked c.args.prepared.lines.items told c.summary_of-summary.result _ _ _ _ c.print.result before after c.down.result c.into_disk.result c.one.result
-    (same.size ∙ size_is) (same.capacity ∙ capacity_is) small (same.sysid ∙ made.2) c.into_disk.ensures.disk c.one.ensures same_length plays means ready.lines summarizes puts c.down.ensures concludes rises c.in-Ok.ensures.empty (g.met.D.Disk.counts disk)
-    (c.into_disk.ensures.settled (tape disk) (faults disk) flushed.0 flushed.2)
+    let out = c.args.out.now in
+    let out_now = c.conclude.new.out in
+    let outcome = c.conclude.result.outcome in
+    let closed = c.play_backends-played.result.closed in
+    let backends = c.play_backends-played.result.backends.items in
+    let size = options.geometry in
+    let capacity = capacity_of size options.cap_segments in
+    let played = c.play_backends-played.ensures script ready.lines in
+    let setup_is = c.setup_of-setup.ensures.value in
+    let opened = c.in-Ok.ensures.opened in
+    let counts = c.calls_are_counted.ensures in
+    let concluded = c.conclude.ensures.concluded _
+    (end_told _ _ _ _ options _ _ setup_is _ _ opened counts _ _ _ played) in
+    let holds = told_holds
+    (outside_of before after tape moment faults disk closed.disk sunk sink_faults out out_now)
+    size capacity options.list outcome script backends ready.some played.each
+    (opened_holds _ _ _ _ options _ _ setup_is _ _ opened counts _ _ _ played
+    sunk sink_faults out out_now before after outcome concluded) in
+    subst (λ (lists : List (List Told)). PlayHolds
+    (outside_of before after tape moment faults disk c.conclude.result.disk sunk sink_faults
+    out out_now) size capacity options.list outcome script lists) (sym c.conclude.ensures.told)
+    (subst (λ d. PlayHolds
+    (outside_of before after tape moment faults disk d sunk sink_faults out out_now)
+    size capacity options.list outcome script (lists_of backends))
+    (sym c.conclude.ensures.disk) holds)
 
-pub returns-clause-no_memory : goal.returns-clause-no_memory
-returns-clause-no_memory g c = λ is. no_memory _ _ _ _ c.conclusion.ensures is
+pub returns-in-Ok-clause-as_handed_in : goal.returns-in-Ok-clause-as_handed_in
+returns-in-Ok-clause-as_handed_in g c = λ is.
+    let ready = c.requires.prepared in
+    let played = c.play_backends-played.ensures ready.0 (ready.1).lines in
+    let concluded = c.conclude.ensures.concluded _
+    (end_told _ _ _ _ c.args.options.now _ _ c.setup_of-setup.ensures.value _ _
+    c.in-Ok.ensures.opened c.calls_are_counted.ensures _ _ _ played) in
+    absurd (no_memory _ _ _ _ concluded.concludes is)
 
--- the log was not opened
-pub returns-in-Err-Disk-clause-holds : goal.returns-in-Err-Disk-clause-holds
-returns-in-Err-Disk-clause-holds g c = λ before after asked means ready.
+-- ---- it was not
+
+pub returns-in-Err-clause-holds : goal.returns-in-Err-clause-holds
+returns-in-Err-clause-holds g c = λ before after script ready.
     let tape = g.D.Disk.tape in
     let moment = g.D.Disk.moment in
     let faults = g.D.Disk.faults in
-    let taken = g.O.Sink.taken in
-    let sink = g.O.Sink.faults in
-    let size = c.args.shape.geometry in
-    let capacity = capacity_of size c.args.shape.cap_segments in
-    let refused = subst (RefusesToOpen tape moment faults c.args.disk) c.in-Err-Disk.field-0-is c.in-Err-Disk.ensures.refused in
-    let holds = failed_to_open _ tape moment faults c.args.disk c.in-Err-Disk.disk (taken c.args.out.now) (sink c.args.out.now) size capacity c.args.list before after asked c.none.result refused means c.none.ensures in
-    subst (λ d. RunHolds (outside_of before after tape moment faults c.args.disk d taken sink c.args.out.now c.args.out.now) size capacity c.args.list DiskFault c.none.result) (sym c.in-Err-Disk.disk-is) holds
+    let sunk = g.O.Sink.taken in
+    let sink_faults = g.O.Sink.faults in
+    let options = c.args.options.now in
+    let out = c.args.out.now in
+    let size = options.geometry in
+    let capacity = capacity_of size options.cap_segments in
+    let outside = outside_of before after tape moment faults c.args.disk c.in-Err.fault.disk sunk
+    sink_faults out out in
+    let holds = unopened_holds tape moment faults c.setup_of-setup.result
+    c.setup_of-setup.ensures.can_be c.args.disk c.in-Err.fault.disk sunk sink_faults out before
+    after script size capacity options.list c.in-Err.fault.kind c.in-Err.ensures.refused in
+    subst (PlayHolds outside size capacity options.list c.outcome_unopened.result script)
+    (sym c.none.ensures)
+    (subst (λ (outcome : Outcome). PlayHolds outside size capacity options.list outcome script [])
+    (sym c.outcome_unopened.ensures) holds)
 
-pub returns-in-Err-NotEmpty-clause-holds : goal.returns-in-Err-NotEmpty-clause-holds
-returns-in-Err-NotEmpty-clause-holds g c = λ before after asked means ready.
-    let tape = g.D.Disk.tape in
-    let moment = g.D.Disk.moment in
-    let faults = g.D.Disk.faults in
-    let taken = g.O.Sink.taken in
-    let sink = g.O.Sink.faults in
-    let size = c.args.shape.geometry in
-    let capacity = capacity_of size c.args.shape.cap_segments in
-    let refused = subst (RefusesToOpen tape moment faults c.args.disk) c.in-Err-NotEmpty.field-0-is c.in-Err-NotEmpty.ensures.refused in
-    let holds = found_a_log _ tape moment faults c.args.disk c.in-Err-NotEmpty.disk (taken c.args.out.now) (sink c.args.out.now) size capacity c.args.list before after asked c.none-in-Err-NotEmpty.result refused means c.none-in-Err-NotEmpty.ensures in
-    subst (λ d. RunHolds (outside_of before after tape moment faults c.args.disk d taken sink c.args.out.now c.args.out.now) size capacity c.args.list NotEmpty c.none-in-Err-NotEmpty.result) (sym c.in-Err-NotEmpty.disk-is) holds
+pub returns-in-Err-clause-as_handed_in : goal.returns-in-Err-clause-as_handed_in
+returns-in-Err-clause-as_handed_in g c = λ is.
+    same_without_memory g.D.Disk.tape g.D.Disk.moment g.D.Disk.faults c.setup_of-setup.result
+    c.setup_of-setup.ensures.can_be c.args.disk c.in-Err.fault.disk c.in-Err.fault.kind
+    c.in-Err.ensures.refused (subst (λ (o : Outcome). o ≡ OutOfMemory) c.outcome_unopened.ensures is)

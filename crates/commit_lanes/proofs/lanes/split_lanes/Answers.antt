@@ -1,12 +1,20 @@
-use Rattle.std.proofs.Common.{Vec, Global, List, length, ap, arith, subst, sym}
-use Rattle.std.proofs.lemmas.List.Elements.{All-nil}
+use Rattle.std.proofs.Common.{◌≡◌, ◌++◌, [], ◌∷◌, Vec, Global, List, length, map, ap, arith, subst, sym}
+use Rattle.std.proofs.lemmas.List.Elements.{All-nil, All-push}
 use Rattle.wal_rule.specs.Passes.{view_of_pass}
 use Rattle.wal_rule.specs.Seats.{SeatView}
 use Rattle.wal_log.specs.Logs.{setup_of_log}
-use Rattle.commit_lanes.specs.Lanes.{AreLanesOf, IsCommitLane, ShareNumbers}
+use Rattle.wal_log.specs.declared.wal.Wal.{Wal}
+use Rattle.pass_numbers.specs.Sharing.{ShareNumbers}
+use Rattle.pass_numbers.proofs.Lanes.{views_with_one_more}
+use Rattle.commit_lanes.specs.Lanes.{AreLanesOf, IsCommitLane, view_of_lane}
 use Rattle.commit_lanes.specs.declared.lane.Commit.{Commit}
-use Rattle.commit_lanes.proofs.Numbers.{first_shares, more_lanes, split_shares}
+use Rattle.commit_lanes.specs.declared.lane.Lane.{Lane}
 use Rattle.commit_lanes.proofs.lanes.split_lanes.Goals as goal
+
+one_lane_more : {D : Type 0} (wal : Wal D) (old new : List Lane) (lane : Lane)
+    → new ≡ old ++ lane ∷ [] → AreLanesOf wal old → IsCommitLane wal lane → AreLanesOf wal new
+one_lane_more wal old new lane pushed all one =
+    subst (AreLanesOf wal) (sym pushed) (All-push (IsCommitLane wal) old lane all one)
 
 pub loop-commits-init : goal.loop-commits-init
 loop-commits-init g c =
@@ -18,11 +26,15 @@ loop-commits-init g c =
       c.requires.pass,
       (let asked = c.requires.spare in let vec = c.args.work.ok.0 in omega (arith, len, asked, vec)),
       subst (AreLanesOf c.args.log.now) (sym none) (All-nil (IsCommitLane c.args.log.now)),
-      subst (ShareNumbers passes first) (sym none) (first_shares passes first c.requires.numbers),
+      subst (λ (lanes : List Lane). ShareNumbers passes first (map (λ lane. view_of_lane lane) lanes))
+          (sym none) (c.passes_share_numbers.ensures.none passes first c.requires.numbers),
     )
 
 pub loop-commits-preserved : goal.loop-commits-preserved
 loop-commits-preserved g c =
+    let passes = (setup_of_log c.args.log.now).passes in
+    let first = view_of_pass c.loop-commits.first in
+    let lanes = c.loop-commits.lanes.items in
     let left = c.split-pass.ensures.left in
     let right = c.split-pass.ensures.right in
     let mine = (c.loop-commits.invariant.0).of_log.numbers in
@@ -35,9 +47,11 @@ loop-commits-preserved g c =
       (let enough = c.loop-commits.invariant.1 in
           let a = mine.low in let b = mine.high in let x = theirs.low in let y = theirs.high in
           omega (arith, enough, next, a, b, x, y, low, high)),
-      more_lanes c.args.log.now _ _ _ pushed (view_of_pass c.loop-commits.first)
-          c.loop-commits.invariant.2 right.0 right.1,
-      split_shares (setup_of_log c.args.log.now).passes (view_of_pass c.loop-commits.first)
-          (view_of_pass c.split-pass.new.pass) _ _ _ pushed c.seats_keep_numbers.ensures.split
-          left.1 right.1 c.loop-commits.invariant.3,
+      one_lane_more c.args.log.now _ _ _ pushed c.loop-commits.invariant.2 (record {
+        pass = right.0;
+        none_to_give = ap (λ (v : SeatView). (v.reserving).spare_end) right.1;
+      }),
+      rw (left.1, views_with_one_more (λ lane. view_of_lane lane) _ _ _ _ pushed right.1)
+          (c.passes_share_numbers.ensures.split passes first
+          (map (λ lane. view_of_lane lane) lanes) c.loop-commits.invariant.3),
     )

@@ -5,18 +5,22 @@ use Rattle.wal_rule.specs.Called.{DeviceCallEnds, IsCalled}
 use Rattle.wal_rule.specs.Seats.{SeatView}
 use Rattle.wal_rule.specs.Tables.{opening_of_table}
 use Rattle.wal_rule.proofs.DeviceSteps.{call_steady, catches_up}
+use Rattle.wal_rule.proofs.Live.{kept_step, live_held}
 use Rattle.wal_rule.proofs.table.LogTable.catch_up.Goals as goal
 
 pub load-requires : goal.load-requires
 load-requires g c = (
   c.requires.seat.of_table,
   omega (arith, c.args.self.now.wide),
-  catches_up g.D.Disk.tape g.D.Disk.moment g.D.Disk.faults (opening_of_table c.args.self.now) _
+  λ s h one here fits. kept_step
+      (catches_up g.D.Disk.tape g.D.Disk.moment g.D.Disk.faults (opening_of_table c.args.self.now) _
       g.B.OfCall.call g.B.OfCall.ended c.args.seat.now.me c.requires.seat.own
       (subst (λ (d : Rattle.std.specs.Prelude.Option Tape). IsCalled g.D.Disk.tape
       g.D.Disk.moment g.D.Disk.faults d (opening_of_table c.args.self.now) g.B.OfCall.call g.B.OfCall.ended c.args.seat.now.me)
       c.requires.began c.requires.called)
-      _ _ c.requires.seat.live c.requires.may _ c.requires.began _ c.requires.seat.own,
+      _ _ c.requires.seat.live c.requires.may _ c.requires.began _ c.requires.seat.own s
+      (live_held g.D.Disk.tape g.D.Disk.moment g.D.Disk.faults _ _ _ _ c.requires.seat.live s h here)
+      one here fits),
 )
 
 pub returns-clause-ended : goal.returns-clause-ended

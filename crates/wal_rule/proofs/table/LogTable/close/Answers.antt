@@ -2,6 +2,7 @@ use Rattle.std.proofs.Common.{◌<◌, arith}
 use Rattle.std.specs.Slots.{slots_len}
 use Rattle.wal_rule.specs.Tables.{began_of_table, opening_of_table}
 use Rattle.wal_rule.proofs.Closes.{closes}
+use Rattle.wal_rule.proofs.Live.{live_ends}
 use Rattle.wal_rule.proofs.table.LogTable.close.Goals as goal
 
 pub word-position-requires : goal.word-position-requires
@@ -22,5 +23,8 @@ pub returns : goal.returns
 returns g c = closes g.D.Disk.tape g.D.Disk.moment g.D.Disk.faults
     (opening_of_table c.args.self) (began_of_table g.D.Disk.tape c.args.self)
     c.args.seat.id c.args.seat.me.0 c.requires.seat.live c.requires.rests c.requires.numbers
-    _ _ c.take-writer.result c.word-position.result c.close_with-closed.ensures.values.2
+    _ _ c.take-writer.result c.word-position.result
+    (live_ends g.D.Disk.tape g.D.Disk.moment g.D.Disk.faults (opening_of_table c.args.self)
+    (began_of_table g.D.Disk.tape c.args.self) c.args.seat.id c.args.seat.me.0
+    c.requires.seat.live _ _ c.close_with-closed.ensures.values.2)
     c.take-writer.ensures.value c.word-position.ensures

@@ -2,14 +2,18 @@ use Rattle.std.proofs.Common.{arith, subst}
 use Rattle.wal_core.specs.Words.{Opening}
 use Rattle.wal_rule.specs.Ruled.{IsOutOf}
 use Rattle.wal_rule.proofs.Allowed.{goes_out}
+use Rattle.wal_rule.proofs.Live.{kept_step, live_held}
 use Rattle.wal_rule.proofs.table.LogTable.slot_out_on.Goals as goal
 
 pub load-requires : goal.load-requires
 load-requires g c = (
   c.requires.seat.of_table,
   omega (arith, c.args.self.now.wide),
-  goes_out g.D.Disk.tape g.D.Disk.moment g.D.Disk.faults _ _ _ _ _ c.requires.seat.live
-      c.requires.may _ c.requires.began _ c.requires.seat.own,
+  λ s h one here fits. kept_step
+      (goes_out g.D.Disk.tape g.D.Disk.moment g.D.Disk.faults _ _ _ _ _ c.requires.seat.live
+      c.requires.may _ c.requires.began _ c.requires.seat.own s
+      (live_held g.D.Disk.tape g.D.Disk.moment g.D.Disk.faults _ _ _ _ c.requires.seat.live s h here)
+      one here fits),
 )
 
 pub returns-clause-out : goal.returns-clause-out

@@ -1,0 +1,511 @@
+-- What a line leaves of a player, by what the log answered.
+use Rattle.std.specs.Prelude.{Result, Ok, Err, Option, Some, None}
+use Rattle.std.proofs.Common.{◌≡◌, ◌⊎◌, ℕ, ◌<◌, ◌≤◌, max, List, [], ◌∷◌, ◌++◌, refl, sym, ap, ◌∙◌, subst, inl, inr, arith}
+use Rattle.std.proofs.lemmas.Bool.{cases_lt}
+use Rattle.byte_position.specs.Geometry.{IsSegmentSize}
+use Rattle.byte_position.specs.Position.{end_address_of, first_position}
+use Rattle.byte_position.proofs.EndAddresses.{end_address_of-mono, le-position_of}
+use Rattle.wal_types.specs.declared.lsn.Lsn.{Lsn}
+use Rattle.wal_types.specs.declared.record.Record.{Record}
+use Rattle.record_spelling.specs.Spelling.{Assembled, IsWritable, assembled}
+use Rattle.wal_page.specs.Order.{Entry, assembled_room_at, finish_of, position_behind, start_of}
+use Rattle.log_answers.specs.declared.Cause.{Cause}
+use Rattle.log_answers.specs.declared.Cause.TheVariants as causes
+use Rattle.log_answers.specs.declared.Hard as hard
+use Rattle.log_answers.specs.declared.Receipt.{Receipt}
+use Rattle.log_answers.specs.declared.Refused as refused
+use Rattle.log_answers.specs.declared.Sealed.{Sealed}
+use Rattle.told_lines.specs.Answered.{told_of_commit, told_of_insert}
+use Rattle.told_lines.specs.declared.told.Told.{Told}
+use Rattle.told_lines.specs.declared.told.Told.TheVariants.{Wrote, Hard, Flushed, Refused}
+use Rattle.wal_script.specs.Asked.{Asked, Commit, Flush, Insert}
+use Rattle.wal_script.specs.Bodies.{IsActionOf, IsBodyOf}
+use Rattle.wal_script.specs.declared.line.Action.TheVariants as actions
+use Rattle.wal_core.specs.declared.setup.Setup.{Setup}
+use Rattle.wal_core.specs.Moves.{entry_reserved}
+use Rattle.wal_core.specs.Words.{Opening, end_form, log_limit}
+use Rattle.wal_rule.specs.Downs.{KnowsDown}
+use Rattle.wal_rule.specs.Passes.{view_of_pass}
+use Rattle.wal_rule.specs.Seats.{SeatView}
+use Rattle.wal_rule.specs.declared.pass.Pass.{Pass}
+use Rattle.wal_log.specs.declared.flushing.FlushErr.{FlushErr}
+use Rattle.wal_log.specs.declared.flushing.FlushErr.TheVariants as flushes
+use Rattle.wal_log.specs.declared.inserting.InsertErr.{InsertErr}
+use Rattle.wal_log.specs.declared.inserting.InsertErr.TheVariants as inserts
+use Rattle.wal_log.specs.declared.wal.Wal.{Wal}
+use Rattle.wal_log.specs.Committing.{AnswersCommit, RefusesCommit, commit_known_down, refused_of_insert}
+use Rattle.wal_log.specs.Flushing.{AnswersFlush, IsUnreserved, flush_err_known_down}
+use Rattle.wal_log.specs.Inserting.{AnswersInsert, IsOwnEntry, IsStarted, RefusesInsert}
+use Rattle.wal_log.specs.Logs.{IsPassOfLog, setup_of_log}
+use Rattle.wal_log.specs.PassLogs.{PassLog, log_of_pass, log_with_entry}
+use Rattle.wal_log.specs.Standing.{KeepsPass}
+use Rattle.wal_log.proofs.CommitLaws.{never_both}
+use Rattle.run_laws.specs.Played.{Leaves, PlaysLine, RefusesRecordLine, Reserves, behind_last_own, end_of_own}
+use Rattle.run_laws.specs.Reached.{EndsBy}
+use Rattle.backend_lanes.specs.declared.player.Player.{Player}
+use Rattle.backend_lanes.specs.Players.{IsPlayerOf, IsReserved, LeavesPlayer, PlaysAnswer, state_of_view, view_of_player}
+
+-- ---- the end of a pass's own last entry
+
+pub behind_last_own-append : (size behind : ℕ) (es : List Entry) (e : Entry)
+    → behind_last_own size behind (es ++ e ∷ []) ≡ position_behind size e
+behind_last_own-append size behind [] e = refl
+behind_last_own-append size behind (x ∷ es) e =
+    behind_last_own-append size (position_behind size x) es e
+
+pub end_of_own-append : (size : ℕ) (es : List Entry) (e : Entry)
+    → end_of_own size (es ++ e ∷ []) ≡ finish_of size e
+end_of_own-append size es e =
+    ap (end_address_of size) (behind_last_own-append size (first_position size) es e)
+
+-- ---- addresses that were reserved
+
+module _ (setup : Setup) (valid : IsSegmentSize setup.segment_size) where
+  pub reserved_since : (address : ℕ) (u v : SeatView) → (u.reserving).seen ≤ (v.reserving).seen
+      → IsReserved setup address u → IsReserved setup address v
+  reserved_since address u v rises (inl below) = inl below
+  reserved_since address u v rises (inr below) =
+      let further = end_address_of-mono setup.segment_size valid (u.reserving).seen
+      (v.reserving).seen rises in inr (omega (arith, below, further))
+
+  pub finish_reserved : (e : Entry) (v : SeatView)
+      → position_behind setup.segment_size e ≤ (v.reserving).seen
+      → IsReserved setup (finish_of setup.segment_size e) v
+  finish_reserved e v seen = inr (end_address_of-mono setup.segment_size valid
+      (position_behind setup.segment_size e) (v.reserving).seen seen)
+
+pub reserved_max : (setup : Setup) (a b : ℕ) (v : SeatView) → IsReserved setup a v
+    → IsReserved setup b v → IsReserved setup (max a b) v
+reserved_max setup a b v first second =
+    elim (cases_lt a b) [
+      | inl h ↦
+          (let is : b ≡ max a b = omega arith in
+          subst (λ (x : ℕ). IsReserved setup x v) is second)
+      | inr h ↦
+          (let is : a ≡ max a b = omega arith in
+          subst (λ (x : ℕ). IsReserved setup x v) is first)
+    ]
+
+-- ---- what is told
+
+-- what a line is told by an insert's answer, and by that of a flush of the end kept, which is never
+-- found unreserved
+abbrev pub told_of_inserted : Result Receipt InsertErr → Told
+told_of_inserted (Ok receipt) = Wrote receipt.start receipt.end
+told_of_inserted (Err e) = told_of_insert (Err (refused_of_insert e))
+
+abbrev pub told_of_flushed : Result hard.Hard FlushErr → Told
+told_of_flushed (Ok done) = Flushed done.upto done.moment
+told_of_flushed (Err (flushes.Disk faults)) = Refused (causes.Disk faults) None
+told_of_flushed (Err (flushes.Down faults)) = Refused (causes.Down faults) None
+told_of_flushed (Err (flushes.Unreserved found)) = Refused (causes.Down 0) None
+
+-- the end kept behind an answer
+abbrev pub end_behind : ℕ → Told → ℕ
+end_behind end (Wrote start last) = max end last.0
+end_behind end (Hard start last moment) = max end last.0
+end_behind end (Flushed upto moment) = end
+end_behind end (Refused cause reserved) = end
+
+pub flush_keeps_end : (end : ℕ) (answer : Result hard.Hard FlushErr)
+    → end_behind end (told_of_flushed answer) ≡ end
+flush_keeps_end end (Ok done) = refl
+flush_keeps_end end (Err (flushes.Disk faults)) = refl
+flush_keeps_end end (Err (flushes.Down faults)) = refl
+flush_keeps_end end (Err (flushes.Unreserved found)) = refl
+
+pub ends_by_end_behind : (end : ℕ) (told : Told) → EndsBy (end_behind end told) told
+ends_by_end_behind end (Wrote start last) = omega arith
+ends_by_end_behind end (Hard start last moment) = omega arith
+ends_by_end_behind end (Flushed upto moment) = tt
+ends_by_end_behind end (Refused cause reserved) = tt
+
+pub le-end_behind : (end : ℕ) (told : Told) → end ≤ end_behind end told
+le-end_behind end (Wrote start last) = omega arith
+le-end_behind end (Hard start last moment) = omega arith
+le-end_behind end (Flushed upto moment) = omega arith
+le-end_behind end (Refused cause reserved) = omega arith
+
+-- an insert is refused as its commit would be
+pub refused_as_commit : (setup : Setup) (body : Assembled) (old new : SeatView) (e : InsertErr)
+    → RefusesInsert setup body old new e → RefusesCommit setup body old new
+    (refused_of_insert e).cause (refused_of_insert e).reserved
+refused_as_commit setup body old new (inserts.Full free) why = why
+refused_as_commit setup body old new (inserts.Disk faults start) why = why
+refused_as_commit setup body old new (inserts.Down faults start) why = why
+
+-- ---- the end kept beside a pass
+
+-- as `KeepsEnd` says it of a player
+pub record HasEnd (setup : Setup) (end : ℕ) (v : SeatView) : Type 0 where
+  pub own : (end_of_own setup.segment_size (v.reserving).entries ≤ end)
+      ⊎ ((faults : ℕ) × KnowsDown faults v)
+  pub reserved : IsReserved setup end v
+
+module _ (setup : Setup) (valid : IsSegmentSize setup.segment_size) (old new : SeatView)
+    (keeps : KeepsPass old new) (end : ℕ) (had : HasEnd setup end old) where
+  still_reserved : IsReserved setup end new
+  still_reserved = reserved_since setup valid end old new keeps.rises had.reserved
+
+  -- the pass reserved no entry
+  end_stays : (new.reserving).entries ≡ (old.reserving).entries → HasEnd setup end new
+  end_stays same = record {
+    own = stays had.own;
+    reserved = still_reserved;
+  }
+    where
+      stays : (end_of_own setup.segment_size (old.reserving).entries ≤ end)
+          ⊎ ((faults : ℕ) × KnowsDown faults old)
+          → (end_of_own setup.segment_size (new.reserving).entries ≤ end)
+          ⊎ ((faults : ℕ) × KnowsDown faults new)
+      stays (inl low) = inl (subst (λ (es : List Entry). end_of_own setup.segment_size es ≤ end)
+          (sym same) low)
+      stays (inr known) = inr (known.0, keeps.down known.0 known.1)
+
+  -- it knows of a failed disk
+  end_known_down : (faults : ℕ) → KnowsDown faults new → HasEnd setup end new
+  end_known_down faults knows = record {
+    own = inr (faults, knows);
+    reserved = still_reserved;
+  }
+
+  -- it reserved an entry, whose end is told
+  end_rises : (e : Entry) (last : ℕ) → last ≡ finish_of setup.segment_size e
+      → (new.reserving).entries ≡ (old.reserving).entries ++ e ∷ []
+      → position_behind setup.segment_size e ≤ (new.reserving).seen
+      → HasEnd setup (max end last) new
+  end_rises e last is added seen =
+      let own : end_of_own setup.segment_size (new.reserving).entries ≡ last =
+      ap (end_of_own setup.segment_size) added
+      ∙ end_of_own-append setup.segment_size (old.reserving).entries e ∙ sym is in
+      record {
+        own = inl (omega (arith, own));
+        reserved = reserved_max setup end last new still_reserved
+            (subst (λ (x : ℕ). IsReserved setup x new) (sym is)
+            (finish_reserved setup valid e new seen));
+      }
+
+  module _ (body : Assembled) where
+    end_refused : (cause : Cause) (reserved : Option Lsn)
+        → RefusesCommit setup body old new cause reserved → HasEnd setup end new
+    end_refused (causes.Full free) None why =
+        end_stays (ap (λ (l : PassLog). l.entries) why.0.log_is)
+    end_refused (causes.Full free) (Some start) why = absurd why
+    end_refused (causes.Disk faults) None why = absurd why
+    end_refused (causes.Disk faults) (Some start) why =
+        end_known_down faults (why.1.some, inr why.1.set)
+    end_refused (causes.Down faults) None why =
+        end_known_down faults (why.1.some, inl why.1.met)
+    end_refused (causes.Down faults) (Some start) why =
+        end_known_down faults (why.1.some, inl why.1.met)
+
+    pub end_inserted : (answer : Result Receipt InsertErr)
+        → AnswersInsert setup body old answer new
+        → HasEnd setup (end_behind end (told_of_inserted answer)) new
+    end_inserted (Ok receipt) told = end_rises told.entry receipt.end.0 told.end_is
+        (ap (λ (l : PassLog). l.entries) told.reserved.log_is) told.reserved.seen
+    end_inserted (Err e) why = end_refused (refused_of_insert e).cause
+        (refused_of_insert e).reserved (refused_as_commit setup body old new e why)
+
+    pub end_committed : (answer : Result Sealed refused.Refused)
+        → AnswersCommit setup body old answer new
+        → HasEnd setup (end_behind end (told_of_commit answer)) new
+    end_committed (Ok sealed) told =
+        let below = le-position_of setup.segment_size valid
+        (position_behind setup.segment_size told.entry) told.upto told.reached in
+        end_rises told.entry sealed.end.0 told.end_is
+        (ap (λ (l : PassLog). l.entries) told.log_is) (omega (arith, below, told.seen))
+    end_committed (Err e) why = end_refused e.cause e.reserved why
+
+  pub end_flushed : (asked : ℕ) (answer : Result hard.Hard FlushErr)
+      → AnswersFlush asked old answer new → HasEnd setup end new
+  end_flushed asked (Ok done) told = end_stays (ap (λ (l : PassLog). l.entries) told.0.log_is)
+  end_flushed asked (Err e) why = end_stays (ap (λ (l : PassLog). l.entries) why.0)
+
+-- ---- what a line leaves of its pass
+
+-- a body is one of a single record, as `body_knows_its_record` of wal_record says
+abbrev pub KnowsRecords : Type 0
+KnowsRecords = (r other : Record) → IsWritable r → IsWritable other
+    → assembled r ≡ assembled other → r ≡ other
+
+module _ (knows_record : KnowsRecords) (setup : Setup) (body : Assembled)
+    (old new : SeatView) (value : Record) (is_body : IsBodyOf value body) where
+  entry_is : (e : Entry) (own : IsOwnEntry setup body old e)
+      → e ≡ entry_reserved (old.reserving).number own.at value
+  entry_is e own = own.entry_is ∙ ap (entry_reserved (old.reserving).number own.at)
+      (knows_record own.value value own.writable is_body.1 (own.of_body ∙ is_body.0))
+
+  reserves : (e : Entry) (own : IsOwnEntry setup body old e) (start : ℕ) (after : PassLog)
+      → start ≡ start_of setup.segment_size e → after ≡ log_with_entry e (log_of_pass old)
+      → Reserves setup.segment_size (log_limit setup) (old.reserving).number value start
+      (log_of_pass old) after
+  reserves e own start after start_is log_is = record {
+    at = own.at;
+    start_is = start_is ∙ ap (start_of setup.segment_size) (entry_is e own);
+    log_is = log_is ∙ ap (λ (x : Entry). log_with_entry x (log_of_pass old)) (entry_is e own);
+  }
+
+  started : (start : ℕ) → IsStarted setup body old new start
+      → Reserves setup.segment_size (log_limit setup) (old.reserving).number value start
+      (log_of_pass old) (log_of_pass new)
+  started start told = reserves told.entry told.reserved.own start (log_of_pass new)
+      told.start_is told.reserved.log_is
+
+  refuses : (cause : Cause) (reserved : Option Lsn)
+      → RefusesCommit setup body old new cause reserved
+      → RefusesRecordLine setup.segment_size (log_limit setup) (old.reserving).number value cause
+      reserved (state_of_view old) (state_of_view new)
+  refuses (causes.Full free) None why = record {
+    at = why.0.at;
+    free_is = (let is = why.0.free_is in let within = why.0.within in omega (arith, is, within));
+    short = subst (λ (a : Assembled). free < assembled_room_at setup.segment_size why.0.at a)
+        is_body.0 why.0.short;
+    log_is = why.0.log_is;
+  }
+  refuses (causes.Full free) (Some start) why = why
+  refuses (causes.Disk faults) None why = why
+  refuses (causes.Disk faults) (Some start) why =
+      (started start.0 why.0, (why.1.some, inr why.1.set))
+  refuses (causes.Down faults) None why = (why.0, (why.1.some, inl why.1.met))
+  refuses (causes.Down faults) (Some start) why =
+      (started start.0 why.0, (why.1.some, inl why.1.met))
+
+  inserted : (answer : Result Receipt InsertErr) → AnswersInsert setup body old answer new
+      → Leaves setup.segment_size (log_limit setup) (old.reserving).number (Insert value)
+      (told_of_inserted answer) (state_of_view old) (state_of_view new)
+  unfolding reserves
+  inserted (Ok receipt) told =
+      let own = told.reserved.own in record {
+        reserved = reserves told.entry own receipt.start.0 (log_of_pass new) told.start_is
+            told.reserved.log_is;
+        end_is = told.end_is ∙ ap (finish_of setup.segment_size) (entry_is told.entry own);
+      }
+  inserted (Err e) why = refuses (refused_of_insert e).cause (refused_of_insert e).reserved
+      (refused_as_commit setup body old new e why)
+
+  committed : (answer : Result Sealed refused.Refused) → AnswersCommit setup body old answer new
+      → Leaves setup.segment_size (log_limit setup) (old.reserving).number (Commit value)
+      (told_of_commit answer) (state_of_view old) (state_of_view new)
+  unfolding reserves
+  committed (Ok sealed) told = record {
+    between = log_with_entry told.entry (log_of_pass old);
+    upto = told.upto;
+    reserved = record {
+      reserved = reserves told.entry told.own sealed.start.0
+          (log_with_entry told.entry (log_of_pass old)) told.start_is refl;
+      end_is = told.end_is ∙ ap (finish_of setup.segment_size) (entry_is told.entry told.own);
+    };
+    promised = record {
+      reached = (let is = told.end_is in let far = told.reached in omega (arith, is, far));
+      log_is = told.log_is;
+    };
+  }
+  committed (Err e) why = refuses e.cause e.reserved why
+
+  pub plays_insert : (answer : Result Receipt InsertErr) (told : Told)
+      → told ≡ told_of_inserted answer → AnswersInsert setup body old answer new
+      → ((faults : ℕ) → KnowsDown faults old → answer ≡ Err (inserts.Down faults None))
+      → PlaysLine setup.segment_size (log_limit setup) (old.reserving).number (Insert value) told
+      (state_of_view old) (state_of_view new)
+  plays_insert answer told is answers again = record {
+    leaves = subst (λ (t : Told). Leaves setup.segment_size (log_limit setup)
+        (old.reserving).number (Insert value) t (state_of_view old) (state_of_view new)) (sym is)
+        (inserted answer answers);
+    again = λ faults knows. is ∙ ap told_of_inserted (again faults knows);
+  }
+
+  pub plays_commit : (answer : Result Sealed refused.Refused) (told : Told)
+      → told ≡ told_of_commit answer → AnswersCommit setup body old answer new
+      → ((faults : ℕ) → KnowsDown faults old → answer ≡ commit_known_down faults)
+      → PlaysLine setup.segment_size (log_limit setup) (old.reserving).number (Commit value) told
+      (state_of_view old) (state_of_view new)
+  plays_commit answer told is answers again = record {
+    leaves = subst (λ (t : Told). Leaves setup.segment_size (log_limit setup)
+        (old.reserving).number (Commit value) t (state_of_view old) (state_of_view new)) (sym is)
+        (committed answer answers);
+    again = λ faults knows. is ∙ ap told_of_commit (again faults knows);
+  }
+
+-- a flush of an end
+module _ (setup : Setup) (valid : IsSegmentSize setup.segment_size) (old new : SeatView)
+    (own : (old.opening).setup ≡ setup) (end : ℕ) where
+  -- where it is reserved, it is not found unreserved
+  pub never_unreserved : IsReserved setup end old → (found : ℕ) → IsUnreserved end found old new
+      → ⊥
+  never_unreserved reserved found told =
+      let size = ap (λ (s : Setup). s.segment_size) own in
+      let is : found ≡ end_form setup (new.reserving).seen =
+      told.end_is ∙ ap (λ (s : Setup). end_form s (new.reserving).seen) own in
+      let begun = told.begun in
+      let above = told.above in
+      elim (reserved_since setup valid end old new told.rises reserved) [
+        | inl low ↦ omega (arith, low, size, begun, above)
+        | inr low ↦ omega (arith, low, is, above)
+      ]
+
+  -- where it is the one kept
+  module _ (had : HasEnd setup end old) where
+    flushed : (answer : Result hard.Hard FlushErr) → AnswersFlush end old answer new
+        → ((faults : ℕ) → KnowsDown faults old → answer ≡ flush_err_known_down faults)
+        → Leaves setup.segment_size (log_limit setup) (old.reserving).number Flush
+        (told_of_flushed answer) (state_of_view old) (state_of_view new)
+    flushed (Ok done) told again = record {
+      reached = elim had.own [
+        | inl low ↦ (let far = told.0.reached in omega (arith, low, far))
+        | inr known ↦ absurd (never_both (Ok done) done (flushes.Down known.0) refl
+            (again known.0 known.1))
+      ];
+      log_is = told.0.log_is;
+    }
+    flushed (Err (flushes.Disk faults)) why again =
+        (why.0, (why.1.down.some, inr why.1.down.set))
+    flushed (Err (flushes.Down faults)) why again = (why.0, (why.1.some, inl why.1.met))
+    flushed (Err (flushes.Unreserved found)) why again =
+        absurd (never_unreserved had.reserved found.0 why.1)
+
+    pub plays_flush : (answer : Result hard.Hard FlushErr) (told : Told)
+        → told ≡ told_of_flushed answer → AnswersFlush end old answer new
+        → ((faults : ℕ) → KnowsDown faults old → answer ≡ flush_err_known_down faults)
+        → PlaysLine setup.segment_size (log_limit setup) (old.reserving).number Flush told
+        (state_of_view old) (state_of_view new)
+    plays_flush answer told is answers again = record {
+      leaves = subst (λ (t : Told). Leaves setup.segment_size (log_limit setup)
+          (old.reserving).number Flush t (state_of_view old) (state_of_view new)) (sym is)
+          (flushed answer answers again);
+      again = λ faults knows. is ∙ ap told_of_flushed (again faults knows);
+    }
+
+-- ---- what an action asks for
+
+-- a fact that holds of what an action asks for, whatever its record is
+module _ (P : Asked → Type 0) (body : Assembled) where
+  pub holds_of_insert : ((value : Record) → IsBodyOf value body → P (Insert value))
+      → (asked : Asked) → IsActionOf asked (actions.Insert body) → P asked
+  holds_of_insert at (Insert value) is = at value is
+  holds_of_insert at (Commit value) is = absurd is
+  holds_of_insert at Flush is = absurd is
+
+  pub holds_of_commit : ((value : Record) → IsBodyOf value body → P (Commit value))
+      → (asked : Asked) → IsActionOf asked (actions.Commit body) → P asked
+  holds_of_commit at (Insert value) is = absurd is
+  holds_of_commit at (Commit value) is = at value is
+  holds_of_commit at Flush is = absurd is
+
+-- ---- what a line leaves of a player
+
+-- by one of the log's passes: its segments have a valid size, and the pass knows its setup
+pub has_valid_size : {D : Type 0} (wal : Wal D) (pass : Pass) → IsPassOfLog wal pass
+    → IsSegmentSize (setup_of_log wal).segment_size
+has_valid_size {D} wal pass here =
+    subst (λ (o : Opening). IsSegmentSize (o.setup).segment_size) here.of_log.own
+    here.of_log.stands.sound.setup_is.size
+
+pub has_setup : {D : Type 0} (wal : Wal D) (pass : Pass) → IsPassOfLog wal pass
+    → ((view_of_pass pass).opening).setup ≡ setup_of_log wal
+has_setup {D} wal pass here = ap (λ (o : Opening). o.setup) here.of_log.own
+
+-- a call of the log left this of the player's pass
+module _ {D : Type 0} (wal : Wal D) (old new : Player) (pass : Pass) (here : IsPlayerOf wal old)
+    (same : new.pass ≡ pass) (keeps : KeepsPass (view_of_player old) (view_of_pass pass))
+    (still : IsPassOfLog wal pass) (told : Told) where
+  has_end : HasEnd (setup_of_log wal) old.end.0 (view_of_player old)
+  has_end = record { own = here.end.own; reserved = here.end.reserved }
+
+  leaves_player : new.end.0 ≡ end_behind old.end.0 told
+      → HasEnd (setup_of_log wal) (end_behind old.end.0 told) (view_of_pass pass)
+      → LeavesPlayer wal told old new
+  leaves_player end_is has =
+      let kept : HasEnd (setup_of_log wal) new.end.0 (view_of_player new) =
+      subst (λ (p : Pass). HasEnd (setup_of_log wal) new.end.0 (view_of_pass p)) (sym same)
+      (subst (λ (end : ℕ). HasEnd (setup_of_log wal) end (view_of_pass pass)) (sym end_is) has)
+      in record {
+        player = record {
+          pass = subst (λ (p : Pass). IsPassOfLog wal p) (sym same) still;
+          end = record { own = kept.own; reserved = kept.reserved };
+        };
+        keeps = subst (λ (p : Pass). KeepsPass (view_of_player old) (view_of_pass p)) (sym same)
+            keeps;
+        told_end = subst (λ (end : ℕ). EndsBy end told) (sym end_is)
+            (ends_by_end_behind old.end.0 told);
+        rises = subst (λ (end : ℕ). old.end.0 ≤ end) (sym end_is)
+            (le-end_behind old.end.0 told);
+      }
+
+  plays_answer : (asked : Asked)
+      → PlaysLine (setup_of_log wal).segment_size (log_limit (setup_of_log wal))
+      ((view_of_player old).reserving).number asked told (state_of_view (view_of_player old))
+      (state_of_view (view_of_pass pass))
+      → PlaysAnswer wal asked told old new
+  plays_answer asked plays =
+      subst (λ (p : Pass). PlaysLine (setup_of_log wal).segment_size
+      (log_limit (setup_of_log wal)) ((view_of_player old).reserving).number asked told
+      (state_of_view (view_of_player old)) (state_of_view (view_of_pass p))) (sym same) plays
+
+  module _ (body : Assembled) where
+    module _ (answer : Result Receipt InsertErr) (is : told ≡ told_of_inserted answer)
+        (answers : AnswersInsert (setup_of_log wal) body (view_of_player old) answer
+        (view_of_pass pass)) where
+      pub insert_leaves_player : new.end.0 ≡ end_behind old.end.0 told
+          → LeavesPlayer wal told old new
+      insert_leaves_player end_is = leaves_player end_is
+          (subst (λ (t : Told). HasEnd (setup_of_log wal) (end_behind old.end.0 t)
+          (view_of_pass pass)) (sym is)
+          (end_inserted (setup_of_log wal) (has_valid_size wal old.pass here.pass)
+          (view_of_player old) (view_of_pass pass) keeps old.end.0 has_end body answer answers))
+
+      pub insert_plays_answer : KnowsRecords
+          → ((faults : ℕ) → KnowsDown faults (view_of_player old)
+          → answer ≡ Err (inserts.Down faults None))
+          → (value : Record) → IsBodyOf value body → PlaysAnswer wal (Insert value) told old new
+      insert_plays_answer knows_record again value is_body = plays_answer (Insert value)
+          (plays_insert knows_record (setup_of_log wal) body (view_of_player old)
+          (view_of_pass pass) value is_body answer told is answers again)
+
+    module _ (answer : Result Sealed refused.Refused) (is : told ≡ told_of_commit answer)
+        (answers : AnswersCommit (setup_of_log wal) body (view_of_player old) answer
+        (view_of_pass pass)) where
+      pub commit_leaves_player : new.end.0 ≡ end_behind old.end.0 told
+          → LeavesPlayer wal told old new
+      commit_leaves_player end_is = leaves_player end_is
+          (subst (λ (t : Told). HasEnd (setup_of_log wal) (end_behind old.end.0 t)
+          (view_of_pass pass)) (sym is)
+          (end_committed (setup_of_log wal) (has_valid_size wal old.pass here.pass)
+          (view_of_player old) (view_of_pass pass) keeps old.end.0 has_end body answer answers))
+
+      pub commit_plays_answer : KnowsRecords
+          → ((faults : ℕ) → KnowsDown faults (view_of_player old)
+          → answer ≡ commit_known_down faults)
+          → (value : Record) → IsBodyOf value body → PlaysAnswer wal (Commit value) told old new
+      commit_plays_answer knows_record again value is_body = plays_answer (Commit value)
+          (plays_commit knows_record (setup_of_log wal) body (view_of_player old)
+          (view_of_pass pass) value is_body answer told is answers again)
+
+  module _ (answer : Result hard.Hard FlushErr) (is : told ≡ told_of_flushed answer)
+      (answers : AnswersFlush old.end.0 (view_of_player old) answer (view_of_pass pass)) where
+    pub flush_leaves_player : new.end.0 ≡ old.end.0 → LeavesPlayer wal told old new
+    flush_leaves_player end_is =
+        let stays : end_behind old.end.0 told ≡ old.end.0 =
+        ap (end_behind old.end.0) is ∙ flush_keeps_end old.end.0 answer in
+        leaves_player (end_is ∙ sym stays)
+        (subst (λ (end : ℕ). HasEnd (setup_of_log wal) end (view_of_pass pass)) (sym stays)
+        (end_flushed (setup_of_log wal) (has_valid_size wal old.pass here.pass)
+        (view_of_player old) (view_of_pass pass) keeps old.end.0 has_end old.end.0 answer
+        answers))
+
+    pub flush_plays_answer : ((faults : ℕ) → KnowsDown faults (view_of_player old)
+        → answer ≡ flush_err_known_down faults)
+        → PlaysAnswer wal Flush told old new
+    flush_plays_answer again = plays_answer Flush
+        (plays_flush (setup_of_log wal) (has_valid_size wal old.pass here.pass)
+        (view_of_player old) (view_of_pass pass) (has_setup wal old.pass here.pass) old.end.0
+        has_end answer told is answers again)
+
+-- a flush of the end kept is not found unreserved
+pub player_never_unreserved : {D : Type 0} (wal : Wal D) (player : Player)
+    → IsPlayerOf wal player → (found : ℕ) (new : SeatView)
+    → IsUnreserved player.end.0 found (view_of_player player) new → ⊥
+player_never_unreserved {D} wal player here found new told =
+    never_unreserved (setup_of_log wal) (has_valid_size wal player.pass here.pass)
+    (view_of_player player) new (has_setup wal player.pass here.pass) player.end.0
+    here.end.reserved found told

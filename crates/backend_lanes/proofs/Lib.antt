@@ -1,0 +1,5 @@
+pub mod Answering
+pub mod BeginLanes
+pub mod JoinLanes
+pub mod PlayingLines
+pub mod PlayingOut

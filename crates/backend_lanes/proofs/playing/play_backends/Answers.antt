@@ -1,0 +1,70 @@
+use Rattle.std.proofs.Common.{ℕ, drop, length, subst, sym}
+use Rattle.closing_laws.specs.Closed.{HasAllNumbers}
+use Rattle.wal_rule.specs.Passes.{view_of_pass}
+use Rattle.wal_rule.specs.Seats.{SeatView}
+use Rattle.wal_rule.specs.Slotted.{first_on}
+use Rattle.wal_rule.specs.Tables.{began_of_table}
+use Rattle.wal_log.specs.Logs.{opening_of_log, setup_of_log, table_of}
+use Rattle.backend_lanes.specs.Backends.{lists_of}
+use Rattle.backend_lanes.specs.Lanes.{BegunLanes}
+use Rattle.backend_lanes.proofs.Answering.{has_setup, has_valid_size}
+use Rattle.backend_lanes.proofs.PlayingOut.{first_gives_from_one, first_is_idle, flushed_all, may_be_taken_in, played_in_place, played_lanes, played_share, taken_behind_flush}
+use Rattle.backend_lanes.proofs.playing.play_backends.Goals as goal
+
+pub join_lanes-backends-requires-clause-lanes : goal.join_lanes-backends-requires-clause-lanes
+join_lanes-backends-requires-clause-lanes g c =
+    let lanes = c.begin_lanes-lanes.result in
+    may_be_taken_in c.args.log lanes.items _
+    (played_in_place c.args.log _ _ _ _ _ c.deref_mut.ensures.value lanes.ok.0
+    c.run_lanes.ensures.same c.run_lanes.ensures.each)
+    c.begin_lanes-lanes.ensures.fresh
+
+pub join_lanes-backends-requires-clause-numbers : goal.join_lanes-backends-requires-clause-numbers
+join_lanes-backends-requires-clause-numbers g c =
+    let passes = (setup_of_log c.args.log).passes in
+    let lanes = c.begin_lanes-lanes.result in
+    let first = view_of_pass c.begin_lanes-lanes.new.first in
+    played_share c.args.log first lanes.items _
+    (played_in_place c.args.log _ _ _ _ _ c.deref_mut.ensures.value lanes.ok.0
+    c.run_lanes.ensures.same c.run_lanes.ensures.each)
+    c.calls_keep_numbers.ensures
+    (c.passes_share_numbers.ensures.kept passes first)
+    (c.begin_lanes-lanes.ensures.numbers
+    (subst (λ (v : SeatView). HasAllNumbers passes v.reserving) (sym c.requires.fresh)
+    (c.seats_keep_numbers.ensures.first (opening_of_log c.args.log)).1))
+
+pub close-requires-clause-numbers : goal.close-requires-clause-numbers
+close-requires-clause-numbers g c = λ number low. c.calls_keep_numbers.ensures _ _
+    c.flush.ensures.keeps number (c.join_lanes-backends.ensures.numbers number low)
+
+pub returns : goal.returns
+returns g c = λ script are.
+    let log = c.args.log in
+    let lanes = c.begin_lanes-lanes.result in
+    let first = view_of_pass c.args.first in
+    let joined = c.join_lanes-backends in
+    let old = view_of_pass joined.new.first in
+    let new = view_of_pass c.flush.new.pass in
+    let told = joined.result.backends.items in
+    let begun = subst (λ (n : ℕ). BegunLanes log n script lanes.items)
+    (first_gives_from_one log c.args.first c.requires.pass c.requires.fresh)
+    (c.begin_lanes-lanes.ensures.lanes script are) in
+    let played = played_lanes log 1 script lanes.items _
+    (played_in_place log _ _ _ _ (drop (length c.run_lanes.new.lanes) lanes.items)
+    c.deref_mut.ensures.value lanes.ok.0 c.run_lanes.ensures.same c.run_lanes.ensures.each)
+    begun in
+    let idle = c.begin_lanes-lanes.ensures.idle
+    (first_is_idle (opening_of_log log) first c.requires.fresh) in
+    let held = first_on (began_of_table g.D.Disk.tape (table_of log)) in
+    record {
+      pass = c.flush.new.pass;
+      closes = c.close.ensures;
+      each = joined.ensures.lines script played;
+      taken = taken_behind_flush (opening_of_log log) held joined.result.end.0 old new
+          c.flush.result c.flush.ensures.flushes c.flush.ensures.keeps script (lists_of told)
+          (joined.ensures.taken script played idle held);
+      flushed = flushed_all (setup_of_log log)
+          (has_valid_size log joined.new.first joined.ensures.pass) joined.result.end.0 old new
+          (has_setup log joined.new.first joined.ensures.pass) (lists_of told) c.flush.result
+          c.flush.ensures.flushes joined.ensures.reserved joined.ensures.reaches;
+    }

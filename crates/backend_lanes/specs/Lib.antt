@@ -1,0 +1,4 @@
+pub mod Backends
+pub mod Players
+pub mod Lanes
+pub mod Playing

@@ -1,0 +1,25 @@
+// A backend's lines.
+ghost use Rattle.std.specs.Prelude.{◌≡◌, IfOk};
+ghost use Rattle.backend_lanes.specs.Backends.{HasRoom};
+
+use std::alloc::{AllocError, Global};
+use told_lines::Told;
+use wal_script::Line;
+
+/// A backend: its lines, and what they were told, in order.
+#[derive(Debug, Drop)]
+pub struct Backend {
+    pub lines: Vec<Line>,
+    pub told: Vec<Told>,
+}
+
+impl Backend {
+    /// A backend that was told nothing yet, with room for an answer to each line.
+    pub fn of(alloc: Global, lines: Vec<Line>) -> Result<Backend, AllocError>
+        ensures lines { IfOk result (λ backend. backend.lines ≡ lines) }
+        ensures room { IfOk result HasRoom }
+    {
+        let told = Vec::with_capacity(alloc, lines.len())?;
+        Ok(Backend { lines, told })
+    }
+}

@@ -1,0 +1,78 @@
+// One backend at work.
+ghost use Rattle.std.specs.Prelude.{◌≡◌, ◌≤◌, All, List, [], length, vec_capacity};
+ghost use Rattle.wal_core.specs.Words.{log_limit};
+ghost use Rattle.wal_log.specs.Logs.{setup_of_log};
+ghost use Rattle.wal_log.specs.Standing.{KeepsPass};
+ghost use Rattle.wal_script.specs.Asked.{AskedLine};
+ghost use Rattle.wal_script.specs.Bodies.{AreLinesOf};
+ghost use Rattle.run_laws.specs.Played.{PlaysLines, state_at_first};
+ghost use Rattle.run_laws.specs.Reached.{EndsBy};
+ghost use Rattle.backend_lanes.specs.Lanes.{IsFreshLane, PlaysLane};
+ghost use Rattle.backend_lanes.specs.Players.{IsPlayerOf, state_of_player, view_of_player};
+
+use crate::backend::Backend;
+use crate::gate::Gate;
+use crate::player::Player;
+use run_laws::laws::lines_are_played_one_by_one;
+use segment_disk::Disk;
+use std::sync::Wait;
+use told_lines::Told;
+use wal_log::Wal;
+use wal_script::Line;
+
+/// A backend at work: its pass, its lines, and what they were told so far.
+#[derive(Drop)]
+pub(crate) struct Lane {
+    pub player: Player,
+    pub backend: Backend,
+}
+
+impl Lane {
+    // Plays the backend's lines in order, and notes what each is told in the room there is: nothing
+    // takes memory once the log is open. The gate is passed before each line. A line that is
+    // refused does not end the backend: the next is tried, and where the disk has failed it is told
+    // that, without a device call.
+    pub(crate) fn play<R: Wait, D: Disk, G: Gate>(&mut self, rt: &R, log: &Wal<D>, gate: &G)
+        requires { IsFreshLane log.now self.old }
+        ensures { PlaysLane log.now self.old self.new }
+    {
+        play_lines(
+            rt,
+            log,
+            gate,
+            &mut self.player,
+            &self.backend.lines,
+            &mut self.backend.told,
+        );
+    }
+}
+
+fn play_lines<R: Wait, D: Disk, G: Gate>(
+    rt: &R,
+    log: &Wal<D>,
+    gate: &G,
+    player: &mut Player,
+    lines: &[Line],
+    told: &mut Vec<Told>,
+)
+    requires player { IsPlayerOf log.now player.old }
+    requires unplayed { state_of_player player.old ≡ state_at_first }
+    requires none { told.old.items ≡ [] }
+    requires room { length lines.now ≤ vec_capacity told.old }
+    ensures each { length told.new.items ≡ length lines.now }
+    ensures plays { (asked : List AskedLine) → AreLinesOf asked lines.now
+        → PlaysLines (setup_of_log log.now).segment_size (log_limit (setup_of_log log.now))
+        (view_of_player player.new).reserving.number state_at_first asked told.new.items
+        (state_of_player player.new) }
+    ensures player { IsPlayerOf log.now player.new }
+    ensures keeps { KeepsPass (view_of_player player.old) (view_of_player player.new) }
+    ensures ends { All (EndsBy player.new.end.0) told.new.items }
+{
+    lines_are_played_one_by_one();
+    let backend = player.backend();
+    for line in lines {
+        gate.pass(backend, line.number);
+        let answer = player.answer(rt, log, &line.action);
+        told.push_reserved(answer);
+    }
+}

@@ -1,0 +1,13 @@
+//! The backends of a run: each has a pass of the log, and plays its lines in a thread of its own.
+#![tactic(auto)]
+
+mod backend;
+mod gate;
+mod lane;
+mod lanes;
+mod player;
+mod playing;
+
+pub use backend::Backend;
+pub use gate::Gate;
+pub use playing::{Played, Room, play_backends};

@@ -1,0 +1,97 @@
+// The backends of a run, from the log's opening to its close.
+ghost use Rattle.std.specs.Prelude.{◌≡◌, ◌+◌, ◌<◌, IfOk, List, length, map, vec_len};
+ghost use Rattle.wal_rule.specs.Passes.{view_of_pass};
+ghost use Rattle.wal_rule.specs.Seats.{first_seat_view};
+ghost use Rattle.wal_log.specs.Logs.{IsPassOfLog, opening_of_log, setup_of_log};
+ghost use Rattle.wal_script.specs.Asked.{AskedLine};
+ghost use Rattle.wal_script.specs.ReplayReading.{AreBackendsOf};
+ghost use Rattle.backend_lanes.specs.Backends.{IsRoomFor, scripts_of};
+ghost use Rattle.backend_lanes.specs.Playing.{HasPlayed};
+
+use crate::backend::Backend;
+use crate::gate::Gate;
+use crate::lane::Lane;
+use crate::lanes::{Rejoined, begin_lanes, join_lanes, run_lanes};
+use pass_numbers::laws::passes_share_numbers;
+use segment_disk::Disk;
+use std::alloc::{AllocError, Global};
+use std::sync::Wait;
+use std::thread::Threads;
+use wal_log::numbers::calls_keep_numbers;
+use wal_log::{Closed, Pass, Wal};
+use wal_rule::numbers::seats_keep_numbers;
+use wal_script::Line;
+use wal_types::Lsn;
+
+/// All room that backends take while they play: taken before the log is opened.
+#[derive(Drop)]
+pub struct Room {
+    pub backends: Vec<Backend>,
+    lanes: Vec<Lane>,
+    played: Vec<Backend>,
+}
+
+impl Room {
+    /// Room for backends with these lines.
+    pub fn of(alloc: Global, scripts: Vec<Vec<Line>>) -> Result<Room, AllocError>
+        ensures { IfOk result (IsRoomFor scripts.items) }
+    {
+        let lanes = Vec::with_capacity(alloc, scripts.len())?;
+        let played = Vec::with_capacity(alloc, scripts.len())?;
+        let mut backends = Vec::with_capacity(alloc, scripts.len())?;
+        for lines in scripts {
+            backends.push_reserved(Backend::of(alloc, lines)?);
+        }
+        Ok(Room {
+            backends,
+            lanes,
+            played,
+        })
+    }
+}
+
+/// What a run leaves: its closed log, and its backends with what their lines were told.
+#[derive(Drop)]
+pub struct Played<D> {
+    pub closed: Closed<D>,
+    pub backends: Vec<Backend>,
+}
+
+/// Plays the lines of all backends side by side, by passes that are split off the first one and
+/// taken in again; flushes up to the greatest end that a line was told, which no line asked for;
+/// and closes the log. `start` is the log's. Nothing takes memory.
+pub fn play_backends<R: Threads + Wait + Sync, D: Disk + Send, G: Gate + Sync>(
+    rt: &R,
+    log: Wal<D>,
+    mut first: Pass,
+    room: Room,
+    gate: &G,
+    start: Lsn,
+) -> Played<D>
+    requires pass { IsPassOfLog log first }
+    requires fresh { view_of_pass first ≡ first_seat_view (opening_of_log log) }
+    requires passes { (setup_of_log log).passes ≡ 1 + vec_len room.backends }
+    requires room { (scripts : _) × IsRoomFor scripts room }
+    requires start { start.0 ≡ (setup_of_log log).segment_size }
+    ensures { (script : List (List AskedLine))
+        → AreBackendsOf script (scripts_of room.backends.items)
+        → HasPlayed D.tape D.moment D.faults log script result.backends.items result.closed }
+{
+    calls_keep_numbers();
+    passes_share_numbers();
+    seats_keep_numbers();
+    let Room {
+        backends,
+        lanes,
+        played,
+    } = room;
+    let mut lanes = begin_lanes(&log, &mut first, backends, lanes, start);
+    run_lanes(rt, &log, gate, &mut lanes);
+    let Rejoined { backends, end } = join_lanes(&log, &mut first, lanes, played, start);
+    // No line asked for this flush, so none is told its answer.
+    let _ = log.flush(rt, &mut first, end);
+    Played {
+        closed: log.close(first),
+        backends,
+    }
+}

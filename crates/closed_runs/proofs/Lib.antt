@@ -1,0 +1,2 @@
+pub mod ClosedLogs
+pub mod ClosedRuns

@@ -1,0 +1,2 @@
+mod Having
+pub mod Lanes
