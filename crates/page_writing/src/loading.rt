@@ -37,8 +37,9 @@ pub fn load_page<D: Disk>(
     ensures hand { HasHand D.tape D.moment D.faults table.now seat.new }
 {
     let first = first_word(table, seat, page);
+    let place = place_of_page(shape, page);
     for n in 0..PAGE_WORDS {
-        let word = load_word(table, seat, shape, first + n);
+        let word = load_word(table, seat, shape, first + n, place + n as usize);
         put_word(bytes, n as usize, word);
     }
 }
@@ -53,26 +54,35 @@ fn first_word<D: Disk>(_table: &LogTable<D>, seat: &LogSeat<D>, page: u64) -> u6
     page * PAGE_WORDS
 }
 
-// Loads the log's k-th word.
-fn load_word<D: Disk>(table: &LogTable<D>, seat: &mut LogSeat<D>, shape: &LogShape, k: u64) -> u64
+// Loads the log's k-th word, from its place in the ring.
+fn load_word<D: Disk>(
+    table: &LogTable<D>,
+    seat: &mut LogSeat<D>,
+    _shape: &LogShape,
+    k: u64,
+    place: usize,
+) -> u64
     requires hand { HasHand D.tape D.moment D.faults table.now seat.old }
-    requires shape { shape.now ≡ (opening_of_table table.now).setup }
+    requires shape { _shape.now ≡ (opening_of_table table.now).setup }
     requires unwritten { (writer_in seat.old.me.0).written < (k / 1024 + 1) * 8192 }
     requires copied { k / 1024 * 8192 < known_copied seat.old.me.0 }
+    requires place { place ≡ ring_number _shape.now (ring_place _shape.now k) }
     ensures loads { Loads seat.old.me.0 seat.new.me.0
         ((k, result) ∷ (lent_in seat.old.me.0.hold).staged) }
     ensures hand { HasHand D.tape D.moment D.faults table.now seat.new }
 {
-    table.load_ring_word(seat, k, place_of(shape, k))
+    table.load_ring_word(seat, k, place)
 }
 
-// The number, among all words, of the place of the log's k-th word.
-fn place_of(shape: &LogShape, k: u64) -> usize
-    ensures { result ≡ ring_number shape.now (ring_place shape.now k) }
+// The number, among all words, of the place of a page's first word. Those of its other words
+// follow.
+fn place_of_page(shape: &LogShape, page: u64) -> usize
+    ensures places { (n : ℕ) → n < 1024
+        → result + n ≡ ring_number shape.now (ring_place shape.now (page * 1024 + n)) }
+    ensures low { result < 2 ^ 17 }
 {
     let ring_pages = u64::from(shape.ring_pages());
-    let place = k / PAGE_WORDS % ring_pages * PAGE_WORDS + k % PAGE_WORDS;
-    BUFFER_ENDS + ring_pages as usize + place as usize
+    BUFFER_ENDS + ring_pages as usize + (page % ring_pages * PAGE_WORDS) as usize
 }
 
 // Puts a page's n-th word at its place.

@@ -1,6 +1,7 @@
 // One try of a reservation.
 ghost use Rattle.std.specs.Prelude.{◌≡◌, [], ◌∷◌, IfErr, IfOk};
 ghost use Rattle.wal_core.specs.Views.{Free, Landed};
+ghost use Rattle.wal_page.specs.Placed.{placed_end};
 ghost use Rattle.wal_rule.specs.Tables.{IsSeatOn, opening_of_table};
 ghost use Rattle.reserve_lock.specs.Reserved.{IsPlaceReserved, TellsWhy};
 
@@ -24,10 +25,11 @@ pub enum ReserveErr {
     Full { free: u64 },
 }
 
-/// A record's place: where it starts, and its words, none of which is copied.
+/// A record's place: where it starts and ends, and its words, none of which is copied.
 #[derive(Drop)]
 pub struct Reserved<'a> {
     pub start: Lsn,
+    pub end: Lsn,
     pub placed: Placed<'a>,
 }
 
@@ -47,6 +49,7 @@ pub fn try_reserve<'a, D: Disk>(
     requires place { seat.old.me.0.reserving.place ≡ Free }
     ensures reserved { IfOk result (λ r. IsPlaceReserved shape.now body.now lock seat.old.me.0
         seat.new.me.0 r.start.0 r.placed) }
+    ensures end { IfOk result (λ r. r.end.0 ≡ placed_end r.placed) }
     ensures why { IfErr result (λ e. TellsWhy shape.now body.now seat.old.me.0 seat.new.me.0 e) }
     ensures slots { seat.new.me.1 ≡ seat.old.me.1 }
     ensures seat { IsSeatOn table.now seat.new }
@@ -63,6 +66,7 @@ pub fn try_reserve<'a, D: Disk>(
     let prev = reserve_at::<D, Brand>(table, seat, shape, body, lock, at);
     Ok(Reserved {
         start: shape.geometry().to_lsn(at),
+        end: shape.geometry().to_end_lsn(at + u64::from(body.room())),
         placed: Placed::new(shape.geometry(), shape.sysid(), body, at, Lsn(prev)),
     })
 }

@@ -1,6 +1,7 @@
 //! Steps of an insert, for passes that hold one lock.
 
 ghost use Rattle.std.specs.Prelude.{◌≡◌, ◌<◌, IfSome};
+ghost use Rattle.wal_page.specs.Placed.{placed_end};
 ghost use Rattle.wal_rule.specs.Seats.{IsAtRest};
 ghost use Rattle.wal_rule.specs.Tables.{IsSeatOn, opening_of_table};
 ghost use Rattle.table_tests.specs.Holding.{CopiesOne, HasCopied, HoldsOne, numbers_kept};
@@ -10,8 +11,9 @@ use byte_position::PAGE_SIZE;
 use insert_locks::try_take;
 use machine_words::LogShape;
 use record_spelling::Body;
-use reserve_lock::try_reserve;
+use reserve_lock::{Reserved, try_reserve};
 use wal_page::Placed;
+use wal_types::Lsn;
 use word_ring::{Copied, Presence, confirm, copy_page};
 
 /// Takes the only lock of a pass, the one of the number first.
@@ -37,17 +39,18 @@ pub fn reserve_one<'a>(
     shape: &LogShape,
     body: &'a Body,
     lock: u32,
-) -> Option<Placed<'a>>
+) -> Option<Reserved<'a>>
     requires seat { IsSeatOn table.now seat.old }
     requires shape { shape.now ≡ (opening_of_table table.now).setup }
     requires holds { HoldsOne lock seat.old.me.0 }
-    ensures copies { IfSome result (λ placed. CopiesOne shape.now lock seat.new.me.0 placed) }
+    ensures copies { IfSome result (λ r. CopiesOne shape.now lock seat.new.me.0 r.placed) }
+    ensures end { IfSome result (λ r. r.end.0 ≡ placed_end r.placed) }
     ensures numbers { IfSome result (λ _.
         numbers_kept seat.new.me.0 ≡ numbers_kept seat.old.me.0) }
     ensures seat { IsSeatOn table.now seat.new }
 {
     match try_reserve(table, seat, shape, body, lock) {
-        Ok(reserved) => Some(reserved.placed),
+        Ok(reserved) => Some(reserved),
         Err(_) => None,
     }
 }
@@ -59,10 +62,12 @@ pub fn copy_one<'a>(
     shape: &LogShape,
     placed: &mut Placed<'a>,
     lock: u32,
+    end: Lsn,
 ) -> Option<()>
     requires seat { IsSeatOn table.now seat.old }
     requires shape { shape.now ≡ (opening_of_table table.now).setup }
     requires copies { CopiesOne shape.now lock seat.old.me.0 placed.old }
+    requires end { end.0 ≡ placed_end placed.old }
     ensures copied { IfSome result (λ _. HasCopied shape.now lock seat.new.me.0 placed.new) }
     ensures numbers { numbers_kept seat.new.me.0 ≡ numbers_kept seat.old.me.0 }
     ensures seat { IsSeatOn table.now seat.new }
@@ -76,7 +81,7 @@ pub fn copy_one<'a>(
         Presence::Present => {}
         Presence::Other { .. } => return None,
     }
-    match copy_page(table, seat, shape, placed, next) {
+    match copy_page(table, seat, shape, placed, next, end.0) {
         Copied::Whole => Some(()),
         Copied::PageEnd => None,
     }

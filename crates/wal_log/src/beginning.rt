@@ -1,6 +1,7 @@
 // A record's place is reserved under an insertion lock, by one try (PostgreSQL's xlog.c,
 // XLogInsertRecord, ReserveXLogInsertLocation).
 ghost use Rattle.std.specs.Prelude.{◌≡◌, ◌<◌, [], IfErr, IfOk, IsErrOf};
+ghost use Rattle.wal_page.specs.Placed.{placed_end};
 ghost use Rattle.wal_rule.specs.Seats.{IsAtRest};
 ghost use Rattle.wal_rule.specs.Tables.{IsSeatOn};
 ghost use Rattle.wal_log.specs.Beginning.{IsPlaceBegun, TellsBeginTry, try_err_known_down, try_err_of_reserve};
@@ -18,12 +19,13 @@ use wal_page::Placed;
 use wal_rule::LogSeat;
 use wal_types::Lsn;
 
-/// A record whose place is reserved, under an insertion lock: where it starts, and the words that
-/// are left to copy.
+/// A record whose place is reserved, under an insertion lock: where it starts and ends, and the
+/// words that are left to copy.
 #[derive(Drop)]
 pub struct Begun<'a> {
     pub lock: u32,
     pub start: Lsn,
+    pub end: Lsn,
     pub placed: Placed<'a>,
 }
 
@@ -53,6 +55,7 @@ impl<D: Disk> Wal<D> {
         requires rests { IsAtRest seat.old.me.0 × (seat.old.me.1 ≡ []) }
         ensures begun { IfOk result (λ b. IsPlaceBegun self.now.shape body.now seat.old.me.0
             seat.new.me.0 b.lock b.start.0 b.placed) }
+        ensures end { IfOk result (λ b. b.end.0 ≡ placed_end b.placed) }
         ensures why { IfErr result (λ e. TellsBeginTry self.now.shape body.now seat.old.me.0
             seat.new.me.0 e × IsAtRest seat.new.me.0) }
         ensures down_again { (faults : _) → KnowsDown faults seat.old.me.0
@@ -83,6 +86,7 @@ impl<D: Disk> Wal<D> {
         requires up { KnowsNoFault seat.old.me.0 }
         ensures begun { IfOk result (λ b. IsPlaceBegun self.now.shape body.now seat.old.me.0
             seat.new.me.0 b.lock b.start.0 b.placed) }
+        ensures end { IfOk result (λ b. b.end.0 ≡ placed_end b.placed) }
         ensures why { IfErr result (λ e. TellsBeginTry self.now.shape body.now seat.old.me.0
             seat.new.me.0 e × IsAtRest seat.new.me.0) }
         ensures sets_none { seat.new.me.0.down_set ≡ seat.old.me.0.down_set }
@@ -94,6 +98,7 @@ impl<D: Disk> Wal<D> {
             Ok(reserved) => Ok(Begun {
                 lock,
                 start: reserved.start,
+                end: reserved.end,
                 placed: reserved.placed,
             }),
             Err(e) => {

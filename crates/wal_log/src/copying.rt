@@ -17,6 +17,7 @@ use segment_disk::Disk;
 use std::sync::Wait;
 use wal_page::Placed;
 use wal_rule::LogSeat;
+use wal_types::Lsn;
 use word_ring::{Copied, MapTry, Presence, confirm, copy_page, try_map};
 
 /// How far one step of a copy came.
@@ -44,19 +45,21 @@ pub enum CopyErr {
 impl<D: Disk> Wal<D> {
     // Copies a record's words, as long as any is left. Where a page's buffer is wanted whose page
     // is not written, it writes that itself. Before it waits it tells its progress: a lock that
-    // tells nothing holds every watcher back.
+    // tells nothing holds every watcher back. The record's last word ends at `end`.
     pub(crate) fn copy_whole<'a, R: Wait>(
         &self,
         rt: &R,
         seat: &mut LogSeat<D>,
         number: u32,
         lock: u32,
+        end: Lsn,
         placed: &mut Placed<'a>,
     ) -> Result<(), CopyErr>
         requires seat { IsSeatOn self.now.table seat.old }
         requires number { number ≡ seat.old.me.0.reserving.number }
         requires lock { lock < 8 }
         requires copies { CopiesUnderOneLock self.now.shape lock placed.old seat.old.me.0 }
+        requires end { end.0 ≡ placed_end placed.old }
         requires up { KnowsNoFault seat.old.me.0 }
         requires slots { seat.old.me.1 ≡ [] }
         ensures copies { CopiesUnderOneLock self.now.shape lock placed.new seat.new.me.0 }
@@ -71,7 +74,7 @@ impl<D: Disk> Wal<D> {
     {
         let backoff = Backoff::new();
         for _ in rt.forever() {
-            match self.copy_some(seat, number, placed) {
+            match self.copy_some(seat, number, placed, end) {
                 CopyStep::Whole => return Ok(()),
                 CopyStep::GoesOn => backoff.reset(),
                 CopyStep::Taken { .. } => {
@@ -87,12 +90,20 @@ impl<D: Disk> Wal<D> {
         unreachable!()
     }
 
-    // Copies the words on the next word's page, or maps a page on the way to that one.
-    fn copy_some<'a>(&self, seat: &mut LogSeat<D>, number: u32, placed: &mut Placed<'a>) -> CopyStep
+    // Copies the words on the next word's page, or maps a page on the way to that one. The record's
+    // last word ends at `end`.
+    fn copy_some<'a>(
+        &self,
+        seat: &mut LogSeat<D>,
+        number: u32,
+        placed: &mut Placed<'a>,
+        end: Lsn,
+    ) -> CopyStep
         requires seat { IsSeatOn self.now.table seat.old }
         requires number { number ≡ seat.old.me.0.reserving.number }
         requires copies { (lock : _)
             × CopiesUnderOneLock self.now.shape lock placed.old seat.old.me.0 }
+        requires end { end.0 ≡ placed_end placed.old }
         ensures copies { (lock : _)
             → CopiesUnderOneLock self.now.shape lock placed.old seat.old.me.0
             → CopiesUnderOneLock self.now.shape lock placed.new seat.new.me.0 }
@@ -107,7 +118,7 @@ impl<D: Disk> Wal<D> {
         let next = placed.next_lsn().0;
         let page = next / PAGE_SIZE;
         if let Presence::Present = confirm(&self.table, seat, &self.shape, page) {
-            return match copy_page(&self.table, seat, &self.shape, placed, next) {
+            return match copy_page(&self.table, seat, &self.shape, placed, next, end.0) {
                 Copied::Whole => CopyStep::Whole,
                 Copied::PageEnd => CopyStep::GoesOn,
             };

@@ -1,5 +1,6 @@
 // A record is inserted (PostgreSQL's xlog.c, XLogInsertRecord).
 ghost use Rattle.std.specs.Prelude.{◌≡◌, [], Err, IfErr, IfOk, IsErrOf, None};
+ghost use Rattle.wal_page.specs.Placed.{placed_end};
 ghost use Rattle.wal_rule.specs.Passes.{view_of_pass};
 ghost use Rattle.wal_rule.specs.Seats.{IsAtRest};
 ghost use Rattle.wal_rule.specs.Tables.{IsSeatOn};
@@ -91,12 +92,12 @@ impl<D: Disk> Wal<D> {
         ensures seat { IsSeatOn self.now.table seat.new }
     {
         let mut begun = self.begin(rt, seat, number, body)?;
-        match self.copy_whole(rt, seat, number, begun.lock, &mut begun.placed) {
+        match self.copy_whole(rt, seat, number, begun.lock, begun.end, &mut begun.placed) {
             Ok(()) => {
                 self.table.release(seat, begun.lock);
                 Ok(Receipt {
                     start: begun.start,
-                    end: begun.placed.next_lsn(),
+                    end: begun.end,
                 })
             }
             Err(e) => {
@@ -118,6 +119,7 @@ impl<D: Disk> Wal<D> {
         requires rests { IsAtRest seat.old.me.0 × (seat.old.me.1 ≡ []) }
         ensures begun { IfOk result (λ b. IsPlaceBegun self.now.shape body.now seat.old.me.0
             seat.new.me.0 b.lock b.start.0 b.placed) }
+        ensures end { IfOk result (λ b. b.end.0 ≡ placed_end b.placed) }
         ensures why { IfErr result (λ e. RefusesInsert self.now.shape body.now seat.old.me.0
             seat.new.me.0 e × IsAtRest seat.new.me.0) }
         ensures down_again { (faults : _) → KnowsDown faults seat.old.me.0

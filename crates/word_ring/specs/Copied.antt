@@ -4,6 +4,7 @@ use Rattle.record_spelling.specs.Spelling.{assembled}
 use Rattle.wal_page.specs.EntryWords.{address_of_word}
 use Rattle.wal_page.specs.Placed.{PlacedState, placed_end}
 use Rattle.wal_core.specs.declared.setup.Setup.{Setup}
+use Rattle.wal_core.specs.Steps.{ring_number, ring_place}
 use Rattle.wal_core.specs.Views.{Copy, Copying, Flight, Landed}
 use Rattle.wal_rule.specs.Seats.{SeatView}
 use Rattle.word_ring.specs.declared.copying.Copied.{Copied}
@@ -33,6 +34,10 @@ rest_of setup c = record {
 abbrev pub IsRestOf : Setup → SeatView → PlacedState → Type 0
 IsRestOf setup v placed =
     (c : Copy) × ((v.working).flight ≡ Copying c) × (placed ≡ rest_of setup c)
+
+-- the number, among all words, of the ring's place for the word at an address
+abbrev pub IsPlaceOf : Setup → (address place : ℕ) → Type 0
+IsPlaceOf setup address place = place ≡ ring_number setup (ring_place setup (address / 8))
 
 -- where the page at an address ends
 abbrev pub page_end_at : ℕ → ℕ

@@ -1,21 +1,22 @@
 // A record's words are copied to the page on which its next one lies (PostgreSQL's xlog.c,
 // CopyXLogRecordToWAL).
-ghost use Rattle.std.specs.Prelude.{◌≡◌, ◌+◌, ◌/◌, ◌<◌, ◌≤◌, ◌^◌, IfNone, IfSome};
-ghost use Rattle.wal_core.specs.Steps.{ring_number, ring_place};
+ghost use Rattle.std.specs.Prelude.{◌≡◌, ◌+◌, ◌*◌, ◌<◌, ◌≤◌, ◌^◌, length};
 ghost use Rattle.wal_page.specs.Placed.{placed_end};
 ghost use Rattle.wal_rule.specs.Tables.{IsSeatOn, opening_of_table};
-ghost use Rattle.word_ring.specs.Copied.{CopiesPage, IsRestOf, copied_view, page_end_at};
+ghost use Rattle.word_ring.specs.Copied.{CopiesPage, IsPlaceOf, IsRestOf, copied_view, page_end_at};
 
 use byte_position::PAGE_SIZE;
 use machine_words::LogShape;
 use segment_disk::Disk;
 use wal_page::Placed;
 use wal_rule::{LogSeat, LogTable};
-use wal_types::Lsn;
 
 const PAGE_WORDS: u64 = 1024;
 
 const WORD: u64 = 8;
+
+// How many words are made of a record at once, before they are stored one by one.
+const RUN: usize = 64;
 
 // The number of the first buffer's end word.
 const BUFFER_ENDS: usize = 17;
@@ -30,59 +31,101 @@ pub enum Copied {
 }
 
 /// Copies the words of a record that are left, up to the end of the page of the next one, which
-/// lies at the address `next`. The pass has met that page.
+/// lies at the address `next`. The pass has met that page. The record's last word ends at `end`.
 pub fn copy_page<'a, D: Disk>(
     table: &LogTable<D>,
     seat: &mut LogSeat<D>,
     shape: &LogShape,
     placed: &mut Placed<'a>,
     next: u64,
+    end: u64,
 ) -> Copied
     requires seat { IsSeatOn table.now seat.old }
     requires shape { shape.now ≡ (opening_of_table table.now).setup }
     requires rest { IsRestOf shape.now seat.old.me.0 placed.old }
     requires next { next ≡ placed.old.next }
+    requires end { end ≡ placed_end placed.old }
     requires met { page_end_at next ≤ seat.old.me.0.mapping.confirmed }
     ensures copies { CopiesPage seat.old.me.0 seat.new.me.0 placed.old placed.new result }
     ensures rest { IsRestOf shape.now seat.new.me.0 placed.new }
     ensures slots { seat.new.me.1 ≡ seat.old.me.1 }
     ensures seat { IsSeatOn table.now seat.new }
 {
-    for _ in 0..(PAGE_SIZE - next % PAGE_SIZE) / WORD {
-        if copy_word(table, seat, shape, placed).is_none() {
-            return Copied::Whole;
-        }
+    let on_page = (PAGE_SIZE - next % PAGE_SIZE) / WORD;
+    let left = (end - next) / WORD;
+    let place = place_of(shape, next);
+    copy_words(table, seat, shape, placed, place, left.min(on_page) as usize);
+    if left <= on_page {
+        Copied::Whole
+    } else {
+        Copied::PageEnd
     }
-    Copied::PageEnd
 }
 
-// Copies the next word, and answers where it lies; none where no word is left.
-fn copy_word<'a, D: Disk>(
+// Copies so many words, which lie on one page, the first of them to this place.
+fn copy_words<'a, D: Disk>(
     table: &LogTable<D>,
     seat: &mut LogSeat<D>,
     shape: &LogShape,
     placed: &mut Placed<'a>,
-) -> Option<u64>
+    place: usize,
+    count: usize,
+)
     requires seat { IsSeatOn table.now seat.old }
     requires shape { shape.now ≡ (opening_of_table table.now).setup }
     requires rest { IsRestOf shape.now seat.old.me.0 placed.old }
-    requires met { placed.old.next < seat.old.me.0.mapping.confirmed }
-    ensures copied { IfSome result (λ _.
-        (seat.new.me ≡ (copied_view 1 seat.old.me.0, seat.old.me.1))
-        × (placed.new ≡ record placed.old { next = placed.old.next + 8 })) }
-    ensures whole { IfNone result ((placed.old.next ≡ placed_end placed.old)
-        × (placed.new ≡ placed.old) × (seat.new.me ≡ seat.old.me)) }
+    requires left { placed.old.next + 8 * count ≤ placed_end placed.old }
+    requires on_page { placed.old.next + 8 * count ≤ page_end_at placed.old.next }
+    requires met { page_end_at placed.old.next ≤ seat.old.me.0.mapping.confirmed }
+    requires place { IsPlaceOf shape.now placed.old.next place }
+    requires low { place + count < 2 ^ 20 }
+    ensures copied { seat.new.me ≡ (copied_view count seat.old.me.0, seat.old.me.1) }
+    ensures placed { placed.new ≡ record placed.old { next = placed.old.next + 8 * count } }
     ensures rest { IsRestOf shape.now seat.new.me.0 placed.new }
     ensures seat { IsSeatOn table.now seat.new }
 {
-    let (Lsn(at), word) = placed.next_word()?;
-    table.store_ring_word(seat, place_of(shape, at), word);
-    Some(at)
+    let mut words = [0; RUN];
+    let mut done = 0;
+    while done < count {
+        let run = RUN.min(count - done);
+        copy_run(table, seat, shape, placed, place + done, &mut words[..run]);
+        done += run;
+    }
+}
+
+// Copies the next words, as many as there is room for in `words`.
+fn copy_run<'a, D: Disk>(
+    table: &LogTable<D>,
+    seat: &mut LogSeat<D>,
+    shape: &LogShape,
+    placed: &mut Placed<'a>,
+    place: usize,
+    words: &mut [u64],
+)
+    requires seat { IsSeatOn table.now seat.old }
+    requires shape { shape.now ≡ (opening_of_table table.now).setup }
+    requires rest { IsRestOf shape.now seat.old.me.0 placed.old }
+    requires left { placed.old.next + 8 * length words.old ≤ placed_end placed.old }
+    requires on_page { placed.old.next + 8 * length words.old ≤ page_end_at placed.old.next }
+    requires met { page_end_at placed.old.next ≤ seat.old.me.0.mapping.confirmed }
+    requires place { IsPlaceOf shape.now placed.old.next place }
+    requires low { place + length words.old < 2 ^ 20 }
+    ensures copied { seat.new.me ≡ (copied_view (length words.old) seat.old.me.0, seat.old.me.1) }
+    ensures placed { placed.new
+        ≡ record placed.old { next = placed.old.next + 8 * length words.old } }
+    ensures rest { IsRestOf shape.now seat.new.me.0 placed.new }
+    ensures seat { IsSeatOn table.now seat.new }
+{
+    placed.put_words(words);
+    for (n, word) in words.iter().enumerate() {
+        table.store_ring_word(seat, place + n, *word);
+    }
 }
 
 // The number, among all words, of the place of the word at an address.
 fn place_of(shape: &LogShape, at: u64) -> usize
-    ensures { result ≡ ring_number shape.now (ring_place shape.now (at / 8)) }
+    ensures place { IsPlaceOf shape.now at result }
+    ensures low { result < 2 ^ 17 }
 {
     let ring_pages = u64::from(shape.ring_pages());
     let number = at / WORD;

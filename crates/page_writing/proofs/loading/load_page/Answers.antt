@@ -1,7 +1,14 @@
-use Rattle.std.proofs.Common.{ℕ, ◌+◌, ap, arith}
+use Rattle.std.proofs.Common.{ℕ, ◌+◌, ap, sym, ◌∙◌, arith}
+use Rattle.wal_core.specs.Steps.{ring_number, ring_place}
 use Rattle.page_writing.specs.InHand.{lent_in}
 use Rattle.page_writing.proofs.PageLaws.{front_on, loads_on}
 use Rattle.page_writing.proofs.loading.load_page.Goals as goal
+
+pub load_word-word-requires-clause-place : goal.load_word-word-requires-clause-place
+load_word-word-requires-clause-place g c =
+    c.place_of_page-place.ensures.places c.loop-n.n c.loop-n-test.true
+    ∙ ap (λ (k : ℕ). ring_number c.args.shape.now (ring_place c.args.shape.now (k + c.loop-n.n)))
+    (sym c.first_word-first.ensures.first)
 
 pub loop-n-preserved : goal.loop-n-preserved
 loop-n-preserved g c =

@@ -1,5 +1,6 @@
 use Rattle.std.proofs.Common.{◌≡◌, sym, ap, ◌∙◌, subst}
 use Rattle.std.proofs.lemmas.Result.{err_from_is_err_and}
+use Rattle.wal_page.specs.Placed.{placed_end}
 use Rattle.wal_rule.specs.Seats.{SeatView}
 use Rattle.wal_log.specs.Downs.{KnowsNoFault}
 use Rattle.wal_log.specs.PassLogs.{log_of_pass}
@@ -7,6 +8,9 @@ use Rattle.wal_log.specs.Standing.{KeepsWork}
 use Rattle.wal_log.proofs.CopyLaws.{copy_since, same_place, work_stays}
 use Rattle.wal_log.proofs.Keeping.{further_pass}
 use Rattle.wal_log.proofs.wal.Wal.copy_whole.Goals as goal
+
+pub copy_some-requires-clause-end : goal.copy_some-requires-clause-end
+copy_some-requires-clause-end g c = c.requires.end ∙ sym (ap placed_end c.loop.invariant.4)
 
 pub returns-in-Whole-clause-keeps : goal.returns-in-Whole-clause-keeps
 returns-in-Whole-clause-keeps g c =

@@ -60,8 +60,8 @@ returns-in-Ok-clause-inserts g c =
     c.release.ensures.steps.me_is
     ∙ landed_view c.args.self.now.shape c.in_ok-begun.begun.lock c.copy_whole.new.placed
     c.copy_whole.new.seat.me.0 copied.copies) c.in-Ok.ensures.up
-    (record { start = c.in_ok-begun.begun.start; end = c.next_lsn.result }) refl
-    (c.next_lsn.ensures ∙ c.in-Ok.ensures.whole)
+    (record { start = c.in_ok-begun.begun.start; end = c.in_ok-begun.begun.end }) refl
+    c.in_ok-begun.ensures.end
 
 pub returns-in-Ok-clause-keeps : goal.returns-in-Ok-clause-keeps
 returns-in-Ok-clause-keeps g c =
