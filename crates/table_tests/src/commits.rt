@@ -22,12 +22,15 @@ fn a_record_is_inserted_by_its_steps(rt: HostRuntime) -> Result<(), Fail> {
     let Some(lock) = take_one(&table, &mut seat, 0) else {
         panic!(rt; "a free lock");
     };
-    let Some(mut placed) = reserve_one(&table, &mut seat, &shape, &body, lock) else {
+    let Some(reserved) = reserve_one(&table, &mut seat, &shape, &body, lock) else {
         panic!(rt; "an unlocked position");
     };
+    assert_eq!(rt; reserved.end.0, START + 40);
+    let end = reserved.end;
+    let mut placed = reserved.placed;
     // Its first words are those of the header with which the segment begins.
     assert_eq!(rt; placed.next_lsn().0, 1 << 20);
-    let Some(_) = copy_one(&table, &mut seat, &shape, &mut placed, lock) else {
+    let Some(_) = copy_one(&table, &mut seat, &shape, &mut placed, lock, end) else {
         panic!(rt; "a page in its buffer");
     };
     assert_eq!(rt; placed.next_lsn().0, START + 40);
@@ -57,9 +60,10 @@ fn two_records_are_reserved_side_by_side(rt: HostRuntime) -> Result<(), Fail> {
     let Some(_) = reserve_one(&table, &mut first, &shape, &one, lock) else {
         panic!(rt; "an unlocked position");
     };
-    let Some(mut placed) = reserve_one(&table, &mut second, &shape, &two, next) else {
+    let Some(reserved) = reserve_one(&table, &mut second, &shape, &two, next) else {
         panic!(rt; "an unlocked position again");
     };
+    let mut placed = reserved.placed;
     // Its 34 bytes and its transaction, and then where the record before starts.
     let head = (Lsn(START + 40), 34 + (701 << 32));
     assert_eq!(rt; placed.next_word(), Some(head));
