@@ -54,7 +54,14 @@ pub fn copy_page<'a, D: Disk>(
     let on_page = (PAGE_SIZE - next % PAGE_SIZE) / WORD;
     let left = (end - next) / WORD;
     let place = place_of(shape, next);
-    copy_words(table, seat, shape, placed, place, left.min(on_page) as usize);
+    copy_words(
+        table,
+        seat,
+        shape,
+        placed,
+        place,
+        left.min(on_page) as usize,
+    );
     if left <= on_page {
         Copied::Whole
     } else {
