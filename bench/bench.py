@@ -82,7 +82,7 @@ def timed(words, folder, stdin=None):
 
 
 def instructions(words, folder, stdin=None):
-    """The instructions that a program takes in a folder: all, and those of the log's inserts."""
+    """The instructions that a program takes in a folder."""
     counts = os.path.join(folder, "callgrind")
     counted = ["valgrind", "--tool=callgrind", f"--callgrind-out-file={counts}", *words]
     with open(stdin or os.devnull, "rb") as given:
@@ -91,24 +91,21 @@ def instructions(words, folder, stdin=None):
     found = re.search(r"Collected : (\d+)", told)
     if done.returncode or not found:
         sys.exit(f"{' '.join(counted)}: status {done.returncode}: {told}")
-    listed = ["callgrind_annotate", "--inclusive=yes", "--threshold=100", counts]
-    names = subprocess.run(listed, capture_output=True, text=True).stdout
-    inserts = re.search(r"^ *([\d,]+) .*\bLog::insert\b", names, re.M)
-    return int(found[1]), int(inserts[1].replace(",", "")) if inserts else 0
+    return int(found[1])
 
 
 def instructions_per_record(fields):
-    """Those that `run` takes for one record more, its insert alone, and each listing; each log lies in segments of 16 MiB."""
+    """Those that `run` takes for one record more, and each listing; each log lies in segments of 16 MiB."""
     counts = []
     for records in (1000, 2000):
         with tempfile.TemporaryDirectory() as folder:
             path = os.path.join(folder, "script")
             write_script(path, fields, records)
-            run, insert = instructions([PROGRAM, "run"], folder, path)
-            listings = [instructions([PROGRAM, "dump", *options], folder)[0] for options, _ in LISTINGS.values()]
-            counts.append((run, insert, *listings))
-    run, insert, *listings = [(more - less) / 1000 for less, more in zip(*counts)]
-    return run, insert, listings
+            run = instructions([PROGRAM, "run"], folder, path)
+            listings = [instructions([PROGRAM, "dump", *options], folder) for options, _ in LISTINGS.values()]
+            counts.append((run, *listings))
+    run, *listings = [(more - less) / 1000 for less, more in zip(*counts)]
+    return run, listings
 
 
 def row(name, counted, records, size, seconds, memory):
@@ -171,8 +168,8 @@ def main():
     for case, (fields, total) in CASES.items():
         of_run, of_listings = "", [""] * len(LISTINGS)
         if shutil.which("valgrind"):
-            run, insert, listings = instructions_per_record(fields)
-            of_run, of_listings = f"{run:,.0f}, of them the insert {insert:,.0f}", [f"{each:,.0f}" for each in listings]
+            run, listings = instructions_per_record(fields)
+            of_run, of_listings = f"{run:,.0f}", [f"{each:,.0f}" for each in listings]
         if not megabytes:
             print(f"| run, {case} | {of_run} |")
             for kind, of_listing in zip(LISTINGS, of_listings):
