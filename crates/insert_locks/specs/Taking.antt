@@ -1,6 +1,8 @@
 -- What a try to take an insertion lock leaves (PostgreSQL's xlog.c, WALInsertLockAcquire).
-use Rattle.std.specs.Prelude.{ℕ, ◌≢◌, ◌<◌, List, [], ◌∷◌, ◌++◌, slice_index}
+use Rattle.std.specs.Prelude.{ℕ, ◌+◌, ◌%◌, ◌≢◌, ◌<◌, List, [], ◌∷◌, ◌++◌, slice_index}
+use Rattle.wal_core.specs.Steps.{take_lock}
 use Rattle.wal_rule.specs.Seats.{SeatView}
+use Rattle.wal_rule.specs.Stepping.{Meets}
 
 -- the view that holds one lock more, and is else as it was
 abbrev pub with_lock : ℕ → SeatView → SeatView
@@ -8,6 +10,12 @@ with_lock lock v = record v {
   working = record v.working { locks = (v.working).locks ++ lock ∷ [] };
 }
 
--- eight words of locks that are held
-abbrev pub AreHeldWords : List ℕ → Type 0
-AreHeldWords words = (tried : ℕ) → tried < 8 → slice_index words tried ≢ 0
+-- words of locks that are held, each met where a pass with this view and number tried one lock: its
+-- own first, and then the next ones
+abbrev pub HaveMetHeld : SeatView → (number tries : ℕ) → List ℕ → Type 0
+HaveMetHeld v number tries words = (tried : ℕ) → tried < tries → (slice_index words tried ≢ 0)
+    × Meets v (take_lock ((number % 8 + tried) % 8)) (slice_index words tried)
+
+-- eight words, of all locks
+abbrev pub AreHeldWords : SeatView → (number : ℕ) → List ℕ → Type 0
+AreHeldWords v number words = HaveMetHeld v number 8 words

@@ -4,7 +4,9 @@ use Rattle.wal_core.specs.declared.setup.Setup.{Setup}
 use Rattle.wal_core.specs.Words.{end_form}
 use Rattle.wal_core.specs.Views.{Watching}
 use Rattle.wal_core.specs.Moves.{is_own, visited_on}
+use Rattle.wal_core.specs.Steps.{load_lock}
 use Rattle.wal_rule.specs.Seats.{SeatView}
+use Rattle.wal_rule.specs.Stepping.{Meets}
 
 -- the view that has seen so much reserved, and is else as it was
 abbrev pub with_sight : ℕ → SeatView → SeatView
@@ -48,8 +50,8 @@ pub record HasFinished (upto bound : ℕ) (old new : SeatView) : Type 0 where
   pub within : bound ≤ end
   pub new_is : new ≡ with_watching (watched_to end 8 bound) (with_sight (new.reserving).seen old)
 
--- the locks before this one let the watch pass, and this one, of which the word was met, holds it
--- back
+-- the locks before this one let the watch pass, and this one, of which the word was met behind them,
+-- holds it back
 pub record IsHeldBack (upto lock word : ℕ) (old new : SeatView) : Type 0 where
   pub end : ℕ
   pub bound : ℕ
@@ -58,6 +60,9 @@ pub record IsHeldBack (upto lock word : ℕ) (old new : SeatView) : Type 0 where
   pub reaches : min upto end ≤ bound
   pub within : bound ≤ end
   pub lock_low : lock < 8
+  pub before : SeatView
+  pub before_is : before ≡ with_watching before.watching (with_sight (new.reserving).seen old)
+  pub met : Meets before (load_lock lock end) word
   pub holds_back : HoldsBack (min upto end) word
   pub new_is : new ≡ with_watching
       (visited_on (is_own lock old.working) lock word (watched_to end lock bound))

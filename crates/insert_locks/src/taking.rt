@@ -1,5 +1,7 @@
 // An insertion lock is taken (PostgreSQL's xlog.c, WALInsertLockAcquire).
 ghost use Rattle.std.specs.Prelude.{◌≡◌, ◌≢◌, ◌<◌, IfErr, IfOk};
+ghost use Rattle.wal_core.specs.Steps.{take_lock};
+ghost use Rattle.wal_rule.specs.Stepping.{Meets};
 ghost use Rattle.wal_rule.specs.Tables.{IsSeatOn};
 ghost use Rattle.insert_locks.specs.Taking.{AreHeldWords, with_lock};
 
@@ -23,7 +25,8 @@ pub fn try_take<D: Disk>(
     requires seat { IsSeatOn table.now seat.old }
     ensures taken { IfOk result (λ lock. (lock < 8)
         × (seat.new.me ≡ (with_lock lock seat.old.me.0, seat.old.me.1))) }
-    ensures held { IfErr result (λ e. AreHeldWords e.seen × (seat.new.me ≡ seat.old.me)) }
+    ensures held { IfErr result (λ e. AreHeldWords seat.old.me.0 number e.seen
+        × (seat.new.me ≡ seat.old.me)) }
     ensures seat { IsSeatOn table.now seat.new }
 {
     let first = number % LOCKS;
@@ -46,6 +49,7 @@ fn try_lock<D: Disk>(table: &LogTable<D>, seat: &mut LogSeat<D>, lock: u32) -> u
     ensures taken { result ≡ 0
         → seat.new.me ≡ (with_lock lock seat.old.me.0, seat.old.me.1) }
     ensures held { result ≢ 0 → seat.new.me ≡ seat.old.me }
+    ensures met { Meets seat.old.me.0 (take_lock lock) result }
     ensures seat { IsSeatOn table.now seat.new }
 {
     table.take_lock(seat, lock)

@@ -2,7 +2,9 @@
 ghost use Rattle.std.specs.Prelude.{◌≡◌, ◌<◌, ◌≤◌, true, false};
 ghost use Rattle.segment_disk.specs.Tape.{empty_state};
 ghost use Rattle.wal_core.specs.Moves.{begun, is_own, visited_on};
+ghost use Rattle.wal_core.specs.Steps.{load_lock};
 ghost use Rattle.wal_rule.specs.Seats.{view_on};
+ghost use Rattle.wal_rule.specs.Stepping.{Meets};
 ghost use Rattle.wal_rule.specs.Tables.{IsSeatOn, opening_of_table};
 ghost use Rattle.insert_locks.specs.Watching.{HasFinished, HoldsBack, IsHeldBack, LetsPass};
 ghost use Rattle.insert_locks.specs.Watching.{bound_behind, with_watching};
@@ -68,6 +70,7 @@ fn visit<D: Disk>(table: &LogTable<D>, seat: &mut LogSeat<D>, lock: u32, end: u6
       seat.old.me.1,
     ) }
     ensures own { is_own lock seat.old.me.0.working ≡ true → result ≤ 1 }
+    ensures met { Meets seat.old.me.0 (load_lock lock end) result }
     ensures seat { IsSeatOn table.now seat.new }
 {
     table.load_lock(seat, lock, end)

@@ -1,6 +1,6 @@
 -- The position, loaded and locked or found busy.
 use Rattle.std.specs.Prelude.{max}
-use Rattle.std.proofs.Common.{◌≡◌, ◌≢◌, ℕ, ◌%◌, ◌≤◌, true, inl, inr, refl, ap, ◌∙◌, subst, arith}
+use Rattle.std.proofs.Common.{◌≡◌, ◌≢◌, ℕ, ◌%◌, ◌≤◌, true, inl, inr, refl, sym, ap, ◌∙◌, subst, arith}
 use Rattle.std.proofs.lemmas.Bool.{ne_eqb}
 use Rattle.std.proofs.Math.Nat.{le-max_left, max-eq_right}
 use mathlib.Core.Option.{none}
@@ -10,28 +10,36 @@ use Rattle.wal_core.specs.Views.{Locked}
 use Rattle.wal_core.specs.Moves.{unlocked}
 use Rattle.wal_core.specs.Steps.{load_position, lock_position}
 use Rattle.wal_rule.specs.Seats.{SeatView, behind}
-use Rattle.wal_rule.specs.Stepping.{Stands}
+use Rattle.wal_rule.specs.Stepping.{Meets, Stands}
 use Rattle.reserve_lock.specs.Reserved.{IsPositionBusy, IsPositionLocked, locked_view, seen_view}
 use Rattle.reserve_lock.proofs.Standing.{locked_behind_seen, locked_whole, locked_within}
 use Rattle.reserve_lock.proofs.Steps.{behind_load, behind_lock, behind_vain_lock, place_view}
 
-module _ (loaded : ℕ) (v w : SeatView) (load : w ≡ behind load_position loaded none v) where
+module _ (loaded : ℕ) (v w : SeatView) (load : w ≡ behind load_position loaded none v)
+    (met_loaded : Meets v load_position loaded) where
   pub found_locked : loaded % 2 ≡ 1 → IsPositionBusy loaded v w
   found_locked odd = record {
     loaded = loaded;
+    met = met_loaded;
     found = inl (odd, refl);
     new_is = load ∙ behind_load loaded v;
   }
 
   module _ (met : ℕ) (x : SeatView) (lock : x ≡ behind (lock_position loaded) met none w)
       (even : loaded % 2 ≡ 0) where
-    pub found_moved : met ≢ loaded → IsPositionBusy met v x
-    found_moved apart = record {
-      loaded = loaded;
-      found = inr (even, apart);
-      new_is = lock ∙ behind_vain_lock loaded met w (ne_eqb met loaded apart)
-          ∙ load ∙ behind_load loaded v;
-    }
+    pub found_moved : met ≢ loaded → Meets w (lock_position loaded) met → IsPositionBusy met v x
+    found_moved apart found =
+        let vain : x ≡ w = lock ∙ behind_vain_lock loaded met w (ne_eqb met loaded apart) in
+        record {
+          loaded = loaded;
+          met = met_loaded;
+          found = inr (
+            even,
+            apart,
+            subst (λ (y : SeatView). Meets y (lock_position loaded) met) (sym vain) found,
+          );
+          new_is = vain ∙ load ∙ behind_load loaded v;
+        }
 
     module _ (setup : Setup) (met_is : met ≡ loaded) (stands : Stands x)
         (live : (x.reserving).live ≡ true) (own : (x.opening).setup ≡ setup) where

@@ -9,7 +9,9 @@ use Rattle.wal_core.specs.declared.setup.Setup.{Setup}
 use Rattle.wal_core.specs.Words.{log_limit}
 use Rattle.wal_core.specs.Views.{Copying, Free, Locked}
 use Rattle.wal_core.specs.Moves.{entry_reserved, unlocked}
+use Rattle.wal_core.specs.Steps.{load_position, lock_position}
 use Rattle.wal_rule.specs.Seats.{SeatView}
+use Rattle.wal_rule.specs.Stepping.{Meets}
 use Rattle.reserve_lock.specs.declared.reserving.ReserveErr.{ReserveErr}
 use Rattle.reserve_lock.specs.declared.reserving.ReserveErr.TheVariants.{Busy, Full}
 
@@ -60,7 +62,9 @@ pub record IsPositionLocked (setup : Setup) (at : ℕ) (old new : SeatView) : Ty
 -- the one exchange found another word, which is told
 pub record IsPositionBusy (told : ℕ) (old new : SeatView) : Type 0 where
   pub loaded : ℕ
-  pub found : ((loaded % 2 ≡ 1) × (told ≡ loaded)) ⊎ ((loaded % 2 ≡ 0) × (told ≢ loaded))
+  pub met : Meets old load_position loaded
+  pub found : ((loaded % 2 ≡ 1) × (told ≡ loaded))
+      ⊎ ((loaded % 2 ≡ 0) × (told ≢ loaded) × Meets new (lock_position loaded) told)
   pub new_is : new ≡ seen_view (unlocked loaded) old
 
 -- ---- the place

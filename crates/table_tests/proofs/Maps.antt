@@ -13,7 +13,7 @@ kept_of v = (v.reserving, ((v.mapping).stage, v.hold))
 pub map_keeps : (setup : Setup) (page : ℕ) (old new : SeatView) (t : MapTry)
     → TriesMapping setup page old new t
     → kept_of new ≡ kept_of old
-map_keeps setup page old new (Taken turn) (met, is) = ap kept_of is
+map_keeps setup page old new (Taken turn) (some, is, met) = ap kept_of is
 map_keeps setup page old new There (at, written, there, is) = ap kept_of is
 map_keeps setup page old new (Unwritten told) (at, above, short, is) = ap kept_of is
 map_keeps setup page old new Mapped (at, written, above, is) = ap kept_of is

@@ -222,6 +222,19 @@ module _ (old loaded : SeatView) (met : ℕ) (load : loaded ≡ behind load_down
   pub load_sets_none : loaded.down_set ≡ old.down_set
   load_sets_none = ap (λ (v : SeatView). v.down_set) (load ∙ down_loaded met old)
 
+  pub loaded_log : log_of_pass loaded ≡ log_of_pass old
+  loaded_log = ap (λ (v : SeatView). log_of_pass v) (load ∙ down_loaded met old)
+
+  pub loaded_rests : IsAtRest old → IsAtRest loaded
+  loaded_rests rests = subst IsAtRest (sym (load ∙ down_loaded met old))
+      (record {
+        place = rests.place;
+        locks = rests.locks;
+        flight = rests.flight;
+        stage = rests.stage;
+        hold = rests.hold;
+      })
+
   module _ (lock : ℕ) (taken : SeatView) (take : taken ≡ with_lock lock loaded) where
     pub taken_sets_none : taken.down_set ≡ old.down_set
     taken_sets_none = ap (λ (v : SeatView). v.down_set) take ∙ load_sets_none

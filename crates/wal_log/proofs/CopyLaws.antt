@@ -127,6 +127,7 @@ pub record StaysCopying (setup : Setup) (before after : PlacedState) (old new : 
     pub copies : (lock : ℕ) → CopiesUnderOneLock setup lock before old
         → CopiesUnderOneLock setup lock after new
     pub keeps : KeepsPass old new
+    pub up : KnowsNoFault old → KnowsNoFault new
     pub log_is : log_of_pass new ≡ log_of_pass old
 
 module _ (setup : Setup) (p : PlacedState) (v : SeatView) where
@@ -134,6 +135,7 @@ module _ (setup : Setup) (p : PlacedState) (v : SeatView) where
   stays = record {
     copies = λ lock c. c;
     keeps = same_pass v;
+    up = λ up. up;
     log_is = refl;
   }
 
@@ -158,6 +160,7 @@ module _ (setup : Setup) (p : PlacedState) (v : SeatView) where
       rises = omega arith;
       down = λ faults knows. knows;
     };
+    up = λ up. record { met = up.met; set = up.set };
     log_is = refl;
   }
 
@@ -182,6 +185,7 @@ module _ (setup : Setup) (p : PlacedState) (v : SeatView) where
       rises = omega arith;
       down = λ faults knows. knows;
     };
+    up = λ up. record { met = up.met; set = up.set };
     log_is = refl;
   }
 
@@ -214,6 +218,7 @@ module _ (setup : Setup) (p : PlacedState) (v : SeatView) where
       rises = omega arith;
       down = λ faults knows. knows;
     };
+    up = λ up. record { met = up.met; set = up.set };
     log_is = refl;
   }
 
@@ -223,6 +228,7 @@ module _ (setup : Setup) (p q r : PlacedState) (u v w : SeatView) where
   stays_on x y = record {
     copies = λ lock c. y.copies lock (x.copies lock c);
     keeps = further_pass u v w x.keeps y.keeps;
+    up = λ up. y.up (x.up up);
     log_is = y.log_is ∙ x.log_is;
   }
 

@@ -33,7 +33,8 @@ pub record IsPlaceBegun (setup : Setup) (body : Assembled) (old new : SeatView) 
 abbrev pub TellsBeginTry : Setup → Assembled → SeatView → SeatView → TryErr → Type 0
 TellsBeginTry setup body old new (Busy seen) = log_of_pass new ≡ log_of_pass old
 TellsBeginTry setup body old new (AllHeld held) =
-    AreHeldWords held.seen × (log_of_pass new ≡ log_of_pass old)
+    ((v : SeatView) × (number : ℕ) × AreHeldWords v number held.seen)
+    × (log_of_pass new ≡ log_of_pass old)
 TellsBeginTry setup body old new (Full free) =
     FindsLogFull setup body free old new × KnowsNoFault new
 TellsBeginTry setup body old new (Down faults) =

@@ -175,13 +175,14 @@ module _ {D : Type 0} (tape : D → Rattle.std.specs.Prelude.Option Tape) (momen
           (refl, stands_in s k here _ home w (seat_steady me.0 e quiet met none).0 kept.0),
         ))
 
-    -- the same of a load, which tells also that its number was met
-    pub loaded : (e : StepKind) → IsQuiet e → MaySeat me.0 e → (word : ℕ)
-        → word ≡ word_at_step me.0 e → ((met : ℕ) → met ≡ value_left me.0 e met)
-        → Allows Held slots id me word (λ n. n)
+    -- the same, which tells also that its number was met
+    pub met_quietly : (e : StepKind) → IsQuiet e → MaySeat me.0 e → (word : ℕ)
+        → word ≡ word_at_step me.0 e → (f : ℕ → ℕ)
+        → ((met : ℕ) → f met ≡ value_left me.0 e met)
+        → Allows Held slots id me word f
         (λ r n. (n ≡ (behind e r none me.0, me.1)) × Stands n.0 × Meets me.0 e r)
-    loaded e quiet may word word_is loads s k at here fits =
-        let step = quietly e quiet may word word_is (λ n. n) loads s k at here fits in (
+    met_quietly e quiet may word word_is f value s k at here fits =
+        let step = quietly e quiet may word word_is f value s k at here fits in (
           step.0,
           step.1,
           step.2,

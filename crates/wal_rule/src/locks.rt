@@ -30,6 +30,7 @@ impl<D: Disk> LogTable<D> {
         requires seat { IsSeatOn self.now seat.old }
         requires lock { lock < 8 }
         ensures steps { SeatSteps (take_lock lock) result seat.old seat.new }
+        ensures met { Meets seat.old.me.0 (take_lock lock) result }
         ensures seat { IsSeatOn self.now seat.new }
     {
         self.exchanges::<Brand>(seat, LOCKS + lock as usize, 0, 1, lock_and(lock, 0))

@@ -2,7 +2,7 @@
 // xlog.c, AdvanceXLInsertBuffer).
 ghost use Rattle.std.specs.Prelude.{◌≡◌, ◌<◌};
 ghost use Rattle.wal_core.specs.Steps.{clear_end, load_initialised_end, publish_end, publish_initialised_end, release_mapping_turn, take_mapping_turn, zero_ring_word};
-ghost use Rattle.wal_rule.specs.Stepping.{MaySeat, SeatSteps, value_left, word_at_step};
+ghost use Rattle.wal_rule.specs.Stepping.{MaySeat, Meets, SeatSteps, value_left, word_at_step};
 ghost use Rattle.wal_rule.specs.Tables.{IsSeatOn};
 
 use crate::plays::OfKind;
@@ -63,6 +63,7 @@ impl<D: Disk> LogTable<D> {
         requires may { MaySeat seat.old.me.0 take_mapping_turn }
         requires number { number ≡ seat.old.me.0.reserving.number }
         ensures steps { SeatSteps take_mapping_turn result seat.old seat.new }
+        ensures met { Meets seat.old.me.0 take_mapping_turn result }
         ensures seat { IsSeatOn self.now seat.new }
     {
         self.exchanges::<TakesMappingTurn>(

@@ -35,12 +35,12 @@ impl<D, K: OfKind> Play<LogWriter<D>, PassView> for Quietly<K> {
     ghost then = { λ st m r n. (n ≡ (behind K.kind r none m.0, m.1)) × Stands n.0 };
 }
 
-/// A load that moves no writer, which tells also that its number was met.
-pub struct Loads<K: OfKind> {
+/// A load or an exchange that moves no writer, which tells also that its number was met.
+pub struct Finds<K: OfKind> {
     kind: PhantomData<K>,
 }
 
-impl<D, K: OfKind> Play<LogWriter<D>, PassView> for Loads<K> {
+impl<D, K: OfKind> Play<LogWriter<D>, PassView> for Finds<K> {
     ghost then = { λ st m r n. (n ≡ (behind K.kind r none m.0, m.1)) × Stands n.0
         × Meets m.0 K.kind r };
 }

@@ -5,7 +5,7 @@ ghost use Rattle.wal_rule.specs.Seats.{behind};
 ghost use Rattle.wal_rule.specs.Stepping.{IsQuiet, MaySeat, Meets, SeatSteps, value_left, word_at_step};
 ghost use Rattle.wal_rule.specs.Tables.{IsSeatOn};
 
-use crate::plays::{Loads, OfKind, Quietly};
+use crate::plays::{Finds, OfKind, Quietly};
 use crate::table::{LogSeat, LogTable};
 use segment_disk::Disk;
 
@@ -40,7 +40,7 @@ impl<D: Disk> LogTable<D> {
         ensures met { Meets seat.old.me.0 K.kind result }
         ensures seat { IsSeatOn self.now seat.new }
     {
-        self.table.shared.load::<Loads<K>>(seat, word)
+        self.table.shared.load::<Finds<K>>(seat, word)
     }
 
     // A step of a kind that stores a word.
@@ -82,10 +82,11 @@ impl<D: Disk> LogTable<D> {
         requires exchanges { (met : ℕ) → (if met == expected then value else met)
             ≡ value_left seat.old.me.0 K.kind met }
         ensures steps { SeatSteps K.kind result seat.old seat.new }
+        ensures met { Meets seat.old.me.0 K.kind result }
         ensures seat { IsSeatOn self.now seat.new }
     {
         self.table
             .shared
-            .compare_exchange::<Quietly<K>>(seat, word, expected, value)
+            .compare_exchange::<Finds<K>>(seat, word, expected, value)
     }
 }

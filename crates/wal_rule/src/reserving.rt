@@ -2,7 +2,7 @@
 ghost use Rattle.std.specs.Prelude.{◌≡◌, ℕ, List};
 ghost use Rattle.wal_types.specs.declared.record.Record.{Record};
 ghost use Rattle.wal_core.specs.Steps.{give_position_back, load_prev, lock_position, store_position, store_prev};
-ghost use Rattle.wal_rule.specs.Stepping.{MaySeat, SeatSteps, value_left};
+ghost use Rattle.wal_rule.specs.Stepping.{MaySeat, Meets, SeatSteps, value_left};
 ghost use Rattle.wal_rule.specs.Tables.{IsSeatOn};
 
 use crate::plays::OfKind;
@@ -33,6 +33,7 @@ impl<D: Disk> LogTable<D> {
         requires seat { IsSeatOn self.now seat.old }
         requires may { MaySeat seat.old.me.0 (lock_position expected) }
         ensures steps { SeatSteps (lock_position expected) result seat.old seat.new }
+        ensures met { Meets seat.old.me.0 (lock_position expected) result }
         ensures seat { IsSeatOn self.now seat.new }
     {
         self.exchanges::<Brand>(seat, POSITION, expected, expected + 1, NO_OPERANDS)

@@ -2,7 +2,7 @@
 // CopyXLogRecordToWAL).
 ghost use Rattle.std.specs.Prelude.{◌≡◌, ◌<◌};
 ghost use Rattle.wal_core.specs.Steps.{load_buffer_end, load_ring_word, store_ring_word};
-ghost use Rattle.wal_rule.specs.Stepping.{MaySeat, SeatSteps, value_left, word_at_step};
+ghost use Rattle.wal_rule.specs.Stepping.{MaySeat, Meets, SeatSteps, value_left, word_at_step};
 ghost use Rattle.wal_rule.specs.Tables.{IsSeatOn};
 
 use crate::plays::OfKind;
@@ -26,6 +26,7 @@ impl<D: Disk> LogTable<D> {
         requires seat { IsSeatOn self.now seat.old }
         requires buffer { MaySeat seat.old.me.0 (load_buffer_end buffer) }
         ensures steps { SeatSteps (load_buffer_end buffer) result seat.old seat.new }
+        ensures met { Meets seat.old.me.0 (load_buffer_end buffer) result }
         ensures seat { IsSeatOn self.now seat.new }
     {
         self.loads::<Brand>(seat, BUFFER_ENDS + buffer as usize, one(u64::from(buffer)))

@@ -1,10 +1,10 @@
 // The turn to write, and the writer in its slot.
-ghost use Rattle.std.specs.Prelude.{◌≡◌, ℕ, true, false, []};
+ghost use Rattle.std.specs.Prelude.{◌≡◌, ◌≢◌, ℕ, true, false, []};
 ghost use mathlib.Core.Option.{none};
 ghost use Rattle.wal_core.specs.Steps.{release_write_turn, slot_in, slot_out, take_write_turn};
 ghost use Rattle.wal_rule.specs.Ruled.{HasInHand, HasTaken, IsOutOf};
 ghost use Rattle.wal_rule.specs.Seats.{SeatLent, behind};
-ghost use Rattle.wal_rule.specs.Stepping.{MaySeat, SeatSteps};
+ghost use Rattle.wal_rule.specs.Stepping.{MaySeat, Meets, SeatSteps};
 ghost use Rattle.wal_rule.specs.Tables.{IsSeatOn, began_of_table, opening_of_table};
 
 use crate::plays::{BeganOn, OfKind, SlotIn, SlotOut};
@@ -34,6 +34,7 @@ impl<D: Disk> LogTable<D> {
         requires may { MaySeat seat.old.me.0 take_write_turn }
         requires number { number ≡ seat.old.me.0.reserving.number }
         ensures steps { SeatSteps take_write_turn result seat.old seat.new }
+        ensures met { Meets seat.old.me.0 take_write_turn result }
         ensures seat { IsSeatOn self.now seat.new }
     {
         self.exchanges::<TakesWriteTurn>(seat, WRITE_TURN, 0, u64::from(number) + 1, NO_OPERANDS)
@@ -94,6 +95,8 @@ impl<D: Disk> LogTable<D> {
         ensures taken { result ≡ true → HasTaken D.tape D.moment D.faults
             (began_of_table D.tape self.now) (opening_of_table self.now) seat.old.me seat.new.me }
         ensures same { result ≡ false → seat.new.me ≡ seat.old.me }
+        ensures met { result ≡ false
+            → (turn : ℕ) × (turn ≢ 0) × Meets seat.old.me.0 take_write_turn turn }
         ensures seat { IsSeatOn self.now seat.new }
     {
         if self.take_write_turn(seat, number) != 0 {

@@ -2,7 +2,9 @@
 use Rattle.std.specs.Prelude.{◌≡◌, ◌≢◌, ℕ, ◌+◌, ◌*◌, ◌<◌, ◌≤◌}
 use Rattle.wal_core.specs.declared.setup.Setup.{Setup}
 use Rattle.wal_core.specs.Views.{Stage}
+use Rattle.wal_core.specs.Steps.{take_mapping_turn}
 use Rattle.wal_rule.specs.Seats.{SeatView}
+use Rattle.wal_rule.specs.Stepping.{Meets}
 use Rattle.word_ring.specs.Ring.{confirmed_view, end_of_page}
 use Rattle.word_ring.specs.declared.mapping.MapTry.{MapTry}
 use Rattle.word_ring.specs.declared.mapping.MapTry.TheVariants.{Mapped, There, Taken, Unwritten}
@@ -28,9 +30,10 @@ abbrev pub IsOldPageUnwritten : Setup → (at written : ℕ) → Type 0
 IsOldPageUnwritten setup at written = written + setup.ring_pages * 8192 < at + 8192
 
 -- what a try tells, and what it leaves of the view, which is not mapping: somebody else had the
--- turn; or it had the turn, and met the initialised end `at` and the written address
+-- turn, whose word was met; or it had the turn, and met the initialised end `at` and the written address
 abbrev pub TriesMapping : Setup → (page : ℕ) → (old new : SeatView) → MapTry → Type 0
 TriesMapping setup page old new (Taken turn) = (turn ≢ 0) × (new ≡ old)
+    × Meets old take_mapping_turn turn
 TriesMapping setup page old new There = (at written : ℕ) × (end_of_page page ≤ at)
     × (new ≡ looked_view at written old)
 TriesMapping setup page old new (Unwritten told) = (at : ℕ) × (at < end_of_page page)

@@ -1,5 +1,7 @@
 // Whether a page is in its buffer (PostgreSQL's xlog.c, GetXLogBuffer).
-ghost use Rattle.std.specs.Prelude.{◌≡◌, ℕ, ◌<◌, ◌^◌};
+ghost use Rattle.std.specs.Prelude.{◌≡◌, ℕ, ◌%◌, ◌<◌, ◌^◌};
+ghost use Rattle.wal_core.specs.Steps.{load_buffer_end};
+ghost use Rattle.wal_rule.specs.Stepping.{Meets};
 ghost use Rattle.wal_rule.specs.Tables.{IsSeatOn, opening_of_table};
 ghost use Rattle.word_ring.specs.Ring.{Confirms, confirmed_view};
 
@@ -27,7 +29,8 @@ pub fn confirm<D: Disk>(
     requires shape { shape.now ≡ (opening_of_table table.now).setup }
     requires low { page < 2 ^ 40 }
     ensures met { (end : ℕ) × Confirms page end result
-        × (seat.new.me ≡ (confirmed_view end seat.old.me.0, seat.old.me.1)) }
+        × (seat.new.me ≡ (confirmed_view end seat.old.me.0, seat.old.me.1))
+        × Meets seat.old.me.0 (load_buffer_end (page % shape.now.ring_pages)) end }
     ensures seat { IsSeatOn table.now seat.new }
 {
     let buffer = (page % u64::from(shape.ring_pages())) as u32;

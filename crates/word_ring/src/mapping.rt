@@ -1,8 +1,9 @@
 // The next page is mapped (PostgreSQL's xlog.c, AdvanceXLInsertBuffer).
 ghost use Rattle.std.specs.Prelude.{◌≡◌, ◌≢◌, ℕ, ◌+◌, ◌*◌, ◌<◌, ◌≤◌, ◌^◌};
 ghost use Rattle.wal_core.specs.Paged.{IsOpen};
-ghost use Rattle.wal_core.specs.Steps.{buffer_of};
+ghost use Rattle.wal_core.specs.Steps.{buffer_of, take_mapping_turn};
 ghost use Rattle.wal_core.specs.Views.{Away, Ready, Taken, Zeroing};
+ghost use Rattle.wal_rule.specs.Stepping.{Meets};
 ghost use Rattle.wal_rule.specs.Tables.{IsSeatOn, opening_of_table};
 ghost use Rattle.word_ring.specs.Mapped.{TriesMapping, looked_view, staged_view};
 ghost use Rattle.word_ring.specs.Ring.{confirmed_view};
@@ -74,6 +75,7 @@ fn take_turn<D: Disk>(table: &LogTable<D>, seat: &mut LogSeat<D>, number: u32) -
     ensures taken { result ≡ 0
         → seat.new.me ≡ (staged_view Taken seat.old.me.0, seat.old.me.1) }
     ensures vain { result ≢ 0 → seat.new.me ≡ seat.old.me }
+    ensures met { Meets seat.old.me.0 take_mapping_turn result }
     ensures seat { IsSeatOn table.now seat.new }
 {
     table.take_mapping_turn(seat, number)

@@ -53,6 +53,14 @@ returns-in-Mapped-clause-keeps g c =
     (ap (λ (m : SeatView × List (ℕ × LogWriter g.row.D.Denot)). m.0) met.2)
     (c.next_lsn-next.result.0 / 8192) c.try_map.result c.try_map.ensures.tries).keeps
 
+pub returns-in-Mapped-clause-up : goal.returns-in-Mapped-clause-up
+returns-in-Mapped-clause-up g c =
+    let met = c.confirm.ensures.met in
+    (map_tried c.args.self.now.shape c.args.placed.now c.args.seat.now.me.0
+    c.confirm.new.seat.me.0 c.try_map.new.seat.me.0 met.0
+    (ap (λ (m : SeatView × List (ℕ × LogWriter g.row.D.Denot)). m.0) met.2)
+    (c.next_lsn-next.result.0 / 8192) c.try_map.result c.try_map.ensures.tries).up
+
 pub returns-in-Mapped-clause-log : goal.returns-in-Mapped-clause-log
 returns-in-Mapped-clause-log g c =
     let met = c.confirm.ensures.met in

@@ -1,12 +1,13 @@
-use Rattle.std.proofs.Common.{List, ℕ, Err, ap, ◌∙◌}
-use Rattle.std.proofs.lemmas.Result.{IfErr-weaker, IfOk-weaker}
+use Rattle.std.proofs.Common.{List, ℕ, Err, sym, ap, ◌∙◌, subst}
+use Rattle.std.proofs.lemmas.Result.{IfErr-weaker, IfOk-weaker, err_from_is_err_and}
 use Rattle.wal_rule.specs.declared.writer.LogWriter.{LogWriter}
 use Rattle.wal_rule.specs.Seats.{IsAtRest, SeatView}
 use Rattle.wal_log.specs.declared.beginning.Begun.{Begun}
 use Rattle.wal_log.specs.declared.beginning.TryErr.{TryErr}
 use Rattle.wal_log.specs.Beginning.{IsPlaceBegun, TellsBeginTry, try_err_known_down}
+use Rattle.wal_log.specs.PassLogs.{log_of_pass}
 use Rattle.wal_log.proofs.Keeping.{further_pass}
-use Rattle.wal_log.proofs.BeginLaws.{begun_since, loaded_keeps, none_known, taken_keeps, taken_log, taken_sets_none, taken_up, try_since}
+use Rattle.wal_log.proofs.BeginLaws.{begun_since, loaded_keeps, loaded_log, loaded_rests, none_known, taken_keeps, taken_log, taken_sets_none, taken_up, try_since}
 use Rattle.wal_log.proofs.wal.Wal.try_begin.Goals as goal
 
 pub returns-then-faults-ne0-clause-down_again : goal.returns-then-faults-ne0-clause-down_again
@@ -19,6 +20,25 @@ returns-then-faults-ne0-clause-keeps g c =
     loaded_keeps c.args.seat.now.me.0 load.new.seat.me.0 load.result
     (ap (λ (m : SeatView × List (ℕ × LogWriter g.row.D.Denot)). m.0) load.ensures.steps.me_is)
     load.ensures.known
+
+pub returns-in_err-lock-clause-why : goal.returns-in_err-lock-clause-why
+returns-in_err-lock-clause-why g c =
+    let p = err_from_is_err_and c.from_residual.result c.from_residual.ensures.1 in
+    let load = c.load_down-faults in
+    let held = c.in_err-lock.ensures.held in
+    let loads = ap (λ (m : SeatView × List (ℕ × LogWriter g.row.D.Denot)). m.0)
+    load.ensures.steps.me_is in
+    let same = ap (λ (m : SeatView × List (ℕ × LogWriter g.row.D.Denot)). m.0) held.1 in
+    rw (p.1, p.2) (
+      (
+        (load.new.seat.me.0, c.args.number, held.0),
+        ap (λ (v : SeatView). log_of_pass v) same
+            ∙ loaded_log c.args.seat.now.me.0 load.new.seat.me.0 load.result loads
+            load.ensures.known,
+      ),
+      subst IsAtRest (sym same) (loaded_rests c.args.seat.now.me.0 load.new.seat.me.0 load.result
+          loads load.ensures.known c.requires.rests.0),
+    )
 
 pub returns-in_err-lock-clause-down_again : goal.returns-in_err-lock-clause-down_again
 returns-in_err-lock-clause-down_again g c =
