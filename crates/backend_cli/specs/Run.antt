@@ -85,7 +85,8 @@ pub record HoldsOpened (outside : Outside) (size capacity : ℕ) (list : Bool) (
   pub crash : HoldsNothing outside.tape_before → IfSome outside.tape_after
       (SurvivesCrashes size outside.moment_before (order_from size 1 script lists) lists)
   pub no_late_receipt : HoldsNothing outside.tape_before → IfSome outside.tape_after
-      (λ t. EachIsTimely size outside.moment_before (order_from size 1 script lists) t 1 script lists)
+      (λ t. EachIsTimely size outside.moment_before (order_from size 1 script lists) t 1 script
+      lists)
   pub whole : outside.disk_after ≡ outside.disk_before → outside.disk_before < 2 ^ 64 - 1
       → HoldsNothing outside.tape_before
       → IsWhole size outside.tape_after (order_from size 1 script lists)

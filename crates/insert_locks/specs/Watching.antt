@@ -50,8 +50,8 @@ pub record HasFinished (upto bound : ℕ) (old new : SeatView) : Type 0 where
   pub within : bound ≤ end
   pub new_is : new ≡ with_watching (watched_to end 8 bound) (with_sight (new.reserving).seen old)
 
--- the locks before this one let the watch pass, and this one, of which the word was met behind them,
--- holds it back
+-- the locks before this one let the watch pass, and this one, of which the word was met behind
+-- them, holds it back
 pub record IsHeldBack (upto lock word : ℕ) (old new : SeatView) : Type 0 where
   pub end : ℕ
   pub bound : ℕ

@@ -30,7 +30,8 @@ abbrev pub IsOldPageUnwritten : Setup → (at written : ℕ) → Type 0
 IsOldPageUnwritten setup at written = written + setup.ring_pages * 8192 < at + 8192
 
 -- what a try tells, and what it leaves of the view, which is not mapping: somebody else had the
--- turn, whose word was met; or it had the turn, and met the initialised end `at` and the written address
+-- turn, whose word was met; or it had the turn, and met the initialised end `at` and the written
+-- address
 abbrev pub TriesMapping : Setup → (page : ℕ) → (old new : SeatView) → MapTry → Type 0
 TriesMapping setup page old new (Taken turn) = (turn ≢ 0) × (new ≡ old)
     × Meets old take_mapping_turn turn
