@@ -3,8 +3,8 @@ use Rattle.std.specs.Prelude.{◌≡◌, ◌≢◌, ◌⊎◌, ℕ, ◌-◌, ◌
 use Rattle.wal_core.specs.declared.setup.Setup.{Setup}
 use Rattle.wal_core.specs.Words.{end_form}
 use Rattle.wal_core.specs.Views.{Watching}
-use Rattle.wal_core.specs.Moves.{is_own, visited_on}
-use Rattle.wal_core.specs.Steps.{load_lock}
+use Rattle.wal_core.specs.Moves.{is_own, unlocked, visited_on}
+use Rattle.wal_core.specs.Steps.{load_lock, load_position}
 use Rattle.wal_rule.specs.Seats.{SeatView}
 use Rattle.wal_rule.specs.Stepping.{Meets}
 
@@ -33,6 +33,12 @@ HoldsBack asked word = (word ≢ 0) × ((word ≡ 1) ⊎ (word - 1 < asked))
 -- what a held lock tells lowers the bound, where it tells less
 abbrev pub bound_behind : (word bound : ℕ) → ℕ
 bound_behind word bound = if word == 0 then bound else min bound (word - 1)
+
+-- what is seen reserved is a position that a load of a pass with this view met
+pub record SeesPosition (v : SeatView) (seen : ℕ) : Type 0 where
+  pub word : ℕ
+  pub met : Meets v load_position word
+  pub seen_is : seen ≡ unlocked word
 
 -- `end` is how far a watch for an address can tell: that address, where all below it is seen
 -- reserved, else the end of what is. What is seen is the position met, and no less than before

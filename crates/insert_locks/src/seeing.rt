@@ -3,8 +3,10 @@
 ghost use Rattle.std.specs.Prelude.{◌≡◌, ◌<◌, ◌≤◌, ◌^◌};
 ghost use Rattle.wal_core.specs.Moves.{unlocked};
 ghost use Rattle.wal_core.specs.Words.{end_form};
+ghost use Rattle.wal_core.specs.Steps.{load_position};
+ghost use Rattle.wal_rule.specs.Stepping.{Meets};
 ghost use Rattle.wal_rule.specs.Tables.{IsSeatOn, opening_of_table};
-ghost use Rattle.insert_locks.specs.Watching.{SeesTo, with_sight};
+ghost use Rattle.insert_locks.specs.Watching.{SeesPosition, SeesTo, with_sight};
 
 use machine_words::LogShape;
 use segment_disk::Disk;
@@ -24,6 +26,7 @@ pub fn see_end<D: Disk>(
     ensures sees { SeesTo shape.now upto result seat.new.me.0.reserving.seen seat.old.me.0 }
     ensures begun { shape.now.segment_size
         ≤ end_form shape.now seat.new.me.0.reserving.seen }
+    ensures met { SeesPosition seat.old.me.0 seat.new.me.0.reserving.seen }
     ensures view { seat.new.me
         ≡ (with_sight seat.new.me.0.reserving.seen seat.old.me.0, seat.old.me.1) }
     ensures seat { IsSeatOn table.now seat.new }
@@ -42,6 +45,7 @@ pub(crate) fn see_reserved<D: Disk>(
     ensures rises { seat.old.me.0.reserving.seen ≤ seat.new.me.0.reserving.seen }
     ensures end { result ≡ end_form shape.now seat.new.me.0.reserving.seen }
     ensures begun { shape.now.segment_size ≤ result }
+    ensures met { SeesPosition seat.old.me.0 seat.new.me.0.reserving.seen }
     ensures view { seat.new.me
         ≡ (with_sight seat.new.me.0.reserving.seen seat.old.me.0, seat.old.me.1) }
     ensures seat { IsSeatOn table.now seat.new }
@@ -58,6 +62,7 @@ fn see_position<D: Disk>(table: &LogTable<D>, seat: &mut LogSeat<D>) -> u64
     ensures begun { seat.old.me.0.opening.setup.segment_size
         ≤ end_form seat.old.me.0.opening.setup (unlocked result) }
     ensures low { result < 2 ^ 60 }
+    ensures met { Meets seat.old.me.0 load_position result }
     ensures seat { IsSeatOn table.now seat.new }
 {
     table.load_position(seat)

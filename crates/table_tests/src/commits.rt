@@ -3,7 +3,7 @@
 use crate::closing::close;
 use crate::inserting::{copy_one, position, release_one, reserve_one, take_one};
 use crate::opened::{SETUP, open, shape};
-use crate::records::commit;
+use crate::records::{commit, record};
 use insert_locks::{Watched, watch};
 use segment_disk::Disk;
 use std::process::Abort;
@@ -40,6 +40,29 @@ fn a_record_is_inserted_by_its_steps(rt: HostRuntime) -> Result<(), Fail> {
     assert_eq!(rt; end, 1_045_488 + 40);
     assert_eq!(rt; writer.written(), 1 << 20);
     assert_eq!(rt; writer.into_disk().moment(), 0);
+    Ok(())
+}
+
+#[test]
+fn a_record_that_ends_with_its_page_is_whole_there(rt: HostRuntime) -> Result<(), Fail> {
+    let alloc = rt.alloc();
+    let shape = shape(SETUP)?;
+    let (table, mut seat) = open(alloc, &shape, SETUP, Vec::new(alloc))?;
+    // With 29 bytes before its data it fills the page, behind the page's header of 40.
+    let body = record(alloc, 1, 8123)?;
+    let Some(lock) = take_one(&table, &mut seat, 0) else {
+        panic!(rt; "a free lock");
+    };
+    let Some(reserved) = reserve_one(&table, &mut seat, &shape, &body, lock) else {
+        panic!(rt; "an unlocked position");
+    };
+    assert_eq!(rt; reserved.end.0, 0x102000);
+    let end = reserved.end;
+    let mut placed = reserved.placed;
+    let Some(_) = copy_one(&table, &mut seat, &shape, &mut placed, lock, end) else {
+        panic!(rt; "a copy that ends with its page");
+    };
+    assert_eq!(rt; placed.next_lsn().0, 0x102000);
     Ok(())
 }
 

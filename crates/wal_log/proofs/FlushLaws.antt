@@ -374,6 +374,8 @@ module _ (asked : ℕ) (old mid new : SeatView) (keeps : KeepsPass old mid) wher
     rises = (let r = is.rises in let before = keeps.rises in omega (arith, r, before));
     begun = subst (λ (o : Opening). (o.setup).segment_size ≤ end) keeps.opening is.begun;
     above = is.above;
+    before = is.before;
+    loaded = is.loaded;
     up = is.up;
   }
 

@@ -3,6 +3,7 @@ use Rattle.std.specs.Prelude.{◌≡◌, ◌≢◌, ◌⊎◌, ℕ, ◌<◌, ◌
 use Rattle.byte_position.specs.Position.{position_of}
 use Rattle.log_answers.specs.declared.Hard.{Hard}
 use Rattle.wal_core.specs.Words.{end_form}
+use Rattle.insert_locks.specs.Watching.{SeesPosition}
 use Rattle.wal_rule.specs.Seats.{SeatView}
 use Rattle.wal_log.specs.declared.turns.TurnErr.{TurnErr}
 use Rattle.wal_log.specs.declared.turns.TurnErr.TheVariants as turns
@@ -25,13 +26,15 @@ pub record IsToldHard (asked upto moment : ℕ) (old new : SeatView) : Type 0 wh
   pub up : KnowsNoFault new
   pub seen : position_of ((old.opening).setup).segment_size upto ≤ (new.reserving).seen
 
--- the address asked for is above the end of what was reserved, which is no less than the log's
--- start, and than what the pass had seen before
+-- the address asked for is above the end of what was reserved, as a load of the position met it,
+-- which is no less than the log's start, and than what the pass had seen before
 pub record IsUnreserved (asked end : ℕ) (old new : SeatView) : Type 0 where
   pub end_is : end ≡ end_form (old.opening).setup (new.reserving).seen
   pub rises : (old.reserving).seen ≤ (new.reserving).seen
   pub begun : ((old.opening).setup).segment_size ≤ end
   pub above : end < asked
+  pub before : SeatView
+  pub loaded : SeesPosition before (new.reserving).seen
   pub up : KnowsNoFault new
 
 -- the turn to write was not had
