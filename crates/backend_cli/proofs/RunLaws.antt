@@ -26,9 +26,9 @@ use Rattle.told_lines.specs.Rooms.{capacity_of}
 use Rattle.told_lines.specs.Whole.{IsWhole}
 use Rattle.run_laws.specs.Counted.{all_reserved_count}
 use Rattle.run_laws.specs.Ended.{HasTakenIn}
-use Rattle.closed_runs.specs.Assured.{RunAssures, order_told}
-use Rattle.closed_runs.specs.Runs.{HasFlushedAll, IsRunClosed}
-use Rattle.closed_runs.proofs.ClosedRuns.{counted_down, counted_up, flushed_whole, position_told, records_counted, rooms_within, run_assures}
+use Rattle.run_laws.specs.Assured.{RunAssures, order_told}
+use Rattle.run_laws.specs.ClosedRuns.{HasFlushedAll, IsRunClosed}
+use Rattle.run_laws.proofs.ClosedRuns.{counted_down, counted_up, flushed_whole, position_told, records_counted, rooms_within, run_assures}
 use Rattle.backend_lanes.specs.Backends.{lists_of}
 use Rattle.backend_lanes.specs.Playing.{HasPlayed}
 use Rattle.backend_lanes.specs.declared.backend.Backend.{Backend}

@@ -10,8 +10,8 @@ use Rattle.waldump_text.specs.Put.{joined}
 use Rattle.told_lines.specs.Counts.{all_commits_of}
 use Rattle.told_lines.specs.declared.told.Told.{Told}
 use Rattle.told_lines.specs.declared.told.Told.TheVariants.{Wrote, Hard, Flushed, Refused}
-use Rattle.log_answers.specs.declared.Cause.{Cause}
-use Rattle.log_answers.specs.declared.Cause.TheVariants.{Full, Disk, Down}
+use Rattle.wal_types.specs.declared.answers.Cause.{Cause}
+use Rattle.wal_types.specs.declared.answers.Cause.TheVariants.{Full, Disk, Down}
 
 -- where a refused line reserved a record all the same
 abbrev pub reserved_text : Option Lsn → List (List ℕ)

@@ -14,8 +14,8 @@ mod told;
 
 pub use backend_lanes::Gate;
 pub use laws::read_scripts_mean_all_that_was_left;
-pub use log_answers::Cause;
 pub use outcome::Outcome;
 pub use program::{Ended, pgwal};
 pub use told::ToldLists;
 pub use told_lines::Told;
+pub use wal_types::Cause;

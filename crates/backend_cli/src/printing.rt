@@ -7,11 +7,10 @@ ghost use Rattle.wal_script.specs.Replay.{most_backends};
 ghost use Rattle.backend_cli.specs.Printing.{HasAnswers, told_lines, told_lines_upward, summary_line};
 
 use backend_lanes::Backend;
-use log_answers::Cause;
 use segment_disk::Sink;
 use told_lines::Told;
 use wal_script::Line;
-use wal_types::Lsn;
+use wal_types::{Cause, Lsn};
 use waldump_text::{SinkFault, put_all};
 
 /// Puts the told line of one line of a script.

@@ -9,12 +9,12 @@ use Rattle.wal_types.specs.declared.lsn.Lsn.{Lsn}
 use Rattle.wal_types.specs.declared.record.Record.{Record}
 use Rattle.record_spelling.specs.Spelling.{Assembled, IsWritable, assembled}
 use Rattle.wal_page.specs.Order.{Entry, assembled_room_at, finish_of, position_behind, start_of}
-use Rattle.log_answers.specs.declared.Cause.{Cause}
-use Rattle.log_answers.specs.declared.Cause.TheVariants as causes
-use Rattle.log_answers.specs.declared.Hard as hard
-use Rattle.log_answers.specs.declared.Receipt.{Receipt}
-use Rattle.log_answers.specs.declared.Refused as refused
-use Rattle.log_answers.specs.declared.Sealed.{Sealed}
+use Rattle.wal_types.specs.declared.answers.Cause.{Cause}
+use Rattle.wal_types.specs.declared.answers.Cause.TheVariants as causes
+use Rattle.wal_types.specs.declared.answers.Hard as hard
+use Rattle.wal_types.specs.declared.answers.Receipt.{Receipt}
+use Rattle.wal_types.specs.declared.answers.Refused as refused
+use Rattle.wal_types.specs.declared.answers.Sealed.{Sealed}
 use Rattle.told_lines.specs.Answered.{told_of_commit, told_of_insert}
 use Rattle.told_lines.specs.declared.told.Told.{Told}
 use Rattle.told_lines.specs.declared.told.Told.TheVariants.{Wrote, Hard, Flushed, Refused}

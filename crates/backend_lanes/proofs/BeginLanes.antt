@@ -6,7 +6,7 @@ use Rattle.std.specs.Prelude.{vec_capacity}
 use Rattle.byte_position.specs.Position.{first_position}
 use Rattle.byte_position.proofs.EndAddresses.{end_address_of-le}
 use Rattle.wal_page.specs.Order.{Entry}
-use Rattle.closing_laws.specs.Closed.{HasAllNumbers}
+use Rattle.machine_laws.specs.ClosedLogs.{HasAllNumbers}
 use Rattle.wal_rule.specs.Passes.{view_of_pass}
 use Rattle.wal_rule.specs.Seats.{SeatView, seat_after_split, seat_split_off}
 use Rattle.wal_rule.specs.declared.pass.Pass.{Pass}
@@ -15,8 +15,8 @@ use Rattle.wal_log.specs.declared.wal.Wal.{Wal}
 use Rattle.wal_script.specs.Asked.{AskedLine}
 use Rattle.wal_script.specs.ReplayReading.{AreBackendsOf}
 use Rattle.run_laws.specs.Played.{end_of_own}
-use Rattle.pass_numbers.specs.Sharing.{ShareNumbers}
-use Rattle.pass_numbers.proofs.Lanes.{views_with_one_more}
+use Rattle.wal_log.specs.Sharing.{ShareNumbers}
+use Rattle.wal_log.proofs.Lanes.{views_with_one_more}
 use Rattle.backend_lanes.specs.Backends.{HasRoom, scripts_of}
 use Rattle.backend_lanes.specs.Lanes.{BegunLanes, IsFreshLane, IsIdle, view_of_lane}
 use Rattle.backend_lanes.specs.Players.{state_of_view}

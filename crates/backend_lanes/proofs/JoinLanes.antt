@@ -22,7 +22,7 @@ use Rattle.told_lines.specs.declared.told.Told.{Told}
 use Rattle.run_laws.specs.Ended.{HasTakenIn}
 use Rattle.run_laws.specs.Reached.{EndsBy, ReachesAll}
 use Rattle.run_laws.proofs.TakingIn.{none_taken_in, one_more_taken_in}
-use Rattle.pass_numbers.specs.Sharing.{ShareNumbers}
+use Rattle.wal_log.specs.Sharing.{ShareNumbers}
 use Rattle.backend_lanes.specs.Backends.{HasToldEach, HaveToldEach, lists_of}
 use Rattle.backend_lanes.specs.Lanes.{IsIdle, MayBeTakenIn, PlayedLanes, view_of_lane}
 use Rattle.backend_lanes.specs.Players.{IsReserved}

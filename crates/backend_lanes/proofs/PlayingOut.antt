@@ -4,7 +4,7 @@ use Rattle.std.proofs.lemmas.List.{length-map, take-append-le, take_all}
 use Rattle.std.proofs.lemmas.List.Elements.{Contains-append_right}
 use Rattle.std.specs.Prelude.{Contains}
 use Rattle.byte_position.specs.Geometry.{IsSegmentSize}
-use Rattle.log_answers.specs.declared.Hard.{Hard}
+use Rattle.wal_types.specs.declared.answers.Hard.{Hard}
 use Rattle.segment_disk.specs.Tape.{DiskState}
 use Rattle.wal_core.specs.Views.{FlushPromise}
 use Rattle.wal_core.specs.Words.{Opening}
@@ -27,9 +27,9 @@ use Rattle.told_lines.specs.declared.told.Told.{Told}
 use Rattle.run_laws.specs.Ended.{HasTakenIn}
 use Rattle.run_laws.specs.Reached.{ReachesAll}
 use Rattle.run_laws.proofs.TakingIn.{still_taken_in}
-use Rattle.closed_runs.specs.Runs.{HasFlushedAll}
-use Rattle.pass_numbers.specs.Sharing.{KeepEach, ShareNumbers}
-use Rattle.pass_numbers.proofs.Lanes.{views_keep_each}
+use Rattle.run_laws.specs.ClosedRuns.{HasFlushedAll}
+use Rattle.wal_log.specs.Sharing.{KeepEach, ShareNumbers}
+use Rattle.wal_log.proofs.Lanes.{views_keep_each}
 use Rattle.backend_lanes.specs.Lanes.{BegunLanes, IsFreshLane, IsIdle, MayBeTakenIn, PlayedLanes, PlaysAsked, PlaysLane, view_of_lane}
 use Rattle.backend_lanes.specs.Players.{IsReserved}
 use Rattle.backend_lanes.specs.declared.lane.Lane.{Lane}

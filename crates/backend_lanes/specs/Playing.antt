@@ -12,7 +12,7 @@ use Rattle.wal_log.specs.declared.closing.Closed.{Closed}
 use Rattle.wal_log.specs.declared.wal.Wal.{Wal}
 use Rattle.wal_script.specs.Asked.{AskedLine}
 use Rattle.run_laws.specs.Ended.{HasTakenIn}
-use Rattle.closed_runs.specs.Runs.{HasFlushedAll}
+use Rattle.run_laws.specs.ClosedRuns.{HasFlushedAll}
 use Rattle.backend_lanes.specs.declared.backend.Backend.{Backend}
 use Rattle.backend_lanes.specs.Backends.{HaveToldEach, lists_of}
 

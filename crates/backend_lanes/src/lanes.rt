@@ -1,14 +1,14 @@
 // Lanes are split off the log's first pass, work side by side, and are taken in again.
 ghost use Rattle.std.specs.Prelude.{◌≡◌, ℕ, ◌-◌, ◌<◌, ◌≤◌, All, List, [], length, map, slice_index_or, vec_capacity, vec_len};
 ghost use Rattle.segment_disk.specs.Tape.{DiskState};
-ghost use Rattle.closing_laws.specs.Closed.{HasAllNumbers};
+ghost use Rattle.machine_laws.specs.ClosedLogs.{HasAllNumbers};
 ghost use Rattle.wal_rule.specs.Passes.{view_of_pass};
 ghost use Rattle.wal_rule.specs.Seats.{view_on};
 ghost use Rattle.wal_log.specs.Logs.{IsPassOfLog, opening_of_log, setup_of_log};
 ghost use Rattle.wal_script.specs.Asked.{AskedLine};
 ghost use Rattle.run_laws.specs.Ended.{HasTakenIn};
 ghost use Rattle.run_laws.specs.Reached.{ReachesAll};
-ghost use Rattle.pass_numbers.specs.Sharing.{ShareNumbers};
+ghost use Rattle.wal_log.specs.Sharing.{ShareNumbers};
 ghost use Rattle.wal_script.specs.ReplayReading.{AreBackendsOf};
 ghost use Rattle.backend_lanes.specs.Backends.{HasRoom, HaveToldEach, lists_of, scripts_of};
 ghost use Rattle.backend_lanes.specs.Lanes.{BegunLanes, IsFreshLane, IsIdle, MayBeTakenIn, PlayedLanes, PlaysLane, view_of_lane};
@@ -19,11 +19,11 @@ use crate::backend::Backend;
 use crate::gate::Gate;
 use crate::lane::Lane;
 use crate::player::Player;
-use pass_numbers::laws::passes_share_numbers;
 use segment_disk::Disk;
 use std::sync::Wait;
 use std::thread;
 use std::thread::Threads;
+use wal_log::shared_numbers::passes_share_numbers;
 use wal_log::{Pass, Wal};
 use wal_types::Lsn;
 

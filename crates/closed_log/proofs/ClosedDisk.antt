@@ -17,7 +17,7 @@ use Rattle.wal_core.specs.Views.{FlushPromise, Joined, Plain, View, told_of}
 use Rattle.wal_core.specs.Durable.{AreKept, IsPromiseKept, IsToldRightly}
 use Rattle.wal_core.specs.Sound.{IsSetup}
 use Rattle.wal_core.proofs.Tapes.{at_suited, at_told}
-use Rattle.durable_laws.specs.Crashes.{CrashesLeave, HoldsPromise}
+use Rattle.machine_laws.specs.Crashes.{CrashesLeave, HoldsPromise}
 use Rattle.closed_log.specs.Closed.{IsClosedOn, WasPromised}
 use Rattle.closed_log.proofs.Promises.{of_promise, told_rightly}
 

@@ -6,8 +6,8 @@ use Rattle.wal_core.specs.Suited.{BeganSuited}
 use Rattle.wal_core.specs.Words.{Opening}
 use Rattle.wal_core.specs.Views.{HasAt, Plain, View}
 use Rattle.wal_core.specs.Sound.{IsSound}
-use Rattle.closing_laws.specs.Closed.{IsClosed, IsLastPass}
-use Rattle.closing_laws.proofs.ClosingLaws.{closed}
+use Rattle.machine_laws.specs.ClosedLogs.{IsClosed, IsLastPass}
+use Rattle.machine_laws.proofs.ClosingLaws.{closed}
 use Rattle.closed_log.specs.Closed.{IsClosedOn}
 
 module _ (opening : Opening) (words : List ℕ) (views : List View) (id : ℕ) (v : View)

@@ -6,7 +6,7 @@ use Rattle.byte_position.specs.Position.{address_of}
 use Rattle.segment_disk.specs.DiskImage.{DiskImage, LeftAt}
 use Rattle.segment_disk.specs.Tape.{Tape}
 use Rattle.wal_page.specs.Order.{Entry, finish_of}
-use Rattle.lawful_image.specs.Lawful.{IsLawful}
+use Rattle.flush_core.specs.Lawful.{IsLawful}
 use Rattle.wal_core.specs.Words.{Opening}
 use Rattle.wal_core.specs.Views.{FlushPromise, View}
 use Rattle.wal_reader.specs.declared.found.Answer.{Answer}

@@ -4,14 +4,14 @@ use Rattle.std.proofs.lemmas.Bool.{cases_eq, eq-eqb, ne_eqb}
 use Rattle.segment_disk.specs.declared.disk.Call.{Call}
 use Rattle.segment_disk.specs.DiskImage.{DiskImage, IsWritten, MayLeave, image_as_read, word_of}
 use Rattle.segment_disk.specs.Tape.{DiskState, Segment, Tape, after_calls, after_writes, page_as_read, state_now}
-use Rattle.flush_core.specs.Left.{DiskImageFits, IsMadeUpto, IsNowhere, SegmentAssures, SegmentFits, StateAssures, TapeAssures}
-use Rattle.lawful_image.specs.Lawful.{IsLawful}
+use Rattle.segment_disk.specs.Assured.{DiskImageFits, IsMadeUpto, IsNowhere, SegmentAssures, SegmentFits, StateAssures, TapeAssures}
+use Rattle.flush_core.specs.Lawful.{IsLawful}
 use Rattle.wal_page.specs.Order.{Entry, end_position}
 use Rattle.wal_core.specs.Words.{Opening, end_form, flushed_word, moment_word}
 use Rattle.wal_core.specs.Views.{View}
 use Rattle.wal_core.specs.Durable.{IsFirm, IsLawfulAt, IsLogBelow}
 use Rattle.wal_core.proofs.Tapes.{at_suited}
-use Rattle.durable_laws.proofs.CrashLaws.{IsLawful-left}
+use Rattle.machine_laws.proofs.CrashLaws.{IsLawful-left}
 use Rattle.written_log.proofs.LawfulLaws.{whole_lawful_images_decode}
 use Rattle.closed_log.specs.Closed.{IsClosedOn}
 use Rattle.closed_log.specs.Whole.{HoldsWhole}

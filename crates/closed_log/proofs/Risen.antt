@@ -5,7 +5,7 @@ use Rattle.wal_page.specs.Order.{Entry, FollowsFrom, position_behind}
 use Rattle.wal_core.specs.Words.{Opening}
 use Rattle.wal_core.specs.Views.{Reserving, View}
 use Rattle.wal_core.specs.Ordered.{entries_under, is_pass}
-use Rattle.closing_laws.specs.Closed.{OrderIsAccounted}
+use Rattle.machine_laws.specs.ClosedLogs.{OrderIsAccounted}
 use Rattle.closed_log.specs.Rising.{LogsAreOfOrder, RiseFrom}
 
 -- with the first entry, or without it

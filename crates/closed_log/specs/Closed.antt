@@ -7,7 +7,7 @@ use Rattle.wal_core.specs.Words.{Opening}
 use Rattle.wal_core.specs.Suited.{BeganSuited}
 use Rattle.wal_core.specs.Views.{HasAt, FlushPromise, Joined, Plain, View}
 use Rattle.wal_core.specs.Sound.{IsSound}
-use Rattle.closing_laws.specs.Closed.{IsClosed}
+use Rattle.machine_laws.specs.ClosedLogs.{IsClosed}
 
 -- a log with this order was closed in a sound state, in which this was the last pass, with its
 -- writer at home; its disk tells this tape, and held at the opening what a log may begin on

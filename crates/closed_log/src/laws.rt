@@ -9,7 +9,7 @@ ghost use Rattle.wal_core.specs.Suited.{BeganSuited};
 ghost use Rattle.wal_core.specs.Views.{HasAt, FlushPromise, Plain, Reserving, View};
 ghost use Rattle.wal_core.specs.Durable.{IsPromised};
 ghost use Rattle.wal_core.specs.Sound.{IsSound};
-ghost use Rattle.closing_laws.specs.Closed.{IsLastPass, OrderIsAccounted};
+ghost use Rattle.machine_laws.specs.ClosedLogs.{IsLastPass, OrderIsAccounted};
 ghost use Rattle.closed_log.specs.Closed.{IsClosedOn, WasPromised};
 ghost use Rattle.closed_log.specs.Surviving.{LeavesFronts};
 ghost use Rattle.closed_log.specs.Timely.{IsTimely};

@@ -12,12 +12,12 @@ abbrev pub view_of_lane : Lane → SeatView
 view_of_lane lane = view_of_pass lane.pass
 
 -- a lane of a log has a pass of it that has no number to give away
-pub record IsCommitLane {D : Type 0} (wal : Wal D) (lane : Lane) : Type 0 where
+pub record IsLaneOf {D : Type 0} (wal : Wal D) (lane : Lane) : Type 0 where
   pub pass : IsPassOfLog wal lane.pass
   pub none_to_give : ((view_of_lane lane).reserving).spare_end ≡ 0
 
 abbrev pub AreLanesOf : {D : Type 0} → Wal D → List Lane → Type 0
-AreLanesOf wal lanes = All (IsCommitLane wal) lanes
+AreLanesOf wal lanes = All (IsLaneOf wal) lanes
 
 -- each lane's pass keeps what a pass keeps in a call
 abbrev pub KeepPasses : List Lane → List Lane → Type 0

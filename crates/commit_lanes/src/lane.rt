@@ -1,4 +1,4 @@
-// One backend's commits.
+// One backend's jobs.
 ghost use Rattle.wal_rule.specs.Passes.{view_of_pass};
 ghost use Rattle.wal_log.specs.Logs.{IsPassOfLog};
 ghost use Rattle.wal_log.specs.Standing.{KeepsPass};
@@ -6,46 +6,76 @@ ghost use Rattle.wal_log.specs.Standing.{KeepsPass};
 use record_spelling::Body;
 use segment_disk::Disk;
 use std::sync::Wait;
-use wal_log::{CommitErr, Pass, Sealed, Wal};
+use wal_log::{CommitErr, FlushErr, Hard, InsertErr, Pass, Receipt, Sealed, Wal};
+use wal_types::Lsn;
 
-/// A record to commit, and what was told of it, once it was.
+/// A call of a log.
 #[derive(Drop)]
-pub struct Commit {
-    pub body: Body,
-    pub told: Option<Result<Sealed, CommitErr>>,
+pub enum Call {
+    Insert(Body),
+    Commit(Body),
+    Flush(Lsn),
 }
 
-impl Commit {
-    /// A record of which nothing was told.
-    pub fn of(body: Body) -> Commit {
-        Commit { body, told: None }
+/// What a call was told.
+#[derive(Clone, Copy, Debug, PartialEq, Eq)]
+pub enum Told {
+    Inserted(Result<Receipt, InsertErr>),
+    Committed(Result<Sealed, CommitErr>),
+    Flushed(Result<Hard, FlushErr>),
+}
+
+/// A call to make, and what it was told, once it was made.
+#[derive(Drop)]
+pub struct Job {
+    pub call: Call,
+    pub told: Option<Told>,
+}
+
+impl Job {
+    /// A call that was told nothing.
+    pub fn of(call: Call) -> Job {
+        Job { call, told: None }
     }
 }
 
-/// What one backend works on: a pass of the log, and its commits in their order.
+/// What one backend works on: a pass of the log, and its jobs in their order.
 #[derive(Drop)]
 pub struct Lane {
     pub pass: Pass,
-    pub commits: Vec<Commit>,
+    pub jobs: Vec<Job>,
 }
 
 impl Lane {
-    /// Makes its commits, one behind the other, and notes what it is told.
-    pub fn commit_all<D: Disk, R: Wait>(&mut self, rt: &R, log: &Wal<D>)
+    /// Makes the calls of its jobs, one behind the other, and notes what they are told.
+    pub fn work<D: Disk, R: Wait>(&mut self, rt: &R, log: &Wal<D>)
         requires { IsPassOfLog log.now self.old.pass }
         ensures pass { IsPassOfLog log.now self.new.pass }
         ensures keeps { KeepsPass (view_of_pass self.old.pass) (view_of_pass self.new.pass) }
     {
-        commit_each(rt, log, &mut self.pass, &mut self.commits);
+        work_on(rt, log, &mut self.pass, &mut self.jobs);
     }
 }
 
-fn commit_each<D: Disk, R: Wait>(rt: &R, log: &Wal<D>, pass: &mut Pass, commits: &mut [Commit])
+fn work_on<D: Disk, R: Wait>(rt: &R, log: &Wal<D>, pass: &mut Pass, jobs: &mut [Job])
     requires { IsPassOfLog log.now pass.old }
     ensures pass { IsPassOfLog log.now pass.new }
     ensures keeps { KeepsPass (view_of_pass pass.old) (view_of_pass pass.new) }
 {
-    for commit in commits {
-        commit.told = Some(log.commit(rt, pass, &commit.body));
+    for job in jobs {
+        job.told = Some(answer(rt, log, pass, &job.call));
+    }
+}
+
+// What a call is told.
+fn answer<D: Disk, R: Wait>(rt: &R, log: &Wal<D>, pass: &mut Pass, call: &Call) -> Told
+    requires { IsPassOfLog log.now pass.old }
+    ensures pass { IsPassOfLog log.now pass.new }
+    ensures keeps { KeepsPass (view_of_pass pass.old) (view_of_pass pass.new) }
+{
+    match call {
+        Call::Insert(body) => Told::Inserted(log.insert(rt, pass, body)),
+        Call::Commit(body) => Told::Committed(log.commit(rt, pass, body)),
+        Call::Flush(upto) => Told::Flushed(log.flush(rt, pass, *upto)),
     }
 }

@@ -1,30 +1,32 @@
 // Lanes are split off a log's first pass, work side by side, and are taken in again.
 ghost use Rattle.std.specs.Prelude.{◌≡◌, ◌-◌, ◌≤◌, IfOk, OnOk, map, vec_len};
-ghost use Rattle.closing_laws.specs.Closed.{HasAllNumbers};
+ghost use Rattle.machine_laws.specs.ClosedLogs.{HasAllNumbers};
 ghost use Rattle.wal_rule.specs.Passes.{view_of_pass};
 ghost use Rattle.wal_log.specs.Logs.{IsPassOfLog, setup_of_log};
-ghost use Rattle.pass_numbers.specs.Sharing.{ShareNumbers};
+ghost use Rattle.wal_log.specs.Sharing.{ShareNumbers};
 ghost use Rattle.commit_lanes.specs.Lanes.{AreLanesOf, KeepPasses, view_of_lane};
 
-use crate::lane::{Commit, Lane};
-use pass_numbers::laws::passes_share_numbers;
+use crate::lane::{Job, Lane};
 use segment_disk::Disk;
 use std::alloc::{AllocError, Global};
 use std::sync::Wait;
 use std::thread;
 use std::thread::Threads;
 use wal_log::numbers::calls_keep_numbers;
+use wal_log::shared_numbers::passes_share_numbers;
 use wal_log::{Pass, Wal};
 
-/// Each backend makes its list of commits, in a thread of its own where one can be made, with a
-/// pass that is split off the first one and taken in again. Gives the lists with what was told.
-pub fn commit_side_by_side<D: Disk + Send, R: Threads + Wait + Sync>(
+/// Each backend does its list of jobs, with a pass that is split off the first one and taken in
+/// again: side by side in so many threads, where they can be made, or one behind the other where
+/// that is one. Gives the lists with what was told.
+pub fn work_side_by_side<D: Disk + Send, R: Threads + Wait + Sync>(
     rt: &R,
     alloc: Global,
     log: &Wal<D>,
     first: &mut Pass,
-    work: Vec<Vec<Commit>>,
-) -> Result<Vec<Vec<Commit>>, AllocError>
+    work: Vec<Vec<Job>>,
+    threads: usize,
+) -> Result<Vec<Vec<Job>>, AllocError>
     requires pass { IsPassOfLog log.now first.old }
     requires spare { vec_len work ≤ first.old.spare_end - first.old.spare }
     requires numbers { HasAllNumbers (setup_of_log log.now).passes
@@ -36,16 +38,16 @@ pub fn commit_side_by_side<D: Disk + Send, R: Threads + Wait + Sync>(
     calls_keep_numbers();
     passes_share_numbers();
     let mut lanes = split_lanes(alloc, log, first, work)?;
-    run_lanes(rt, log, &mut lanes);
+    run_lanes(rt, log, &mut lanes, threads);
     join_lanes(alloc, log, first, lanes)
 }
 
-// A lane for each list of commits, whose passes have the least of the first pass's spare numbers.
+// A lane for each list of jobs, whose passes have the least of the first pass's spare numbers.
 fn split_lanes<D: Disk>(
     alloc: Global,
     log: &Wal<D>,
     first: &mut Pass,
-    work: Vec<Vec<Commit>>,
+    work: Vec<Vec<Job>>,
 ) -> Result<Vec<Lane>, AllocError>
     requires pass { IsPassOfLog log.now first.old }
     requires spare { vec_len work ≤ first.old.spare_end - first.old.spare }
@@ -58,30 +60,34 @@ fn split_lanes<D: Disk>(
 {
     passes_share_numbers();
     let mut lanes = Vec::with_capacity(alloc, work.len())?;
-    for commits in work {
+    for jobs in work {
         let pass = log.split(first);
-        lanes.push(Lane { pass, commits })?;
+        lanes.push(Lane { pass, jobs })?;
     }
     Ok(lanes)
 }
 
-// Each lane makes its commits in a thread of its own, where one can be made.
-fn run_lanes<D: Disk + Send, R: Threads + Wait + Sync>(rt: &R, log: &Wal<D>, lanes: &mut [Lane])
+// The lanes do their jobs in so many threads.
+fn run_lanes<D: Disk + Send, R: Threads + Wait + Sync>(
+    rt: &R,
+    log: &Wal<D>,
+    lanes: &mut [Lane],
+    threads: usize,
+)
     requires { AreLanesOf log.now lanes.old }
     ensures lanes { AreLanesOf log.now lanes.new }
     ensures each { KeepPasses lanes.old lanes.new }
 {
-    let threads = lanes.len().max(1);
-    thread::for_each_mut(rt, lanes, threads, &|_, lane| lane.commit_all(rt, log));
+    thread::for_each_mut(rt, lanes, threads.max(1), &|_, lane| lane.work(rt, log));
 }
 
-// Takes the lanes in again, and gives their commits.
+// Takes the lanes in again, and gives their jobs.
 fn join_lanes<D: Disk>(
     alloc: Global,
     log: &Wal<D>,
     first: &mut Pass,
     lanes: Vec<Lane>,
-) -> Result<Vec<Vec<Commit>>, AllocError>
+) -> Result<Vec<Vec<Job>>, AllocError>
     requires pass { IsPassOfLog log.now first.old }
     requires lanes { AreLanesOf log.now lanes.items }
     requires numbers { ShareNumbers (setup_of_log log.now).passes (view_of_pass first.old)
@@ -93,9 +99,9 @@ fn join_lanes<D: Disk>(
     passes_share_numbers();
     let mut work = Vec::with_capacity(alloc, lanes.len())?;
     for lane in lanes {
-        let Lane { pass, commits } = lane;
+        let Lane { pass, jobs } = lane;
         log.join(first, pass);
-        work.push(commits)?;
+        work.push(jobs)?;
     }
     Ok(work)
 }

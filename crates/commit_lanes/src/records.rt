@@ -1,7 +1,7 @@
 // Transactions' records.
 ghost use Rattle.std.specs.Prelude.{◌≡◌, IfOk, vec_len};
 
-use crate::lane::Commit;
+use crate::lane::{Call, Job};
 use record_spelling::{Body, BodyErr};
 use std::alloc::Global;
 use wal_types::{BlockList, Bytes, Record, Xid};
@@ -22,13 +22,13 @@ pub fn transaction(alloc: Global, xid: u32) -> Result<Body, BodyErr> {
 }
 
 /// The commits of so many transactions, with the numbers from `first` on.
-pub fn commits(alloc: Global, first: u32, count: u32) -> Result<Vec<Commit>, BodyErr>
+pub fn commits(alloc: Global, first: u32, count: u32) -> Result<Vec<Job>, BodyErr>
     ensures { IfOk result (λ commits. vec_len commits ≡ count) }
 {
     let mut commits = Vec::with_capacity(alloc, count as usize)?;
     for number in 0..count {
         let body = transaction(alloc, first.wrapping_add(number))?;
-        commits.push(Commit::of(body))?;
+        commits.push(Job::of(Call::Commit(body)))?;
     }
     Ok(commits)
 }

@@ -4,6 +4,7 @@ use Rattle.std.proofs.lemmas.List.{append-nil, append_assoc}
 use Rattle.segment_disk.specs.declared.disk.Call.{Call}
 use Rattle.segment_disk.specs.Tape.{Tape, failed_call, with_call}
 use Rattle.segment_disk.specs.DiskImage.{DiskImage, LeftAt}
+use Rattle.segment_disk.proofs.Fronts.{take-before}
 use Rattle.flush_core.specs.Calls.{AreMade, BreaksOff, with_calls}
 use Rattle.flush_core.proofs.LeftLaws.{left_moved}
 
@@ -25,11 +26,6 @@ with_calls-some t (call ∷ more) =
 pub with_calls-none : (more : List Call) → with_calls None more ≡ None
 with_calls-none [] = refl
 with_calls-none (call ∷ more) = with_calls-none more
-
-pub take-before : {A : Type 0} (xs more : List A) (m : ℕ) → m ≤ length xs → take m (xs ++ more) ≡ take m xs
-take-before xs more zero within = refl
-take-before [] more (suc m) within = absurd (omega arith)
-take-before {A} (x ∷ xs) more (suc m) within = ap (λ (l : List A). x ∷ l) (take-before xs more m (omega arith))
 
 slice_get-before : (calls more : List Call) (m : ℕ) → m < length calls → slice_get (calls ++ more) m ≡ slice_get calls m
 slice_get-before [] more m within = absurd (omega arith)

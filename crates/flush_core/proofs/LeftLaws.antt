@@ -13,7 +13,7 @@ use Rattle.segment_disk.specs.Tape.{Segment, DiskState, Tape, zero_page, after_w
 use Rattle.segment_disk.specs.DiskImage.{DiskImage, ImageSegment, word_of, IsWritten, MayLeaveSegment, MayLeave, when_done}
 use Rattle.segment_disk.proofs.Reading.{after_calls-push}
 use Rattle.flush_core.specs.Calls.{store_calls, with_calls, BreaksOff}
-use Rattle.flush_core.specs.Left.{KindFits, CallFits, SegmentFits, DiskImageFits, SegmentAssures, StateAssures, TapeAssures}
+use Rattle.segment_disk.specs.Assured.{KindFits, CallFits, SegmentFits, DiskImageFits, SegmentAssures, StateAssures, TapeAssures}
 use Rattle.flush_core.proofs.StateLaws.{after_each}
 
 take_none : {A : Type 0} (m : ℕ) → take {A = A} m [] ≡ []

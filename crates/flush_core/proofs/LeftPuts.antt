@@ -10,8 +10,10 @@ use Rattle.segment_disk.specs.Tape.{Segment, DiskState, Tape, zero_page, after_w
 use Rattle.segment_disk.specs.DiskImage.{IsWritten, word_of, image_as_read}
 use Rattle.flush_core.specs.declared.writer.Writer.{Writer}
 use Rattle.flush_core.specs.Calls.{put_calls}
-use Rattle.flush_core.specs.Pages.{PutPages, made_upto, HoldsSegment, HoldsPut, HoldsNothing, unsynced_writes}
-use Rattle.flush_core.specs.Left.{IsMadeUpto, IsKeptWord, SameBelow, PutHistory, first_puts, no_puts, with_put, IsWordOf, IsWordPut, IsNowhere, SegmentAssures, StateAssures, TapeAssures}
+use Rattle.flush_core.specs.Pages.{PutPages, HoldsSegment, HoldsPut, HoldsNothing, unsynced_writes}
+use Rattle.segment_disk.specs.Assured.{made_upto}
+use Rattle.segment_disk.specs.Assured.{IsMadeUpto, IsNowhere, SegmentAssures, StateAssures, TapeAssures}
+use Rattle.flush_core.specs.Left.{IsKeptWord, SameBelow, PutHistory, first_puts, no_puts, with_put, IsWordOf, IsWordPut}
 use Rattle.flush_core.specs.Writer.{HoldsLogPages, IsKept, IsWriter}
 use Rattle.flush_core.proofs.Words.{durable_word}
 use Rattle.flush_core.proofs.LeftLaws.{AllFit, store_fits, TapeAssures-now, TapeAssures-weaker}

@@ -6,3 +6,4 @@ pub mod WriterLaws
 pub mod LeftLaws
 pub mod LeftPuts
 pub mod GrowingTapes
+pub mod LawfulLaws

@@ -8,7 +8,8 @@ use Rattle.byte_position.proofs.SegmentSizes.{segment_size_in_pages}
 use Rattle.segment_disk.specs.Tape.{Segment, DiskState, zero_page, after_call, after_calls, after_writes, sync_call}
 use Rattle.segment_disk.specs.DiskImage.{DiskImage, ImageSegment, MayLeave, MayLeaveSegment, image_as_read}
 use Rattle.flush_core.specs.Calls.{store_calls, put_calls}
-use Rattle.flush_core.specs.Pages.{PutPages, with_page, made_upto, HoldsSegment, HoldsPages, HoldsPut, ArePutUpto, unsynced_writes}
+use Rattle.flush_core.specs.Pages.{PutPages, with_page, HoldsSegment, HoldsPages, HoldsPut, ArePutUpto, unsynced_writes}
+use Rattle.segment_disk.specs.Assured.{made_upto}
 use Rattle.flush_core.proofs.StateLaws.{Stands, stands_created, stands_written, stands_synced}
 use Rattle.flush_core.proofs.Words.{left_page}
 

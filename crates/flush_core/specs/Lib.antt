@@ -2,3 +2,4 @@ pub mod Pages
 pub mod Calls
 pub mod Left
 pub mod Writer
+pub mod Lawful

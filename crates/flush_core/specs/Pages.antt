@@ -16,11 +16,6 @@ no_pages page = zero_page
 abbrev pub with_page : PutPages → ℕ → List ℕ → PutPages
 with_page pages number bytes page = if page == number then bytes else pages page
 
--- how many segments, from segment 1 on, are made where all below a position is written: up to that
--- of the last byte below it
-abbrev pub made_upto : ℕ → ℕ → ℕ
-made_upto size written = (written - 1) / size
-
 -- a segment of an image is there with all its pages, and these are as they were put
 abbrev pub HoldsSegment : ℕ → PutPages → ℕ → Option ImageSegment → Type 0
 HoldsSegment size pages segment None = ⊥

@@ -5,8 +5,10 @@ use Rattle.segment_disk.specs.Cause.{Rose}
 use Rattle.segment_disk.specs.Tape.{Tape, state_now}
 use Rattle.flush_core.specs.declared.writer.Writer.{Writer}
 use Rattle.flush_core.specs.Calls.{AreMade, BreaksOff, harden_calls, put_calls}
-use Rattle.flush_core.specs.Left.{PutHistory, IsMadeUpto, IsKeptWord, IsNowhere, IsWordPut, TapeAssures}
-use Rattle.flush_core.specs.Pages.{PutPages, HoldsPut, ArePutUpto, made_upto}
+use Rattle.flush_core.specs.Left.{PutHistory, IsKeptWord, IsWordPut}
+use Rattle.segment_disk.specs.Assured.{IsMadeUpto, IsNowhere, TapeAssures}
+use Rattle.flush_core.specs.Pages.{PutPages, HoldsPut, ArePutUpto}
+use Rattle.segment_disk.specs.Assured.{made_upto}
 
 -- the disk that a writer writes to
 abbrev pub disk_of : {D : Type 0} → Writer D → D

@@ -1,7 +1,7 @@
 -- What is met as reserved reaches the log's start at least.
 use Rattle.std.proofs.Common.{◌≡◌, ℕ, ◌≤◌, map, sym, subst, arith}
 use Rattle.wal_page.specs.Order.{end_position}
-use Rattle.order_laws.proofs.OrderSteps.{unlocked-is}
+use Rattle.machine_laws.proofs.OrderSteps.{unlocked-is}
 use Rattle.wal_core.specs.declared.setup.Setup.{Setup}
 use Rattle.wal_core.specs.Words.{end_form, position_word, prev_word}
 use Rattle.wal_core.specs.Views.{reserving_of}

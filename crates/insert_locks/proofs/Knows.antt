@@ -5,7 +5,7 @@ use Rattle.wal_core.specs.declared.setup.Setup.{Setup}
 use Rattle.wal_core.specs.Words.{end_form, lock_word}
 use Rattle.wal_core.specs.Views.{flight_of}
 use Rattle.wal_core.specs.Positioned.{IsCopiedBelow}
-use Rattle.lock_laws.proofs.WatchLaws.{known_is_copied}
+use Rattle.machine_laws.proofs.WatchLaws.{known_is_copied}
 use Rattle.wal_rule.specs.Seats.{SeatView, view_on}
 use Rattle.wal_rule.specs.Stepping.{Stands}
 

@@ -1,7 +1,7 @@
 -- A watch goes from lock to lock, as the seat's view has it.
 use Rattle.std.proofs.Common.{◌≡◌, ◌≢◌, ℕ, ◌+◌, ◌-◌, ◌<◌, ◌≤◌, ◌&&◌, Bool, true, false, cond, eqb, not, min, refl, sym, ap, subst, ◌∙◌, ⊎_elim, eq-eqb, ne_eqb, arith}
 use Rattle.segment_disk.specs.Tape.{empty_state}
-use Rattle.lock_laws.proofs.Kept.{met_cases}
+use Rattle.machine_laws.proofs.LocksKept.{met_cases}
 use Rattle.wal_core.specs.Words.{end_form}
 use Rattle.wal_core.specs.Views.{Watching}
 use Rattle.wal_core.specs.Moves.{begun, is_own, visited_on}

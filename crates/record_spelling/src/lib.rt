@@ -8,13 +8,10 @@ mod fault;
 pub mod laws;
 pub mod layout;
 mod manager;
-mod plain;
-mod plain_blocks;
 mod putting;
 mod refusing;
 
 pub use body::Body;
 pub use fault::BodyErr;
 pub use manager::is_free_manager;
-pub use plain::spell_plainly;
 pub use refusing::refusal;

@@ -1,6 +1,6 @@
 -- There are as many entries as answers that say that a record was reserved.
 use Rattle.std.proofs.Common.{◌≡◌, ℕ, suc, ◌+◌, cond, Bool, true, false, leb, List, [], ◌∷◌, length, length-append, Some, None, option_to_list, refl, sym, ap, ◌∙◌, arith}
-use Rattle.log_answers.specs.declared.Cause.TheVariants.{Full, Disk, Down}
+use Rattle.wal_types.specs.declared.answers.Cause.TheVariants.{Full, Disk, Down}
 use Rattle.wal_page.specs.Order.{Entry}
 use Rattle.wal_script.specs.Asked.{Asked, AskedLine, Insert, Commit, Flush}
 use Rattle.wal_core.specs.Words.{Opening, log_limit}

@@ -10,7 +10,7 @@ use Rattle.wal_core.specs.Views.{Filled}
 use Rattle.wal_core.specs.Ordered.{entries_under, FrontEndsAt}
 use Rattle.told_lines.specs.Told.{Logged, MayBeFull}
 use Rattle.told_lines.proofs.AllLaws.{parts_all}
-use Rattle.pass_logs.specs.PassLogs.{PassLog}
+use Rattle.wal_core.specs.PassLogs.{PassLog}
 use Rattle.run_laws.specs.Played.{AddsFull, behind_last_own}
 use Rattle.run_laws.proofs.OwnEnds.{ends_within}
 

@@ -5,7 +5,7 @@ use mathlib.Core.Option.{none, some}
 use Rattle.segment_disk.specs.Tape.{Tape}
 use Rattle.byte_position.specs.Position.{end_address_of, first_position}
 use Rattle.byte_position.proofs.EndAddresses.{end_address_of-le}
-use Rattle.log_answers.specs.declared.Cause.TheVariants.{Full, Disk, Down}
+use Rattle.wal_types.specs.declared.answers.Cause.TheVariants.{Full, Disk, Down}
 use Rattle.wal_page.specs.Order.{Entry, FollowsFrom, end_position, finish_of, position_behind, rooms_of}
 use Rattle.wal_page.proofs.OrderLaws.{rooms_of_cons}
 use Rattle.wal_script.specs.Asked.{Asked, AskedLine, Insert, Commit, Flush}

@@ -1,13 +1,13 @@
 -- What a line adds to its pass's log, and what its pass knows then, stays behind later lines.
 use Rattle.std.proofs.Common.{ℕ, All, List, [], ◌∷◌, Some, None, subst, sym}
-use Rattle.log_answers.specs.declared.Cause.TheVariants.{Full, Disk, Down}
+use Rattle.wal_types.specs.declared.answers.Cause.TheVariants.{Full, Disk, Down}
 use Rattle.wal_types.specs.declared.record.Record.{Record}
 use Rattle.wal_script.specs.Asked.{Asked, AskedLine, Insert, Commit, Flush}
 use Rattle.wal_core.specs.Views.{Filled, FlushPromise}
 use Rattle.told_lines.specs.declared.told.Told.{Told}
 use Rattle.told_lines.specs.declared.told.Told.TheVariants.{Wrote, Hard, Flushed, Refused}
 use Rattle.told_lines.proofs.AllLaws.{parts_all}
-use Rattle.pass_logs.specs.PassLogs.{PassLog}
+use Rattle.wal_core.specs.PassLogs.{PassLog}
 use Rattle.run_laws.specs.Played.{AddsFull, KnowsFault, Leaves, PassState, PlaysLines, AddsPromise, Reserves}
 use Rattle.run_laws.proofs.LineFaults.{down_known}
 

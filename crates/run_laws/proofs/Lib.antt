@@ -18,3 +18,5 @@ pub mod FullScripts
 pub mod LastFlush
 pub mod LineGrowth
 pub mod MomentsTold
+pub mod ClosedLogs
+pub mod ClosedRuns

@@ -3,7 +3,7 @@ use Rattle.std.proofs.Common.{◌≡◌, ℕ, List, [], ◌∷◌, ◌++◌, Som
 use Rattle.byte_position.specs.Geometry.{IsSegmentSize}
 use Rattle.byte_position.specs.Position.{position_of}
 use Rattle.byte_position.proofs.PositionLaws.{position_of-address_of}
-use Rattle.log_answers.specs.declared.Cause.TheVariants.{Full, Disk, Down}
+use Rattle.wal_types.specs.declared.answers.Cause.TheVariants.{Full, Disk, Down}
 use Rattle.wal_types.specs.declared.lsn.Lsn.{Lsn}
 use Rattle.wal_types.specs.declared.record.Record.{Record}
 use Rattle.wal_page.specs.Order.{Entry}
@@ -11,7 +11,7 @@ use Rattle.wal_script.specs.Asked.{Asked, AskedLine, Insert, Commit, Flush}
 use Rattle.told_lines.specs.declared.told.Told.{Told}
 use Rattle.told_lines.specs.declared.told.Told.TheVariants.{Wrote, Hard, Flushed, Refused}
 use Rattle.told_lines.specs.Told.{entries_of, entry_at, entry_of}
-use Rattle.pass_logs.specs.PassLogs.{PassLog}
+use Rattle.wal_core.specs.PassLogs.{PassLog}
 use Rattle.run_laws.specs.Played.{Leaves, PassState, PlaysLines, Reserves}
 
 module _ (size limit pass : ℕ) (valid : IsSegmentSize size) where

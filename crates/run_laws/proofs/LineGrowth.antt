@@ -1,7 +1,7 @@
 -- What a line adds to its pass's log, by what it is told.
 use Rattle.std.proofs.Common.{◌≡◌, ℕ, ◌≤◌, List, [], ◌∷◌, ◌++◌, Option, Some, None, sym, ap, ◌∙◌, append_assoc, append-nil, arith}
-use Rattle.log_answers.specs.declared.Cause.{Cause}
-use Rattle.log_answers.specs.declared.Cause.TheVariants.{Full, Disk, Down}
+use Rattle.wal_types.specs.declared.answers.Cause.{Cause}
+use Rattle.wal_types.specs.declared.answers.Cause.TheVariants.{Full, Disk, Down}
 use Rattle.wal_types.specs.declared.lsn.Lsn.{Lsn}
 use Rattle.wal_types.specs.declared.record.Record.{Record}
 use Rattle.wal_page.specs.Order.{Entry, finish_of}
@@ -10,7 +10,7 @@ use Rattle.wal_core.specs.Views.{FlushPromise}
 use Rattle.wal_core.specs.Moves.{entry_reserved}
 use Rattle.told_lines.specs.declared.told.Told.{Told}
 use Rattle.told_lines.specs.declared.told.Told.TheVariants.{Wrote, Hard, Flushed, Refused}
-use Rattle.pass_logs.specs.PassLogs.{PassLog, log_with_entry, log_with_promise}
+use Rattle.wal_core.specs.PassLogs.{PassLog, log_with_entry, log_with_promise}
 use Rattle.run_laws.specs.Played.{Leaves, PassState, PlaysLines, RefusesFlushLine, RefusesRecordLine, Reserves, end_of_own}
 
 -- entries may be added, but no promise

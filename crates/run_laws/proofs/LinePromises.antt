@@ -8,7 +8,7 @@ use Rattle.told_lines.specs.declared.told.Told.TheVariants.{Wrote, Hard, Flushed
 use Rattle.told_lines.specs.Crash.{SaysDurable}
 use Rattle.told_lines.specs.Told.{SomeAnswer}
 use Rattle.told_lines.proofs.AllLaws.{parts_all}
-use Rattle.pass_logs.specs.PassLogs.{PassLog}
+use Rattle.wal_core.specs.PassLogs.{PassLog}
 use Rattle.run_laws.specs.Played.{Leaves, PassState, PlaysLines, AddsPromise}
 use Rattle.run_laws.proofs.LaterLines.{lines_held}
 

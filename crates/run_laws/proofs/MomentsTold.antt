@@ -13,8 +13,8 @@ use Rattle.told_lines.specs.declared.told.Told.{Told}
 use Rattle.told_lines.specs.declared.told.Told.TheVariants.{Wrote, Hard, Flushed, Refused}
 use Rattle.told_lines.specs.Moments.{EachRises, FlushMoment, LastTold, MomentStep, MomentsReach}
 use Rattle.told_lines.proofs.AllLaws.{parts_all}
-use Rattle.moment_laws.specs.Rising.{LogsRise, PromisesRise, Rises, RisesAbove, promised_of, with_opening}
-use Rattle.pass_logs.specs.PassLogs.{PassLog, log_with_entry, log_with_promise}
+use Rattle.machine_laws.specs.RisingMoments.{LogsRise, PromisesRise, Rises, RisesAbove, promised_of, with_opening}
+use Rattle.wal_core.specs.PassLogs.{PassLog, log_with_entry, log_with_promise}
 use Rattle.run_laws.specs.Played.{PassState, PlaysLines, behind_last_own, end_of_own, state_at_first, pass_state_of}
 use Rattle.run_laws.specs.Ended.{HasTakenIn, PlayedAll}
 use Rattle.run_laws.specs.Latest.{NoneIsLater}

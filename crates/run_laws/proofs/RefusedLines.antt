@@ -2,7 +2,7 @@
 use Rattle.std.proofs.Common.{◌≡◌, ℕ, ◌+◌, List, [], ◌∷◌, Some, None, inl, inr, refl, arith}
 use mathlib.Core.Option.{Option, none, some}
 use Rattle.byte_position.specs.Position.{first_position}
-use Rattle.log_answers.specs.declared.Cause.TheVariants.{Full, Disk, Down}
+use Rattle.wal_types.specs.declared.answers.Cause.TheVariants.{Full, Disk, Down}
 use Rattle.wal_page.specs.Order.{Entry}
 use Rattle.wal_script.specs.Asked.{Asked, AskedLine, Insert, Commit, Flush}
 use Rattle.wal_core.specs.Words.{Opening}

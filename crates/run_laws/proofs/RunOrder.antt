@@ -11,7 +11,7 @@ use Rattle.wal_core.specs.Words.{Opening, log_limit}
 use Rattle.wal_core.specs.Views.{Joined, View}
 use Rattle.wal_core.specs.Moves.{joined_of}
 use Rattle.wal_core.specs.Ordered.{entries_under, TookIn}
-use Rattle.closing_laws.specs.Closed.{OrderIsAccounted}
+use Rattle.machine_laws.specs.ClosedLogs.{OrderIsAccounted}
 use Rattle.closed_log.specs.Rising.{RiseFrom}
 use Rattle.closed_log.proofs.Risen.{risen}
 use Rattle.told_lines.specs.declared.told.Told.{Told}

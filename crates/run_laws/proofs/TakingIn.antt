@@ -9,8 +9,8 @@ use Rattle.wal_core.specs.Words.{Opening, log_limit}
 use Rattle.wal_core.specs.Views.{HasAt, Joined, Plain, View}
 use Rattle.wal_core.specs.Moves.{after_join, joined_of}
 use Rattle.wal_core.specs.Sound.{IsSound}
-use Rattle.closing_laws.specs.Closed.{IsClosed, IsLastPass}
-use Rattle.closing_laws.proofs.ClosingLaws.{closed}
+use Rattle.machine_laws.specs.ClosedLogs.{IsClosed, IsLastPass}
+use Rattle.machine_laws.proofs.ClosingLaws.{closed}
 use Rattle.told_lines.specs.declared.told.Told.{Told}
 use Rattle.run_laws.specs.Played.{KnowsFault, PlaysLines, state_at_first, pass_state_of}
 use Rattle.run_laws.specs.Ended.{HasTakenIn, IsClosedLog, IsKnownTo, KnowsAtLeast, PlayedAll}

@@ -5,8 +5,8 @@ use Rattle.std.proofs.lemmas.List.Elements.{All-head}
 use Rattle.byte_position.specs.Geometry.{IsSegmentSize}
 use Rattle.byte_position.specs.Position.{position_of, address_of, end_address_of, first_position}
 use Rattle.byte_position.proofs.PositionLaws.{position_of-address_of}
-use Rattle.log_answers.specs.declared.Cause.{Cause}
-use Rattle.log_answers.specs.declared.Cause.TheVariants.{Full, Disk, Down}
+use Rattle.wal_types.specs.declared.answers.Cause.{Cause}
+use Rattle.wal_types.specs.declared.answers.Cause.TheVariants.{Full, Disk, Down}
 use Rattle.wal_types.specs.declared.lsn.Lsn.{Lsn}
 use Rattle.wal_types.specs.declared.record.Record.{Record}
 use Rattle.wal_page.specs.Order.{Entry, IsChained, end_position, position_behind, room_at}
@@ -17,7 +17,7 @@ use Rattle.told_lines.specs.declared.told.Told.{Told}
 use Rattle.told_lines.specs.declared.told.Told.TheVariants.{Wrote, Hard, Flushed, Refused}
 use Rattle.told_lines.specs.Told.{FitsLine, IsFault, IsPlaced, Logged, MayRefuseFlush, MayRefuseRecord, TellsFrom, behind_or, entries_of, entry_of}
 use Rattle.told_lines.proofs.AllLaws.{parts_all}
-use Rattle.pass_logs.specs.PassLogs.{PassLog}
+use Rattle.wal_core.specs.PassLogs.{PassLog}
 use Rattle.run_laws.specs.Played.{KnowsFault, Leaves, PassState, PlaysLines, AddsPromise, RefusesFlushLine, RefusesRecordLine, Reserves, ReservesUpto, behind_last_own, end_of_own}
 use Rattle.run_laws.proofs.FullLines.{full_cause}
 use Rattle.run_laws.proofs.LineEntries.{line_entries, lines_entries}

@@ -12,7 +12,7 @@ use Rattle.wal_core.specs.Words.{Opening, log_limit}
 use Rattle.wal_core.specs.Views.{HasAt, Plain, View}
 use Rattle.wal_core.specs.Moves.{joined_of}
 use Rattle.wal_core.specs.Sound.{IsSound}
-use Rattle.closing_laws.specs.Closed.{IsClosed}
+use Rattle.machine_laws.specs.ClosedLogs.{IsClosed}
 use Rattle.run_laws.specs.Played.{KnowsFault, PassState, PlaysLines, state_at_first, pass_state_of}
 
 -- a log that held nothing at the opening was closed with this order, in a sound state in which this

@@ -3,3 +3,5 @@ pub mod Ended
 pub mod Counted
 pub mod Reached
 pub mod Latest
+pub mod ClosedRuns
+pub mod Assured

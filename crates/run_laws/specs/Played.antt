@@ -3,8 +3,8 @@
 use Rattle.std.specs.Prelude.{◌≡◌, ◌≢◌, ◌⊎◌, ℕ, ◌+◌, ◌<◌, ◌≤◌, List, [], ◌∷◌, Option, Some, None}
 use Rattle.wal_types.specs.declared.lsn.Lsn.{Lsn}
 use Rattle.wal_types.specs.declared.record.Record.{Record}
-use Rattle.log_answers.specs.declared.Cause.{Cause}
-use Rattle.log_answers.specs.declared.Cause.TheVariants.{Full, Disk, Down}
+use Rattle.wal_types.specs.declared.answers.Cause.{Cause}
+use Rattle.wal_types.specs.declared.answers.Cause.TheVariants.{Full, Disk, Down}
 use Rattle.byte_position.specs.Position.{end_address_of, first_position}
 use Rattle.wal_page.specs.Order.{Entry, finish_of, position_behind, room_at, start_of}
 use Rattle.wal_script.specs.Asked.{Asked, AskedLine, Insert, Commit, Flush}
@@ -12,7 +12,7 @@ use Rattle.told_lines.specs.declared.told.Told.{Told}
 use Rattle.told_lines.specs.declared.told.Told.TheVariants.{Wrote, Hard, Flushed, Refused}
 use Rattle.wal_core.specs.Views.{View}
 use Rattle.wal_core.specs.Moves.{entry_reserved}
-use Rattle.pass_logs.specs.PassLogs.{PassLog, log_of_view, log_with_entry, log_with_full, log_with_promise}
+use Rattle.wal_core.specs.PassLogs.{PassLog, log_of_view, log_with_entry, log_with_full, log_with_promise}
 
 -- what a pass has between two lines: its log, and the down values that it met and set, 0 for none
 pub record PassState : Type 0 where

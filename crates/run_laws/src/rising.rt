@@ -6,7 +6,7 @@ ghost use Rattle.told_lines.specs.declared.told.Told.{Told};
 ghost use Rattle.told_lines.specs.Moments.{EachRises};
 ghost use Rattle.wal_core.specs.Words.{Opening};
 ghost use Rattle.wal_core.specs.Views.{View};
-ghost use Rattle.moment_laws.specs.Rising.{LogsRise, promised_of};
+ghost use Rattle.machine_laws.specs.RisingMoments.{LogsRise, promised_of};
 ghost use Rattle.run_laws.specs.Ended.{HasTakenIn};
 ghost use Rattle.run_laws.specs.Latest.{NoneIsLater};
 

@@ -10,3 +10,5 @@ pub mod SegmentLeft
 pub mod ImageLeft
 pub mod PickLaws
 pub mod ListLaws
+pub mod Fronts
+pub mod ZeroWords

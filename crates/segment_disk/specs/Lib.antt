@@ -9,3 +9,5 @@ pub mod Crash
 pub mod Present
 pub mod MemStream
 pub mod MemDisk
+pub mod ImageWords
+pub mod Assured

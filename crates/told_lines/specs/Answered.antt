@@ -1,9 +1,9 @@
 -- What a line is told.
 use Rattle.std.specs.Prelude.{Result, Ok, Err}
-use Rattle.log_answers.specs.declared.Receipt.{Receipt}
-use Rattle.log_answers.specs.declared.Hard as hard
-use Rattle.log_answers.specs.declared.Sealed.{Sealed}
-use Rattle.log_answers.specs.declared.Refused as refused
+use Rattle.wal_types.specs.declared.answers.Receipt.{Receipt}
+use Rattle.wal_types.specs.declared.answers.Hard as hard
+use Rattle.wal_types.specs.declared.answers.Sealed.{Sealed}
+use Rattle.wal_types.specs.declared.answers.Refused as refused
 use Rattle.told_lines.specs.declared.told.Told.{Told}
 use Rattle.told_lines.specs.declared.told.Told.TheVariants.{Wrote, Hard, Flushed, Refused}
 

@@ -8,7 +8,7 @@ use Rattle.segment_disk.specs.Tape.{Tape}
 use Rattle.segment_disk.specs.DiskImage.{DiskImage, LeftAt, word_of}
 use Rattle.wal_page.specs.Order.{Entry, finish_of}
 use Rattle.wal_page.specs.Log.{owner_at}
-use Rattle.lawful_image.specs.ImageWords.{zero_word}
+use Rattle.segment_disk.specs.ImageWords.{zero_word}
 use Rattle.wal_reader.specs.declared.found.Answer.{Answer}
 use Rattle.wal_reader.specs.declared.found.FoundRecord.{FoundRecord}
 use Rattle.wal_reader.specs.Pages.{pages_in}

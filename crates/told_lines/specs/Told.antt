@@ -10,8 +10,8 @@ use Rattle.wal_script.specs.Asked.{Asked}
 use Rattle.wal_script.specs.Asked.{Insert, Commit, Flush}
 use Rattle.told_lines.specs.declared.told.Told.{Told}
 use Rattle.told_lines.specs.declared.told.Told.TheVariants.{Wrote, Hard, Flushed, Refused}
-use Rattle.log_answers.specs.declared.Cause.{Cause}
-use Rattle.log_answers.specs.declared.Cause.TheVariants.{Full, Disk, Down}
+use Rattle.wal_types.specs.declared.answers.Cause.{Cause}
+use Rattle.wal_types.specs.declared.answers.Cause.TheVariants.{Full, Disk, Down}
 
 -- the start that was reserved for a line's record
 abbrev pub reserved_by : Told → Option Lsn
@@ -57,10 +57,6 @@ sorted_by_start (e ∷ es) = insert_by_start e (sorted_by_start es)
 -- the entries of backends by their starts, where the first backend has this pass
 abbrev pub order_from : ℕ → ℕ → List (List AskedLine) → List (List Told) → List Entry
 order_from size pass script told = sorted_by_start (entries_from size pass script told)
-
--- the reserved order: the entries of all backends, by their starts
-abbrev pub order_of : ℕ → List (List AskedLine) → List (List Told) → List Entry
-order_of size script told = order_from size 0 script told
 
 -- each starts behind the one before
 abbrev pub IsRising : List Entry → Type 0

@@ -3,8 +3,7 @@ ghost use Rattle.told_lines.specs.Answered.{told_of_insert, told_of_commit, told
 ghost use Rattle.told_lines.specs.Counts.{is_hard};
 ghost use Rattle.told_lines.specs.Told.{reserved_by, IsFullAnswer};
 
-use log_answers::{Cause, Hard, Receipt, Refused, Sealed};
-use wal_types::Lsn;
+use wal_types::{Cause, Hard, Lsn, Receipt, Refused, Sealed};
 
 /// What a line was told.
 #[derive(Clone, Copy, Debug, PartialEq, Eq)]

@@ -5,7 +5,7 @@ use mathlib.Core.Option.{none, some}
 use Rattle.segment_disk.specs.declared.disk.Call.{Call}
 use Rattle.segment_disk.specs.Tape.{Tape, after_call, after_calls, failed_call, state_now, with_call}
 use Rattle.segment_disk.proofs.Reading.{after_calls-push}
-use Rattle.flush_core.proofs.GrowingTapes.{take-before}
+use Rattle.segment_disk.proofs.Fronts.{take-before}
 use Rattle.wal_core.specs.Words.{Opening}
 use Rattle.wal_core.specs.Views.{Plain}
 use Rattle.wal_core.specs.Moves.{Outcome, Done, Failed, with_outcome}

@@ -8,12 +8,12 @@ use Rattle.segment_disk.specs.declared.disk.CallKind.TheVariants.{Create, Write,
 use Rattle.segment_disk.specs.Cause.{Rose}
 use Rattle.segment_disk.specs.DiskImage.{word_of}
 use Rattle.segment_disk.specs.Tape.{Tape, state_now}
-use Rattle.flush_core.specs.Left.{IsMadeUpto, IsNowhere, SegmentAssures, TapeAssures}
+use Rattle.segment_disk.specs.Assured.{IsMadeUpto, IsNowhere, SegmentAssures, TapeAssures}
 use Rattle.byte_position.specs.Geometry.{pages_of}
 use Rattle.wal_page.specs.Order.{Entry, finish_of}
 use Rattle.wal_page.specs.EntryWords.{address_of_word}
-use Rattle.lawful_image.specs.ImageWords.{zero_word}
-use Rattle.lawful_image.specs.Lawful.{IsLawfulWord, log_word_bytes}
+use Rattle.segment_disk.specs.ImageWords.{zero_word}
+use Rattle.wal_page.specs.Log.{IsLawfulWord, log_word_bytes}
 use Rattle.wal_core.specs.declared.setup.Setup.{Setup}
 use Rattle.wal_core.specs.Words.{Opening}
 use Rattle.wal_core.specs.Suited.{IfSuited}

@@ -13,3 +13,4 @@ pub mod Moves
 pub mod Steps
 pub mod Opened
 pub mod Shown
+pub mod PassLogs

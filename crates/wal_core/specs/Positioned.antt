@@ -5,8 +5,8 @@ use Rattle.segment_disk.specs.Tape.{DiskState, state_now}
 use mathlib.Core.Option.{Option, some}
 use Rattle.wal_page.specs.Order.{Entry, end_position}
 use Rattle.wal_page.specs.EntryWords.{address_of_word, words_owned}
-use Rattle.lawful_image.specs.ImageWords.{image_word}
-use Rattle.lawful_image.specs.Lawful.{log_word_bytes}
+use Rattle.segment_disk.specs.ImageWords.{image_word}
+use Rattle.wal_page.specs.Log.{log_word_bytes}
 use Rattle.wal_core.specs.declared.setup.Setup.{Setup}
 use Rattle.wal_core.specs.Words.{Opening, end_form}
 use Rattle.wal_core.specs.Suited.{IfSuited}

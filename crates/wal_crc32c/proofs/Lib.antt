@@ -3,3 +3,4 @@ mod Lookups
 mod Remainders
 mod Spread
 mod Words
+pub mod LaneLaws

@@ -5,7 +5,7 @@ use Rattle.std.proofs.lemmas.Nat.{xor_comm}
 use Rattle.std.proofs.lemmas.Simd.{Each1-replicate}
 use lib.Lanes.{Each1}
 use Rattle.wal_crc32c.specs.Folding.{remainder}
-use Rattle.half_bytes.proofs.LaneLaws.{lane_below}
+use Rattle.wal_crc32c.proofs.LaneLaws.{lane_below}
 use Rattle.std.specs.Int.{w64, from_le_bytes, to_le_bytes, byte_at, bytes_low_first}
 use Rattle.std.specs.Int.Bits.{bit_xor, xor_assoc, xor_zero_r, xor_shifted}
 use Rattle.wal_crc32c.specs.Crc32c.{times_power, after_byte}

@@ -9,7 +9,7 @@ ghost use Rattle.wal_crc32c.specs.Folding.{pair_at, remainder, six_remainder};
 
 use crate::carries::CARRIES;
 use crate::crc::after_sixteen_bytes;
-use half_bytes::{high_looked_up, low_looked_up};
+use crate::half_bytes::{high_looked_up, low_looked_up};
 use std::simd::prelude::*;
 
 // Six vectors, one behind another.

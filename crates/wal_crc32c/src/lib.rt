@@ -5,7 +5,9 @@ mod carries;
 mod crc;
 mod division;
 mod folding;
+mod half_bytes;
 mod tables;
 
 pub use crc::Crc;
 pub use division::crc32c_by_division;
+pub use half_bytes::{high_looked_up, low_looked_up};

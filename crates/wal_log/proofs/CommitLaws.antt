@@ -4,9 +4,9 @@ use Rattle.std.proofs.Common.{◌≡◌, ℕ, ◌≤◌, All, List, sym, ap, sub
 use Rattle.byte_position.specs.Geometry.{IsSegmentSize}
 use Rattle.byte_position.specs.Position.{position_of}
 use Rattle.byte_position.proofs.EndAddresses.{end_address_of-mono}
-use Rattle.log_answers.specs.declared.Receipt.{Receipt}
-use Rattle.log_answers.specs.declared.Refused.{Refused}
-use Rattle.log_answers.specs.declared.Sealed.{Sealed}
+use Rattle.wal_types.specs.declared.answers.Receipt.{Receipt}
+use Rattle.wal_types.specs.declared.answers.Refused.{Refused}
+use Rattle.wal_types.specs.declared.answers.Sealed.{Sealed}
 use Rattle.record_spelling.specs.Spelling.{Assembled}
 use Rattle.wal_types.specs.declared.lsn.Lsn.{Lsn}
 use Rattle.wal_page.specs.Order.{Entry, position_behind}

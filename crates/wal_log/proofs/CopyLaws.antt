@@ -15,7 +15,7 @@ use Rattle.wal_core.specs.declared.setup.Setup.{Setup}
 use Rattle.wal_core.specs.Ringed.{IsOfOrder}
 use Rattle.wal_core.specs.Sound.{IsSound}
 use Rattle.wal_core.specs.Views.{Copy, Copying, Flight, HasAt, Working, flight_of}
-use Rattle.ring_laws.proofs.RingLaws.{copy-whole, last_word-ends}
+use Rattle.machine_laws.proofs.RingLaws.{copy-whole, last_word-ends}
 use Rattle.wal_rule.specs.Seats.{SeatView, view_on}
 use Rattle.wal_rule.specs.Stepping.{Stands}
 use Rattle.word_ring.specs.declared.copying.Copied.{Copied}

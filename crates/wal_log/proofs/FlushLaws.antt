@@ -8,7 +8,7 @@ use Rattle.segment_disk.specs.Tape.{empty_state}
 use Rattle.byte_position.specs.Position.{position_of}
 use Rattle.byte_position.specs.Geometry.{IsSegmentSize}
 use Rattle.byte_position.proofs.EndAddresses.{end_address_of-mono}
-use Rattle.log_answers.specs.declared.Hard.{Hard}
+use Rattle.wal_types.specs.declared.answers.Hard.{Hard}
 use Rattle.wal_core.specs.Durable.{IsPromised, IsToldRightly}
 use Rattle.wal_core.specs.Moves.{copied_below, is_own, visited_on}
 use Rattle.wal_core.specs.Steps.{load_flushed, load_moment, store_flushed, store_moment}

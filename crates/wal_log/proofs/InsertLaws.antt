@@ -5,7 +5,7 @@ use Rattle.wal_types.specs.declared.lsn.Lsn.{Lsn}
 use Rattle.record_spelling.specs.Spelling.{Assembled, assembled}
 use Rattle.wal_page.specs.Order.{Entry, assembled_room_at, finish_of}
 use Rattle.wal_page.specs.Placed.{PlacedState, placed_end}
-use Rattle.log_answers.specs.declared.Receipt.{Receipt}
+use Rattle.wal_types.specs.declared.answers.Receipt.{Receipt}
 use Rattle.wal_core.specs.declared.setup.Setup.{Setup}
 use Rattle.wal_rule.specs.Seats.{IsAtRest, SeatView}
 use Rattle.wal_log.specs.declared.copying.CopyErr.{CopyErr}

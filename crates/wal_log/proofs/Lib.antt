@@ -10,3 +10,5 @@ pub mod NextWord
 pub mod Opens
 pub mod Plain
 pub mod Unlocking
+mod Having
+pub mod Lanes

@@ -3,10 +3,10 @@ use Rattle.std.specs.Prelude.{◌≡◌, ℕ, ◌≤◌, Result, Ok, Err, Option
 use Rattle.wal_types.specs.declared.lsn.Lsn.{Lsn}
 use Rattle.record_spelling.specs.Spelling.{Assembled}
 use Rattle.wal_page.specs.Order.{Entry, finish_of, start_of}
-use Rattle.log_answers.specs.declared.Cause.{Cause}
-use Rattle.log_answers.specs.declared.Cause.TheVariants as causes
-use Rattle.log_answers.specs.declared.Refused.{Refused}
-use Rattle.log_answers.specs.declared.Sealed.{Sealed}
+use Rattle.wal_types.specs.declared.answers.Cause.{Cause}
+use Rattle.wal_types.specs.declared.answers.Cause.TheVariants as causes
+use Rattle.wal_types.specs.declared.answers.Refused.{Refused}
+use Rattle.wal_types.specs.declared.answers.Sealed.{Sealed}
 use Rattle.wal_core.specs.declared.setup.Setup.{Setup}
 use Rattle.wal_rule.specs.Seats.{SeatView}
 use Rattle.wal_log.specs.declared.inserting.InsertErr.{InsertErr}

@@ -1,7 +1,7 @@
 -- What a flush answers, and what it leaves of its pass.
 use Rattle.std.specs.Prelude.{◌≡◌, ◌≢◌, ◌⊎◌, ℕ, ◌<◌, ◌≤◌, Result, Ok, Err}
 use Rattle.byte_position.specs.Position.{position_of}
-use Rattle.log_answers.specs.declared.Hard.{Hard}
+use Rattle.wal_types.specs.declared.answers.Hard.{Hard}
 use Rattle.wal_core.specs.Words.{end_form}
 use Rattle.insert_locks.specs.Watching.{SeesPosition}
 use Rattle.wal_rule.specs.Seats.{SeatView}

@@ -4,7 +4,7 @@ use Rattle.wal_types.specs.declared.record.Record.{Record}
 use Rattle.record_spelling.specs.Spelling.{Assembled, IsWritable, assembled}
 use Rattle.wal_page.specs.Order.{Entry, assembled_room_at, finish_of, position_behind, start_of}
 use Rattle.wal_types.specs.declared.lsn.Lsn.{Lsn}
-use Rattle.log_answers.specs.declared.Receipt.{Receipt}
+use Rattle.wal_types.specs.declared.answers.Receipt.{Receipt}
 use Rattle.wal_core.specs.declared.setup.Setup.{Setup}
 use Rattle.wal_core.specs.Moves.{entry_reserved}
 use Rattle.wal_core.specs.Words.{log_limit}

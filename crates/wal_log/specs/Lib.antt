@@ -11,3 +11,4 @@ pub mod Beginning
 pub mod Copying
 pub mod Committing
 pub mod Closing
+pub mod Sharing

@@ -1,6 +1,6 @@
 -- The log of a pass, by its seat's view.
 use Rattle.wal_rule.specs.Seats.{SeatView}
-pub use Rattle.pass_logs.specs.PassLogs.{PassLog, log_with_entry, log_with_full, log_with_promise}
+pub use Rattle.wal_core.specs.PassLogs.{PassLog, log_with_entry, log_with_full, log_with_promise}
 
 abbrev pub log_of_pass : SeatView → PassLog
 log_of_pass v = record {

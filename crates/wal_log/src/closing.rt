@@ -1,5 +1,5 @@
 // A log is closed, and its disk comes back (PostgreSQL's xlog.c, ShutdownXLOG).
-ghost use Rattle.closing_laws.specs.Closed.{HasAllNumbers};
+ghost use Rattle.machine_laws.specs.ClosedLogs.{HasAllNumbers};
 ghost use Rattle.wal_rule.specs.Passes.{view_of_pass};
 ghost use Rattle.wal_log.specs.Closing.{ClosesLog};
 ghost use Rattle.wal_log.specs.Logs.{IsPassOfLog, setup_of_log};

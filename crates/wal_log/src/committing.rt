@@ -11,11 +11,11 @@ ghost use Rattle.wal_log.specs.Standing.{KeepsPass};
 use crate::flushing::FlushErr;
 use crate::inserting::InsertErr;
 use crate::wal::Wal;
-use log_answers::{Cause, Receipt, Refused, Sealed};
 use record_spelling::Body;
 use segment_disk::Disk;
 use std::sync::Wait;
 use wal_rule::{LogSeat, Pass};
+use wal_types::{Cause, Receipt, Refused, Sealed};
 
 impl From<InsertErr> for Refused {
     ghost from_gives = { λ e refused. refused ≡ refused_of_insert e };

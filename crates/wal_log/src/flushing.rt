@@ -20,12 +20,11 @@ use crate::wal::Wal;
 use crossbeam_utils::Backoff;
 use flush_core::DiskFault;
 use insert_locks::{Watched, see_end, watch};
-use log_answers::Hard;
 use page_writing::{sync_written, writer_now};
 use segment_disk::Disk;
 use std::sync::Wait;
 use wal_rule::{LogSeat, Pass};
-use wal_types::Lsn;
+use wal_types::{Hard, Lsn};
 
 /// Why one try of a flush told nothing, in this order: down, unreserved, behind, turn, disk.
 #[derive(Clone, Copy, Debug, PartialEq, Eq)]

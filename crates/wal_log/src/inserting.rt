@@ -15,12 +15,11 @@ use crate::beginning::{Begun, TryErr};
 use crate::copying::CopyErr;
 use crate::wal::Wal;
 use crossbeam_utils::Backoff;
-use log_answers::Receipt;
 use record_spelling::Body;
 use segment_disk::Disk;
 use std::sync::Wait;
 use wal_rule::{LogSeat, Pass};
-use wal_types::Lsn;
+use wal_types::{Lsn, Receipt};
 
 /// Why a record was not inserted. It has its place all the same where a start is told: what was
 /// reserved stays reserved.

@@ -2,7 +2,7 @@
 use Rattle.std.proofs.Common.{inl, inr, ℕ, Contains, List, sym, ap, subst, arith}
 use Rattle.std.proofs.lemmas.List.Elements.{Contains-append_left, Contains-push}
 use Rattle.record_spelling.specs.Spelling.{Assembled}
-use Rattle.log_answers.specs.declared.Sealed.{Sealed}
+use Rattle.wal_types.specs.declared.answers.Sealed.{Sealed}
 use Rattle.segment_disk.specs.Tape.{DiskState}
 use Rattle.wal_page.specs.Order.{Entry, finish_of}
 use Rattle.wal_core.specs.declared.setup.Setup.{Setup}

@@ -5,7 +5,7 @@ use Rattle.std.proofs.lemmas.List.Elements.{All-contains, Contains-append_cases,
 use Rattle.std.proofs.lemmas.Option.{slice_get_read}
 use Rattle.byte_position.specs.Position.{address_of}
 use Rattle.record_spelling.specs.Spelling.{Assembled}
-use Rattle.log_answers.specs.declared.Sealed.{Sealed}
+use Rattle.wal_types.specs.declared.answers.Sealed.{Sealed}
 use Rattle.flush_core.specs.Pages.{HoldsNothing}
 use Rattle.segment_disk.specs.Tape.{DiskState, Tape}
 use Rattle.wal_page.specs.Order.{Entry, finish_of}

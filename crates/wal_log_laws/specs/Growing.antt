@@ -1,6 +1,6 @@
 -- How the log of a pass grows, and who has it once its pass was taken in.
 use Rattle.std.specs.Prelude.{◌≡◌, ◌⊎◌, Contains, List, ◌++◌}
-use Rattle.pass_logs.specs.PassLogs.{log_of_joined}
+use Rattle.wal_core.specs.PassLogs.{log_of_joined}
 use Rattle.wal_core.specs.Views.{Joined}
 use Rattle.wal_rule.specs.Seats.{SeatView}
 use Rattle.wal_log.specs.PassLogs.{PassLog, log_of_pass}

@@ -3,3 +3,6 @@
 #![tactic(auto)]
 
 pub mod laws;
+mod one_commit;
+
+pub use one_commit::commit_one;

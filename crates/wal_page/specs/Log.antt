@@ -1,7 +1,7 @@
 -- The bytes of the log that an order of entries gives, each at its address (PostgreSQL's xlog.c,
 -- CopyXLogRecordToWAL).
-use Rattle.std.specs.Prelude.{ℕ, ◌+◌, ◌-◌, ◌/◌, ◌%◌, ◌&&◌, List, [], ◌∷◌, ◌++◌, slice_index, Option, Some, None, nat_lt, nat_le, if◌then◌else◌}
-use Rattle.std.specs.Int.{w64, from_le_bytes}
+use Rattle.std.specs.Prelude.{◌≡◌, ℕ, ◌+◌, ◌-◌, ◌/◌, ◌%◌, ◌&&◌, ◌⊎◌, List, [], ◌∷◌, ◌++◌, replicate, slice_index, Option, Some, None, nat_lt, nat_le, if◌then◌else◌}
+use Rattle.std.specs.Int.{w64, from_le_bytes, to_le_bytes}
 use Rattle.byte_position.specs.Position.{is_in_header, position_of, address_of, first_position}
 use Rattle.record_spelling.specs.Spelling.{assembled, filled, size_of}
 use Rattle.wal_page.specs.Order.{Entry, position_behind}
@@ -57,3 +57,12 @@ log_word size sysid es address =
 -- the entry whose word it is; a header's is the entry of the page's first other word
 abbrev pub owner_at : ℕ → List Entry → ℕ → Option Entry
 owner_at size es address = owner_of size es (position_of size address)
+
+-- the word of a log at an address as a disk holds it: eight bytes, the lowest first
+abbrev pub log_word_bytes : ℕ → ℕ → List Entry → ℕ → List ℕ
+log_word_bytes size sysid es address = to_le_bytes w64 (log_word size sysid es address)
+
+-- the eight bytes at an address are 0 or the log's word there
+abbrev pub IsLawfulWord : ℕ → ℕ → List Entry → ℕ → List ℕ → Type 0
+IsLawfulWord size sysid es address word =
+    (word ≡ replicate 8 0) ⊎ (word ≡ log_word_bytes size sysid es address)

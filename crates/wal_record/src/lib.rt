@@ -4,4 +4,4 @@
 pub mod laws;
 
 pub use record_decode::{RecErr, RecKind, decode};
-pub use record_spelling::{Body, BodyErr, refusal, spell_plainly};
+pub use record_spelling::{Body, BodyErr, refusal};

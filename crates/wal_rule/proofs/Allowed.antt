@@ -18,9 +18,9 @@ use Rattle.wal_core.specs.Moves.{after_join, orphan_of, spent, split_off}
 use Rattle.wal_core.specs.Sound.{IsSound}
 use Rattle.wal_core.specs.Steps.{Abandons, StepKind, MayStep, Moves, SplitsOff, TakesIn, returned, slot_in, slot_out, word_of_step, value_behind, home_behind, view_behind}
 use Rattle.wal_core.specs.Steps as machine
-use Rattle.step_laws.proofs.EveryStep.{step_keeps}
-use Rattle.moment_laws.specs.Rising.{MomentsKeepRising}
-use Rattle.moment_laws.proofs.EveryMoment.{steps_rise}
+use Rattle.machine_laws.proofs.EveryStep.{step_keeps}
+use Rattle.machine_laws.specs.RisingMoments.{MomentsKeepRising}
+use Rattle.machine_laws.proofs.EveryMoment.{steps_rise}
 use Rattle.wal_rule.specs.declared.writer.LogWriter.{LogWriter}
 use Rattle.wal_rule.specs.Seats.{IsAtRest, IsStrandedSeat, SeatHold, SeatLent, SeatView, SeatWriter, behind, hold_on, plain_on, seat_after_join, seat_after_split, seat_orphan, seat_spent, seat_split_off, seat_without_work, view_on}
 use Rattle.wal_rule.specs.Slotted.{IsOfLog, first_on, slot_plain}

@@ -8,9 +8,9 @@ use Rattle.wal_core.specs.Words.{Opening, position_word}
 use Rattle.wal_core.specs.Views.{Plain, View}
 use Rattle.wal_core.specs.Sound.{IsSound}
 use Rattle.wal_core.proofs.Lists.{part_at}
-use Rattle.closing_laws.specs.Closed.{HasAllNumbers, IsClosed, IsLastPass}
-use Rattle.closing_laws.proofs.ClosingLaws.{closed}
-use Rattle.moment_laws.proofs.EveryMoment.{logs_rise}
+use Rattle.machine_laws.specs.ClosedLogs.{HasAllNumbers, IsClosed, IsLastPass}
+use Rattle.machine_laws.proofs.ClosingLaws.{closed}
+use Rattle.machine_laws.proofs.EveryMoment.{logs_rise}
 use Rattle.wal_rule.specs.declared.writer.LogWriter.{LogWriter}
 use Rattle.wal_rule.specs.Closing.{ClosesWith}
 use Rattle.wal_rule.specs.Ruled.{IsRuled, home_of}

@@ -9,7 +9,7 @@ use Rattle.wal_core.specs.Views.{FlushPromise, reserving_of, told_of}
 use Rattle.wal_core.specs.Durable.{IsPromised, IsToldRightly}
 use Rattle.wal_core.specs.Moves.{unlocked}
 use Rattle.wal_core.specs.Steps.{StepKind, load_down, load_flushed, load_moment, load_position}
-use Rattle.order_laws.proofs.OrderSteps.{unlocked-is}
+use Rattle.machine_laws.proofs.OrderSteps.{unlocked-is}
 use Rattle.wal_rule.specs.Downs.{KnowsDown}
 use Rattle.wal_rule.specs.Seats.{SeatView, view_on}
 use Rattle.wal_rule.specs.Stepping.{Meets, Stands}

@@ -7,8 +7,8 @@ use Rattle.segment_disk.specs.Tape.{Tape}
 use Rattle.wal_core.specs.Views.{Plain}
 use Rattle.wal_core.specs.Words.{Opening}
 use Rattle.wal_core.specs.Opened.{AreFirstWords, IsFirstWriter, IsNew}
-use Rattle.step_laws.proofs.OpeningLaws.{logs_begin}
-use Rattle.moment_laws.proofs.EveryMoment.{first_rises}
+use Rattle.machine_laws.proofs.OpeningLaws.{logs_begin}
+use Rattle.machine_laws.proofs.EveryMoment.{first_rises}
 use Rattle.wal_rule.specs.declared.writer.LogWriter.{LogWriter}
 use Rattle.wal_rule.specs.Seats.{first_seat_view}
 use Rattle.wal_rule.specs.Slotted.{GoesOnFrom, IsOfLog, first_on, slot_disk, slot_plain, slot_segment_size}

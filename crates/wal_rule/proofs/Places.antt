@@ -4,7 +4,7 @@ use Rattle.wal_core.specs.declared.setup.Setup.{Setup}
 use Rattle.wal_core.specs.Words.{Opening, word_count}
 use Rattle.wal_core.specs.Views.{Stage}
 use Rattle.wal_core.specs.Steps.{buffer_of, end_number, page_mapped, ring_number, ring_place, words_zeroed, zero_ring_word}
-use Rattle.ring_laws.proofs.PutWords.{buffer-below, place-below, ring_place-below}
+use Rattle.machine_laws.proofs.PutWords.{buffer-below, place-below, ring_place-below}
 use Rattle.wal_rule.specs.Seats.{SeatView}
 use Rattle.wal_rule.specs.Stepping.{MaySeat, Stands}
 

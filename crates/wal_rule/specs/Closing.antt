@@ -5,9 +5,9 @@ use Rattle.segment_disk.specs.Tape.{Tape}
 use Rattle.wal_core.specs.Words.{Opening, position_word}
 use Rattle.wal_core.specs.Views.{HasAt, View}
 use Rattle.wal_core.specs.Sound.{IsSound}
-use Rattle.order_laws.specs.Shared.{HasNumber}
-use Rattle.closing_laws.specs.Closed.{IsClosed}
-use Rattle.moment_laws.specs.Rising.{LogsRise, promised_of}
+use Rattle.machine_laws.specs.SharedOrders.{HasNumber}
+use Rattle.machine_laws.specs.ClosedLogs.{IsClosed}
+use Rattle.machine_laws.specs.RisingMoments.{LogsRise, promised_of}
 use Rattle.wal_rule.specs.declared.writer.LogWriter.{LogWriter}
 use Rattle.wal_rule.specs.Slotted.{IsOfLog, first_on, slot_plain}
 use Rattle.wal_rule.specs.Seats.{SeatView, view_on}

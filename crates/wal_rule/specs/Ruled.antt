@@ -8,7 +8,7 @@ use Rattle.wal_core.specs.Words.{Opening}
 use Rattle.wal_core.specs.Views.{Plain}
 use Rattle.wal_core.specs.Sound.{IsSound}
 use Rattle.wal_core.specs.Steps.{slot_out}
-use Rattle.moment_laws.specs.Rising.{MomentsKeepRising}
+use Rattle.machine_laws.specs.RisingMoments.{MomentsKeepRising}
 use Rattle.wal_rule.specs.declared.writer.LogWriter.{LogWriter}
 use Rattle.wal_rule.specs.Slotted.{IsOfLog, first_on, slot_plain}
 use Rattle.wal_rule.specs.Seats.{HasWriter, SeatLent, SeatView, behind, first_lent, view_on, writer_told}

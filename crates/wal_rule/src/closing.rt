@@ -1,5 +1,5 @@
 // A table is closed, and its writer comes back with the position.
-ghost use Rattle.closing_laws.specs.Closed.{HasAllNumbers};
+ghost use Rattle.machine_laws.specs.ClosedLogs.{HasAllNumbers};
 ghost use Rattle.wal_rule.specs.Closing.{ClosesWith};
 ghost use Rattle.wal_rule.specs.Passes.{view_of_pass};
 ghost use Rattle.wal_rule.specs.Seats.{IsAtRest};

@@ -5,8 +5,8 @@ ghost use mathlib.Core.Option.{Option};
 ghost use Rattle.wal_core.specs.Words.{Opening};
 ghost use Rattle.wal_core.specs.Views.{Plain};
 ghost use Rattle.wal_core.specs.Steps.{StepKind};
-ghost use Rattle.order_laws.specs.Shared.{HasNumber, IsSpare};
-ghost use Rattle.closing_laws.specs.Closed.{HasAllNumbers};
+ghost use Rattle.machine_laws.specs.SharedOrders.{HasNumber, IsSpare};
+ghost use Rattle.machine_laws.specs.ClosedLogs.{HasAllNumbers};
 ghost use Rattle.wal_rule.specs.Closing.{KeepsNumbers};
 ghost use Rattle.wal_rule.specs.Seats.{IsAtRest, SeatView, behind, first_seat_view, seat_after_join, seat_after_split, seat_split_off};
 

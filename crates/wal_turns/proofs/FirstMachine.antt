@@ -10,8 +10,8 @@ use Rattle.wal_core.specs.Steps.{State, Splits}
 use Rattle.wal_core.specs.Sound.{IsSound}
 use Rattle.wal_core.specs.Opened.{first_view}
 use Rattle.wal_core.proofs.Lists.{at_end, at_front}
-use Rattle.step_laws.proofs.OpeningLaws.{logs_begin}
-use Rattle.step_laws.proofs.PassSteps.{splits_keep}
+use Rattle.machine_laws.proofs.OpeningLaws.{logs_begin}
+use Rattle.machine_laws.proofs.EveryPassStep.{splits_keep}
 use Rattle.wal_turns.specs.Doing.{Ask, Backend, Machine}
 use Rattle.wal_turns.specs.Turned.{line_start}
 use Rattle.wal_turns.specs.Standing.{IsLine, IsRunning, StandsToDo, StandsFor, UpFor}

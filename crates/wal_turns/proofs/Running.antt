@@ -8,7 +8,7 @@ use Rattle.wal_core.specs.Views.{Plain, Lent, Out, Turned as HasTurned, View, wo
 use Rattle.wal_core.specs.Steps.{StepKind, MayStep, Makes, State, Moves, IsLive, load_down, word_of_step, view_behind}
 use Rattle.wal_core.proofs.Lists.{at_else, at_place, part_at}
 use Rattle.wal_core.proofs.WordLists.{word_again}
-use Rattle.step_laws.proofs.EveryStep.{step_keeps}
+use Rattle.machine_laws.proofs.EveryStep.{step_keeps}
 use Rattle.wal_core.specs.Moves.{is_done}
 use Rattle.wal_turns.specs.Doing.{Ask, Inserts, Commits, Flushes, Doing, Backend, Machine}
 use Rattle.wal_turns.specs.Turned.{Turn, Waits, Next, goes_on, answers, can_step, looks_down, event_named, next_of, outcome, with_answer, with_next, tells_full, line_start, state_stepped, moved_on, fallen, word_waited, turned_by}

@@ -6,7 +6,7 @@ use lib.ListN.{get_elem?}
 use Rattle.wal_core.specs.Views.{View}
 use Rattle.wal_core.specs.Steps.{IsLive, State, Step, Moves, load_down}
 use Rattle.wal_core.proofs.Lists.{at_same}
-use Rattle.step_laws.specs.Runs.{Runs}
+use Rattle.machine_laws.specs.Runs.{Runs}
 use Rattle.wal_turns.specs.Doing.{Ask, Backend, Machine}
 use Rattle.wal_turns.specs.Turned.{Turn, Moved, Waits, AllDone, IsDown, turned, turned_for, turned_of, machine_behind}
 use Rattle.wal_turns.specs.Standing.{HasLeft, IsTurnTold, HasBackend, IsRunning, RunsOn, StandsFor}

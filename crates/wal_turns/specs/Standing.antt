@@ -11,7 +11,7 @@ use Rattle.wal_core.specs.Paged.{IsOpen}
 use Rattle.wal_core.specs.Steps.{IsLive, IsResting, Makes, load_down}
 use Rattle.wal_core.specs.Sound.{IsSound}
 use Rattle.wal_turns.specs.Doing.{Ask, Inserts, Commits, Flushes, Purpose, ForLine, ForPage, Doing, Begins, Tries, Reserves, Looks, Copies, Maps, GivesTurn, Tells, Releases, FlushBegins, LoadsPosition, LoadsFlushed, LoadsMoment, Visits, TakesTurn, LoadsDown, TakesOut, LoadsPage, Creates, Writes, SyncsFull, SyncsLast, StoresWritten, StoresMoment, StoresFlushed, SetsDown, PutsBack, GivesWriteTurn, Backend, Machine}
-use Rattle.step_laws.specs.Runs.{Runs}
+use Rattle.machine_laws.specs.Runs.{Runs}
 use Rattle.wal_turns.specs.Turned.{Turn, Moved, Waits, AllDone, IsDown, fits, machine_behind}
 
 -- ---- what a line asks for

@@ -5,8 +5,8 @@ ghost use Rattle.waldump_text.specs.Names.{hexadecimal};
 ghost use Rattle.waldump_text.specs.declared.line_buffer.TheConstants.{ROOM};
 
 use crate::line_buffer::LineBuffer;
-use half_bytes::{high_looked_up, low_looked_up};
 use std::simd::prelude::*;
+use wal_crc32c::{high_looked_up, low_looked_up};
 
 /// Holds bytes back in hexadecimal.
 pub(crate) fn push_digits(buffer: &mut LineBuffer, bytes: &[u8])

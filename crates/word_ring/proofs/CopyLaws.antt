@@ -10,7 +10,7 @@ use Rattle.wal_core.specs.Words.{Opening}
 use Rattle.wal_core.specs.Ringed.{IsOfOrder}
 use Rattle.wal_core.specs.Views.{Copy, Copying, Flight, HasAt, Landed, flight_of}
 use Rattle.wal_core.specs.Steps.{ring_number, ring_place, next_value, number_of_next, store_ring_word}
-use Rattle.ring_laws.proofs.RingLaws.{copy-whole, first_word-whole, last_word-ends, word_left}
+use Rattle.machine_laws.proofs.RingLaws.{copy-whole, first_word-whole, last_word-ends, word_left}
 use Rattle.wal_rule.specs.Seats.{SeatView, behind, view_on}
 use Rattle.wal_rule.specs.Stepping.{MaySeat, Stands, value_left, word_at_step}
 use Rattle.wal_rule.proofs.SeatLaws.{same_hold}

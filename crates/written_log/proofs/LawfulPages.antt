@@ -15,8 +15,8 @@ use Rattle.wal_page.specs.Log.{log_byte}
 use Rattle.wal_page.proofs.LogByteLaws.{log_byte-behind}
 use Rattle.wal_page.proofs.LogWordLaws.{log_word_byte, log_word_bytes}
 use Rattle.wal_page.proofs.OwnerLaws.{owner_at-some}
-use Rattle.lawful_image.specs.ImageWords.{HasPageAt, image_word, segment_word, zero_word}
-use Rattle.lawful_image.specs.Lawful.{IsLawful}
+use Rattle.segment_disk.specs.ImageWords.{HasPageAt, image_word, segment_word, zero_word}
+use Rattle.flush_core.specs.Lawful.{IsLawful}
 use Rattle.wal_reader.specs.Pages.{Pages, byte_at, byte_in_page, page_of_image, pages_in}
 use Rattle.written_log.proofs.LogPositions.{page_of-start}
 

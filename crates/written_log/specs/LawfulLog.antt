@@ -4,7 +4,7 @@ use Rattle.byte_position.specs.Geometry.{IsSegmentSize}
 use Rattle.byte_position.specs.Position.{end_address_of}
 use Rattle.segment_disk.specs.DiskImage.{DiskImage}
 use Rattle.wal_page.specs.Order.{Entry, IsChained, end_position, finish_of}
-use Rattle.lawful_image.specs.Lawful.{IsLawful}
+use Rattle.flush_core.specs.Lawful.{IsLawful}
 use Rattle.wal_reader.specs.declared.found.Answer.{Answer}
 use Rattle.wal_reader.specs.declared.found.FoundRecord.{FoundRecord}
 use Rattle.wal_reader.specs.Pages.{pages_in}

@@ -8,7 +8,7 @@ use Rattle.record_spelling.specs.Spelling.{size_of}
 use Rattle.record_spelling.specs.Numbers.{number_at}
 use Rattle.wal_page.specs.Order.{Entry, IsChained, end_position, finish_of, prev_of}
 use Rattle.wal_page.specs.Page.{first_fault}
-use Rattle.lawful_image.specs.Lawful.{IsLawful}
+use Rattle.flush_core.specs.Lawful.{IsLawful}
 use Rattle.wal_reader.specs.Pages.{Pages, bytes_from, pages_in}
 use Rattle.wal_reader.specs.Decodes.{crc_rows, is_right_prev, is_zero_word}
 use Rattle.written_log.specs.Torn.{IsSeenTorn, IsTorn}

@@ -1,5 +1,5 @@
 use Rattle.std.proofs.Common.{ℕ, drop, length, subst, sym}
-use Rattle.closing_laws.specs.Closed.{HasAllNumbers}
+use Rattle.machine_laws.specs.ClosedLogs.{HasAllNumbers}
 use Rattle.wal_rule.specs.Passes.{view_of_pass}
 use Rattle.wal_rule.specs.Seats.{SeatView}
 use Rattle.wal_rule.specs.Slotted.{first_on}

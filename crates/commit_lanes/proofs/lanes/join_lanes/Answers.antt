@@ -4,8 +4,8 @@ use Rattle.std.proofs.lemmas.List.Elements.{All-head, All-tail}
 use Rattle.wal_rule.specs.Passes.{view_of_pass}
 use Rattle.wal_rule.specs.Seats.{SeatView}
 use Rattle.wal_log.specs.Logs.{setup_of_log}
-use Rattle.pass_numbers.specs.Sharing.{ShareNumbers}
-use Rattle.commit_lanes.specs.Lanes.{AreLanesOf, IsCommitLane, view_of_lane}
+use Rattle.wal_log.specs.Sharing.{ShareNumbers}
+use Rattle.commit_lanes.specs.Lanes.{AreLanesOf, IsLaneOf, view_of_lane}
 use Rattle.commit_lanes.specs.declared.lane.Lane.{Lane}
 use Rattle.commit_lanes.proofs.lanes.join_lanes.Goals as goal
 
@@ -23,7 +23,7 @@ loop-lane-init g c =
     )
 
 pub join-requires-clause-other : goal.join-requires-clause-other
-join-requires-clause-other g c = (All-head (IsCommitLane c.args.log.now) _ _
+join-requires-clause-other g c = (All-head (IsLaneOf c.args.log.now) _ _
     (subst (AreLanesOf c.args.log.now) c.in-Some.ensures.steps.0 c.loop-lane.invariant.1)).pass
 
 pub loop-lane-preserved : goal.loop-lane-preserved
@@ -34,11 +34,11 @@ loop-lane-preserved g c =
     let next = c.in-Some.ensures.steps.0 in
     let lanes = subst (AreLanesOf c.args.log.now) next c.loop-lane.invariant.1 in (
       c.join.ensures.pass,
-      All-tail (IsCommitLane c.args.log.now) _ _ lanes,
+      All-tail (IsLaneOf c.args.log.now) _ _ lanes,
       subst (λ (v : SeatView). Share passes v rest) (sym c.join.ensures.view)
           (c.passes_share_numbers.ensures.join passes first (view_of_lane c.in-Some.lane)
           (map (λ lane. view_of_lane lane) rest)
-          (All-head (IsCommitLane c.args.log.now) _ _ lanes).none_to_give
+          (All-head (IsLaneOf c.args.log.now) _ _ lanes).none_to_give
           (subst (Share passes first) next c.loop-lane.invariant.2)),
     )
 

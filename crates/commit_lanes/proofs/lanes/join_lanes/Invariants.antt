@@ -1,7 +1,7 @@
 use Rattle.std.proofs.Common.{map}
 use Rattle.wal_rule.specs.Passes.{view_of_pass}
 use Rattle.wal_log.specs.Logs.{IsPassOfLog, setup_of_log}
-use Rattle.pass_numbers.specs.Sharing.{ShareNumbers}
+use Rattle.wal_log.specs.Sharing.{ShareNumbers}
 use Rattle.commit_lanes.specs.Lanes.{AreLanesOf, view_of_lane}
 use Rattle.commit_lanes.proofs.lanes.join_lanes.Given as goal
 

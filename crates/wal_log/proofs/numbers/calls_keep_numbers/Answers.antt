@@ -1,5 +1,5 @@
 use Rattle.std.proofs.Common.{ℕ, ◌<◌, ◌≤◌, List, Contains, inl, inr, sym, ◌∙◌, subst}
-use Rattle.order_laws.specs.Shared.{HasNumber}
+use Rattle.machine_laws.specs.SharedOrders.{HasNumber}
 use Rattle.wal_core.specs.Views.{Joined}
 use Rattle.wal_rule.specs.Seats.{SeatView}
 use Rattle.wal_log.specs.Standing.{KeepsPass}

@@ -1,7 +1,7 @@
 use Rattle.std.proofs.Common.{refl}
 use Rattle.segment_disk.specs.Tape.{empty_state}
 use Rattle.wal_rule.specs.Seats.{view_on}
-use Rattle.closing_laws.proofs.Numbers.{first_has_all, joins_unite_numbers, splits_share_numbers, steps_keep_numbers}
+use Rattle.machine_laws.proofs.ClosingNumbers.{first_has_all, joins_unite_numbers, splits_share_numbers, steps_keep_numbers}
 use Rattle.wal_rule.proofs.numbers.seats_keep_numbers.Goals as goal
 
 pub returns-clause-first : goal.returns-clause-first

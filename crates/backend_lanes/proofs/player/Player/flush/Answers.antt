@@ -1,6 +1,6 @@
 use Rattle.std.specs.Prelude.{Err, None}
 use Rattle.std.proofs.Common.{ℕ, refl, sym, ap, ◌∙◌}
-use Rattle.log_answers.specs.declared.Cause.TheVariants.{Disk, Down}
+use Rattle.wal_types.specs.declared.answers.Cause.TheVariants.{Disk, Down}
 use Rattle.told_lines.specs.declared.told.Told.TheVariants.{Refused}
 use Rattle.wal_rule.specs.Passes.{view_of_pass}
 use Rattle.backend_lanes.proofs.Answering.{flush_leaves_player, flush_plays_answer, player_never_unreserved, told_of_flushed}

@@ -1,6 +1,6 @@
 use Rattle.std.specs.Prelude.{Err}
 use Rattle.std.proofs.Common.{refl, sym, ap, ◌∙◌}
-use Rattle.log_answers.specs.declared.Refused.{Refused}
+use Rattle.wal_types.specs.declared.answers.Refused.{Refused}
 use Rattle.told_lines.specs.Answered.{told_of_insert}
 use Rattle.backend_lanes.proofs.Answering.{end_behind, insert_leaves_player, insert_plays_answer, told_of_inserted}
 use Rattle.backend_lanes.proofs.player.Player.insert.Goals as goal

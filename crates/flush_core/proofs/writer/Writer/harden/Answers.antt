@@ -3,9 +3,11 @@ use Rattle.std.proofs.Common.{◌≡◌, ℕ, List, false, Option, IfSome, ap, s
 use Rattle.segment_disk.specs.Tape.{Tape, sync_call}
 use Rattle.flush_core.specs.declared.writer.Writer.{Writer}
 use Rattle.flush_core.specs.Pages.{PutPages}
-use Rattle.flush_core.specs.Left.{IsMadeUpto, IsKeptWord, TapeAssures}
+use Rattle.segment_disk.specs.Assured.{IsMadeUpto, TapeAssures}
+use Rattle.flush_core.specs.Left.{IsKeptWord}
 use Rattle.flush_core.specs.Writer.{IsReached, IsWriter}
-use Rattle.flush_core.specs.Left.{IsWordPut, IsNowhere}
+use Rattle.flush_core.specs.Left.{IsWordPut}
+use Rattle.segment_disk.specs.Assured.{IsNowhere}
 use Rattle.flush_core.proofs.LeftLaws.{TapeAssures-with_call, TapeAssures-failed}
 use Rattle.flush_core.proofs.LeftPuts.{IsKept-synced}
 use Rattle.flush_core.proofs.WriterLaws.{IsWriter-synced, harden_failed}

@@ -6,8 +6,10 @@ use Rattle.segment_disk.specs.Tape.{Tape}
 use Rattle.flush_core.specs.declared.writer.Writer.{Writer}
 use Rattle.flush_core.specs.Calls.{store_calls, put_calls, with_calls, BreaksOff}
 use Rattle.flush_core.specs.Pages.{PutPages}
-use Rattle.flush_core.specs.Left.{PutHistory, with_put, IsMadeUpto, IsKeptWord, SameBelow, TapeAssures}
-use Rattle.flush_core.specs.Left.{IsWordPut, IsNowhere}
+use Rattle.flush_core.specs.Left.{PutHistory, with_put, IsKeptWord, SameBelow}
+use Rattle.segment_disk.specs.Assured.{IsMadeUpto, TapeAssures}
+use Rattle.flush_core.specs.Left.{IsWordPut}
+use Rattle.segment_disk.specs.Assured.{IsNowhere}
 use Rattle.flush_core.specs.Writer.{IsReached}
 use Rattle.flush_core.proofs.PutLaws.{page_reaches}
 use Rattle.flush_core.proofs.LeftLaws.{AllFit, TapeAssures-with_calls, TapeAssures-broken}

@@ -1,5 +1,5 @@
 use Rattle.std.proofs.Common.{ℕ, List, sym, subst}
-use Rattle.closing_laws.specs.Closed.{HasAllNumbers}
+use Rattle.machine_laws.specs.ClosedLogs.{HasAllNumbers}
 use Rattle.wal_rule.specs.declared.writer.LogWriter.{LogWriter}
 use Rattle.wal_rule.specs.Seats.{SeatView}
 use Rattle.wal_rule.specs.Tables.{opening_of_table}

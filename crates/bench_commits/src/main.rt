@@ -1,0 +1,52 @@
+//! Threads commit side by side on one log, for their commits a second to be measured
+//! (bench/commits.py).
+#![tactic(auto)]
+
+mod asked;
+mod log;
+mod trouble;
+
+use asked::{Asked, Place};
+use log::sealed;
+use segment_disk::MemDisk;
+use segment_files::FileDisk;
+use std::process;
+use std::process::ExitCode;
+use std::sync::Wait;
+use std::thread::Threads;
+use trouble::Trouble;
+
+// The folder of segment files, in the working directory.
+const FOLDER: &str = "pg_wal";
+
+fn main(rt: HostRuntime) -> ExitCode {
+    match run(&rt, rt) {
+        Ok(()) => ExitCode::SUCCESS,
+        Err(trouble) => {
+            let _ = eprintln!(rt; "bench_commits: {trouble}");
+            ExitCode::from(1)
+        }
+    }
+}
+
+fn run<R: Threads + Wait + Sync>(threads: &R, rt: HostRuntime) -> Result<(), Trouble> {
+    let asked = Asked::of_words(rt)?;
+    let alloc = rt.alloc();
+    let count = match asked.place {
+        Place::Memory => {
+            let (segments, calls) = (asked.segments(), asked.calls());
+            let disk = MemDisk::new(alloc, segments, calls, Vec::new(alloc), Vec::new(alloc))?;
+            sealed(threads, alloc, disk, asked)?
+        }
+        Place::Files => {
+            let disk = FileDisk::open(rt, alloc, FOLDER, process::id(rt.process()))?;
+            sealed(threads, alloc, disk, asked)?
+        }
+    };
+    println!(rt; "commits {count}")?;
+    if count == asked.all() {
+        Ok(())
+    } else {
+        Err(Trouble::Refused)
+    }
+}

@@ -1,2 +1,0 @@
-pub mod ClosedLogs
-pub mod ClosedRuns

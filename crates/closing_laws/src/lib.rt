@@ -1,4 +1,0 @@
-//! Laws of the machine: what its last pass knows, once it is about nothing.
-#![tactic(auto)]
-
-pub mod laws;

@@ -1,5 +1,0 @@
-use Rattle.durable_laws.proofs.CrashLaws.{stays_suited}
-use Rattle.durable_laws.proofs.crashes.calls_leave_what_the_log_began_on.Goals as goal
-
-pub returns : goal.returns
-returns c = stays_suited

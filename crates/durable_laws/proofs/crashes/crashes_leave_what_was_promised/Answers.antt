@@ -1,8 +1,0 @@
-use Rattle.durable_laws.proofs.CrashLaws.{crashes_leave_the_log}
-use Rattle.durable_laws.proofs.crashes.crashes_leave_what_was_promised.Goals as goal
-
-pub returns : goal.returns
-returns c = record {
-  lawful = λ o order flushed moment down home writer parts h setup chained.
-      crashes_leave_the_log o order flushed moment down home writer parts h setup.size chained;
-}

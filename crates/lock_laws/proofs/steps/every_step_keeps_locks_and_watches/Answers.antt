@@ -1,6 +1,0 @@
-use Rattle.lock_laws.proofs.WorkSteps.{works_behind}
-use Rattle.lock_laws.proofs.steps.every_step_keeps_locks_and_watches.Goals as goal
-
-pub returns : goal.returns
-returns c = λ setup order words home views id v e s may k.
-    works_behind setup order words home views id v s k e may

@@ -1,6 +1,0 @@
-use Rattle.lock_laws.proofs.SoundSteps.{locks_behind}
-use Rattle.lock_laws.proofs.steps.sound_states_keep_locks_and_turns.Goals as goal
-
-pub returns : goal.returns
-returns c = λ opening words home views id v e k here live may.
-    locks_behind opening words home views k id v here live e may

@@ -1,0 +1,241 @@
+-- Passes: where one is split off, where one takes another in, and where one gives up its copy, the
+-- invariant is kept.
+use Rattle.std.proofs.Common.{◌≡◌, ◌≢◌, ℕ, ◌<◌, ◌≤◌, true, List, [], ◌∷◌, ◌++◌, map, max, set, refl, sym, ◌∙◌, subst, ⊎_elim, arith}
+use mathlib.Core.Option.{Option}
+use Rattle.wal_core.specs.Words.{Opening, position_word, prev_word, written_word, flushed_word, down_word, end_form}
+use Rattle.wal_core.specs.Views.{HasAt, Flight, Plain, Reserving, View, Writing, reserving_of, flight_of, writing_of, told_of}
+use Rattle.wal_core.specs.Ordered.{OrderHolds}
+use Rattle.wal_core.specs.Positioned.{PositionsHold}
+use Rattle.wal_core.specs.Moves.{after_split, split_off, after_join, spent, without_work, orphan_of}
+use Rattle.wal_core.specs.Steps.{State, Splits, IsResting, Joins, IsStranded, GivesUp}
+use Rattle.wal_core.specs.Sound.{IsGrounded, IsSound}
+use Rattle.wal_core.proofs.Lists.{one_set, one_added, part_at}
+use Rattle.machine_laws.specs.OrderParts.{TakesPart}
+use Rattle.machine_laws.proofs.OrderKept as order
+use Rattle.machine_laws.specs.LocksBehind.{WorksHold, TurnsHold}
+use Rattle.machine_laws.proofs.SoundLockSteps.{works_now, turns_now}
+use Rattle.machine_laws.proofs.LockPassSteps.{one_changes, two_change, works_split, works_give_up, works_join, turns_split, turns_give_up, turns_join}
+use Rattle.machine_laws.specs.RingBehind.{HasRingWith, HasPagesWith}
+use Rattle.machine_laws.proofs.RingPassSteps.{ring-split, ring-taken_in, ring-given_up, pages-split, pages-taken_in, pages-given_up}
+use Rattle.machine_laws.specs.PositionParts.{Positions, HasPositions}
+use Rattle.machine_laws.proofs.PositionKept as positions
+use Rattle.machine_laws.specs.DurableBehind.{HasDurableWith}
+use Rattle.machine_laws.proofs.SoundDurableSteps.{durable-split, durable-taken_in, durable-given_up}
+use Rattle.machine_laws.proofs.Frames.{grounded_live, watches_still}
+use Rattle.machine_laws.proofs.KnownViews.{now, has_now, told_here}
+use Rattle.machine_laws.proofs.OrderBehind.{takes_part}
+
+-- a view that is not live, and has neither turn: with nothing in hand, and behind a fault
+grounded_spent : (opening : Opening) (down : ℕ) (v : View) → IsGrounded opening down (spent v)
+grounded_spent opening down v = record {
+  opening_is = λ alive. absurd (cc);
+  watches = λ alive. absurd (cc);
+  at_rest = λ dead. (refl, refl);
+  left = λ dead has. absurd (⊎_elim (λ some_lock. some_lock refl) (λ flies. flies refl) has);
+}
+
+grounded_orphan : (opening : Opening) (down : ℕ) (v : View) → down ≢ 0
+    → IsGrounded opening down (orphan_of v)
+grounded_orphan opening down v failed = record {
+  opening_is = λ alive. absurd (cc);
+  watches = λ alive. absurd (cc);
+  at_rest = λ dead. (refl, refl);
+  left = λ dead has. failed;
+}
+
+module _ (words : List ℕ) (home : Option Plain) (views : List View) (id : ℕ) (v : View)
+    (k : IsSound v.opening words home views) (here : HasAt views id v)
+    (live : (v.reserving).live ≡ true) where
+  -- the state with other views, of which the parts hold
+  module _ (changed : List View) where
+    abbrev HasOrderWith : List Reserving → Type 0
+    HasOrderWith rs = OrderHolds (v.opening).setup (v.opening).found k.order
+        (position_word words) (prev_word words) rs
+
+    abbrev HasPositionsWith : List Flight → List Writing → Type 0
+    HasPositionsWith fs ws = PositionsHold v.opening k.order (written_word words)
+        (flushed_word words) (down_word words) home k.writer fs ws
+
+    changed_sound : ((j : ℕ) (u : View) → HasAt changed j u
+        → IsGrounded v.opening (down_word words) u)
+        → (rs : List Reserving) → map reserving_of changed ≡ rs → HasOrderWith rs
+        → WorksHold (v.opening).setup k.order words changed
+        → TurnsHold words home k.stage k.writer changed
+        → HasRingWith v.opening words home views k changed
+        → HasPagesWith v.opening words home views k changed
+        → (fs : List Flight) → map flight_of changed ≡ fs
+        → (ws : List Writing) → map writing_of changed ≡ ws → HasPositionsWith fs ws
+        → HasDurableWith v.opening words home views k changed
+        → IsSound v.opening words home changed
+    changed_sound grounded rs are_reserving reserved works turns ring pages fs are_flights ws
+        are_writing positions durable = record {
+          order = k.order;
+          memory = k.memory;
+          reach = k.reach;
+          stage = k.stage;
+          writer = k.writer;
+          setup_is = k.setup_is;
+          wide = k.wide;
+          grounded = grounded;
+          reserved = subst (λ (xs : List Reserving). HasOrderWith xs) (sym are_reserving) reserved;
+          locks = record {
+            locks = works.held;
+            mapping = turns.mapping;
+            writing = turns.writing;
+          };
+          progress = works.told;
+          ring = ring;
+          pages = pages;
+          positions = subst (λ (x : List Flight × List Writing). HasPositionsWith x.0 x.1)
+              (λ j. (sym are_flights j, sym are_writing j)) positions;
+          durable = durable;
+          watching = works.watched;
+        }
+
+  abbrev all : Positions
+  all = now words home views id v k
+
+  has_all : HasPositions all id v
+  has_all = has_now words home views id v k here
+
+  part : TakesPart k.order (position_word words) (prev_word words) (map reserving_of views) id v
+  part = takes_part words home views id v k here live
+
+  -- where one view is set, and one is added
+  abbrev Grounded : View → Type 0
+  Grounded u = IsGrounded v.opening (down_word words) u
+
+  grounded_added : (w x : View) → Grounded w → Grounded x
+      → (j : ℕ) (u : View) → HasAt (set views id w ++ x ∷ []) j u → Grounded u
+  grounded_added w x changed new =
+      one_added (λ j u. Grounded u) (set views id w) x
+      (one_set (λ j u. Grounded u) views id w (λ j u apart at. k.grounded j u at) changed) new
+
+  -- the view watches for no more than it has seen
+  low : (v.watching).end ≤ end_form (v.opening).setup (v.reserving).seen
+  low = (k.grounded id v here).watches live
+
+  pub split_sound : (v.reserving).spare < (v.reserving).spare_end
+      → IsSound v.opening words home (set views id (after_split v) ++ split_off v ∷ [])
+  split_sound some_left = changed_sound (set views id (after_split v) ++ split_off v ∷ [])
+      (grounded_added (after_split v) (split_off v)
+      (grounded_live v.opening (down_word words) (after_split v) refl live low)
+      (grounded_live v.opening (down_word words) (split_off v) refl refl (omega arith)))
+      _ (one_changes reserving_of views id v here (after_split v) (split_off v))
+      (order.split_keeps k.order (position_word words) (prev_word words)
+      (map reserving_of views) id v part some_left)
+      (works_split (v.opening).setup k.order words views id v here
+      (works_now v.opening words home views k))
+      (turns_split words home k.stage k.writer views id v here
+      (turns_now v.opening words home views k))
+      (ring-split v.opening words home views k id v here)
+      (pages-split v.opening words home views k id v here)
+      _ (one_changes flight_of views id v here (after_split v) (split_off v))
+      _ (one_changes writing_of views id v here (after_split v) (split_off v))
+      (positions.split_keeps all id v has_all)
+      (durable-split words home views id v k here)
+
+  -- a down value that the view met or set is the down word
+  failed : IsStranded v → down_word words ≢ 0
+  failed may none =
+      let told = (k.durable).views id (told_of v) (told_here words home views id v k here) in
+      ⊎_elim (λ met. met (told.down_met met ∙ none)) (λ set. set (told.down_set set ∙ none))
+      may.down
+
+  pub give_up_sound : IsStranded v → IsSound v.opening words home
+      (set views id (without_work v) ++ orphan_of v ∷ [])
+  give_up_sound may = changed_sound (set views id (without_work v) ++ orphan_of v ∷ [])
+      (grounded_added (without_work v) (orphan_of v)
+      (grounded_live v.opening (down_word words) (without_work v) refl live low)
+      (grounded_orphan v.opening (down_word words) v (failed may)))
+      _ (one_changes reserving_of views id v here (without_work v) (orphan_of v))
+      (order.give_up_keeps k.order (position_word words) (prev_word words)
+      (map reserving_of views) id v part)
+      (works_give_up (v.opening).setup k.order words views id v here
+      (works_now v.opening words home views k))
+      (turns_give_up words home k.stage k.writer views id v here
+      (turns_now v.opening words home views k))
+      (ring-given_up v.opening words home views k id v here)
+      (pages-given_up v.opening words home views k id v here)
+      _ (one_changes flight_of views id v here (without_work v) (orphan_of v))
+      _ (one_changes writing_of views id v here (without_work v) (orphan_of v))
+      (positions.give_up_keeps all id v has_all)
+      (durable-given_up words home views id v k here)
+
+  pub join_sound : (other : ℕ) (w : View) → HasAt views other w → (w.reserving).live ≡ true
+      → id ≢ other → IsResting w
+      → IsSound v.opening words home (set (set views other (spent w)) id (after_join v w))
+  join_sound other w there alive apart rests =
+      changed_sound (set (set views other (spent w)) id (after_join v w))
+      (one_set (λ j u. Grounded u) (set views other (spent w)) id (after_join v w)
+      (λ j u not_this at. one_set (λ i x. Grounded x) views other (spent w)
+      (λ i x not_other found. k.grounded i x found)
+      (grounded_spent v.opening (down_word words) w) j u at)
+      (grounded_live v.opening (down_word words) (after_join v w) refl live
+      (watches_still (v.opening).setup (k.setup_is).size (v.watching).end (v.reserving).seen
+      (max (v.reserving).seen (w.reserving).seen) low (omega arith))))
+      _ (two_change reserving_of views id v here other (after_join v w) (spent w))
+      (order.join_keeps k.order (position_word words) (prev_word words) (map reserving_of views)
+      id v other w part (part_at reserving_of views other w there) alive apart rests.place)
+      (works_join (v.opening).setup k.order words views id v here
+      (works_now v.opening words home views k) other w there apart rests)
+      (turns_join words home k.stage k.writer views id v here
+      (turns_now v.opening words home views k) other w there rests)
+      (ring-taken_in v.opening words home views k id v here other w there rests)
+      (pages-taken_in v.opening words home views k id v here other w there)
+      _ (two_change flight_of views id v here other (after_join v w) (spent w))
+      _ (two_change writing_of views id v here other (after_join v w) (spent w))
+      (positions.join_keeps all id v has_all other w)
+      (durable-taken_in words home views id v k here other w there)
+
+-- ---- of whole states
+
+-- what a live view's own opening makes sound is sound
+pub at_own_opening : (opening : Opening) (words : List ℕ) (home : Option Plain)
+    (views : List View) (id : ℕ) (v : View) → IsSound opening words home views → HasAt views id v
+    → (v.reserving).live ≡ true → (words' : List ℕ) (home' : Option Plain) (views' : List View)
+    → (IsSound v.opening words home views → IsSound v.opening words' home' views')
+    → IsSound opening words' home' views'
+at_own_opening opening words home views id v k here live words' home' views' steps =
+    let own : v.opening ≡ opening = (k.grounded id v here).opening_is live in
+    subst (λ (o : Opening). IsSound o words' home' views') own
+    (steps (subst (λ (o : Opening). IsSound o words home views) (sym own) k))
+
+module _ (opening : Opening) (s t : State) (id : ℕ) (k : IsSound opening s.words s.home s.views)
+  where
+    -- a state whose words, writer and views are these
+    sound_as : (words : List ℕ) (home : Option Plain) (views : List View) → t.words ≡ words
+        → t.home ≡ home → t.views ≡ views → IsSound opening words home views
+        → IsSound opening t.words t.home t.views
+    sound_as words home views are_words is_home are_views holds =
+        subst (λ (x : List ℕ × Option Plain × List View). IsSound opening x.0 x.1 x.2)
+        (λ j. (sym are_words j, sym is_home j, sym are_views j)) holds
+
+    pub splits_keep : Splits id s t → IsSound opening t.words t.home t.views
+    splits_keep m =
+        let v : View = m.view in
+        let views : List View = set s.views id (after_split v) ++ split_off v ∷ [] in
+        sound_as s.words s.home views m.words m.home m.views
+        (at_own_opening opening s.words s.home s.views id v k (m.live).0 (m.live).1 s.words s.home
+        views
+        (λ own. split_sound s.words s.home s.views id v own (m.live).0 (m.live).1 m.may))
+
+    pub gives_up_keeps : GivesUp id s t → IsSound opening t.words t.home t.views
+    gives_up_keeps m =
+        let v : View = m.view in
+        let views : List View = set s.views id (without_work v) ++ orphan_of v ∷ [] in
+        sound_as s.words s.home views m.words m.home m.views
+        (at_own_opening opening s.words s.home s.views id v k (m.live).0 (m.live).1 s.words s.home
+        views
+        (λ own. give_up_sound s.words s.home s.views id v own (m.live).0 (m.live).1 m.may))
+
+    pub joins_keep : (other : ℕ) → Joins id other s t → IsSound opening t.words t.home t.views
+    joins_keep other m =
+        let v : View = m.view in
+        let w : View = m.other_view in
+        let views : List View = set (set s.views other (spent w)) id (after_join v w) in
+        sound_as s.words s.home views m.words m.home m.views
+        (at_own_opening opening s.words s.home s.views id v k (m.live).0 (m.live).1 s.words s.home
+        views
+        (λ own. join_sound s.words s.home s.views id v own (m.live).0 (m.live).1 other w
+        (m.other_live).0 (m.other_live).1 m.apart m.may))

@@ -1,0 +1,67 @@
+pub mod OrderedEntries
+pub mod OrderGoing
+pub mod OrderSteps
+pub mod OrderKept
+pub mod OrderPassSteps
+pub mod OrderUnique
+pub mod OrderSharing
+pub mod LocksKept
+pub mod HeldLaws
+pub mod ToldLaws
+pub mod MappingLaws
+pub mod WritingLaws
+pub mod WatchLaws
+pub mod WorkSteps
+pub mod TurnSteps
+pub mod LockPassSteps
+pub mod SoundLockSteps
+pub mod Buffers
+pub mod LeftSteps
+pub mod LoadedWords
+pub mod PageLaws
+pub mod PageSteps
+pub mod RingPassSteps
+pub mod PutWords
+pub mod RingLaws
+pub mod RingSteps
+pub mod ShownLaws
+pub mod StoredWords
+pub mod CopiedWords
+pub mod LogReading
+pub mod DiskCalls
+pub mod Copies
+pub mod PositionSteps
+pub mod PositionKept
+pub mod PositionCalls
+pub mod WholeMachine
+pub mod DurableTapes
+pub mod DurableGrowth
+pub mod DurableAssured
+pub mod DurableViewSteps
+pub mod SegmentStates
+pub mod DurableReserving
+pub mod DurableViews
+pub mod DurableCalls
+pub mod DurableCallSteps
+pub mod CrashLaws
+pub mod SoundDurableSteps
+mod KnownViews
+mod Frames
+mod GroundBehind
+mod OrderBehind
+mod PositionsBehind
+pub mod WholeInvariant
+pub mod EveryPassStep
+pub mod EveryStep
+pub mod OpeningLaws
+mod MomentRises
+mod MomentParts
+mod MomentsBehind
+mod PassMoments
+pub mod EveryMoment
+pub mod ClosingLaws
+pub mod ClosingNumbers
+pub mod HolderLaws
+pub mod EntryLaws
+pub mod PositionLaws
+pub mod WatcherLaws

@@ -1,0 +1,8 @@
+use Rattle.machine_laws.proofs.CrashLaws.{crashes_leave_the_log}
+use Rattle.machine_laws.proofs.crashes.crashes_leave_what_was_promised.Goals as goal
+
+pub returns : goal.returns
+returns c = record {
+  lawful = λ o order flushed moment down home writer parts h setup chained.
+      crashes_leave_the_log o order flushed moment down home writer parts h setup.size chained;
+}

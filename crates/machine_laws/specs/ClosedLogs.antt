@@ -1,0 +1,95 @@
+-- The end of a log: what holds once one pass has all numbers of it, and is about nothing.
+use Rattle.std.specs.Prelude.{◌≡◌, ◌≢◌, ℕ, ◌*◌, ◌/◌, ◌<◌, ◌≤◌, true, List, [], ◌∷◌, length, IfSome}
+use mathlib.Core.Option.{Option, some}
+use Rattle.segment_disk.specs.Tape.{state_now}
+use Rattle.wal_page.specs.Order.{Entry, IsChained, end_position, prev_of}
+use Rattle.wal_core.specs.Words.{Opening, position_word, prev_word, lock_word, mapping_turn, write_turn, written_word, flushed_word, moment_word, down_word, word_of_ring, end_form, log_limit}
+use Rattle.wal_core.specs.Suited.{IfSuited}
+use Rattle.wal_core.specs.Views.{HasAt, Landed, Plain, Reserving, View, told_of}
+use Rattle.wal_core.specs.Ordered.{entries_under, BeginsWith, TookIn}
+use Rattle.wal_core.specs.Ringed.{log_word_of}
+use Rattle.wal_core.specs.Positioned.{ReadsBelow}
+use Rattle.wal_core.specs.Durable.{IsOnDisk}
+use Rattle.wal_core.specs.Steps.{IsResting, ring_place}
+use Rattle.wal_core.specs.Shown.{IsPresent}
+use Rattle.machine_laws.specs.SharedOrders.{HasItsPart, HasNumber}
+use Rattle.machine_laws.specs.Crashes.{CrashesLeave, DownTells}
+
+-- each number that a pass may have is this one's own, one that it may give away, or that of a pass
+-- that it took in
+abbrev pub HasAllNumbers : ℕ → Reserving → Type 0
+HasAllNumbers passes r = (number : ℕ) → number < passes → HasNumber number r
+
+-- a pass that is left alone: it is live, about nothing, and has all numbers
+pub record IsLastPass (opening : Opening) (v : View) : Type 0 where
+  pub live : (v.reserving).live ≡ true
+  pub rests : IsResting v
+  pub numbers : HasAllNumbers (opening.setup).passes v.reserving
+
+module _ (opening : Opening) (order : List Entry) (words : List ℕ) where
+  abbrev size : ℕ
+  size = (opening.setup).segment_size
+
+  -- the position is not locked, nobody has a turn, and the words tell the order's end
+  pub record WordsAreFree : Type 0 where
+    pub position : position_word words ≡ end_position size order
+    pub last : prev_word words ≡ prev_of size 0 order
+    pub mapping : mapping_turn words ≡ 0
+    pub writing : write_turn words ≡ 0
+
+  -- the order is without a gap what was found, what this pass reserved, and what those did that it
+  -- took in
+  pub record OrderIsAccounted (views : List View) (r : Reserving) : Type 0 where
+    pub chained : IsChained size order
+    pub found_first : BeginsWith opening.found order
+    pub within : end_position size order ≤ log_limit opening.setup
+    -- their logs are their entries of the order, also where one found the log full
+    pub part : HasItsPart opening order words views r
+    pub no_other : (number : ℕ) → number ≢ r.number → (TookIn number r → ⊥)
+        → entries_under number order ≡ []
+
+  -- no pass has a lock or an entry in flight, and the ring has the log from the written address on
+  pub record AllIsCopied (views : List View) : Type 0 where
+    pub landed : (id : ℕ) (v : View) → HasAt views id v
+        → ((v.working).locks ≡ []) × ((v.working).flight ≡ Landed)
+    pub locks : (lock : ℕ) → lock < 8 → lock_word words lock ≡ 0
+    pub unwritten : (k : ℕ) → written_word words ≤ 8 * k
+        → 8 * k < end_form opening.setup (end_position size order)
+        → IsPresent opening.setup words (k / 1024)
+    pub ring : (k : ℕ) → IsPresent opening.setup words (k / 1024)
+        → word_of_ring opening.setup words (ring_place opening.setup k)
+        ≡ log_word_of opening.setup order (8 * k)
+
+  -- what is durable is written, what is written is reserved, and the disk reads as the log below
+  pub record PositionsAreLast (writer : Plain) : Type 0 where
+    pub begun : size ≤ flushed_word words
+    pub flushed_low : flushed_word words ≤ written_word words
+    pub written_low : written_word words ≤ writer.written
+    pub written_is : down_word words ≡ 0 → written_word words ≡ writer.written
+    pub reserved : writer.written ≤ end_form opening.setup (end_position size order)
+    pub reads : IfSuited opening writer
+        (λ t. ReadsBelow opening.setup order writer.written (state_now t))
+
+  -- what a crash leaves, whenever it comes, with the promises made to this pass and to those that
+  -- it took in; and what the down value tells of the disk
+  pub record LogIsDurable (writer : Plain) (v : View) : Type 0 where
+    pub counted : IfSome writer.tape (λ t. writer.moment ≡ length t.calls)
+    pub since : opening.moment ≤ moment_word words
+    pub moment_low : moment_word words ≤ writer.moment
+    pub on_disk : IfSuited opening writer (IsOnDisk opening.setup order writer)
+    pub crashes : IfSuited opening writer (λ t. CrashesLeave opening order (flushed_word words)
+        (moment_word words) t (told_of v ∷ []))
+    pub down : DownTells opening (down_word words) (some writer) writer (told_of v ∷ [])
+
+  -- the log is at rest in the hand of one pass, with its writer at home
+  pub record IsClosed (home : Option Plain) (writer : Plain) (views : List View) (id : ℕ)
+      (v : View) : Type 0 where
+    pub alone : (other : ℕ) (w : View) → HasAt views other w → (w.reserving).live ≡ true
+        → other ≡ id
+    pub at_home : home ≡ some writer
+    pub free : WordsAreFree
+    pub accounted : OrderIsAccounted views v.reserving
+    -- behind a fault of the disk a pass may have given up its copy
+    pub copied : down_word words ≡ 0 → AllIsCopied views
+    pub positions : PositionsAreLast writer
+    pub durable : LogIsDurable writer v

@@ -1,0 +1,17 @@
+pub mod OrderParts
+pub mod SharedOrders
+pub mod Locks
+pub mod LocksBehind
+pub mod WordsPut
+pub mod RingBehind
+pub mod RingLeft
+pub mod PositionParts
+pub mod Crashes
+pub mod DurableBehind
+pub mod InvariantKept
+pub mod Runs
+pub mod RisingMoments
+pub mod ClosedLogs
+pub mod SoundLocks
+pub mod SoundPositions
+pub mod SoundWatches

@@ -1,5 +1,0 @@
-mod Rises
-mod Parts
-mod MomentsBehind
-mod PassMoments
-pub mod EveryMoment

@@ -1,8 +1,0 @@
-use Rattle.order_laws.proofs.OrderKept.{load_position_keeps, load_flushed_keeps}
-use Rattle.order_laws.proofs.laws.seen_positions_are_reserved.Goals as goal
-
-pub returns-clause-load_position : goal.returns-clause-load_position
-returns-clause-load_position c = load_position_keeps
-
-pub returns-clause-load_flushed : goal.returns-clause-load_flushed
-returns-clause-load_flushed c = load_flushed_keeps

@@ -1,2 +1,0 @@
-mod Having
-pub mod Lanes

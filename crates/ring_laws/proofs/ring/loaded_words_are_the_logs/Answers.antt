@@ -1,5 +1,0 @@
-use Rattle.ring_laws.proofs.LoadedWords.{loads_staged}
-use Rattle.ring_laws.proofs.ring.loaded_words_are_the_logs.Goals as goal
-
-pub returns : goal.returns
-returns c = loads_staged

@@ -1,6 +1,0 @@
-use Rattle.ring_laws.proofs.RingLaws as law
-use Rattle.ring_laws.proofs.ring.mapping_keeps_the_ring.Goals as goal
-
-pub returns : goal.returns
-returns c = λ setup order reach further memory flights k.
-    law.reaches setup order reach memory flights k further

@@ -1,8 +1,0 @@
-use Rattle.ring_laws.proofs.LeftSteps as step
-use Rattle.ring_laws.proofs.steps.other_steps_leave_ring_and_pages.Goals as goal
-
-pub returns-clause-ring : goal.returns-clause-ring
-returns-clause-ring c = step.ring_behind-left
-
-pub returns-clause-pages : goal.returns-clause-pages
-returns-clause-pages c = step.pages_behind-left

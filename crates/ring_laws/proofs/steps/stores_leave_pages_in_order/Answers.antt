@@ -1,8 +1,0 @@
-use Rattle.ring_laws.proofs.PageSteps as step
-use Rattle.ring_laws.proofs.steps.stores_leave_pages_in_order.Goals as goal
-
-pub returns-clause-word : goal.returns-clause-word
-returns-clause-word c = step.pages_behind-stored
-
-pub returns-clause-written : goal.returns-clause-written
-returns-clause-written c = step.pages_behind-written

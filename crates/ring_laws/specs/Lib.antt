@@ -1,3 +1,0 @@
-pub mod Put
-pub mod Behind
-pub mod Left

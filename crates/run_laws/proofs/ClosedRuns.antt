@@ -1,0 +1,173 @@
+-- What is assured of a run whose log was closed: the laws of closed logs, for the order that the
+-- lines were told.
+use Rattle.std.specs.Prelude.{IfSome}
+use Rattle.std.proofs.Common.{◌≡◌, inl, inr, ℕ, ◌-◌, ◌^◌, ◌<◌, ◌≤◌, List, Option, Some, length, refl, sym, ap, ◌∙◌, subst, arith}
+use mathlib.Core.Option.{Option as Maybe, none, some}
+use Rattle.segment_disk.specs.Cause.{Rose}
+use Rattle.segment_disk.specs.Tape.{Tape}
+use Rattle.flush_core.specs.Pages.{HoldsNothing}
+use Rattle.wal_page.specs.Order.{Entry, IsChained, end_position, rooms_of}
+use Rattle.wal_script.specs.Asked.{AskedLine}
+use Rattle.told_lines.specs.declared.told.Told.{Told}
+use Rattle.told_lines.specs.Told.{IsFullAnswer, IsRefused, SomeTold, TellsAll}
+use Rattle.told_lines.specs.Crash.{EachIsTimely, SurvivesCrashes}
+use Rattle.told_lines.specs.Whole.{IsWhole}
+use Rattle.wal_core.specs.Suited.{BeganSuited}
+use Rattle.wal_core.specs.Views.{View}
+use Rattle.wal_core.specs.Words.{Opening}
+use Rattle.wal_core.proofs.Tapes.{at_told, told_as}
+use Rattle.closed_log.specs.Closed.{IsClosedOn}
+use Rattle.wal_rule.specs.Seats.{SeatView, view_on}
+use Rattle.wal_rule.specs.Slotted.{first_on, slot_disk, slot_plain}
+use Rattle.wal_rule.specs.declared.writer.LogWriter.{LogWriter}
+use Rattle.wal_rule.proofs.OpeningTold.{began_suited}
+use Rattle.run_laws.specs.Counted.{all_reserved_count}
+use Rattle.run_laws.specs.Ended.{IsClosedLog, logged_at_end}
+use Rattle.run_laws.proofs.Counting.{order_counted}
+use Rattle.run_laws.proofs.FullScripts.{too_much_asked}
+use Rattle.run_laws.proofs.LastFlush.{left_whole}
+use Rattle.run_laws.proofs.LineFaults.{run_stays_down}
+use Rattle.run_laws.proofs.MomentsTold.{run_rises}
+use Rattle.run_laws.proofs.RefusedLines.{refused_for_want_of_room}
+use Rattle.run_laws.proofs.RunCrashes.{told_survive, told_timely}
+use Rattle.run_laws.proofs.RunOrder.{told_order, told_rise}
+use Rattle.run_laws.proofs.RunTells.{run_tells}
+use Rattle.run_laws.specs.Assured.{RunAssures, order_told}
+use Rattle.run_laws.specs.ClosedRuns.{HasFlushedAll, IsRunClosed}
+use Rattle.run_laws.proofs.ClosedLogs.{closed_on, fault_rose, knows_no_fault, none_is_later, rooms_are_low}
+
+-- a number that may be missing is missing where it can be none
+none_unless : (fault : Maybe ℕ) → ((faults : ℕ) → fault ≡ some faults → ⊥) → fault ≡ none
+none_unless none never = refl
+none_unless (some faults) never = absurd (never faults refl)
+
+module _ {D : Type 0} (tape : D → Option Tape) (moment faults : D → ℕ) (began : Option Tape)
+    (opening : Opening) (v : SeatView) (w : LogWriter D) (position : ℕ)
+    (script : List (List AskedLine)) (lists : List (List Told))
+    (r : IsRunClosed tape moment faults began opening v w position script lists) where
+  abbrev size : ℕ
+  size = (opening.setup).segment_size
+
+  abbrev last_view : View
+  last_view = view_on (first_on began) v
+
+  abbrev order : List Entry
+  order = ((r.closes).sound).order
+
+  abbrev closed : IsClosedLog opening ((r.closes).sound).order (view_on (first_on began) v)
+  closed = record {
+    words = (r.closes).words;
+    writer = slot_plain tape moment w;
+    views = (r.closes).views;
+    id = (r.closes).id;
+    none_found = r.none_found;
+    sound = (r.closes).sound;
+    order_is = refl;
+    here = (r.closes).here;
+    closed = (r.closes).closed;
+  }
+
+  -- the state's order is the one that the lines were told
+  order_is : ((r.closes).sound).order ≡ order_told opening script lists
+  order_is = sym (told_order opening order last_view closed script lists r.taken)
+
+  tells : TellsAll (logged_at_end opening order (faults (slot_disk w))) 1 script lists
+  tells = run_tells opening order last_view closed script lists r.taken (faults (slot_disk w))
+      (λ count is. let counted = ((r.closes).of_log).down count is in omega (arith, counted))
+
+  -- ---- on a disk that held nothing
+
+  began_on : HoldsNothing began → IfSome (tape (slot_disk w)) (BeganSuited opening)
+  began_on nothing = began_suited opening began (tape (slot_disk w)) nothing r.counted
+      ((r.closes).of_log).on_first ((r.closes).of_log).goes_on
+
+  closed_there : HoldsNothing began → (t : Tape) → tape (slot_disk w) ≡ Some t
+      → IsClosedOn opening order t last_view
+  closed_there nothing t is = closed_on opening order last_view closed r.narrow t is
+      (at_told (BeganSuited opening) (tape (slot_disk w)) t is (began_on nothing))
+
+  crash : HoldsNothing began → IfSome (tape (slot_disk w))
+      (SurvivesCrashes (opening.setup).segment_size opening.moment order lists)
+  crash nothing = told_as (tape (slot_disk w)) (λ t is.
+      told_survive opening order t last_view (closed_there nothing t is) script lists r.taken)
+
+  timely : HoldsNothing began → IfSome (tape (slot_disk w))
+      (λ t. EachIsTimely (opening.setup).segment_size opening.moment order t 1 script lists)
+  timely nothing = told_as (tape (slot_disk w)) (λ t is.
+      told_timely opening order t last_view (closed_there nothing t is) script lists r.taken)
+
+  -- ---- what is assured
+
+  pub run_assures : RunAssures opening began (tape (slot_disk w)) (moment (slot_disk w))
+      (faults (slot_disk w)) script lists
+  run_assures = record {
+    told = subst (λ (es : List Entry).
+        TellsAll (logged_at_end opening es (faults (slot_disk w))) 1 script lists) order_is tells;
+    stays_down = run_stays_down opening last_view script lists r.taken;
+    gapless = subst (IsChained size) order_is (((r.closes).closed).accounted).chained;
+    in_line_order = told_rise opening order last_view closed script lists r.taken;
+    moments = run_rises opening last_view script lists r.taken (r.closes).in_order
+        (moment (slot_disk w)) (none_is_later opening order last_view closed);
+    crash = subst (λ (es : List Entry). HoldsNothing began → IfSome (tape (slot_disk w))
+        (SurvivesCrashes size opening.moment es lists)) order_is crash;
+    no_late_receipt = subst (λ (es : List Entry). HoldsNothing began
+        → IfSome (tape (slot_disk w))
+        (λ t. EachIsTimely size opening.moment es t 1 script lists)) order_is timely;
+    full = too_much_asked opening order last_view closed script lists r.taken;
+  }
+
+  -- ---- faults
+
+  pub counted_up : (slot_plain tape moment w).fault ≡ none
+      → (faults (slot_disk w) ≡ opening.faults)
+      × (SomeTold IsRefused lists → SomeTold IsFullAnswer lists)
+  counted_up up = (
+    ((r.closes).of_log).up up,
+    refused_for_want_of_room opening order last_view closed script lists r.taken up,
+  )
+
+  pub counted_down : (count : ℕ) → (slot_plain tape moment w).fault ≡ some count
+      → Rose opening.faults (faults (slot_disk w))
+  counted_down count is = subst (Rose opening.faults) (((r.closes).of_log).down count is)
+      (fault_rose opening order last_view closed count is)
+
+  -- ---- the disk in the end
+
+  none_met : faults (slot_disk w) ≡ opening.faults → opening.faults < 2 ^ 64 - 1
+      → (slot_plain tape moment w).fault ≡ none
+  none_met same low = none_unless (slot_plain tape moment w).fault (λ count is.
+      elim (counted_down count is) [
+        | inl more ↦ omega (arith, more, same)
+        | inr top ↦ omega (arith, top, same, low)
+      ])
+
+  whole : (slot_plain tape moment w).fault ≡ none → HoldsNothing began
+      → HasFlushedAll (opening.setup).segment_size lists v
+      → IsWhole (opening.setup).segment_size (tape (slot_disk w)) order
+  whole up nothing (inl p) = left_whole opening order last_view closed script lists r.taken up
+      p.0 p.1 p.2 r.narrow (began_on nothing)
+  whole up nothing (inr f) = absurd (knows_no_fault opening order last_view closed up f.0 f.1)
+
+  pub flushed_whole : HasFlushedAll (opening.setup).segment_size lists v
+      → faults (slot_disk w) ≡ opening.faults → opening.faults < 2 ^ 64 - 1 → HoldsNothing began
+      → IsWhole (opening.setup).segment_size (tape (slot_disk w))
+      (order_told opening script lists)
+  flushed_whole flushed same low nothing =
+      subst (IsWhole size (tape (slot_disk w))) order_is
+      (whole (none_met same low) nothing flushed)
+
+  -- ---- the order in numbers
+
+  pub records_counted : length (order_told opening script lists) ≡ all_reserved_count lists
+  records_counted = sym (ap length order_is)
+      ∙ order_counted opening order last_view closed script lists r.taken
+
+  pub position_told : position
+      ≡ end_position (opening.setup).segment_size (order_told opening script lists)
+  position_told = (r.closes).position_is ∙ (((r.closes).closed).free).position
+      ∙ ap (end_position size) order_is
+
+  pub rooms_within : rooms_of (opening.setup).segment_size (order_told opening script lists)
+      ≤ 2 ^ 42
+  rooms_within = subst (λ (es : List Entry). rooms_of size es ≤ 2 ^ 42) order_is
+      (rooms_are_low opening order last_view closed)

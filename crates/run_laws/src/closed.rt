@@ -1,0 +1,80 @@
+//! What is assured of a run whose log was closed; proved by functions that do nothing.
+
+ghost use Rattle.std.specs.Prelude.{◌≡◌, ℕ, ◌-◌, ◌^◌, ◌<◌, ◌≤◌, List, Option, length};
+ghost use mathlib.Core.Option.{none, some};
+ghost use Rattle.segment_disk.specs.Cause.{Rose};
+ghost use Rattle.segment_disk.specs.Tape.{Tape};
+ghost use Rattle.flush_core.specs.Pages.{HoldsNothing};
+ghost use Rattle.wal_page.specs.Order.{end_position, rooms_of};
+ghost use Rattle.wal_core.specs.Words.{Opening};
+ghost use Rattle.wal_rule.specs.Seats.{SeatView};
+ghost use Rattle.wal_rule.specs.Slotted.{slot_disk, slot_plain};
+ghost use Rattle.wal_rule.specs.declared.writer.LogWriter.{LogWriter};
+ghost use Rattle.wal_script.specs.Asked.{AskedLine};
+ghost use Rattle.told_lines.specs.declared.told.Told.{Told};
+ghost use Rattle.told_lines.specs.Told.{IsFullAnswer, IsRefused, SomeTold};
+ghost use Rattle.told_lines.specs.Whole.{IsWhole};
+ghost use Rattle.run_laws.specs.Counted.{all_reserved_count};
+ghost use Rattle.run_laws.specs.Assured.{RunAssures, order_told};
+ghost use Rattle.run_laws.specs.ClosedRuns.{HasFlushedAll, IsRunClosed};
+
+/// All that is assured of a run that opened its log, whether its disk failed or not.
+pub fn closed_runs_assure<D>()
+    ensures assure { (tape : D → Option Tape) (moment faults : D → ℕ) (began : Option Tape)
+        (opening : Opening) (v : SeatView) (w : LogWriter D) (position : ℕ)
+        (script : List (List AskedLine)) (lists : List (List Told))
+        → IsRunClosed tape moment faults began opening v w position script lists
+        → RunAssures opening began (tape (slot_disk w)) (moment (slot_disk w))
+        (faults (slot_disk w)) script lists }
+{}
+
+/// Where the writer met no fault the disk's count of faults is that of the opening, and a line is
+/// refused only where some line found the log full. Where it met one the count rose.
+pub fn faults_are_counted<D>()
+    ensures up { (tape : D → Option Tape) (moment faults : D → ℕ) (began : Option Tape)
+        (opening : Opening) (v : SeatView) (w : LogWriter D) (position : ℕ)
+        (script : List (List AskedLine)) (lists : List (List Told))
+        → IsRunClosed tape moment faults began opening v w position script lists
+        → (slot_plain tape moment w).fault ≡ none → (faults (slot_disk w) ≡ opening.faults)
+        × (SomeTold IsRefused lists → SomeTold IsFullAnswer lists) }
+    ensures down { (tape : D → Option Tape) (moment faults : D → ℕ) (began : Option Tape)
+        (opening : Opening) (v : SeatView) (w : LogWriter D) (position : ℕ)
+        (script : List (List AskedLine)) (lists : List (List Told))
+        → IsRunClosed tape moment faults began opening v w position script lists
+        → (count : ℕ) → (slot_plain tape moment w).fault ≡ some count
+        → Rose opening.faults (faults (slot_disk w)) }
+{}
+
+/// Where all was flushed and no fault was counted, on a disk that held nothing and tells what it
+/// holds, all of the order is there for good.
+pub fn flushed_runs_are_whole<D>()
+    ensures whole { (tape : D → Option Tape) (moment faults : D → ℕ) (began : Option Tape)
+        (opening : Opening) (v : SeatView) (w : LogWriter D) (position : ℕ)
+        (script : List (List AskedLine)) (lists : List (List Told))
+        → IsRunClosed tape moment faults began opening v w position script lists
+        → HasFlushedAll (opening.setup).segment_size lists v
+        → faults (slot_disk w) ≡ opening.faults → opening.faults < 2 ^ 64 - 1
+        → HoldsNothing began
+        → IsWhole (opening.setup).segment_size (tape (slot_disk w))
+        (order_told opening script lists) }
+{}
+
+/// The order has an entry for each answer that says that a record was reserved, and ends at the
+/// position at which the log was closed.
+pub fn closed_runs_are_summed_up<D>()
+    ensures records { (tape : D → Option Tape) (moment faults : D → ℕ) (began : Option Tape)
+        (opening : Opening) (v : SeatView) (w : LogWriter D) (position : ℕ)
+        (script : List (List AskedLine)) (lists : List (List Told))
+        → IsRunClosed tape moment faults began opening v w position script lists
+        → length (order_told opening script lists) ≡ all_reserved_count lists }
+    ensures position { (tape : D → Option Tape) (moment faults : D → ℕ) (began : Option Tape)
+        (opening : Opening) (v : SeatView) (w : LogWriter D) (position : ℕ)
+        (script : List (List AskedLine)) (lists : List (List Told))
+        → IsRunClosed tape moment faults began opening v w position script lists
+        → position ≡ end_position (opening.setup).segment_size (order_told opening script lists) }
+    ensures within { (tape : D → Option Tape) (moment faults : D → ℕ) (began : Option Tape)
+        (opening : Opening) (v : SeatView) (w : LogWriter D) (position : ℕ)
+        (script : List (List AskedLine)) (lists : List (List Told))
+        → IsRunClosed tape moment faults began opening v w position script lists
+        → rooms_of (opening.setup).segment_size (order_told opening script lists) ≤ 2 ^ 42 }
+{}

@@ -1,4 +1,0 @@
-pub mod HolderLaws
-pub mod EntryLaws
-pub mod PositionLaws
-pub mod WatcherLaws

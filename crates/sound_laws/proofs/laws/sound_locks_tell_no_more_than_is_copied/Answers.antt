@@ -1,5 +1,0 @@
-use Rattle.sound_laws.proofs.EntryLaws.{locks_tell_copies}
-use Rattle.sound_laws.proofs.laws.sound_locks_tell_no_more_than_is_copied.Goals as goal
-
-pub returns : goal.returns
-returns c = record { told = locks_tell_copies }

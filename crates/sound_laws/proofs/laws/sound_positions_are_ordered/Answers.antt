@@ -1,5 +1,0 @@
-use Rattle.sound_laws.proofs.PositionLaws.{positions_are_ordered}
-use Rattle.sound_laws.proofs.laws.sound_positions_are_ordered.Goals as goal
-
-pub returns : goal.returns
-returns c = record { positions = positions_are_ordered }

@@ -1,5 +1,0 @@
-use Rattle.sound_laws.proofs.WatcherLaws.{watchers_see_copies}
-use Rattle.sound_laws.proofs.laws.sound_watchers_see_copies.Goals as goal
-
-pub returns : goal.returns
-returns c = record { watchers = watchers_see_copies }

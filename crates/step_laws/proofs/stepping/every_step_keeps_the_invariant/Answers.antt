@@ -1,8 +1,0 @@
-use Rattle.step_laws.proofs.EveryStep.{run_keeps, step_keeps}
-use Rattle.step_laws.proofs.stepping.every_step_keeps_the_invariant.Goals as goal
-
-pub returns-clause-step : goal.returns-clause-step
-returns-clause-step c = step_keeps
-
-pub returns-clause-run : goal.returns-clause-run
-returns-clause-run c = λ opening n s t k run. run_keeps opening n s t k run
