@@ -1,124 +1,214 @@
-//! What a crash leaves, of small lists of calls: expected values by the rules of `Pick`.
-ghost use Rattle.std.specs.Prelude.{◌<◌};
-
-use crate::calls::{create, read_page, smallest, sync, write_page};
-use segment_disk::{Disk, Failed, MemDisk, Memory, Pick};
-use std::alloc::Global;
+//! Disks in memory: which calls fail, what is read back, and what crashes leave, by the rules of
+//! `Pick`.
+use crate::played::{Answer, Call, DONE, FAILED, answer_of, crosses_threads, play};
+use segment_disk::{Disk, MemDisk, Memory, Pick};
+use std::alloc::{AllocError, Global};
 use std::test::Fail;
 
-/// The bytes of words 0, 1, 2 and 1023 of a page (the first of each), where the page is there.
-fn words(disk: &mut MemDisk, segment: u32, page: u32) -> Result<Option<[u8; 4]>, Failed>
-    requires { page < 128 }
-{
-    let mut bytes = [0xff; 8192];
-    if disk.read_page(smallest(), u64::from(segment), page, &mut bytes)? {
-        Ok(Some([bytes[0], bytes[8], bytes[16], bytes[8184]]))
-    } else {
-        Ok(None)
-    }
+/// A disk of so many segments and calls that fails at some, what it answers, and its moment and
+/// faults then.
+struct Scene {
+    segments: u32,
+    calls: u32,
+    failing: &'static [u64],
+    failing_reads: &'static [u64],
+    answers: &'static [(Call, Answer)],
+    counted: (u64, u64),
 }
 
-/// Six calls: create 1, write page 0 (7), sync 1, write page 2 (8), write page 2 (9), create 2.
+static SCENES: &[Scene] = &[
+    // A failed sync, and a segment that is made anew.
+    Scene {
+        segments: 1,
+        calls: 10,
+        failing: &[4],
+        failing_reads: &[],
+        answers: &[
+            (Call::Read(1, 0), Ok(None)),
+            (Call::Create(1), DONE),
+            (Call::Read(1, 0), Ok(Some([0; 4]))),
+            (Call::Write(1, 0, 7), DONE),
+            (Call::Write(1, 0, 8), DONE),
+            (Call::Sync(1), FAILED),
+            (Call::Read(1, 0), Ok(Some([8; 4]))),
+            (Call::Sync(1), DONE),
+            (Call::Create(1), DONE),
+            (Call::Read(1, 0), Ok(Some([0; 4]))),
+        ],
+        counted: (6, 1),
+    },
+    // A failed write is read back.
+    Scene {
+        segments: 1,
+        calls: 10,
+        failing: &[2],
+        failing_reads: &[1],
+        answers: &[
+            (Call::Create(1), DONE),
+            (Call::Write(1, 0, 7), FAILED),
+            (Call::Read(1, 0), FAILED),
+            (Call::Read(1, 0), Ok(Some([7; 4]))),
+        ],
+        counted: (2, 2),
+    },
+    // No segment, no room for another one, no room for a further call.
+    Scene {
+        segments: 1,
+        calls: 4,
+        failing: &[],
+        failing_reads: &[],
+        answers: &[
+            (Call::Write(1, 0, 7), FAILED),
+            (Call::Create(1), DONE),
+            (Call::Create(2), FAILED),
+            (Call::Read(2, 0), Ok(None)),
+            (Call::Sync(2), FAILED),
+            (Call::Sync(1), FAILED),
+        ],
+        counted: (4, 4),
+    },
+];
+
+#[test]
+fn disks_fail_where_they_are_told_to(rt: HostRuntime) -> Result<(), Fail> {
+    let alloc = rt.alloc();
+    for scene in SCENES {
+        let failing = scene.failing.to_vec(alloc)?;
+        let failing_reads = scene.failing_reads.to_vec(alloc)?;
+        let mut disk = MemDisk::new(alloc, scene.segments, scene.calls, failing, failing_reads)?;
+        crosses_threads(&disk);
+        play(&rt, &mut disk, scene.answers);
+        assert_eq!(rt; (disk.moment(), disk.faults()), scene.counted);
+    }
+    Ok(())
+}
+
+static WRITTEN: &[Call] = &[
+    Call::Create(1),
+    Call::Write(1, 0, 7),
+    Call::Sync(1),
+    Call::Write(1, 2, 8),
+    Call::Write(1, 2, 9),
+    Call::Create(2),
+    Call::Write(2, 0, 6),
+    Call::Write(1, 5, 5),
+];
+
 fn written(alloc: Global) -> Result<MemDisk, Memory> {
     let mut disk = MemDisk::new(alloc, 2, 8, Vec::new(alloc), Vec::new(alloc))?;
-    let _ = create(&mut disk, 1);
-    let _ = write_page(&mut disk, 1, 0, 7);
-    let _ = sync(&mut disk, 1);
-    let _ = write_page(&mut disk, 1, 2, 8);
-    let _ = write_page(&mut disk, 1, 2, 9);
-    let _ = create(&mut disk, 2);
+    for call in WRITTEN {
+        let _ = answer_of(&mut disk, *call);
+    }
     Ok(disk)
 }
 
-#[test]
-fn old_new_and_odd_words_are_left(rt: HostRuntime) -> Result<(), Fail> {
-    let alloc = rt.alloc();
-    let disk = written(alloc)?;
-    let mut old = disk.crash(alloc, 6, Pick::Old)?;
-    assert_eq!(rt; words(&mut old, 1, 0), Ok(Some([7, 7, 7, 7])));
-    assert_eq!(rt; words(&mut old, 1, 2), Ok(Some([0, 0, 0, 0])));
-    assert_eq!(rt; words(&mut old, 2, 0), Ok(Some([0, 0, 0, 0])));
-    let mut new = disk.crash(alloc, 6, Pick::New)?;
-    assert_eq!(rt; words(&mut new, 1, 0), Ok(Some([7, 7, 7, 7])));
-    assert_eq!(rt; words(&mut new, 1, 2), Ok(Some([9, 9, 9, 9])));
-    let mut odd = disk.crash(alloc, 6, Pick::Odd)?;
-    assert_eq!(rt; words(&mut odd, 1, 0), Ok(Some([7, 7, 7, 7])));
-    assert_eq!(rt; words(&mut odd, 1, 2), Ok(Some([0, 9, 0, 9])));
-    Ok(())
+/// A pick; a list has so many zeros before these numbers.
+#[derive(Clone, Copy, Debug)]
+enum Left {
+    Old,
+    New,
+    Odd,
+    Listed(usize, &'static [u32]),
 }
 
-#[test]
-fn listed_words_are_left(rt: HostRuntime) -> Result<(), Fail> {
-    let alloc = rt.alloc();
-    let disk = written(alloc)?;
-    let mut left = disk.crash(alloc, 6, Pick::List(vec![in alloc; 1, 2, 3]?))?;
-    assert_eq!(rt; words(&mut left, 1, 0), Ok(Some([7, 7, 7, 7])));
-    assert_eq!(rt; words(&mut left, 1, 2), Ok(Some([8, 9, 0, 0])));
-    let mut durable = disk.crash(alloc, 6, Pick::List(vec![in alloc; 0, 0, 1]?))?;
-    assert_eq!(rt; words(&mut durable, 1, 2), Ok(Some([0, 0, 8, 0])));
-    Ok(())
-}
-
-/// Numbers up to the later of two places: 1 at both, 0 elsewhere.
-fn ones_at(alloc: Global, first: u32, last: u32) -> Result<Vec<u32>, Fail>
-    requires { last < 2048 }
-{
-    let mut numbers = Vec::new(alloc);
-    for place in 0..last + 1 {
-        numbers.push(u32::from(place == first || place == last))?;
+fn pick(alloc: Global, left: Left) -> Result<Pick, AllocError> {
+    match left {
+        Left::Old => Ok(Pick::Old),
+        Left::New => Ok(Pick::New),
+        Left::Odd => Ok(Pick::Odd),
+        Left::Listed(zeros, behind) => {
+            let mut numbers = vec![in alloc; 0; zeros]?;
+            numbers.extend_from_slice(behind)?;
+            Ok(Pick::List(numbers))
+        }
     }
-    Ok(numbers)
 }
 
-#[test]
-fn listed_words_go_on_in_the_next_page(rt: HostRuntime) -> Result<(), Fail> {
-    let alloc = rt.alloc();
-    let mut disk = MemDisk::new(alloc, 2, 8, Vec::new(alloc), Vec::new(alloc))?;
-    assert_eq!(rt; create(&mut disk, 2), Ok(()));
-    assert_eq!(rt; create(&mut disk, 1), Ok(()));
-    assert_eq!(rt; write_page(&mut disk, 2, 0, 6), Ok(()));
-    assert_eq!(rt; write_page(&mut disk, 1, 5, 5), Ok(()));
-    let mut left = disk.crash(alloc, 4, Pick::List(ones_at(alloc, 1023, 1025)?))?;
-    assert_eq!(rt; words(&mut left, 1, 5), Ok(Some([0, 0, 0, 5])));
-    assert_eq!(rt; words(&mut left, 2, 0), Ok(Some([0, 6, 0, 0])));
-    Ok(())
-}
+// Behind which call the crash comes, what it leaves, and a page of that.
+static CRASHES: &[(u64, Left, Call, Answer)] = &[
+    (0, Left::New, Call::Read(1, 0), Ok(None)),
+    (1, Left::New, Call::Read(1, 0), Ok(Some([0; 4]))),
+    (4, Left::New, Call::Read(1, 2), Ok(Some([8; 4]))),
+    (4, Left::New, Call::Read(2, 0), Ok(None)),
+    (6, Left::Old, Call::Read(1, 0), Ok(Some([7; 4]))),
+    (6, Left::Old, Call::Read(1, 2), Ok(Some([0; 4]))),
+    (6, Left::Old, Call::Read(2, 0), Ok(Some([0; 4]))),
+    (6, Left::New, Call::Read(1, 0), Ok(Some([7; 4]))),
+    (6, Left::New, Call::Read(1, 2), Ok(Some([9; 4]))),
+    (6, Left::Odd, Call::Read(1, 0), Ok(Some([7; 4]))),
+    (6, Left::Odd, Call::Read(1, 2), Ok(Some([0, 9, 0, 9]))),
+    (
+        6,
+        Left::Listed(0, &[1, 2, 3]),
+        Call::Read(1, 0),
+        Ok(Some([7; 4])),
+    ),
+    (
+        6,
+        Left::Listed(0, &[1, 2, 3]),
+        Call::Read(1, 2),
+        Ok(Some([8, 9, 0, 0])),
+    ),
+    (
+        6,
+        Left::Listed(2, &[1]),
+        Call::Read(1, 2),
+        Ok(Some([0, 0, 8, 0])),
+    ),
+    // The list goes on in the next page: page 5 of segment 1, and then segment 2.
+    (
+        8,
+        Left::Listed(2047, &[1, 0, 1]),
+        Call::Read(1, 5),
+        Ok(Some([0, 0, 0, 5])),
+    ),
+    (
+        8,
+        Left::Listed(2047, &[1, 0, 1]),
+        Call::Read(2, 0),
+        Ok(Some([0, 6, 0, 0])),
+    ),
+    (100, Left::New, Call::Read(1, 2), Ok(Some([9; 4]))),
+    (100, Left::New, Call::Read(2, 127), Ok(Some([0; 4]))),
+];
 
 #[test]
-fn moment_says_how_many_calls_were_made(rt: HostRuntime) -> Result<(), Fail> {
+fn crashes_leave_what_is_picked(rt: HostRuntime) -> Result<(), Fail> {
     let alloc = rt.alloc();
     let disk = written(alloc)?;
-    let mut none = disk.crash(alloc, 0, Pick::New)?;
-    assert_eq!(rt; words(&mut none, 1, 0), Ok(None));
-    let mut made = disk.crash(alloc, 1, Pick::New)?;
-    assert_eq!(rt; words(&mut made, 1, 0), Ok(Some([0, 0, 0, 0])));
-    let mut first = disk.crash(alloc, 4, Pick::New)?;
-    assert_eq!(rt; words(&mut first, 1, 2), Ok(Some([8, 8, 8, 8])));
-    assert_eq!(rt; words(&mut first, 2, 0), Ok(None));
-    let mut above = disk.crash(alloc, 100, Pick::New)?;
-    assert_eq!(rt; words(&mut above, 1, 2), Ok(Some([9, 9, 9, 9])));
-    assert_eq!(rt; words(&mut above, 2, 127), Ok(Some([0, 0, 0, 0])));
-    assert_eq!(rt; disk.moment(), 6);
+    for (moment, left, call, answer) in CRASHES {
+        let mut crashed = disk.crash(alloc, *moment, pick(alloc, *left)?)?;
+        assert_eq!(rt;
+            answer_of(&mut crashed, *call),
+            *answer,
+            "{moment} {left:?} {call:?}"
+        );
+    }
     Ok(())
 }
+
+static GOES_ON: &[(Call, Answer)] = &[
+    (Call::Write(1, 0, 5), DONE),
+    (Call::Create(3), DONE),
+    (Call::Create(4), FAILED),
+    (Call::Read(1, 0), Ok(Some([5; 4]))),
+    (Call::Read(1, 2), Ok(Some([9; 4]))),
+];
+
+static LEFT_AGAIN: &[(Call, Answer)] = &[
+    (Call::Read(1, 0), Ok(Some([7; 4]))),
+    (Call::Read(1, 2), Ok(Some([9; 4]))),
+    (Call::Read(3, 0), Ok(Some([0; 4]))),
+    (Call::Read(4, 0), Ok(None)),
+];
 
 #[test]
 fn crashed_disk_goes_on(rt: HostRuntime) -> Result<(), Fail> {
     let alloc = rt.alloc();
-    let disk = written(alloc)?;
-    let mut left = disk.crash(alloc, 5, Pick::New)?;
-    assert_eq!(rt; left.moment(), 0);
-    assert_eq!(rt; left.faults(), 0);
-    assert_eq!(rt; write_page(&mut left, 1, 0, 5), Ok(()));
-    assert_eq!(rt; create(&mut left, 3), Ok(()));
-    assert_eq!(rt; create(&mut left, 4), Err(Failed));
-    assert_eq!(rt; left.moment(), 3);
-    assert_eq!(rt; read_page(&mut left, 1, 0), Ok(Some(5)));
-    assert_eq!(rt; read_page(&mut left, 1, 2), Ok(Some(9)));
-    let mut again = left.crash(alloc, 3, Pick::Old)?;
-    assert_eq!(rt; read_page(&mut again, 1, 0), Ok(Some(7)));
-    assert_eq!(rt; read_page(&mut again, 1, 2), Ok(Some(9)));
-    assert_eq!(rt; read_page(&mut again, 3, 0), Ok(Some(0)));
-    assert_eq!(rt; read_page(&mut again, 4, 0), Ok(None));
+    let mut left = written(alloc)?.crash(alloc, 5, Pick::New)?;
+    assert_eq!(rt; (left.moment(), left.faults()), (0, 0));
+    play(&rt, &mut left, GOES_ON);
+    assert_eq!(rt; (left.moment(), left.faults()), (3, 1));
+    play(&rt, &mut left.crash(alloc, 3, Pick::Old)?, LEFT_AGAIN);
     Ok(())
 }

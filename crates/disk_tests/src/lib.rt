@@ -1,11 +1,19 @@
-//! Tests of the source, the sink and the disk in memory, and of a log's pages as they are put; and
-//! the calls of the traits as these tests and those over files make them.
+//! Tests of streams and disks, in memory and over the system, and of a log's pages as they are put;
+//! and the size of the segments that they and tests above have.
 #![tactic(auto)]
 
 pub mod calls;
 #[cfg(test)]
 mod crashes;
 #[cfg(test)]
-mod memory;
+mod failures;
+#[cfg(test)]
+mod files;
+#[cfg(test)]
+mod folders;
+#[cfg(test)]
+mod played;
+#[cfg(test)]
+mod streams;
 #[cfg(test)]
 mod writing;

@@ -1,92 +1,115 @@
-ghost use Rattle.std.specs.Prelude.{◌≡◌, IfOk};
-ghost use Rattle.flush_core.specs.Writer.{written_of};
-
-use byte_position::Geometry;
+//! A log's pages as they are put on a disk, and made durable.
+use crate::calls::smallest;
+use crate::played::{Answer, Call, play};
 use flush_core::{DiskFault, Writer};
 use segment_disk::{Disk, MemDisk};
 use std::alloc::Global;
+use std::process::Abort;
 use std::test::Fail;
 use wal_types::Lsn;
 
-// A writer with segments of 1 MiB on a disk that fails at these counted calls.
-fn writer_on_disk(alloc: Global, fail: Vec<u64>) -> Result<Writer<MemDisk>, Fail>
-    ensures { IfOk result (λ writer. written_of writer ≡ 1048576) }
-{
-    let geometry = Geometry::new(1 << 20).ok_or("1 MiB is a segment's size")?;
-    let disk = MemDisk::new(alloc, 4, 1000, fail, Vec::new(alloc))?;
-    Ok(Writer::new(disk, geometry))
+/// A call of a writer, up to where: of the page in which the written position lies, filled with a
+/// byte.
+#[derive(Clone, Copy, Debug)]
+enum Step {
+    Put(u64, u8),
+    Harden(u64),
 }
 
-// Writes the 128 pages of segment 1.
-fn fill_segment(writer: &mut Writer<MemDisk>) -> Result<(), DiskFault>
-    requires { written_of writer.old ≡ 1048576 }
-    ensures { IfOk result (λ _. written_of writer.new ≡ 2097152) }
-{
-    for page in 128..256 {
-        writer.put_page(page, Lsn((page + 1) * 8192), &[1; 8192])?;
+// The disk's moment behind the call. No fault has the number 0, which tells of a row that a writer
+// cannot be asked for.
+fn moment_behind(writer: &mut Writer<MemDisk>, step: Step) -> Result<u64, DiskFault> {
+    let written = writer.written().0;
+    let page = written / 8192;
+    match step {
+        Step::Put(upto, byte)
+            if written <= upto && page * 8192 < upto && upto - page * 8192 <= 8192 => {
+            writer.put_page(page, Lsn(upto), &[byte; 8192])?;
+            Ok(writer.moment())
+        }
+        Step::Harden(upto) if upto <= written => writer.harden(Lsn(upto)),
+        _ => Err(DiskFault { faults: 0 }),
+    }
+}
+
+fn writer_on_disk(alloc: Global, failing: &[u64]) -> Result<Writer<MemDisk>, Fail> {
+    let disk = MemDisk::new(alloc, 4, 1000, failing.to_vec(alloc)?, Vec::new(alloc))?;
+    Ok(Writer::new(disk, smallest()))
+}
+
+/// What a writer answers on a disk of which some calls fail, and then its disk's moment, up to
+/// where it has written, and its fault.
+struct Run {
+    failing: &'static [u64],
+    answers: &'static [(Step, Result<u64, DiskFault>)],
+    left: (u64, u64, Option<u64>),
+}
+
+const FAULT: DiskFault = DiskFault { faults: 1 };
+
+static RUNS: &[Run] = &[
+    // A page is hardened as often as it is written.
+    Run {
+        failing: &[],
+        answers: &[
+            (Step::Harden(0x10_0000), Ok(0)),
+            (Step::Put(0x10_0050, 7), Ok(2)),
+            (Step::Harden(0x10_0050), Ok(3)),
+            (Step::Harden(0x10_0050), Ok(3)),
+            (Step::Put(0x10_0078, 8), Ok(4)),
+            (Step::Harden(0x10_0078), Ok(5)),
+        ],
+        left: (5, 0x10_0078, None),
+    },
+    // A fault is told again without a call.
+    Run {
+        failing: &[2],
+        answers: &[
+            (Step::Put(0x10_0050, 7), Err(FAULT)),
+            (Step::Put(0x10_0050, 7), Err(FAULT)),
+            (Step::Harden(0x10_0000), Err(FAULT)),
+        ],
+        left: (2, 0x10_0000, Some(1)),
+    },
+];
+
+fn make(rt: &impl Abort, writer: &mut Writer<MemDisk>, run: &Run) {
+    for (step, answer) in run.answers {
+        assert_eq!(rt; moment_behind(writer, *step), *answer, "{step:?}");
+    }
+    assert_eq!(rt;
+        (writer.moment(), writer.written().0, writer.fault()),
+        run.left
+    );
+}
+
+#[test]
+fn pages_are_put_and_made_durable(rt: HostRuntime) -> Result<(), Fail> {
+    for run in RUNS {
+        make(&rt, &mut writer_on_disk(rt.alloc(), run.failing)?, run);
     }
     Ok(())
 }
 
-#[test]
-fn page_is_hardened_as_often_as_it_is_written(rt: HostRuntime) -> Result<(), Fail> {
-    let alloc = rt.alloc();
-    let mut writer = writer_on_disk(alloc, Vec::new(alloc))?;
-    assert_eq!(rt; writer.harden(Lsn(1_048_576)), Ok(0));
-    assert_eq!(rt; writer.put_page(128, Lsn(1_048_656), &[7; 8192]), Ok(()));
-    assert_eq!(rt; writer.moment(), 2);
-    assert_eq!(rt; writer.written(), Lsn(1_048_656));
-    assert_eq!(rt; writer.harden(Lsn(1_048_656)), Ok(3));
-    assert_eq!(rt; writer.harden(Lsn(1_048_656)), Ok(3));
-    assert_eq!(rt; writer.put_page(128, Lsn(1_048_696), &[8; 8192]), Ok(()));
-    assert_eq!(rt; writer.written(), Lsn(1_048_696));
-    assert_eq!(rt; writer.harden(Lsn(1_048_696)), Ok(5));
-    assert_eq!(rt; writer.fault(), None);
-    assert_eq!(rt; writer.disk().faults(), 0);
-    Ok(())
-}
+static TWO_SEGMENTS: &[(Call, Answer)] = &[
+    (Call::Read(1, 127), Ok(Some([1; 4]))),
+    (Call::Read(2, 0), Ok(Some([2; 4]))),
+    (Call::Read(2, 1), Ok(Some([0; 4]))),
+    (Call::Read(3, 0), Ok(None)),
+];
 
 #[test]
 fn full_segment_is_synced_and_the_next_one_made(rt: HostRuntime) -> Result<(), Fail> {
-    let alloc = rt.alloc();
-    let mut writer = writer_on_disk(alloc, Vec::new(alloc))?;
-    fill_segment(&mut writer)?;
-    assert_eq!(rt; writer.moment(), 130);
-    assert_eq!(rt; writer.harden(Lsn(2_097_152)), Ok(130));
-    assert_eq!(rt; writer.put_page(256, Lsn(2_097_200), &[2; 8192]), Ok(()));
-    assert_eq!(rt; writer.moment(), 132);
-    let geometry = Geometry::new(1 << 20).ok_or("1 MiB is a segment's size")?;
-    let mut disk = writer.into_disk();
-    let mut page = [0; 8192];
-    assert_eq!(rt; disk.read_page(geometry, 1, 127, &mut page), Ok(true));
-    assert_eq!(rt; page[8191], 1);
-    assert_eq!(rt; disk.read_page(geometry, 2, 0, &mut page), Ok(true));
-    assert_eq!(rt; page[8191], 2);
-    assert_eq!(rt; disk.read_page(geometry, 2, 1, &mut page), Ok(true));
-    assert_eq!(rt; page[8191], 0);
-    assert_eq!(rt; disk.read_page(geometry, 3, 0, &mut page), Ok(false));
-    Ok(())
-}
-
-#[test]
-fn fault_is_told_again_without_a_call(rt: HostRuntime) -> Result<(), Fail> {
-    let alloc = rt.alloc();
-    let mut writer = writer_on_disk(alloc, vec![in alloc; 2]?)?;
-    let fault = DiskFault { faults: 1 };
-    assert_eq!(rt;
-        writer.put_page(128, Lsn(1_048_656), &[7; 8192]),
-        Err(fault)
-    );
-    assert_eq!(rt; writer.moment(), 2);
-    assert_eq!(rt; writer.written(), Lsn(1_048_576));
-    assert_eq!(rt;
-        writer.put_page(128, Lsn(1_048_656), &[7; 8192]),
-        Err(fault)
-    );
-    assert_eq!(rt; writer.harden(Lsn(1_048_576)), Err(fault));
-    assert_eq!(rt; writer.moment(), 2);
-    assert_eq!(rt; writer.written(), Lsn(1_048_576));
-    assert_eq!(rt; writer.fault(), Some(1));
-    assert_eq!(rt; writer.disk().faults(), 1);
+    let mut writer = writer_on_disk(rt.alloc(), &[])?;
+    for page in 129..257 {
+        let _ = moment_behind(&mut writer, Step::Put(page * 8192, 1));
+    }
+    let answers = [
+        moment_behind(&mut writer, Step::Harden(0x20_0000)),
+        moment_behind(&mut writer, Step::Put(0x20_0030, 2)),
+    ];
+    assert_eq!(rt; answers, [Ok(130), Ok(132)]);
+    assert_eq!(rt; writer.disk().faults(), 0);
+    play(&rt, &mut writer.into_disk(), TWO_SEGMENTS);
     Ok(())
 }

@@ -1,5 +1,24 @@
-//! Tests of the log as one backend writes it.
+//! Tests of the log that threads share, and of the table by which they do. The crate itself is
+//! empty.
 #![tactic(auto)]
 
 #[cfg(test)]
-mod logging;
+mod answers;
+#[cfg(test)]
+mod filled;
+#[cfg(test)]
+mod opening;
+#[cfg(test)]
+mod reading;
+#[cfg(test)]
+mod records;
+#[cfg(test)]
+mod rows;
+#[cfg(test)]
+mod side_by_side;
+#[cfg(test)]
+mod steps;
+#[cfg(test)]
+mod tables;
+#[cfg(test)]
+mod told;

@@ -1,9 +1,20 @@
 //! Disks in memory with segments of 1 MiB, and the pages of segment 1.
+ghost use Rattle.std.specs.Prelude.{◌≡◌};
 
-use disk_tests::calls::smallest;
+use byte_position::Geometry;
 use segment_disk::{Disk, MemDisk};
 use std::alloc::Global;
 use std::test::Fail;
+
+// The size of their segments.
+fn smallest() -> Geometry
+    ensures { result ≡ 1048576 }
+{
+    match Geometry::new(1 << 20) {
+        Some(geometry) => geometry,
+        None => unreachable!(),
+    }
+}
 
 /// A disk that holds nothing, with room for so many segments and 500 counted calls, which fails at
 /// these of them.

@@ -45,14 +45,6 @@ pub fn on_empty_disk(alloc: Global, script: &[u8]) -> Result<Setting, Fail> {
     setting_of(alloc, script, empty_disk(alloc, &[])?)
 }
 
-/// A source of a script of one commit, whose first read fails.
-pub fn failing_source(alloc: Global) -> Result<MemSource, Fail> {
-    Ok(MemSource::new(
-        Vec::from_slice(alloc, b"C 1 0\n")?,
-        Vec::from_slice(alloc, &[1])?,
-    ))
-}
-
 /// A sink whose first write fails.
 pub fn failing_sink(alloc: Global) -> Result<MemSink, Fail> {
     Ok(MemSink::new(alloc, 65_536, Vec::from_slice(alloc, &[1])?)?)

@@ -1,13 +1,21 @@
-//! Tests of the values of a log, of the CRC and of records, as they are spelled and read.
+//! Tests of a log's values, records, positions and pages, of its reader, and of a listing.
 #![tactic(auto)]
 
 #[cfg(test)]
-mod assembling;
-#[cfg(test)]
-mod crc;
-#[cfg(test)]
 mod decoding;
 #[cfg(test)]
-mod lsn;
+mod listing;
+#[cfg(test)]
+mod pages;
+#[cfg(test)]
+mod placing;
+#[cfg(test)]
+mod positions;
+#[cfg(test)]
+mod reading;
+#[cfg(test)]
+mod rows;
 #[cfg(test)]
 mod spelling;
+#[cfg(test)]
+mod values;

@@ -1,14 +1,6 @@
-//! Tests of scripts and of command lines. The crate itself is empty.
+//! Tests of scripts, schedules and command lines. The crate itself is empty.
 #![tactic(auto)]
 
-#[cfg(test)]
-mod meanings;
-#[cfg(test)]
-mod numbers;
-#[cfg(test)]
-mod replays;
-#[cfg(test)]
-mod runs;
 #[cfg(test)]
 mod scripts;
 #[cfg(test)]

@@ -1,281 +1,88 @@
-//! What command lines ask for.
-use command_line::{Request, asked};
-use command_words::{Command, CrashPick};
-use listing_filter::Filter;
-use std::alloc::{AllocError, Global};
-use std::test::Fail;
-use wal_types::Lsn;
+//! What words mean: those of a command line, of its options, and of numbers.
 
-const MEBIBYTE: u64 = 1_048_576;
+use command_words::{
+    Command, CrashPick, GivenWords, RunOptions, block_number, cap_segments, crash, fork, limit,
+    line_count, lsn, manager, relation, ring_pages, segment_size, xid,
+};
+use decimal_numbers::{hexadecimal_digit, number, time};
+use wal_types::{Lsn, Rel, Xid};
 
-fn request(alloc: Global, words: &[&str]) -> Result<Request, AllocError> {
-    let mut all = Vec::new(alloc);
-    for word in words {
-        all.push(String::from_str(alloc, word)?)?;
-    }
-    asked(alloc, &all)
-}
-
-// The segment size, and whether lines are listed, where a run is asked for.
-fn run(alloc: Global, words: &[&str]) -> Result<Option<(u64, bool)>, AllocError> {
-    Ok(match request(alloc, words)? {
-        Request::Command(Command::Run(options)) => {
-            Some((options.geometry.segment_size(), options.list))
-        }
-        _ => None,
-    })
-}
-
-// The ring's pages and the log's segments, where a run is asked for.
-fn shape(alloc: Global, words: &[&str]) -> Result<Option<(u32, u32)>, AllocError> {
-    Ok(match request(alloc, words)? {
-        Request::Command(Command::Run(options)) => {
-            Some((options.ring_pages, options.cap_segments))
-        }
-        _ => None,
-    })
-}
-
-// How many lines each backend has, the segment size, and whether lines are listed, where made lines
-// are asked for.
-fn generated(alloc: Global, words: &[&str]) -> Result<Option<(u32, u64, bool)>, AllocError> {
-    Ok(match request(alloc, words)? {
-        Request::Command(Command::Gen(options)) => Some((
-            options.lines,
-            options.run.geometry.segment_size(),
-            options.run.list,
-        )),
-        _ => None,
-    })
-}
-
-// The log's shape, and what a crash leaves, where a replay is asked for.
-fn replay(
-    alloc: Global,
-    words: &[&str],
-) -> Result<Option<(u64, u32, u32, &'static str)>, AllocError> {
-    Ok(match request(alloc, words)? {
-        Request::Command(Command::Replay(options)) => Some((
-            options.geometry.segment_size(),
-            options.ring_pages,
-            options.cap_segments,
-            picked(options.crash),
-        )),
-        _ => None,
-    })
-}
-
-fn picked(crash: CrashPick) -> &'static str {
-    match crash {
-        CrashPick::Old => "durable",
-        CrashPick::New => "last",
-        CrashPick::Odd => "mixed",
+// The words of a command line with a command's name, and maybe a word behind it.
+fn named<'a>(command: &'a str, topic: Option<&'a str>) -> GivenWords<'a> {
+    GivenWords {
+        command: Some(command),
+        topic,
+        seg: None,
+        ring: None,
+        cap: None,
+        list: false,
+        crash: None,
+        rmgr: None,
+        xid: None,
+        relation: None,
+        block: None,
+        fork: None,
+        fullpage: false,
+        start: None,
+        end: None,
+        limit: None,
+        quiet: false,
     }
 }
 
-// What is listed, where a listing is asked for.
-fn filter(alloc: Global, words: &[&str]) -> Result<Option<Filter>, AllocError> {
-    Ok(match request(alloc, words)? {
-        Request::Command(Command::Dump(options)) => Some(options.filter),
+// How many lines each backend has of those that are made, the segments' size, the ring's pages and
+// the log's segments, where a run is asked for.
+fn shape(given: &GivenWords) -> Option<(u32, u64, u32, u32)> {
+    let command = given.command()?;
+    match &command {
+        Command::Run(options) => Some(run_shape(0, options)),
+        Command::Gen(options) => Some(run_shape(options.lines, &options.run)),
         _ => None,
-    })
+    }
 }
 
-// A listing's limit, and whether it is quiet.
-fn extent(alloc: Global, words: &[&str]) -> Result<Option<(Option<u64>, bool)>, AllocError> {
-    let filter = filter(alloc, words)?;
-    Ok(filter.map(|filter| (filter.limit, filter.quiet)))
-}
-
-// What is asked for, in a word.
-fn kind(alloc: Global, words: &[&str]) -> Result<&'static str, AllocError> {
-    Ok(match request(alloc, words)? {
-        Request::Command(Command::Run(_)) => "run",
-        Request::Command(Command::Gen(_)) => "gen",
-        Request::Command(Command::Replay(_)) => "replay",
-        Request::Command(Command::Dump(_)) => "dump",
-        Request::Help => "help",
-        Request::Version => "version",
-        Request::Nothing => "nothing",
-    })
-}
-
-fn is_refused(alloc: Global, words: &[&str]) -> Result<bool, AllocError> {
-    let kind = kind(alloc, words)?;
-    Ok(kind == "nothing")
+fn run_shape(lines: u32, options: &RunOptions) -> (u32, u64, u32, u32) {
+    (
+        lines,
+        options.geometry.segment_size(),
+        options.ring_pages,
+        options.cap_segments,
+    )
 }
 
 #[test]
-fn runs_take_options_in_any_order(rt: HostRuntime) -> Result<(), Fail> {
-    let alloc = rt.alloc();
-    let plain = ["pgwal", "run"];
-    let listed_last = ["pgwal", "run", "--seg", "1048576", "--list"];
-    let before = ["pgwal", "--list", "--seg=1048576", "run", "--"];
-    assert_eq!(rt; run(alloc, &plain)?, Some((16 * MEBIBYTE, false)));
-    assert_eq!(rt; run(alloc, &listed_last)?, Some((MEBIBYTE, true)));
-    assert_eq!(rt; run(alloc, &before)?, Some((MEBIBYTE, true)));
-    Ok(())
+fn a_log_has_a_shape_where_none_is_given(rt: HostRuntime) {
+    let run = named("run", None);
+    assert_eq!(rt; shape(&run), Some((0, 16_777_216, 64, 64)));
+    let most = named("gen", Some("100000"));
+    assert_eq!(rt; shape(&most), Some((100_000, 16_777_216, 64, 64)));
 }
 
 #[test]
-fn runs_take_a_ring_and_a_cap(rt: HostRuntime) -> Result<(), Fail> {
-    let alloc = rt.alloc();
-    let least = ["pgwal", "run", "--cap", "1", "--ring", "4"];
-    assert_eq!(rt; shape(alloc, &["pgwal", "run"])?, Some((64, 64)));
-    assert_eq!(rt; shape(alloc, &least)?, Some((4, 1)));
-    assert!(rt; is_refused(alloc, &["pgwal", "run", "--ring", "3"])?);
-    assert!(rt; is_refused(alloc, &["pgwal", "run", "--cap", "0"])?);
-    assert!(rt; is_refused(alloc, &["pgwal", "dump", "--ring", "4"])?);
-    Ok(())
+fn the_word_of_each_option_has_its_meaning(rt: HostRuntime) {
+    assert_eq!(rt; manager("Custom255"), Some(255));
+    assert_eq!(rt; lsn("1/a"), Some(Lsn(4_294_967_306)));
+    let plain = Rel {
+        spc: 1663,
+        db: 5,
+        rel: 16384,
+    };
+    assert_eq!(rt; relation("1663/5/16384"), Some(plain));
+    assert_eq!(rt; fork("init"), Some(3));
+    assert!(rt; matches!(crash("odd"), Some(CrashPick::Odd)));
+    assert_eq!(rt; xid("4294967295"), Some(Xid(4_294_967_295)));
+    assert_eq!(rt; block_number("4294967294"), Some(4_294_967_294));
+    assert_eq!(rt; limit("00000000000000000007"), Some(7));
+    assert_eq!(rt; ring_pages("4"), Some(4));
+    assert_eq!(rt; cap_segments("4096"), Some(4096));
+    assert_eq!(rt; line_count("100000"), Some(100_000));
+    assert!(rt; segment_size("1073741824").is_some());
 }
 
 #[test]
-fn lines_are_made_as_many_as_asked_for(rt: HostRuntime) -> Result<(), Fail> {
-    let alloc = rt.alloc();
-    let least = ["pgwal", "gen", "1"];
-    let most = ["pgwal", "--list", "gen", "100000", "--seg", "1048576"];
-    assert_eq!(rt; generated(alloc, &least)?, Some((1, 16 * MEBIBYTE, false)));
-    assert_eq!(rt; generated(alloc, &most)?, Some((100_000, MEBIBYTE, true)));
-    assert!(rt; is_refused(alloc, &["pgwal", "gen"])?);
-    assert!(rt; is_refused(alloc, &["pgwal", "gen", "0"])?);
-    assert!(rt; is_refused(alloc, &["pgwal", "gen", "100001"])?);
-    assert!(rt; is_refused(alloc, &["pgwal", "gen", "1", "1"])?);
-    assert!(rt; is_refused(alloc, &["pgwal", "gen", "1", "--crash", "old"])?);
-    assert!(rt; is_refused(alloc, &["pgwal", "gen", "1", "--xid", "1"])?);
-    Ok(())
-}
-
-#[test]
-fn replays_take_a_shape_and_a_crash(rt: HostRuntime) -> Result<(), Fail> {
-    let alloc = rt.alloc();
-    let all = [
-        "pgwal",
-        "--crash=old",
-        "replay",
-        "--seg",
-        "1048576",
-        "--ring",
-        "4",
-        "--cap",
-        "1",
-    ];
-    let plain = Some((16 * MEBIBYTE, 64, 64, "last"));
-    let mixed = Some((16 * MEBIBYTE, 64, 64, "mixed"));
-    assert_eq!(rt; replay(alloc, &["pgwal", "replay"])?, plain);
-    assert_eq!(rt;
-        replay(alloc, &["pgwal", "replay", "--crash", "new"])?,
-        plain
-    );
-    assert_eq!(rt;
-        replay(alloc, &["pgwal", "replay", "--crash", "odd"])?,
-        mixed
-    );
-    assert_eq!(rt; replay(alloc, &all)?, Some((MEBIBYTE, 4, 1, "durable")));
-    Ok(())
-}
-
-#[test]
-fn faulty_replays_ask_for_nothing(rt: HostRuntime) -> Result<(), Fail> {
-    let alloc = rt.alloc();
-    let twice = ["pgwal", "replay", "--crash", "old", "--crash", "old"];
-    assert!(rt; is_refused(alloc, &["pgwal", "replay", "--crash", "OLD"])?);
-    assert!(rt; is_refused(alloc, &["pgwal", "replay", "--crash"])?);
-    assert!(rt; is_refused(alloc, &twice)?);
-    assert!(rt; is_refused(alloc, &["pgwal", "replay", "--ring", "3"])?);
-    assert!(rt; is_refused(alloc, &["pgwal", "replay", "--list"])?);
-    assert!(rt; is_refused(alloc, &["pgwal", "replay", "--xid", "1"])?);
-    assert!(rt; is_refused(alloc, &["pgwal", "replay", "-q"])?);
-    assert!(rt; is_refused(alloc, &["pgwal", "replay", "fast"])?);
-    assert!(rt; is_refused(alloc, &["pgwal", "run", "--crash", "old"])?);
-    assert!(rt; is_refused(alloc, &["pgwal", "dump", "--crash", "new"])?);
-    Ok(())
-}
-
-#[test]
-fn listings_begin_with_segment_one(rt: HostRuntime) -> Result<(), Fail> {
-    let alloc = rt.alloc();
-    let whole = filter(alloc, &["pgwal", "dump"])?.ok_or("a listing")?;
-    let sized = filter(alloc, &["pgwal", "dump", "--seg", "1048576"])?.ok_or("a listing")?;
-    assert_eq!(rt; whole.start, Lsn(16 * MEBIBYTE));
-    assert_eq!(rt; sized.start, Lsn(MEBIBYTE));
-    assert_eq!(rt; whole.end, None);
-    assert_eq!(rt; whole.limit, None);
-    assert!(rt; !whole.quiet && !whole.fullpage);
-    Ok(())
-}
-
-#[test]
-fn letters_stand_for_filters(rt: HostRuntime) -> Result<(), Fail> {
-    let alloc = rt.alloc();
-    let words = [
-        "pgwal",
-        "dump",
-        "-r",
-        "heap",
-        "-x",
-        "5",
-        "-R",
-        "1663/5/16384",
-        "-B",
-        "8",
-        "-F",
-        "fsm",
-        "-s",
-        "0/00100028",
-        "-e",
-        "0/00200000",
-    ];
-    let filter = filter(alloc, &words)?.ok_or("a listing")?;
-    assert_eq!(rt; filter.rmid, Some(10));
-    assert_eq!(rt; filter.blk, Some(8));
-    assert_eq!(rt; filter.fork, Some(1));
-    assert_eq!(rt; filter.start, Lsn(1_048_616));
-    assert_eq!(rt; filter.end, Some(Lsn(2_097_152)));
-    assert!(rt; filter.xid.is_some() && filter.rel.is_some());
-    Ok(())
-}
-
-#[test]
-fn values_are_attached_and_switches_grouped(rt: HostRuntime) -> Result<(), Fail> {
-    let alloc = rt.alloc();
-    let quiet = Some((Some(7), true));
-    assert_eq!(rt; extent(alloc, &["pgwal", "dump", "-qn7"])?, quiet);
-    assert_eq!(rt; extent(alloc, &["pgwal", "dump", "-wqn=7"])?, quiet);
-    assert_eq!(rt;
-        extent(alloc, &["pgwal", "-q", "dump", "--limit=7"])?,
-        quiet
-    );
-    assert_eq!(rt; extent(alloc, &["pgwal", "-qn", "7", "--", "dump"])?, quiet);
-    assert!(rt; is_refused(alloc, &["pgwal", "dump", "--lim", "7"])?);
-    assert!(rt; is_refused(alloc, &["pgwal", "dump", "--quiet=true"])?);
-    Ok(())
-}
-
-#[test]
-fn faulty_words_ask_for_nothing(rt: HostRuntime) -> Result<(), Fail> {
-    let alloc = rt.alloc();
-    assert!(rt; is_refused(alloc, &[])?);
-    assert!(rt; is_refused(alloc, &["pgwal"])?);
-    assert!(rt; is_refused(alloc, &["pgwal", "list"])?);
-    assert!(rt; is_refused(alloc, &["pgwal", "run", "fast"])?);
-    assert!(rt; is_refused(alloc, &["pgwal", "dump", "--list"])?);
-    assert!(rt; is_refused(alloc, &["pgwal", "run", "--seg"])?);
-    assert!(rt; is_refused(alloc, &["pgwal", "dump", "-q", "--quiet"])?);
-    assert!(rt; is_refused(alloc, &["pgwal", "dump", "-n", "1", "--limit", "1"])?);
-    assert!(rt; is_refused(alloc, &["pgwal", "dump", "--limit", "0"])?);
-    assert!(rt; is_refused(alloc, &["pgwal", "dump", "--start", "100028"])?);
-    assert!(rt; is_refused(alloc, &["pgwal", "dump", "--block", "7"])?);
-    Ok(())
-}
-
-#[test]
-fn help_is_asked_for_in_many_ways(rt: HostRuntime) -> Result<(), Fail> {
-    let alloc = rt.alloc();
-    assert_eq!(rt; kind(alloc, &["pgwal", "--help"])?, "help");
-    assert_eq!(rt; kind(alloc, &["pgwal", "help"])?, "help");
-    assert_eq!(rt; kind(alloc, &["pgwal", "help", "dump"])?, "help");
-    assert_eq!(rt; kind(alloc, &["pgwal", "run", "-h"])?, "help");
-    assert_eq!(rt; kind(alloc, &["pgwal", "dump", "-q", "--help"])?, "help");
-    assert_eq!(rt; kind(alloc, &["pgwal", "-V"])?, "version");
-    Ok(())
+fn numbers_and_digits_have_their_values(rt: HostRuntime) {
+    assert_eq!(rt; number(b"18446744073709551615", u64::MAX), Some(u64::MAX));
+    assert_eq!(rt; number(b"18446744073709551616", u64::MAX), None);
+    assert_eq!(rt; time(b"-9223372036854775808"), Some(1 << 63));
+    assert_eq!(rt; hexadecimal_digit(b'f'), Some(15));
 }

@@ -1,0 +1,155 @@
+//! Segment files of a folder.
+use crate::folders::{above, mode, names};
+use crate::played::{Answer, Call, DONE, FAILED, answer_of, crosses_threads, play};
+use byte_position::Geometry;
+use segment_disk::{Disk, Failed};
+use segment_files::FileDisk;
+use std::fs;
+use std::process::Abort;
+use std::test::Fail;
+
+static BEFORE: &[(Call, Answer)] = &[(Call::Read(1, 0), Ok(None)), (Call::Create(1), DONE)];
+
+static BEHIND: &[(Call, Answer)] = &[
+    (Call::Write(1, 127, 7), DONE),
+    (Call::Sync(1), DONE),
+    (Call::Read(2, 0), Ok(None)),
+    (Call::Read(1, 0), Ok(Some([0; 4]))),
+    (Call::Write(1, 0, 8), DONE),
+    (Call::Read(1, 127), Ok(Some([7; 4]))),
+    (Call::Read(1, 0), Ok(Some([8; 4]))),
+    (Call::Write(2, 0, 7), FAILED),
+    (Call::Sync(2), FAILED),
+];
+
+// Whether a page is read that segments of twice the size have and the file has not.
+fn reads_beyond(disk: &mut impl Disk) -> Result<bool, Failed> {
+    match Geometry::new(1 << 21) {
+        Some(larger) => disk.read_page(larger, 1, 128, &mut [0; 8192]),
+        None => Ok(true),
+    }
+}
+
+#[test]
+fn segments_are_files_of_a_folder(rt: HostRuntime) -> Result<(), Fail> {
+    let alloc = rt.alloc();
+    let above = above(rt, "segments")?;
+    let folder = format!(in alloc; "{above}/log")?;
+    let path = format!(in alloc; "{folder}/000000010000000000000001")?;
+    let mut disk = FileDisk::open(rt, alloc, folder.as_str(), 7)?;
+    crosses_threads(&disk);
+    play(&rt, &mut disk, BEFORE);
+    assert_eq!(rt;
+        [mode(rt, folder.as_str())?, mode(rt, path.as_str())?],
+        [0o700, 0o600]
+    );
+    assert_eq!(rt; names(rt, folder.as_str())?, (1, false));
+    play(&rt, &mut disk, BEHIND);
+    assert_eq!(rt; fs::metadata(&rt, path.as_str())?.len(), 1 << 20);
+    assert_eq!(rt; reads_beyond(&mut disk), Ok(false));
+    assert_eq!(rt; (disk.faults(), disk.moment()), (2, 6));
+    fs::remove_dir_all(&rt, above.as_str())?;
+    Ok(())
+}
+
+#[derive(Clone, Copy, Debug)]
+enum Who {
+    First,
+    Second,
+}
+
+// Calls of two objects over one folder.
+static SHARED: &[(Who, Call, Answer)] = &[
+    (Who::First, Call::Create(1), DONE),
+    (Who::First, Call::Write(1, 77, 177), DONE),
+    (Who::First, Call::Write(1, 0, 100), DONE),
+    (Who::First, Call::Write(1, 1, 101), DONE),
+    (Who::First, Call::Write(1, 127, 227), DONE),
+    (Who::First, Call::Write(1, 126, 226), DONE),
+    // It sees its own pages before they are synced.
+    (Who::First, Call::Read(1, 126), Ok(Some([226; 4]))),
+    (Who::First, Call::Read(1, 127), Ok(Some([227; 4]))),
+    (Who::First, Call::Write(1, 127, 1), DONE),
+    (Who::First, Call::Read(1, 127), Ok(Some([1; 4]))),
+    (Who::First, Call::Write(1, 127, 227), DONE),
+    (Who::First, Call::Sync(1), DONE),
+    // What one wrote and synced another one reads, also where pages were not written in order.
+    (Who::Second, Call::Read(1, 0), Ok(Some([100; 4]))),
+    (Who::Second, Call::Read(1, 1), Ok(Some([101; 4]))),
+    (Who::Second, Call::Read(1, 2), Ok(Some([0; 4]))),
+    (Who::Second, Call::Read(1, 77), Ok(Some([177; 4]))),
+    (Who::Second, Call::Read(1, 126), Ok(Some([226; 4]))),
+    (Who::Second, Call::Read(1, 127), Ok(Some([227; 4]))),
+    (Who::Second, Call::Read(1, 76), Ok(Some([0; 4]))),
+    // What was read ahead is read anew where it is asked for again.
+    (Who::First, Call::Write(1, 76, 9), DONE),
+    (Who::First, Call::Sync(1), DONE),
+    (Who::Second, Call::Read(1, 76), Ok(Some([9; 4]))),
+    // A segment that is there is not replaced.
+    (Who::Second, Call::Create(1), FAILED),
+    (Who::First, Call::Create(1), FAILED),
+    (Who::First, Call::Read(1, 0), Ok(Some([100; 4]))),
+];
+
+// A file that has the temporary name already is neither followed nor changed nor removed, and no
+// other one is left.
+#[test]
+fn objects_share_a_folder(rt: HostRuntime) -> Result<(), Fail> {
+    let alloc = rt.alloc();
+    let folder = above(rt, "shared")?;
+    fs::create_dir(&rt, folder.as_str())?;
+    let taken = format!(in alloc; "{folder}/xlogtemp.7.0")?;
+    fs::write(&rt, taken.as_str(), "mine")?;
+    let mut first = FileDisk::open(rt, alloc, folder.as_str(), 7)?;
+    let mut second = FileDisk::open(rt, alloc, folder.as_str(), 8)?;
+    for (who, call, answer) in SHARED {
+        let told = match who {
+            Who::First => answer_of(&mut first, *call),
+            Who::Second => answer_of(&mut second, *call),
+        };
+        assert_eq!(rt; told, *answer, "{who:?} {call:?}");
+    }
+    assert_eq!(rt;
+        (first.faults(), second.faults(), second.moment()),
+        (1, 1, 1)
+    );
+    assert_eq!(rt; fs::read_to_string(&rt, taken.as_str())?.as_str(), "mine");
+    assert_eq!(rt; names(rt, folder.as_str())?, (2, true));
+    fs::remove_dir_all(&rt, folder.as_str())?;
+    Ok(())
+}
+
+// Makes a segment, and writes more of its pages in a row than are held at a time.
+fn write_row(rt: &impl Abort, disk: &mut impl Disk, segment: u8) {
+    assert_eq!(rt; answer_of(disk, Call::Create(segment)), DONE);
+    for page in 0..100 {
+        let byte = page + segment % 2;
+        assert_eq!(rt; answer_of(disk, Call::Write(segment, page, byte)), DONE);
+    }
+}
+
+fn read_row(rt: &impl Abort, disk: &mut impl Disk, segment: u8) {
+    for page in 0..100 {
+        let byte = page + segment % 2;
+        assert_eq!(rt;
+            answer_of(disk, Call::Read(segment, page)),
+            Ok(Some([byte; 4]))
+        );
+    }
+}
+
+#[test]
+fn neighbouring_pages_all_arrive(rt: HostRuntime) -> Result<(), Fail> {
+    let alloc = rt.alloc();
+    let folder = above(rt, "neighbours")?;
+    let mut disk = FileDisk::open(rt, alloc, folder.as_str(), 7)?;
+    write_row(&rt, &mut disk, 1);
+    write_row(&rt, &mut disk, 2);
+    assert_eq!(rt; answer_of(&mut disk, Call::Sync(2)), DONE);
+    assert_eq!(rt; disk.moment(), 203);
+    let mut other = FileDisk::open(rt, alloc, folder.as_str(), 7)?;
+    read_row(&rt, &mut other, 1);
+    read_row(&rt, &mut other, 2);
+    fs::remove_dir_all(&rt, folder.as_str())?;
+    Ok(())
+}

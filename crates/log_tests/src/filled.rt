@@ -1,0 +1,62 @@
+//! Logs on disks in memory that backends fill.
+
+ghost use Rattle.std.specs.Prelude.{◌≡◌, IfOk};
+ghost use Rattle.wal_rule.specs.Passes.{view_of_pass};
+ghost use Rattle.wal_rule.specs.Seats.{first_seat_view};
+ghost use Rattle.wal_log.specs.Logs.{IsPassOfLog, opening_of_log};
+
+use commit_lanes::{Job, work_side_by_side};
+use segment_disk::MemDisk;
+use std::alloc::Global;
+use std::sync::Wait;
+use std::test::Fail;
+use std::thread::Threads;
+use wal_log::{Closed, Pass, Setup, Wal};
+
+/// Segments of 1 MiB, of which the log may fill two, and a ring of four pages.
+pub const SETUP: Setup = Setup {
+    segment_size: 1_048_576,
+    ring_pages: 4,
+    cap_segments: 2,
+    sysid: 1,
+    passes: 4,
+};
+
+/// The jobs of each backend with what they were told, and the closed log.
+#[derive(Drop)]
+pub struct Ended {
+    pub work: Vec<Vec<Job>>,
+    pub closed: Closed<MemDisk>,
+}
+
+/// A backend for each list of jobs, side by side in so many threads, on a disk that fails at these
+/// of its counted calls.
+pub fn filled<R: Threads + Wait + Sync>(
+    rt: &R,
+    alloc: Global,
+    setup: Setup,
+    fail: Vec<u64>,
+    work: Vec<Vec<Job>>,
+    threads: usize,
+) -> Result<Ended, Fail> {
+    let (log, mut first) = open(alloc, setup, fail)?;
+    if (first.spare() as usize) < work.len() {
+        return Err(Fail::from("a spare pass for each backend"));
+    }
+    let work = work_side_by_side(rt, alloc, &log, &mut first, work, threads)?;
+    let closed = log.close(first);
+    Ok(Ended { work, closed })
+}
+
+// A log on a disk that holds nothing and has room for the calls of 400 commits, with its first
+// pass.
+fn open(alloc: Global, setup: Setup, fail: Vec<u64>) -> Result<(Wal<MemDisk>, Pass), Fail>
+    ensures pass { IfOk result (λ r. IsPassOfLog r.0 r.1) }
+    ensures view { IfOk result (λ r. view_of_pass r.1 ≡ first_seat_view (opening_of_log r.0)) }
+{
+    let disk = MemDisk::new(alloc, 4, 1300, fail, Vec::new(alloc))?;
+    match Wal::open(alloc, disk, setup) {
+        Ok(opened) => Ok(opened),
+        Err(_) => Err(Fail::from("a log on an empty disk")),
+    }
+}

@@ -1,0 +1,46 @@
+//! Calls with what they have to be told.
+
+use crate::records::record;
+use commit_lanes::{Call, Job, Told, transaction};
+use std::alloc::Global;
+use std::test::Fail;
+use wal_log::{CommitErr, FlushErr, Hard, InsertErr, Receipt, Sealed};
+use wal_types::Lsn;
+
+/// A call, and what it has to be told.
+pub enum Step {
+    /// Of a record with so many bytes of main data.
+    Insert(usize, Result<Receipt, InsertErr>),
+    /// Of a record that takes up 40 bytes.
+    Commit(Result<Sealed, CommitErr>),
+    Flush(Lsn, Result<Hard, FlushErr>),
+}
+
+impl Step {
+    fn job(&self, alloc: Global) -> Result<Job, Fail> {
+        let call = match self {
+            Step::Insert(len, _) => Call::Insert(record(alloc, 1, *len)?),
+            Step::Commit(_) => Call::Commit(transaction(alloc, 1)?),
+            Step::Flush(upto, _) => Call::Flush(*upto),
+        };
+        Ok(Job::of(call))
+    }
+
+    /// What its call has to be told.
+    pub fn told(&self) -> Told {
+        match self {
+            Step::Insert(_, told) => Told::Inserted(*told),
+            Step::Commit(told) => Told::Committed(*told),
+            Step::Flush(_, told) => Told::Flushed(*told),
+        }
+    }
+}
+
+/// A job for each step of a backend.
+pub fn jobs_of(alloc: Global, steps: &[Step]) -> Result<Vec<Job>, Fail> {
+    let mut jobs = Vec::new(alloc);
+    for step in steps {
+        jobs.push(step.job(alloc)?)?;
+    }
+    Ok(jobs)
+}

@@ -1,0 +1,74 @@
+//! What backends were told of their records.
+
+use crate::reading::Found;
+use commit_lanes::{Job, Told};
+use std::alloc::Global;
+use std::test::Fail;
+use wal_log::{Cause, CommitErr};
+use wal_types::Lsn;
+
+// Where the record of a job starts that was inserted, or told to be durable.
+fn start_told(job: &Job) -> Option<Lsn> {
+    match job.told? {
+        Told::Inserted(told) => told.ok().map(|receipt| receipt.start),
+        Told::Committed(told) => told.ok().map(|sealed| sealed.start),
+        Told::Flushed(_) => None,
+    }
+}
+
+/// The records of a backend's inserts and commits, in their order, up to the first call that was
+/// refused. The transactions of its calls have the numbers from `first` on.
+pub fn records_told(alloc: Global, jobs: &[Job], first: u32) -> Result<Vec<Found>, Fail> {
+    let mut found = Vec::new(alloc);
+    let mut xid = first;
+    for job in jobs {
+        let Some(start) = start_told(job) else {
+            return Ok(found);
+        };
+        found.push(Found {
+            start: start.0,
+            xid,
+        })?;
+        xid = xid.wrapping_add(1);
+    }
+    Ok(found)
+}
+
+/// Whether a backend's commits behind the first so many were told at first that the disk had
+/// failed once, in their call or before, and then only that it had.
+pub fn is_down_behind(jobs: &[Job], durable: usize) -> bool {
+    let mut rest = jobs.iter().skip(durable);
+    let refused = match rest.next() {
+        Some(first) => matches!(
+            first.told,
+            Some(Told::Committed(Err(CommitErr {
+                cause: Cause::Disk { faults: 1 } | Cause::Down { faults: 1 },
+                ..
+            })))
+        ),
+        None => true,
+    };
+    refused && rest.all(is_known_down)
+}
+
+fn is_known_down(job: &Job) -> bool {
+    matches!(
+        job.told,
+        Some(Told::Committed(Err(CommitErr {
+            cause: Cause::Down { faults: 1 },
+            reserved: None,
+        })))
+    )
+}
+
+/// Whether each record starts behind the one before.
+pub fn rises(found: &[Found]) -> bool {
+    let mut last = 0;
+    for record in found {
+        if record.start <= last {
+            return false;
+        }
+        last = record.start;
+    }
+    true
+}

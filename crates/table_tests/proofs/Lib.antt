@@ -1,3 +1,0 @@
-mod Takes
-mod Maps
-mod Closes
