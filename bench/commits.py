@@ -1,7 +1,7 @@
 #!/usr/bin/env python3
 """Measures the commits a second of one log that threads share.
 
-Builds crates/many_commits (`rt run`, which proves it first) and runs it with 1, 2, 4, 8 and 16 backends, over files in a
+Builds crates/bench_commits (`rt run`, which proves it first) and runs it with 1, 2, 4, 8 and 16 backends, over files in a
 fresh folder for each run, and in memory. All backends of a run together make about as many commits, each of a record of 34
 bytes. From a run's time is taken that of one in which each backend makes a single commit, so that starting and making the
 first segment do not count. Printed are the median, the least and the most of several runs.
@@ -18,8 +18,8 @@ import tempfile
 import time
 
 TOP = os.path.dirname(os.path.dirname(os.path.abspath(__file__)))
-CRATE = os.path.join(TOP, "crates", "many_commits")
-PROGRAM = os.path.join(CRATE, "out", "many_commits")
+CRATE = os.path.join(TOP, "crates", "bench_commits")
+PROGRAM = os.path.join(CRATE, "out", "bench_commits")
 BACKENDS = (1, 2, 4, 8, 16)
 
 

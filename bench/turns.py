@@ -1,7 +1,7 @@
 #!/usr/bin/env python3
 """Counts the instructions of a turn of the machine of many backends.
 
-Runs crates/many_turns (after `rt run` in its folder built it), which plays ten million turns of eight backends: inserts of
+Runs crates/bench_turns (after `rt run` in its folder built it), which plays ten million turns of eight backends: inserts of
 40-byte records, and each fiftieth line a commit. Instructions are counted by valgrind's callgrind, which the machine's load
 does not disturb. Printed are those of the whole program for each turn, those of its own code alone (the compiler puts the
 turns into `main`; making the lines, memory and the copies of whole pages by the disk stand apart), and the functions that
@@ -15,12 +15,12 @@ import sys
 import tempfile
 
 TOP = os.path.dirname(os.path.dirname(os.path.abspath(__file__)))
-PROGRAM = os.path.join(TOP, "crates", "many_turns", "out", "many_turns")
+PROGRAM = os.path.join(TOP, "crates", "bench_turns", "out", "bench_turns")
 
 
 def main():
     if not os.access(PROGRAM, os.X_OK):
-        sys.exit("build the program first: rt run in crates/many_turns")
+        sys.exit("build the program first: rt run in crates/bench_turns")
     with tempfile.TemporaryDirectory() as folder:
         counts = os.path.join(folder, "callgrind")
         words = ["valgrind", "--tool=callgrind", f"--callgrind-out-file={counts}", PROGRAM, "kinds"]
