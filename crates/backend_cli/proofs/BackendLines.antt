@@ -4,7 +4,7 @@ use Rattle.wal_turns.specs.Doing.{Backend, Machine}
 use Rattle.wal_turns.specs.Standing.{HasBackend}
 use Rattle.machine_core.proofs.Lists.{below_got}
 use Rattle.machine_core.specs.declared.machine.Core.{Core}
-use Rattle.backend_cli.specs.Begun.{PlaysBackends}
+use Rattle.backend_cli.specs.ReplayBegun.{PlaysBackends}
 use Rattle.backend_cli.specs.Replaying.{backend_line, backend_lines}
 
 count_at : (backends : List Backend) (i : ℕ) (b : Backend) → slice_get backends i ≡ Some b → slice_index_or (map (λ b. length b.asks) backends) i 0 ≡ length b.asks

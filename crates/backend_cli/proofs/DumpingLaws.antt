@@ -10,16 +10,16 @@ use Rattle.command_words.specs.declared.commands.DumpOptions.{DumpOptions}
 use Rattle.backend_cli.specs.Outside.{Outside}
 use Rattle.backend_cli.specs.declared.outcome.Outcome.{Outcome}
 use Rattle.told_lines.specs.declared.told.Told.{Told}
-use Rattle.backend_cli.specs.Dumping.{DumpHolds, Listed, ListingEnds, all, all_before, by_disk, by_sink, ended, front_for_disk, front_for_memory, front_for_sink, outcome_of, stopped, without_memory}
+use Rattle.backend_cli.specs.Dumping.{DumpHolds, ListsDisk, ListingEnds, all, all_before, by_disk, by_sink, ended, front_for_disk, front_for_memory, front_for_sink, outcome_of, stopped, without_memory}
 
-lists_on : (asked : DumpOptions) (outside : Outside) (result : Result ℕ DumpErr) (t : Tape) → IsDump asked.geometry asked.filter outside.taken_before outside.taken_after result t → Listed asked outside (outcome_of result) t
+lists_on : (asked : DumpOptions) (outside : Outside) (result : Result ℕ DumpErr) (t : Tape) → IsDump asked.geometry asked.filter outside.taken_before outside.taken_after result t → ListsDisk asked outside (outcome_of result) t
 lists_on asked outside (Ok count) t puts = all count puts
 lists_on asked outside (Err (Read Memory)) t puts = front_for_memory puts
 lists_on asked outside (Err (Read (Disk faults))) t puts = front_for_disk puts
 lists_on asked outside (Err (Read (Stopped reason))) t puts = all_before puts
 lists_on asked outside (Err (Sink fault)) t puts = front_for_sink puts
 
-pub lists_as : (asked : DumpOptions) (outside : Outside) (result : Result ℕ DumpErr) (tape : Option Tape) → IfSome tape (IsDump asked.geometry asked.filter outside.taken_before outside.taken_after result) → IfSome tape (Listed asked outside (outcome_of result))
+pub lists_as : (asked : DumpOptions) (outside : Outside) (result : Result ℕ DumpErr) (tape : Option Tape) → IfSome tape (IsDump asked.geometry asked.filter outside.taken_before outside.taken_after result) → IfSome tape (ListsDisk asked outside (outcome_of result))
 lists_as asked outside result None puts = tt
 lists_as asked outside result (Some t) puts = lists_on asked outside result t puts
 

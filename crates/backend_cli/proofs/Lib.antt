@@ -10,6 +10,7 @@ pub mod MachineWriter
 pub mod ReplayLaws
 pub mod RunBackends
 pub mod RunEnds
+pub mod HeadlineLaws
 pub mod RunLaws
 pub mod RunUnopened
 pub mod AllCounts

@@ -29,14 +29,14 @@ use Rattle.wal_script.specs.declared.line.Refusal.{Refusal}
 use Rattle.wal_script.specs.declared.replay.Replay.{Replay}
 use Rattle.wal_script.proofs.ReplayLaws.{some_backends_are_there}
 use Rattle.backend_cli.specs.Outside.{SourceView}
-use Rattle.backend_cli.specs.declared.replay.Begun.{Begun}
-use Rattle.backend_cli.specs.Begun.{DoesMeaning, IsReplayBegun, PlaysBackends}
+use Rattle.backend_cli.specs.declared.replay.ReplayBegun.{ReplayBegun}
+use Rattle.backend_cli.specs.ReplayBegun.{DoesMeaning, IsReplayBegun, PlaysBackends}
 use Rattle.backend_cli.specs.Replaying.{PutsBefore, asks_of, setup_of}
 use Rattle.backend_cli.proofs.ReplayScripts.{as_many_backends, as_many_lines, scripts_for, scripts_of}
 use Rattle.backend_cli.proofs.TurnLaws.{turns_keep_counts}
 
 -- a core that begins with a replay's lines plays the machine as which the replay begins
-pub begun_as : (options : ReplayOptions) (asked : List (List AskedLine)) (backends : List (Vec Line Global)) (setup : Setup) (scripts : List (List MachineLine)) (failing : List ℕ) (begun : Begun)
+pub begun_as : (options : ReplayOptions) (asked : List (List AskedLine)) (backends : List (Vec Line Global)) (setup : Setup) (scripts : List (List MachineLine)) (failing : List ℕ) (begun : ReplayBegun)
     → AreBackendsOf asked backends → setup ≡ setup_of options (length backends) → scripts ≡ scripts_of backends → failing ≡ []
     → begun.line_counts.items ≡ map (λ lines. length lines) scripts → HasBegun setup failing (core_of begun.core)
     → ((asks : List (List Ask)) → AreScriptsFor asks scripts → PlaysMachine (core_of begun.core) (machine_begun (core_of begun.core) asks)) → IsPlayed begun.core

@@ -1,6 +1,7 @@
 -- What a run that opened the log has to show, from what its parts say.
 use Rattle.std.proofs.Common.{◌≡◌, ℕ, ◌+◌, ◌-◌, ◌^◌, ◌<◌, ◌≤◌, List, [], ◌∷◌, length, Option, refl, sym, ◌∙◌, ap, subst, arith}
 use Rattle.std.specs.Prelude.{IfSome, is_ok, not}
+use Rattle.byte_position.specs.Geometry.{IsSegmentSize}
 use Rattle.byte_position.specs.Position.{end_address_of, first_position}
 use Rattle.segment_disk.specs.Tape.{Tape}
 use Rattle.flush_core.specs.Pages.{HoldsNothing}
@@ -25,7 +26,7 @@ use Rattle.wal_script.specs.Asked.{AskedLine}
 use Rattle.told_lines.specs.Rooms.{capacity_of}
 use Rattle.told_lines.specs.Whole.{IsWhole}
 use Rattle.run_laws.specs.Counted.{all_reserved_count}
-use Rattle.run_laws.specs.Ended.{HasTakenIn}
+use Rattle.run_laws.specs.Ended.{HasTakenIn, logged_at_end}
 use Rattle.run_laws.specs.Assured.{RunAssures, order_told}
 use Rattle.run_laws.specs.ClosedRuns.{HasFlushedAll, IsRunClosed}
 use Rattle.run_laws.proofs.ClosedRuns.{counted_down, counted_up, flushed_whole, position_told, records_counted, rooms_within, run_assures}
@@ -40,6 +41,7 @@ use Rattle.backend_cli.specs.Printing.{printed_text}
 use Rattle.backend_cli.specs.Run.{HoldsOpened}
 use Rattle.backend_cli.specs.Texts.{run_text}
 use Rattle.backend_cli.specs.declared.outcome.Outcome.{Outcome}
+use Rattle.backend_cli.proofs.HeadlineLaws.{all_own_places, headline_of_run}
 use Rattle.backend_cli.proofs.RunEnds.{CountsFaults, ends_opened, quiet_where_printed, risen_where_not_printed, took}
 use Rattle.backend_cli.proofs.RunTexts.{text_is}
 
@@ -172,7 +174,7 @@ module _ {D : Type 0} (tape : D → Option Tape) (moment faults : D → ℕ) (di
       (before after : SourceView) (outcome : Outcome)
       (concluded : IsConcluded options.geometry options.list (rooms_of options.geometry order)
       backends closed.down (sunk out) (sunk out_now) (sink_faults out) (sink_faults out_now)
-      outcome) where
+      outcome) (valid : IsSegmentSize options.geometry) where
     text : printed_text options.list backends concluded.summary
         ≡ run_text options.geometry options.list script (lists_of backends) order
     text = text_is options.geometry options.list script backends order concluded.summary
@@ -188,10 +190,12 @@ module _ {D : Type 0} (tape : D → Option Tape) (moment faults : D → ℕ) (di
           empty = opened.empty;
           told = assured.told;
           stays_down = assured.stays_down;
-          gapless = assured.gapless;
-          in_line_order = assured.in_line_order;
+          headline = headline_of_run options.geometry (moment disk) valid script
+              (lists_of backends) (tape disk) (tape closed.disk)
+              (all_own_places (logged_at_end opening order (faults closed.disk)) 1 script
+              (lists_of backends) assured.told) assured.gapless
+              assured.in_line_order assured.crash;
           moments = assured.moments;
-          crash = assured.crash;
           no_late_receipt = assured.no_late_receipt;
           whole = whole;
           printed = subst (Took (sunk out) (sunk out_now) (sink_faults out) (sink_faults out_now))

@@ -15,22 +15,22 @@ use Rattle.backend_cli.specs.Outside.{Outside}
 
 -- what a listing printed, by how it may end: the lines of the records that the filter lists of
 -- those that the disk's log decodes to, or a front of them
-pub data Listed (asked : DumpOptions) (outside : Outside) : Outcome → Tape → Type 0 where
+pub data ListsDisk (asked : DumpOptions) (outside : Outside) : Outcome → Tape → Type 0 where
   all : {t : Tape} (count : ℕ)
       → ListsAll asked.geometry asked.filter t outside.taken_before outside.taken_after count
-      → Listed asked outside Done t
+      → ListsDisk asked outside Done t
   all_before : {t : Tape} {stop : LogStop}
       → ListsUpTo asked.geometry asked.filter t outside.taken_before outside.taken_after stop
-      → Listed asked outside (Stopped stop) t
+      → ListsDisk asked outside (Stopped stop) t
   front_for_memory : {t : Tape}
       → ListsFront asked.geometry asked.filter t outside.taken_before outside.taken_after
-      → Listed asked outside OutOfMemory t
+      → ListsDisk asked outside OutOfMemory t
   front_for_disk : {t : Tape}
       → ListsFront asked.geometry asked.filter t outside.taken_before outside.taken_after
-      → Listed asked outside DiskFault t
+      → ListsDisk asked outside DiskFault t
   front_for_sink : {t : Tape}
       → ListsFront asked.geometry asked.filter t outside.taken_before outside.taken_after
-      → Listed asked outside SinkFault t
+      → ListsDisk asked outside SinkFault t
 
 -- neither the disk nor the sink counted a fault
 pub record NoFaults (outside : Outside) : Type 0 where
@@ -58,7 +58,7 @@ outcome_of (Err (Sink fault)) = SinkFault
 -- a listing: what it printed, no counted call of the disk, the script not read, and nothing told
 pub record DumpHolds (outside : Outside) (asked : DumpOptions) (outcome : Outcome)
     (lists : List (List Told)) : Type 0 where
-  pub listed : IfSome outside.tape_before (Listed asked outside outcome)
+  pub listed : IfSome outside.tape_before (ListsDisk asked outside outcome)
   pub ends : ListingEnds outside outcome
   pub uncalled :
       IsNotMade outside.tape_before outside.tape_after outside.moment_before outside.moment_after

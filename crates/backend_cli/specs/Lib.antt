@@ -1,6 +1,7 @@
 pub mod Texts
 pub mod Outcome
 pub mod Outside
+pub mod Headline
 pub mod Run
 pub mod Dumping
 pub mod Reading
@@ -8,5 +9,6 @@ pub mod Printing
 pub mod Prepared
 pub mod Concluding
 pub mod Obeying
+pub mod Asked
 pub mod Replaying
-pub mod Begun
+pub mod ReplayBegun

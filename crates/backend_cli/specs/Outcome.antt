@@ -12,11 +12,11 @@ use Rattle.wal_reader.specs.declared.found.Stopped.{Stopped as LogStop}
 use Rattle.wal_reader.specs.declared.found.Stopped.TheVariants as stops
 use Rattle.backend_cli.specs.declared.outcome.Outcome.{Outcome}
 use Rattle.backend_cli.specs.declared.outcome.Outcome.TheVariants.{Done, OutOfMemory, Usage, SourceFault, ScriptRefused, NotEmpty, DiskFault, Stopped, LogFull, SinkFault}
-use Rattle.backend_cli.specs.declared.reading.ReadFailure.{ReadFailure}
-use Rattle.backend_cli.specs.declared.reading.ReadFailure.TheVariants as failures
+use Rattle.backend_cli.specs.declared.reading.ScriptUnread.{ScriptUnread}
+use Rattle.backend_cli.specs.declared.reading.ScriptUnread.TheVariants as failures
 
 -- how a command ends whose script could not be read
-abbrev pub outcome_unread : ReadFailure → Outcome
+abbrev pub outcome_unread : ScriptUnread → Outcome
 outcome_unread failures.Memory = OutOfMemory
 outcome_unread failures.Source = SourceFault
 

@@ -7,8 +7,8 @@ use Rattle.wal_script.specs.Asked.{AskedLine}
 use Rattle.wal_script.specs.declared.line.Refusal.{Refusal}
 use Rattle.wal_script.specs.Meaning.{script_limit}
 use Rattle.wal_script.specs.Run.{backends_meaning}
-use Rattle.backend_cli.specs.declared.reading.ReadFailure.{ReadFailure}
-use Rattle.backend_cli.specs.declared.reading.ReadFailure.TheVariants.{Memory, Source}
+use Rattle.backend_cli.specs.declared.reading.ScriptUnread.{ScriptUnread}
+use Rattle.backend_cli.specs.declared.reading.ScriptUnread.TheVariants.{Memory, Source}
 use Rattle.backend_cli.specs.Outside.{SourceView}
 
 -- all that a source had left, or its first bytes up to a number of them
@@ -28,7 +28,7 @@ pub record ReadsBytes (most : ℕ) (before after : SourceView) (bytes : List ℕ
 
 -- what was read is all there is, up to a number of bytes; a source's fault is told by its count,
 -- and nothing else changes the count
-abbrev pub ReadsUpto : ℕ → SourceView → SourceView → Result (Vec ℕ Global) ReadFailure → Type 0
+abbrev pub ReadsUpto : ℕ → SourceView → SourceView → Result (Vec ℕ Global) ScriptUnread → Type 0
 ReadsUpto most before after (Ok v) = ReadsBytes most before after v.items
 ReadsUpto most before after (Err Memory) = after.faults ≡ before.faults
 ReadsUpto most before after (Err Source) = RoseByOne before.faults after.faults
@@ -37,7 +37,7 @@ ReadsUpto most before after (Err Source) = RoseByOne before.faults after.faults
 abbrev pub ReadsScript : SourceView → SourceView → List ℕ → Type 0
 ReadsScript before after bytes = ReadsBytes (script_limit + 1) before after bytes
 
-abbrev pub ReadsAll : SourceView → SourceView → Result (Vec ℕ Global) ReadFailure → Type 0
+abbrev pub ReadsAll : SourceView → SourceView → Result (Vec ℕ Global) ScriptUnread → Type 0
 ReadsAll before after result = ReadsUpto (script_limit + 1) before after result
 
 -- the script that a source handed out has this meaning, where scripts mean what `by` says

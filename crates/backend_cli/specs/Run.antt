@@ -2,18 +2,18 @@
 use Rattle.std.specs.Prelude.{◌≡◌, ℕ, ◌-◌, ◌^◌, ◌<◌, Bool, List, [], ◌∷◌, None, Ok, Err, IfSome, IsSome}
 use Rattle.segment_disk.specs.Tape.{state_now, page_of_segment}
 use Rattle.flush_core.specs.Pages.{HoldsNothing}
-use Rattle.wal_page.specs.Order.{IsChained}
 use Rattle.wal_script.specs.Asked.{AskedLine}
 use Rattle.backend_cli.specs.declared.outcome.Outcome.{Outcome}
 use Rattle.backend_cli.specs.declared.outcome.Outcome.TheVariants.{Done, OutOfMemory, SourceFault, ScriptRefused, NotEmpty, DiskFault, LogFull, SinkFault}
 use Rattle.told_lines.specs.declared.told.Told.{Told}
-use Rattle.told_lines.specs.Told.{TellsAll, EachStaysDown, order_from, RiseInLineOrder, IsFullAnswer, IsRefused, SomeTold}
+use Rattle.told_lines.specs.Told.{TellsAll, EachStaysDown, order_from, IsFullAnswer, IsRefused, SomeTold}
 use Rattle.told_lines.specs.Moments.{EachRises}
-use Rattle.told_lines.specs.Crash.{EachIsTimely, SurvivesCrashes}
+use Rattle.told_lines.specs.Crash.{EachIsTimely}
 use Rattle.told_lines.specs.Rooms.{all_rooms_asked, capacity_of}
 use Rattle.command_words.specs.declared.commands.GenOptions.{GenOptions}
 use Rattle.generated_lines.specs.Generated.{generated_script}
 use Rattle.told_lines.specs.Whole.{IsWhole}
+use Rattle.backend_cli.specs.Headline.{Headline}
 use Rattle.backend_cli.specs.Texts.{run_text}
 use Rattle.backend_cli.specs.Reading.{ScriptMeans}
 use Rattle.segment_disk.specs.Cause.{Rose, RoseByOne}
@@ -79,11 +79,9 @@ pub record HoldsOpened (outside : Outside) (size capacity : ℕ) (list : Bool) (
     last = outside.disk_after;
   }) 1 script lists
   pub stays_down : EachStaysDown lists
-  pub gapless : IsChained size (order_from size 1 script lists)
-  pub in_line_order : RiseInLineOrder size 1 script lists
+  pub headline : Headline size outside.moment_before script lists outside.tape_before
+      outside.tape_after
   pub moments : EachRises outside.moment_before lists outside.moment_after
-  pub crash : HoldsNothing outside.tape_before → IfSome outside.tape_after
-      (SurvivesCrashes size outside.moment_before (order_from size 1 script lists) lists)
   pub no_late_receipt : HoldsNothing outside.tape_before → IfSome outside.tape_after
       (λ t. EachIsTimely size outside.moment_before (order_from size 1 script lists) t 1 script
       lists)

@@ -12,7 +12,7 @@ mod replay;
 mod run;
 mod told;
 
-pub use backend_lanes::Gate;
+pub use backend_lanes::{Gate, OpenGate};
 pub use laws::read_scripts_mean_all_that_was_left;
 pub use outcome::Outcome;
 pub use program::{Ended, pgwal};

@@ -3,7 +3,7 @@ ghost use Rattle.wal_types.specs.LsnText.{lsn_text};
 ghost use Rattle.waldump_text.specs.Put.{Puts, joined};
 ghost use Rattle.backend_cli.specs.Outcome.{status_of, outcome_text};
 
-use crate::reading::ReadFailure;
+use crate::reading::ScriptUnread;
 use segment_disk::Sink;
 use wal_reader::Stopped;
 use wal_script::{ParseError, Refusal};
@@ -31,16 +31,16 @@ pub enum Outcome {
     SinkFault,
 }
 
-impl From<ReadFailure> for Outcome {
+impl From<ScriptUnread> for Outcome {
     ghost use Rattle.std.specs.Prelude.{◌≡◌};
     ghost use Rattle.backend_cli.specs.Outcome.{outcome_unread};
 
     ghost from_gives = { λ failure outcome. outcome ≡ outcome_unread failure };
 
-    fn from(failure: ReadFailure) -> Outcome {
+    fn from(failure: ScriptUnread) -> Outcome {
         match failure {
-            ReadFailure::Memory => Outcome::OutOfMemory,
-            ReadFailure::Source => Outcome::SourceFault,
+            ScriptUnread::Memory => Outcome::OutOfMemory,
+            ScriptUnread::Source => Outcome::SourceFault,
         }
     }
 }

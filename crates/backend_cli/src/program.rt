@@ -1,8 +1,11 @@
-ghost use Rattle.std.specs.Prelude.{◌≡◌, map, string_bytes};
+ghost use Rattle.std.specs.Prelude.{◌≡◌, ℕ, List, [], map, string_bytes};
 ghost use Rattle.waldump_text.specs.Put.{joined};
 ghost use Rattle.command_words.specs.Given.{IsInRange};
+ghost use Rattle.wal_script.specs.Asked.{AskedLine};
 ghost use Rattle.command_line.specs.Asking.{AsksInRange, asks};
 ghost use Rattle.command_line.specs.Texts.{help, version};
+ghost use Rattle.backend_cli.specs.Asked.{AsksBackends};
+ghost use Rattle.backend_cli.specs.Headline.{Headline};
 ghost use Rattle.backend_cli.specs.Outcome.{status_of, outcome_text};
 ghost use Rattle.backend_cli.specs.Outside.{SourceView, Took, outside_of, source_view};
 ghost use Rattle.backend_cli.specs.Obeying.{AsksNoCommand, AsksReplay, AsksRun, IsExplained, Obeys, ObeysInMemory};
@@ -157,8 +160,18 @@ pub fn pgwal<R: Threads + Wait + Sync, S: Source, O: Sink, E: Sink, D: Disk + Se
     err: &mut E,
     gate: &G,
 ) -> Ended<D>
+    // The headline: where the words ask for a run, of a script or of lines that are made, and its
+    // log was opened (no line is told anything where it was not), the records that it reserved
+    // follow each other without a gap, each backend's in script order, and what a crash at any
+    // moment leaves reads as a prefix of them with every commit that was told by then.
+    ensures headline { (size : ℕ) (lines : List (List AskedLine))
+        → AsksBackends (asks (map (λ w. string_bytes w) words.now))
+        (source_view S.left S.handed S.ends_told S.faults script.old)
+        (source_view S.left S.handed S.ends_told S.faults script.new) size lines
+        → (result.told ≡ [] → ⊥)
+        → Headline size (D.moment disk) lines result.told (D.tape disk) (D.tape result.disk) }
     // The status and its line on `err` are those of one outcome; for it the command's promises
-    // hold: of `run` told, gapless, crash, no late receipt, whole, printed, and how it ends; of
+    // hold: of `run` told, the headline, no late receipt, whole, printed, and how it ends; of
     // `replay` the machine behind its schedule, what the crash leaves, and the lines and the
     // listing of it; of `dump` listed; of words that ask for help its text, and of others that are
     // no command nothing. Or memory ran out before the command was known, with the disk as it came,

@@ -8,19 +8,19 @@ use wal_script::SCRIPT_LIMIT;
 
 /// Why a script could not be read.
 #[derive(Clone, Copy, Debug, PartialEq, Eq)]
-pub(crate) enum ReadFailure {
+pub(crate) enum ScriptUnread {
     Memory,
     Source,
 }
 
-impl From<AllocError> for ReadFailure {
+impl From<AllocError> for ScriptUnread {
     ghost use Rattle.std.specs.Prelude.{◌≡◌};
-    ghost use Rattle.backend_cli.specs.declared.reading.ReadFailure.TheVariants.{Memory};
+    ghost use Rattle.backend_cli.specs.declared.reading.ScriptUnread.TheVariants.{Memory};
 
     ghost from_gives = { λ _ e. e ≡ Memory };
 
-    fn from(_e: AllocError) -> ReadFailure {
-        ReadFailure::Memory
+    fn from(_e: AllocError) -> ScriptUnread {
+        ScriptUnread::Memory
     }
 }
 
@@ -28,7 +28,7 @@ impl From<AllocError> for ReadFailure {
 const PIECE: usize = 65_536;
 
 /// Reads a script to its end, or to one byte past its limit.
-pub(crate) fn read_script<S: Source>(alloc: Global, source: &mut S) -> Result<Vec<u8>, ReadFailure>
+pub(crate) fn read_script<S: Source>(alloc: Global, source: &mut S) -> Result<Vec<u8>, ScriptUnread>
     ensures { ReadsAll
         (source_view S.left S.handed S.ends_told S.faults source.old)
         (source_view S.left S.handed S.ends_told S.faults source.new) result }
@@ -43,7 +43,7 @@ fn read_upto<S: Source>(
     source: &mut S,
     piece: &mut [u8],
     most: usize,
-) -> Result<Vec<u8>, ReadFailure>
+) -> Result<Vec<u8>, ScriptUnread>
     requires { 0 < length piece.old }
     ensures { ReadsUpto most
         (source_view S.left S.handed S.ends_told S.faults source.old)
@@ -55,7 +55,7 @@ fn read_upto<S: Source>(
         match source.read(&mut piece[..wanted]) {
             Ok(0) => return Ok(bytes),
             Ok(count) => bytes.extend_from_slice(&piece[..count])?,
-            Err(_) => return Err(ReadFailure::Source),
+            Err(_) => return Err(ScriptUnread::Source),
         }
     }
     Ok(bytes)

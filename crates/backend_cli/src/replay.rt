@@ -13,7 +13,7 @@ ghost use Rattle.wal_turns.specs.Doing.{Machine};
 ghost use Rattle.wal_turns.specs.Turned.{machine_behind};
 ghost use Rattle.machine_core.specs.Cores.{IsPlayed, core_of};
 ghost use Rattle.machine_core.specs.Playing.{PlaysMachine};
-ghost use Rattle.backend_cli.specs.Begun.{IsReplayBegun, PlaysBackends, ReadsReplay, machine_line_of, machine_lines_of};
+ghost use Rattle.backend_cli.specs.ReplayBegun.{IsReplayBegun, PlaysBackends, ReadsReplay, machine_line_of, machine_lines_of};
 ghost use Rattle.backend_cli.specs.Outside.{SourceView, outside_of, outside_with, source_view};
 ghost use Rattle.backend_cli.specs.Reading.{ScriptMeansBy};
 ghost use Rattle.backend_cli.specs.Replaying.{HasSinkCause, PutsBefore, ReplayEnds, ReplayHolds, backend_line, backend_lines, outcome_with, pick_of, setup_of};
@@ -36,7 +36,7 @@ use waldump_text::{DumpErr, Filter, SinkFault, dump, put_all};
 
 // What a replay needs before its first turn.
 #[derive(Drop)]
-struct Begun {
+struct ReplayBegun {
     core: Core,
     // How many lines each backend has.
     line_counts: Vec<u64>,
@@ -108,7 +108,7 @@ fn begin(
     alloc: Global,
     options: &ReplayOptions,
     backends: Vec<Vec<Line>>,
-) -> Result<Begun, AllocError>
+) -> Result<ReplayBegun, AllocError>
     requires in_range { IsShapeInRange options.now.ring_pages options.now.cap_segments }
     requires few { length backends.items ≤ most_backends }
     ensures { (asked : List (List AskedLine)) → AreBackendsOf asked backends.items
@@ -118,7 +118,7 @@ fn begin(
     let scripts = scripts_of(alloc, backends)?;
     let line_counts = line_counts_of(alloc, &scripts)?;
     match Core::new(alloc, setup, scripts, Vec::new(alloc)) {
-        Ok(core) => Ok(Begun { core, line_counts }),
+        Ok(core) => Ok(ReplayBegun { core, line_counts }),
         Err(CoreErr::Memory) => Err(AllocError),
         Err(CoreErr::BadSetup) => unreachable!(),
     }
@@ -241,7 +241,7 @@ fn outcome_with(listed: Result<u64, DumpErr>, full: bool) -> Outcome
 fn finish<O: Sink>(
     alloc: Global,
     options: &ReplayOptions,
-    begun: Begun,
+    begun: ReplayBegun,
     schedule: &Schedule,
     out: &mut O,
 ) -> Outcome
@@ -252,7 +252,7 @@ fn finish<O: Sink>(
         → (tape : Option Tape) (moment faults : ℕ) → ReplayEnds (outside_with before after
         tape moment faults O.taken O.faults out.old out.new) options.now result }
 {
-    let Begun {
+    let ReplayBegun {
         mut core,
         line_counts,
     } = begun;

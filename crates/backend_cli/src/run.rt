@@ -23,7 +23,7 @@ use crate::outcome::Outcome;
 use crate::printing::{Summary, put_told_lists};
 use crate::reading::read_script;
 use crate::told::ToldLists;
-use backend_lanes::{Backend, Gate, Played, Room, play_backends};
+use backend_lanes::{Backend, Gate, PlayedRun, Room, play_backends};
 use byte_position::Geometry;
 use command_words::RunOptions;
 use segment_disk::{Disk, Sink, Source};
@@ -258,7 +258,7 @@ pub(crate) fn run_prepared<R: Threads + Wait + Sync, O: Sink, D: Disk + Send, G:
 }
 
 // Prints what a run told, and tells how it ended.
-fn conclude<O: Sink, D>(options: &RunOptions, played: Played<D>, out: &mut O) -> Finished<D>
+fn conclude<O: Sink, D>(options: &RunOptions, played: PlayedRun<D>, out: &mut O) -> Finished<D>
     requires answered { All HasAnswers played.backends.items }
     requires few_backends { vec_len played.backends ≤ most_backends }
     requires few { all_reserved_count (lists_of played.backends.items) ≤ 2 ^ 42 }
@@ -272,7 +272,7 @@ fn conclude<O: Sink, D>(options: &RunOptions, played: Played<D>, out: &mut O) ->
     ensures disk { result.disk ≡ played.closed.disk }
     ensures told { result.told ≡ lists_of played.backends.items }
 {
-    let Played { closed, backends } = played;
+    let PlayedRun { closed, backends } = played;
     let Closed { disk, end, down } = closed;
     let summary = summary_of(options.geometry, end, &backends);
     let is_printed = print(out, options.list, &backends, &summary).is_ok();

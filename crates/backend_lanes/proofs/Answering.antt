@@ -1,4 +1,4 @@
--- What a line leaves of a player, by what the log answered.
+-- What a line leaves of a session, by what the log answered.
 use Rattle.std.specs.Prelude.{Result, Ok, Err, Option, Some, None}
 use Rattle.std.proofs.Common.{◌≡◌, ◌⊎◌, ℕ, ◌<◌, ◌≤◌, max, List, [], ◌∷◌, ◌++◌, refl, sym, ap, ◌∙◌, subst, inl, inr, arith}
 use Rattle.std.proofs.lemmas.Bool.{cases_lt}
@@ -42,8 +42,8 @@ use Rattle.wal_log.specs.Standing.{KeepsPass}
 use Rattle.wal_log.proofs.CommitLaws.{never_both}
 use Rattle.run_laws.specs.Played.{Leaves, PlaysLine, RefusesRecordLine, Reserves, behind_last_own, end_of_own}
 use Rattle.run_laws.specs.Reached.{EndsBy}
-use Rattle.backend_lanes.specs.declared.player.Player.{Player}
-use Rattle.backend_lanes.specs.Players.{IsPlayerOf, IsReserved, LeavesPlayer, PlaysAnswer, state_of_view, view_of_player}
+use Rattle.backend_lanes.specs.declared.session.Session.{Session}
+use Rattle.backend_lanes.specs.Sessions.{IsSessionOf, IsReserved, LeavesSession, PlaysAnswer, state_of_view, view_of_session}
 
 -- ---- the end of a pass's own last entry
 
@@ -136,7 +136,7 @@ refused_as_commit setup body old new (inserts.Down faults start) why = why
 
 -- ---- the end kept beside a pass
 
--- as `KeepsEnd` says it of a player
+-- as `KeepsEnd` says it of a session
 pub record HasEnd (setup : Setup) (end : ℕ) (v : SeatView) : Type 0 where
   pub own : (end_of_own setup.segment_size (v.reserving).entries ≤ end)
       ⊎ ((faults : ℕ) × KnowsDown faults v)
@@ -392,7 +392,7 @@ module _ (P : Asked → Type 0) (body : Assembled) where
   holds_of_commit at (Commit value) is = at value is
   holds_of_commit at Flush is = absurd is
 
--- ---- what a line leaves of a player
+-- ---- what a line leaves of a session
 
 -- by one of the log's passes: its segments have a valid size, and the pass knows its setup
 pub has_valid_size : {D : Type 0} (wal : Wal D) (pass : Pass) → IsPassOfLog wal pass
@@ -405,26 +405,26 @@ pub has_setup : {D : Type 0} (wal : Wal D) (pass : Pass) → IsPassOfLog wal pas
     → ((view_of_pass pass).opening).setup ≡ setup_of_log wal
 has_setup {D} wal pass here = ap (λ (o : Opening). o.setup) here.of_log.own
 
--- a call of the log left this of the player's pass
-module _ {D : Type 0} (wal : Wal D) (old new : Player) (pass : Pass) (here : IsPlayerOf wal old)
-    (same : new.pass ≡ pass) (keeps : KeepsPass (view_of_player old) (view_of_pass pass))
+-- a call of the log left this of the session's pass
+module _ {D : Type 0} (wal : Wal D) (old new : Session) (pass : Pass) (here : IsSessionOf wal old)
+    (same : new.pass ≡ pass) (keeps : KeepsPass (view_of_session old) (view_of_pass pass))
     (still : IsPassOfLog wal pass) (told : Told) where
-  has_end : HasEnd (setup_of_log wal) old.end.0 (view_of_player old)
+  has_end : HasEnd (setup_of_log wal) old.end.0 (view_of_session old)
   has_end = record { own = here.end.own; reserved = here.end.reserved }
 
-  leaves_player : new.end.0 ≡ end_behind old.end.0 told
+  leaves_session : new.end.0 ≡ end_behind old.end.0 told
       → HasEnd (setup_of_log wal) (end_behind old.end.0 told) (view_of_pass pass)
-      → LeavesPlayer wal told old new
-  leaves_player end_is has =
-      let kept : HasEnd (setup_of_log wal) new.end.0 (view_of_player new) =
+      → LeavesSession wal told old new
+  leaves_session end_is has =
+      let kept : HasEnd (setup_of_log wal) new.end.0 (view_of_session new) =
       subst (λ (p : Pass). HasEnd (setup_of_log wal) new.end.0 (view_of_pass p)) (sym same)
       (subst (λ (end : ℕ). HasEnd (setup_of_log wal) end (view_of_pass pass)) (sym end_is) has)
       in record {
-        player = record {
+        session = record {
           pass = subst (λ (p : Pass). IsPassOfLog wal p) (sym same) still;
           end = record { own = kept.own; reserved = kept.reserved };
         };
-        keeps = subst (λ (p : Pass). KeepsPass (view_of_player old) (view_of_pass p)) (sym same)
+        keeps = subst (λ (p : Pass). KeepsPass (view_of_session old) (view_of_pass p)) (sym same)
             keeps;
         told_end = subst (λ (end : ℕ). EndsBy end told) (sym end_is)
             (ends_by_end_behind old.end.0 told);
@@ -434,78 +434,78 @@ module _ {D : Type 0} (wal : Wal D) (old new : Player) (pass : Pass) (here : IsP
 
   plays_answer : (asked : Asked)
       → PlaysLine (setup_of_log wal).segment_size (log_limit (setup_of_log wal))
-      ((view_of_player old).reserving).number asked told (state_of_view (view_of_player old))
+      ((view_of_session old).reserving).number asked told (state_of_view (view_of_session old))
       (state_of_view (view_of_pass pass))
       → PlaysAnswer wal asked told old new
   plays_answer asked plays =
       subst (λ (p : Pass). PlaysLine (setup_of_log wal).segment_size
-      (log_limit (setup_of_log wal)) ((view_of_player old).reserving).number asked told
-      (state_of_view (view_of_player old)) (state_of_view (view_of_pass p))) (sym same) plays
+      (log_limit (setup_of_log wal)) ((view_of_session old).reserving).number asked told
+      (state_of_view (view_of_session old)) (state_of_view (view_of_pass p))) (sym same) plays
 
   module _ (body : Assembled) where
     module _ (answer : Result Receipt InsertErr) (is : told ≡ told_of_inserted answer)
-        (answers : AnswersInsert (setup_of_log wal) body (view_of_player old) answer
+        (answers : AnswersInsert (setup_of_log wal) body (view_of_session old) answer
         (view_of_pass pass)) where
-      pub insert_leaves_player : new.end.0 ≡ end_behind old.end.0 told
-          → LeavesPlayer wal told old new
-      insert_leaves_player end_is = leaves_player end_is
+      pub insert_leaves_session : new.end.0 ≡ end_behind old.end.0 told
+          → LeavesSession wal told old new
+      insert_leaves_session end_is = leaves_session end_is
           (subst (λ (t : Told). HasEnd (setup_of_log wal) (end_behind old.end.0 t)
           (view_of_pass pass)) (sym is)
           (end_inserted (setup_of_log wal) (has_valid_size wal old.pass here.pass)
-          (view_of_player old) (view_of_pass pass) keeps old.end.0 has_end body answer answers))
+          (view_of_session old) (view_of_pass pass) keeps old.end.0 has_end body answer answers))
 
       pub insert_plays_answer : KnowsRecords
-          → ((faults : ℕ) → KnowsDown faults (view_of_player old)
+          → ((faults : ℕ) → KnowsDown faults (view_of_session old)
           → answer ≡ Err (inserts.Down faults None))
           → (value : Record) → IsBodyOf value body → PlaysAnswer wal (Insert value) told old new
       insert_plays_answer knows_record again value is_body = plays_answer (Insert value)
-          (plays_insert knows_record (setup_of_log wal) body (view_of_player old)
+          (plays_insert knows_record (setup_of_log wal) body (view_of_session old)
           (view_of_pass pass) value is_body answer told is answers again)
 
     module _ (answer : Result Sealed refused.Refused) (is : told ≡ told_of_commit answer)
-        (answers : AnswersCommit (setup_of_log wal) body (view_of_player old) answer
+        (answers : AnswersCommit (setup_of_log wal) body (view_of_session old) answer
         (view_of_pass pass)) where
-      pub commit_leaves_player : new.end.0 ≡ end_behind old.end.0 told
-          → LeavesPlayer wal told old new
-      commit_leaves_player end_is = leaves_player end_is
+      pub commit_leaves_session : new.end.0 ≡ end_behind old.end.0 told
+          → LeavesSession wal told old new
+      commit_leaves_session end_is = leaves_session end_is
           (subst (λ (t : Told). HasEnd (setup_of_log wal) (end_behind old.end.0 t)
           (view_of_pass pass)) (sym is)
           (end_committed (setup_of_log wal) (has_valid_size wal old.pass here.pass)
-          (view_of_player old) (view_of_pass pass) keeps old.end.0 has_end body answer answers))
+          (view_of_session old) (view_of_pass pass) keeps old.end.0 has_end body answer answers))
 
       pub commit_plays_answer : KnowsRecords
-          → ((faults : ℕ) → KnowsDown faults (view_of_player old)
+          → ((faults : ℕ) → KnowsDown faults (view_of_session old)
           → answer ≡ commit_known_down faults)
           → (value : Record) → IsBodyOf value body → PlaysAnswer wal (Commit value) told old new
       commit_plays_answer knows_record again value is_body = plays_answer (Commit value)
-          (plays_commit knows_record (setup_of_log wal) body (view_of_player old)
+          (plays_commit knows_record (setup_of_log wal) body (view_of_session old)
           (view_of_pass pass) value is_body answer told is answers again)
 
   module _ (answer : Result hard.Hard FlushErr) (is : told ≡ told_of_flushed answer)
-      (answers : AnswersFlush old.end.0 (view_of_player old) answer (view_of_pass pass)) where
-    pub flush_leaves_player : new.end.0 ≡ old.end.0 → LeavesPlayer wal told old new
-    flush_leaves_player end_is =
+      (answers : AnswersFlush old.end.0 (view_of_session old) answer (view_of_pass pass)) where
+    pub flush_leaves_session : new.end.0 ≡ old.end.0 → LeavesSession wal told old new
+    flush_leaves_session end_is =
         let stays : end_behind old.end.0 told ≡ old.end.0 =
         ap (end_behind old.end.0) is ∙ flush_keeps_end old.end.0 answer in
-        leaves_player (end_is ∙ sym stays)
+        leaves_session (end_is ∙ sym stays)
         (subst (λ (end : ℕ). HasEnd (setup_of_log wal) end (view_of_pass pass)) (sym stays)
         (end_flushed (setup_of_log wal) (has_valid_size wal old.pass here.pass)
-        (view_of_player old) (view_of_pass pass) keeps old.end.0 has_end old.end.0 answer
+        (view_of_session old) (view_of_pass pass) keeps old.end.0 has_end old.end.0 answer
         answers))
 
-    pub flush_plays_answer : ((faults : ℕ) → KnowsDown faults (view_of_player old)
+    pub flush_plays_answer : ((faults : ℕ) → KnowsDown faults (view_of_session old)
         → answer ≡ flush_err_known_down faults)
         → PlaysAnswer wal Flush told old new
     flush_plays_answer again = plays_answer Flush
         (plays_flush (setup_of_log wal) (has_valid_size wal old.pass here.pass)
-        (view_of_player old) (view_of_pass pass) (has_setup wal old.pass here.pass) old.end.0
+        (view_of_session old) (view_of_pass pass) (has_setup wal old.pass here.pass) old.end.0
         has_end answer told is answers again)
 
 -- a flush of the end kept is not found unreserved
-pub player_never_unreserved : {D : Type 0} (wal : Wal D) (player : Player)
-    → IsPlayerOf wal player → (found : ℕ) (new : SeatView)
-    → IsUnreserved player.end.0 found (view_of_player player) new → ⊥
-player_never_unreserved {D} wal player here found new told =
-    never_unreserved (setup_of_log wal) (has_valid_size wal player.pass here.pass)
-    (view_of_player player) new (has_setup wal player.pass here.pass) player.end.0
+pub session_never_unreserved : {D : Type 0} (wal : Wal D) (session : Session)
+    → IsSessionOf wal session → (found : ℕ) (new : SeatView)
+    → IsUnreserved session.end.0 found (view_of_session session) new → ⊥
+session_never_unreserved {D} wal session here found new told =
+    never_unreserved (setup_of_log wal) (has_valid_size wal session.pass here.pass)
+    (view_of_session session) new (has_setup wal session.pass here.pass) session.end.0
     here.end.reserved found told

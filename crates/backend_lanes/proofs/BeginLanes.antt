@@ -19,7 +19,7 @@ use Rattle.wal_log.specs.Sharing.{ShareNumbers}
 use Rattle.wal_log.proofs.Lanes.{views_with_one_more}
 use Rattle.backend_lanes.specs.Backends.{HasRoom, scripts_of}
 use Rattle.backend_lanes.specs.Lanes.{BegunLanes, IsFreshLane, IsIdle, view_of_lane}
-use Rattle.backend_lanes.specs.Players.{state_of_view}
+use Rattle.backend_lanes.specs.Sessions.{state_of_view}
 use Rattle.backend_lanes.specs.declared.backend.Backend.{Backend}
 use Rattle.backend_lanes.specs.declared.lane.Lane.{Lane}
 use Rattle.backend_lanes.proofs.Answering.{has_valid_size}
@@ -63,18 +63,18 @@ module _ {D : Type 0} (wal : Wal D) where
       (first_position size) size (omega arith)
 
   -- a lane with a pass that was just split off
-  fresh_lane : (lane : Lane) (v : SeatView) → IsPassOfLog wal (lane.player).pass
-      → view_of_lane lane ≡ seat_split_off v → ((lane.player).end).0 ≡ size → HasRoom lane.backend
+  fresh_lane : (lane : Lane) (v : SeatView) → IsPassOfLog wal (lane.session).pass
+      → view_of_lane lane ≡ seat_split_off v → ((lane.session).end).0 ≡ size → HasRoom lane.backend
       → IsFreshLane wal lane
   fresh_lane lane v pass split start room = record {
-    player = record {
-      player = record {
+    session = record {
+      session = record {
         pass = pass;
         end = record {
-          own = inl (subst (λ (es : List Entry). end_of_own size es ≤ ((lane.player).end).0)
+          own = inl (subst (λ (es : List Entry). end_of_own size es ≤ ((lane.session).end).0)
               (sym (ap (λ (w : SeatView). (w.reserving).entries) split))
               (subst (λ (end : ℕ). end_of_own size [] ≤ end) (sym start)
-              (own_of_none (lane.player).pass pass)));
+              (own_of_none (lane.session).pass pass)));
           reserved = inl (omega (arith, start));
         };
       };
@@ -130,9 +130,9 @@ module _ {D : Type 0} (wal : Wal D) where
       → AreBeginning old all (lane.backend ∷ rest) lanes first
       → more.items ≡ lanes.items ++ lane ∷ [] → vec_capacity more ≡ vec_capacity lanes
       → IsPassOfLog wal left × (view_of_pass left ≡ seat_after_split (view_of_pass first))
-      → IsPassOfLog wal (lane.player).pass
+      → IsPassOfLog wal (lane.session).pass
       × (view_of_lane lane ≡ seat_split_off (view_of_pass first))
-      → ((lane.player).end).0 ≡ size
+      → ((lane.session).end).0 ≡ size
       → ((v : SeatView) (others : List SeatView) → ShareNumbers (setup_of_log wal).passes v others
       → ShareNumbers (setup_of_log wal).passes (seat_after_split v)
       (others ++ seat_split_off v ∷ []))

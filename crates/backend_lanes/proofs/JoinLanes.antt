@@ -25,7 +25,7 @@ use Rattle.run_laws.proofs.TakingIn.{none_taken_in, one_more_taken_in}
 use Rattle.wal_log.specs.Sharing.{ShareNumbers}
 use Rattle.backend_lanes.specs.Backends.{HasToldEach, HaveToldEach, lists_of}
 use Rattle.backend_lanes.specs.Lanes.{IsIdle, MayBeTakenIn, PlayedLanes, view_of_lane}
-use Rattle.backend_lanes.specs.Players.{IsReserved}
+use Rattle.backend_lanes.specs.Sessions.{IsReserved}
 use Rattle.backend_lanes.specs.declared.backend.Backend.{Backend}
 use Rattle.backend_lanes.specs.declared.lane.Lane.{Lane}
 use Rattle.backend_lanes.proofs.Answering.{has_valid_size, reserved_max, reserved_since}
@@ -141,7 +141,7 @@ module _ {D : Type 0} (wal : Wal D) where
       ∙ append-nil h.front)
 
   module _ (script : List (List AskedLine)) (begun v both : SeatView) (lane : Lane)
-      (rest : List Lane) (backends : List Backend) (pass : IsPassOfLog wal (lane.player).pass)
+      (rest : List Lane) (backends : List Backend) (pass : IsPassOfLog wal (lane.session).pass)
       (both_is : both ≡ seat_after_join v (view_of_lane lane)) where
     further_front : (front behind : List (List AskedLine)) → script ≡ front ++ behind
         → PlayedLanes wal (1 + length front) behind (lane ∷ rest)
@@ -170,7 +170,7 @@ module _ {D : Type 0} (wal : Wal D) where
               (sym (ap (λ (x : SeatView). view_on held x) both_is ∙ joined held v w))
               (one_more_taken_in opening (view_on held v) (view_on held w) front
               (lists_of backends) asked lane.backend.told.items (taken idle held) left.1
-              (left.0).player.joined left.3 (rose_since (lane.player).pass pass)));
+              (left.0).session.joined left.3 (rose_since (lane.session).pass pass)));
         }
 
   -- the lanes in front were taken in by the first pass, which had the view `begun`; what their
@@ -225,12 +225,12 @@ module _ {D : Type 0} (wal : Wal D) where
         → JoinsKeepNumbers (setup_of_log wal).passes → IsPassOfLog wal new
         → view_of_pass new ≡ seat_after_join (view_of_pass first) (view_of_lane lane)
         → more.items ≡ backends.items ++ lane.backend ∷ []
-        → vec_capacity more ≡ vec_capacity backends → further ≡ max end ((lane.player).end).0
+        → vec_capacity more ≡ vec_capacity backends → further ≡ max end ((lane.session).end).0
         → AreJoining begun all rest new more further
     one_more_joined new more further keep pass is pushed capacity end_is =
         let setup : Setup = setup_of_log wal in
         let mine : MayBeTakenIn wal lane = next_may_be_taken_in in
-        let own : ℕ = ((lane.player).end).0 in
+        let own : ℕ = ((lane.session).end).0 in
         let v = view_of_pass first in
         let w = view_of_lane lane in
         let views = map (λ (lane : Lane). view_of_lane lane) rest in
@@ -247,13 +247,13 @@ module _ {D : Type 0} (wal : Wal D) where
                 capacity,
               ));
           shared = subst (λ (x : SeatView). ShareNumbers setup.passes x views) (sym is)
-              (keep v w views (mine.player).none_to_give before.shared);
+              (keep v w views (mine.session).none_to_give before.shared);
           taken = λ script played.
               let front = before.taken script played in
               subst (λ (bs : List Backend). HasTakenFront script begun (view_of_pass new) rest bs)
               (sym pushed)
               (further_front script begun v (view_of_pass new) lane rest backends.items
-              ((mine.player).player).pass is front.front front.behind front.script_is front.left
+              ((mine.session).session).pass is front.front front.behind front.script_is front.left
               front.each front.taken);
           reaches = subst (λ (bs : List Backend). ReachesAll setup.segment_size further
               (lists_of bs)) (sym pushed)
@@ -263,7 +263,7 @@ module _ {D : Type 0} (wal : Wal D) where
               before.reaches mine.ends));
           reserved = subst (λ (n : ℕ). IsReserved setup n (view_of_pass new)) (sym end_is)
               (reserved_behind_join setup (has_valid_size wal new pass) end own v w
-              (view_of_pass new) is before.reserved (((mine.player).player).end).reserved);
+              (view_of_pass new) is before.reserved (((mine.session).session).end).reserved);
         }
 
   module _ (begun : SeatView) (all rest : List Lane) (first : Pass)

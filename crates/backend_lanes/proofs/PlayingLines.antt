@@ -1,4 +1,4 @@
--- Lines that a player has played so far, one more at a time.
+-- Lines that a session has played so far, one more at a time.
 use Rattle.std.proofs.Common.{◌≡◌, ℕ, zero, suc, ◌+◌, ◌<◌, ◌≤◌, All, List, [], ◌∷◌, ◌++◌, get_or, length, take, ap, arith, refl, subst, sym, ◌∙◌}
 use Rattle.std.proofs.lemmas.List.{length_push, take_all}
 use Rattle.std.proofs.lemmas.List.Elements.{All-nil, All-push, All-weaker}
@@ -16,8 +16,8 @@ use Rattle.told_lines.specs.declared.told.Told.{Told}
 use Rattle.told_lines.specs.declared.told.Told.TheVariants.{Wrote, Hard, Flushed, Refused}
 use Rattle.run_laws.specs.Played.{PassState, PlaysLine, PlaysLines, state_at_first}
 use Rattle.run_laws.specs.Reached.{EndsBy}
-use Rattle.backend_lanes.specs.Players.{IsPlayerOf, LeavesPlayer, PlaysAnswer, state_of_player, view_of_player}
-use Rattle.backend_lanes.specs.declared.player.Player.{Player}
+use Rattle.backend_lanes.specs.Sessions.{IsSessionOf, LeavesSession, PlaysAnswer, state_of_session, view_of_session}
+use Rattle.backend_lanes.specs.declared.session.Session.{Session}
 
 -- ---- an address further on
 
@@ -54,7 +54,7 @@ asked_at (first ∷ asked) (t ∷ lines) (suc i) line are within is =
           ∙ ap (λ (front : List AskedLine). first ∷ front) found.2,
     )
 
--- ---- the lines that a player has played
+-- ---- the lines that a session has played
 
 -- one line more may follow those that were played
 abbrev pub FollowOn : Type 0
@@ -70,44 +70,44 @@ PlaysFor wal pass asked told after =
     PlaysLines (setup_of_log wal).segment_size (log_limit (setup_of_log wal)) pass state_at_first
     asked told after
 
--- the lines before a place were played by a player that began with this view, and told these
+-- the lines before a place were played by a session that began with this view, and told these
 -- answers
 pub record HasPlayedUpto {D : Type 0} (wal : Wal D) (begun : SeatView) (lines : List Line) (i : ℕ)
-    (told : List Told) (player : Player) : Type 0 where
+    (told : List Told) (session : Session) : Type 0 where
   pub each : length told ≡ i
   pub plays : (asked : List AskedLine) → AreLinesOf asked lines
-      → PlaysFor wal (begun.reserving).number (take i asked) told (state_of_player player)
-  pub of_log : IsPlayerOf wal player
-  pub keeps : KeepsPass begun (view_of_player player)
-  pub ends : All (EndsBy player.end.0) told
+      → PlaysFor wal (begun.reserving).number (take i asked) told (state_of_session session)
+  pub of_log : IsSessionOf wal session
+  pub keeps : KeepsPass begun (view_of_session session)
+  pub ends : All (EndsBy session.end.0) told
 
 module _ (D : Type 0) (wal : Wal D) (begun : SeatView) (lines : List Line) where
-  pub none_played : (told : List Told) (player : Player) → told ≡ [] → IsPlayerOf wal player
-      → state_of_player player ≡ state_at_first → begun ≡ view_of_player player
-      → HasPlayedUpto wal begun lines 0 told player
-  none_played told player none is first same =
-      subst (λ (answers : List Told). HasPlayedUpto wal begun lines 0 answers player) (sym none)
+  pub none_played : (told : List Told) (session : Session) → told ≡ [] → IsSessionOf wal session
+      → state_of_session session ≡ state_at_first → begun ≡ view_of_session session
+      → HasPlayedUpto wal begun lines 0 told session
+  none_played told session none is first same =
+      subst (λ (answers : List Told). HasPlayedUpto wal begun lines 0 answers session) (sym none)
       (record {
         each = refl;
         plays = λ asked are. first;
         of_log = is;
         keeps = subst (λ (v : SeatView). KeepsPass begun v) same (same_pass begun);
-        ends = All-nil (EndsBy player.end.0);
+        ends = All-nil (EndsBy session.end.0);
       })
 
-  pub one_more_played : FollowOn → (i : ℕ) (told all : List Told) (old new : Player) (line : Line)
+  pub one_more_played : FollowOn → (i : ℕ) (told all : List Told) (old new : Session) (line : Line)
       (answer : Told) → HasPlayedUpto wal begun lines i told old → i < length lines
       → line ≡ get_or lines i line → all ≡ told ++ answer ∷ []
       → ((asked : Asked) → IsActionOf asked line.action → PlaysAnswer wal asked answer old new)
-      → LeavesPlayer wal answer old new
+      → LeavesSession wal answer old new
       → HasPlayedUpto wal begun lines (i + 1) all new
   one_more_played follow i told all old new line answer played within is pushed plays leaves =
       subst (λ (answers : List Told). HasPlayedUpto wal begun lines (i + 1) answers new)
       (sym pushed) (record {
         each = omega (arith, length_push told answer, played.each);
         plays = more_plays;
-        of_log = leaves.player;
-        keeps = further_pass begun (view_of_player old) (view_of_player new) played.keeps
+        of_log = leaves.session;
+        keeps = further_pass begun (view_of_session old) (view_of_session new) played.keeps
             leaves.keeps;
         ends = All-push (EndsBy new.end.0) told answer
             (All-weaker (EndsBy old.end.0) (EndsBy new.end.0)
@@ -117,29 +117,29 @@ module _ (D : Type 0) (wal : Wal D) (begun : SeatView) (lines : List Line) where
     where
       more_plays : (asked : List AskedLine) → AreLinesOf asked lines
           → PlaysFor wal (begun.reserving).number (take (i + 1) asked) (told ++ answer ∷ [])
-          (state_of_player new)
+          (state_of_session new)
       more_plays asked are =
           let setup : Setup = setup_of_log wal in
           let number = (begun.reserving).number in
           let found = asked_at asked lines i line are within is in
           let step = subst (λ (pass : ℕ). PlaysLine setup.segment_size (log_limit setup) pass
-          (found.0).asked answer (state_of_player old) (state_of_player new))
+          (found.0).asked answer (state_of_session old) (state_of_session new))
           (played.keeps).number (plays (found.0).asked found.1) in
           subst (λ (front : List AskedLine). PlaysFor wal number front (told ++ answer ∷ [])
-          (state_of_player new)) (sym found.2)
+          (state_of_session new)) (sym found.2)
           (follow setup.segment_size (log_limit setup) number state_at_first
-          (state_of_player old) (state_of_player new) (take i asked) told found.0 answer
+          (state_of_session old) (state_of_session new) (take i asked) told found.0 answer
           (played.plays asked are) step)
 
-  pub all_played : (i : ℕ) (told : List Told) (player : Player)
-      → HasPlayedUpto wal begun lines i told player → length lines ≤ i
+  pub all_played : (i : ℕ) (told : List Told) (session : Session)
+      → HasPlayedUpto wal begun lines i told session → length lines ≤ i
       → (asked : List AskedLine) → AreLinesOf asked lines
-      → PlaysFor wal ((view_of_player player).reserving).number asked told
-      (state_of_player player)
-  all_played i told player played end asked are =
-      subst (λ (pass : ℕ). PlaysFor wal pass asked told (state_of_player player))
+      → PlaysFor wal ((view_of_session session).reserving).number asked told
+      (state_of_session session)
+  all_played i told session played end asked are =
+      subst (λ (pass : ℕ). PlaysFor wal pass asked told (state_of_session session))
       (sym (played.keeps).number)
       (subst (λ (front : List AskedLine). PlaysFor wal (begun.reserving).number front told
-      (state_of_player player))
+      (state_of_session session))
       (take_all i asked (omega (arith, end, same_count asked lines are)))
       (played.plays asked are))

@@ -31,7 +31,7 @@ use Rattle.run_laws.specs.ClosedRuns.{HasFlushedAll}
 use Rattle.wal_log.specs.Sharing.{KeepEach, ShareNumbers}
 use Rattle.wal_log.proofs.Lanes.{views_keep_each}
 use Rattle.backend_lanes.specs.Lanes.{BegunLanes, IsFreshLane, IsIdle, MayBeTakenIn, PlayedLanes, PlaysAsked, PlaysLane, view_of_lane}
-use Rattle.backend_lanes.specs.Players.{IsReserved}
+use Rattle.backend_lanes.specs.Sessions.{IsReserved}
 use Rattle.backend_lanes.specs.declared.lane.Lane.{Lane}
 use Rattle.backend_lanes.proofs.Answering.{never_unreserved}
 use Rattle.backend_lanes.proofs.JoinLanes.{reaches_further}
@@ -73,10 +73,10 @@ module _ {D : Type 0} (wal : Wal D) where
   lane_may_be_taken_in : (old new : Lane) → IsFreshLane wal old → PlaysLane wal old new
       → MayBeTakenIn wal new
   lane_may_be_taken_in old new fresh plays = record {
-    player = record {
-      player = plays.player;
-      joined = (plays.keeps).joined ∙ (fresh.player).joined;
-      none_to_give = (plays.keeps).spare_end ∙ (fresh.player).none_to_give;
+    session = record {
+      session = plays.session;
+      joined = (plays.keeps).joined ∙ (fresh.session).joined;
+      none_to_give = (plays.keeps).spare_end ∙ (fresh.session).none_to_give;
     };
     ends = plays.ends;
   }

@@ -11,10 +11,10 @@ use Rattle.run_laws.specs.Played.{PlaysLines, state_at_first}
 use Rattle.run_laws.specs.Reached.{EndsBy}
 use Rattle.backend_lanes.specs.declared.lane.Lane.{Lane}
 use Rattle.backend_lanes.specs.Backends.{HasRoom, HasToldEach}
-use Rattle.backend_lanes.specs.Players.{IsPlayerOf, state_of_player, view_of_player}
+use Rattle.backend_lanes.specs.Sessions.{IsSessionOf, state_of_session, view_of_session}
 
 abbrev pub view_of_lane : Lane → SeatView
-view_of_lane lane = view_of_player lane.player
+view_of_lane lane = view_of_session lane.session
 
 -- the first pass beside the lanes: it has number 0, reserved nothing and took nobody in
 pub record IsIdle (v : SeatView) : Type 0 where
@@ -22,33 +22,33 @@ pub record IsIdle (v : SeatView) : Type 0 where
   pub none : (v.reserving).entries ≡ []
   pub joined : (v.reserving).joined ≡ []
 
--- a lane's player, which took nobody in and has no number to give away
-pub record HasLanePlayer {D : Type 0} (wal : Wal D) (lane : Lane) : Type 0 where
-  pub player : IsPlayerOf wal lane.player
+-- a lane's session, which took nobody in and has no number to give away
+pub record HasLaneSession {D : Type 0} (wal : Wal D) (lane : Lane) : Type 0 where
+  pub session : IsSessionOf wal lane.session
   pub joined : ((view_of_lane lane).reserving).joined ≡ []
   pub none_to_give : ((view_of_lane lane).reserving).spare_end ≡ 0
 
 -- a lane before its first line
 pub record IsFreshLane {D : Type 0} (wal : Wal D) (lane : Lane) : Type 0 where
-  pub player : HasLanePlayer wal lane
-  pub unplayed : state_of_player lane.player ≡ state_at_first
+  pub session : HasLaneSession wal lane
+  pub unplayed : state_of_session lane.session ≡ state_at_first
   pub room : HasRoom lane.backend
 
 -- the lines that ask for this, played from the first on by a pass of a number, leave this lane
 abbrev pub PlaysAsked : {D : Type 0} → Wal D → ℕ → List AskedLine → Lane → Type 0
 PlaysAsked wal pass asked lane =
     PlaysLines (setup_of_log wal).segment_size (log_limit (setup_of_log wal)) pass state_at_first
-    asked lane.backend.told.items (state_of_player lane.player)
+    asked lane.backend.told.items (state_of_session lane.session)
 
 -- what playing its lines leaves of a lane
 pub record PlaysLane {D : Type 0} (wal : Wal D) (old new : Lane) : Type 0 where
-  pub player : IsPlayerOf wal new.player
+  pub session : IsSessionOf wal new.session
   pub keeps : KeepsPass (view_of_lane old) (view_of_lane new)
   pub lines : new.backend.lines ≡ old.backend.lines
   pub each : length new.backend.told.items ≡ length new.backend.lines.items
   pub plays : (asked : List AskedLine) → AreLinesOf asked new.backend.lines.items
       → PlaysAsked wal ((view_of_lane new).reserving).number asked new
-  pub ends : All (EndsBy new.player.end.0) new.backend.told.items
+  pub ends : All (EndsBy new.session.end.0) new.backend.told.items
 
 -- lanes before their first lines, whose passes have the numbers from this one on, for the backends
 -- of a script
@@ -61,8 +61,8 @@ BegunLanes wal pass script others = ⊥
 
 -- a lane that may be taken in
 pub record MayBeTakenIn {D : Type 0} (wal : Wal D) (lane : Lane) : Type 0 where
-  pub player : HasLanePlayer wal lane
-  pub ends : All (EndsBy lane.player.end.0) lane.backend.told.items
+  pub session : HasLaneSession wal lane
+  pub ends : All (EndsBy lane.session.end.0) lane.backend.told.items
 
 -- lanes that played the lines of a script's backends, whose passes have the numbers from this one
 -- on

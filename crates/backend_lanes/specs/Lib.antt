@@ -1,4 +1,4 @@
 pub mod Backends
-pub mod Players
+pub mod Sessions
 pub mod Lanes
 pub mod Playing

@@ -1,4 +1,7 @@
-// One backend at work.
+// One backend at work. Its thread has the lane alone, and with it a pass of the log that is about
+// nothing between two lines. For each line the gate is passed, then its call is made, then the
+// answer is noted. So the answers stand in the order of the lines, and line by line they are what
+// the pass's log came to have.
 ghost use Rattle.std.specs.Prelude.{◌≡◌, ◌≤◌, All, List, [], length, vec_capacity};
 ghost use Rattle.wal_core.specs.Words.{log_limit};
 ghost use Rattle.wal_log.specs.Logs.{setup_of_log};
@@ -8,11 +11,11 @@ ghost use Rattle.wal_script.specs.Bodies.{AreLinesOf};
 ghost use Rattle.run_laws.specs.Played.{PlaysLines, state_at_first};
 ghost use Rattle.run_laws.specs.Reached.{EndsBy};
 ghost use Rattle.backend_lanes.specs.Lanes.{IsFreshLane, PlaysLane};
-ghost use Rattle.backend_lanes.specs.Players.{IsPlayerOf, state_of_player, view_of_player};
+ghost use Rattle.backend_lanes.specs.Sessions.{IsSessionOf, state_of_session, view_of_session};
 
 use crate::backend::Backend;
 use crate::gate::Gate;
-use crate::player::Player;
+use crate::session::Session;
 use run_laws::laws::lines_are_played_one_by_one;
 use segment_disk::Disk;
 use std::sync::Wait;
@@ -23,7 +26,7 @@ use wal_script::Line;
 /// A backend at work: its pass, its lines, and what they were told so far.
 #[derive(Drop)]
 pub(crate) struct Lane {
-    pub player: Player,
+    pub session: Session,
     pub backend: Backend,
 }
 
@@ -40,39 +43,45 @@ impl Lane {
             rt,
             log,
             gate,
-            &mut self.player,
+            &mut self.session,
             &self.backend.lines,
             &mut self.backend.told,
         );
     }
 }
 
+// Plays lines in order, by a session that has reserved nothing, and notes each answer in the room
+// there is.
 fn play_lines<R: Wait, D: Disk, G: Gate>(
     rt: &R,
     log: &Wal<D>,
     gate: &G,
-    player: &mut Player,
+    session: &mut Session,
     lines: &[Line],
     told: &mut Vec<Told>,
 )
-    requires player { IsPlayerOf log.now player.old }
-    requires unplayed { state_of_player player.old ≡ state_at_first }
+    // The session's pass is the log's and about nothing; it has no entry and no promise, and no
+    // line was told anything.
+    requires session { IsSessionOf log.now session.old }
+    requires unplayed { state_of_session session.old ≡ state_at_first }
     requires none { told.old.items ≡ [] }
     requires room { length lines.now ≤ vec_capacity told.old }
     ensures each { length told.new.items ≡ length lines.now }
+    // Whatever the lines ask for, their answers say, one by one, what they added to the pass's log.
     ensures plays { (asked : List AskedLine) → AreLinesOf asked lines.now
         → PlaysLines (setup_of_log log.now).segment_size (log_limit (setup_of_log log.now))
-        (view_of_player player.new).reserving.number state_at_first asked told.new.items
-        (state_of_player player.new) }
-    ensures player { IsPlayerOf log.now player.new }
-    ensures keeps { KeepsPass (view_of_player player.old) (view_of_player player.new) }
-    ensures ends { All (EndsBy player.new.end.0) told.new.items }
+        (view_of_session session.new).reserving.number state_at_first asked told.new.items
+        (state_of_session session.new) }
+    // The pass is about nothing again, and no line was told an end above the one that is kept.
+    ensures session { IsSessionOf log.now session.new }
+    ensures keeps { KeepsPass (view_of_session session.old) (view_of_session session.new) }
+    ensures ends { All (EndsBy session.new.end.0) told.new.items }
 {
     lines_are_played_one_by_one();
-    let backend = player.backend();
+    let backend = session.backend();
     for line in lines {
         gate.pass(backend, line.number);
-        let answer = player.answer(rt, log, &line.action);
+        let answer = session.answer(rt, log, &line.action);
         told.push_reserved(answer);
     }
 }

@@ -1,4 +1,8 @@
-// Lanes are split off the log's first pass, work side by side, and are taken in again.
+// Lanes are split off the log's first pass, work side by side, and are taken in again. Backend b,
+// from 0, has the pass with number b + 1. While lanes work, each is one thread's, the first pass
+// makes no call, and the log and the gate are all that they share. Each number of the log is the
+// first pass's or a lane's all the time. Behind the join the first pass has all numbers, and with
+// them what each backend's pass reserved and was promised, in the order of the backends.
 ghost use Rattle.std.specs.Prelude.{◌≡◌, ℕ, ◌-◌, ◌<◌, ◌≤◌, All, List, [], length, map, slice_index_or, vec_capacity, vec_len};
 ghost use Rattle.segment_disk.specs.Tape.{DiskState};
 ghost use Rattle.machine_laws.specs.ClosedLogs.{HasAllNumbers};
@@ -12,13 +16,13 @@ ghost use Rattle.wal_log.specs.Sharing.{ShareNumbers};
 ghost use Rattle.wal_script.specs.ReplayReading.{AreBackendsOf};
 ghost use Rattle.backend_lanes.specs.Backends.{HasRoom, HaveToldEach, lists_of, scripts_of};
 ghost use Rattle.backend_lanes.specs.Lanes.{BegunLanes, IsFreshLane, IsIdle, MayBeTakenIn, PlayedLanes, PlaysLane, view_of_lane};
-ghost use Rattle.backend_lanes.specs.Players.{IsReserved};
+ghost use Rattle.backend_lanes.specs.Sessions.{IsReserved};
 ghost use Rattle.backend_lanes.specs.declared.lane.Lane.{Lane};
 
 use crate::backend::Backend;
 use crate::gate::Gate;
 use crate::lane::Lane;
-use crate::player::Player;
+use crate::session::Session;
 use segment_disk::Disk;
 use std::sync::Wait;
 use std::thread;
@@ -36,17 +40,21 @@ pub(crate) fn begin_lanes<D: Disk>(
     mut lanes: Vec<Lane>,
     start: Lsn,
 ) -> Vec<Lane>
+    // The first pass has a spare number for each backend, each backend has room for its answers,
+    // and `lanes` has room for them all.
     requires pass { IsPassOfLog log.now first.old }
     requires spare { vec_len backends ≤ first.old.spare_end - first.old.spare }
     requires room { All HasRoom backends.items }
     requires none { lanes.items ≡ [] }
     requires lanes_room { vec_len backends ≤ vec_capacity lanes }
     requires start { start.0 ≡ (setup_of_log log.now).segment_size }
+    // Each lane has its backend's lines, and a pass with the next number that has reserved nothing.
     ensures count { vec_len result ≡ vec_len backends }
     ensures lanes { (script : List (List AskedLine))
         → AreBackendsOf script (scripts_of backends.items)
         → BegunLanes log.now first.old.spare script result.items }
     ensures fresh { All (IsFreshLane log.now) result.items }
+    // No number is lost, and a first pass that had reserved nothing has reserved nothing still.
     ensures numbers { HasAllNumbers (setup_of_log log.now).passes
         (view_of_pass first.old).reserving
         → ShareNumbers (setup_of_log log.now).passes (view_of_pass first.new)
@@ -58,7 +66,7 @@ pub(crate) fn begin_lanes<D: Disk>(
     for backend in backends {
         let pass = log.split(first);
         lanes.push_reserved(Lane {
-            player: Player { pass, end: start },
+            session: Session { pass, end: start },
             backend,
         });
     }
@@ -98,6 +106,8 @@ pub(crate) fn join_lanes<D: Disk>(
     mut backends: Vec<Backend>,
     start: Lsn,
 ) -> Rejoined
+    // The lanes' passes are about nothing and share the log's numbers with the first; `backends`
+    // has room for all.
     requires pass { IsPassOfLog log.now first.old }
     requires lanes { All (MayBeTakenIn log.now) lanes.items }
     requires numbers { ShareNumbers (setup_of_log log.now).passes (view_of_pass first.old)
@@ -105,15 +115,19 @@ pub(crate) fn join_lanes<D: Disk>(
     requires none { backends.items ≡ [] }
     requires room { vec_len lanes ≤ vec_capacity backends }
     requires start { start.0 ≡ (setup_of_log log.now).segment_size }
+    // What the lines were told is what stands in the logs that the first pass took in.
     ensures taken { (script : List (List AskedLine)) → PlayedLanes log.now 1 script lanes.items
         → IsIdle (view_of_pass first.old) → (held : DiskState)
         → HasTakenIn (opening_of_log log.now) (view_on held (view_of_pass first.new)) script
         (lists_of result.backends.items) }
     ensures lines { (script : List (List AskedLine)) → PlayedLanes log.now 1 script lanes.items
         → HaveToldEach script result.backends.items }
+    // The end told is at or above each that a line was told, and the first pass has seen it
+    // reserved or it is the log's start; so a flush may go up to it.
     ensures reaches { ReachesAll (setup_of_log log.now).segment_size result.end.0
         (lists_of result.backends.items) }
     ensures reserved { IsReserved (setup_of_log log.now) result.end.0 (view_of_pass first.new) }
+    // Nobody else has a pass of the log any more.
     ensures numbers { HasAllNumbers (setup_of_log log.now).passes
         (view_of_pass first.new).reserving }
     ensures pass { IsPassOfLog log.now first.new }
@@ -121,9 +135,9 @@ pub(crate) fn join_lanes<D: Disk>(
     passes_share_numbers();
     let mut end = start;
     for lane in lanes {
-        let Lane { player, backend } = lane;
-        log.join(first, player.pass);
-        end = Lsn(end.0.max(player.end.0));
+        let Lane { session, backend } = lane;
+        log.join(first, session.pass);
+        end = Lsn(end.0.max(session.end.0));
         backends.push_reserved(backend);
     }
     Rejoined { backends, end }

@@ -5,9 +5,9 @@ mod backend;
 mod gate;
 mod lane;
 mod lanes;
-mod player;
 mod playing;
+mod session;
 
 pub use backend::Backend;
-pub use gate::Gate;
-pub use playing::{Played, Room, play_backends};
+pub use gate::{Gate, OpenGate};
+pub use playing::{PlayedRun, Room, play_backends};

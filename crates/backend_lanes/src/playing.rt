@@ -1,4 +1,8 @@
-// The backends of a run, from the log's opening to its close.
+// The backends of a run, from the log's opening to its close. Room is made before the log is
+// opened, so that nothing takes memory with a log open. Then, with the first pass in hand: a pass
+// is split off for each backend, each plays its lines in its thread, all passes are taken in again,
+// the first one flushes up to the greatest end that was told, and the log is closed. No line asked
+// for that flush, so none is told of it: it is for records that no line has flushed.
 ghost use Rattle.std.specs.Prelude.{◌≡◌, ◌+◌, ◌<◌, IfOk, List, length, map, vec_len};
 ghost use Rattle.wal_rule.specs.Passes.{view_of_pass};
 ghost use Rattle.wal_rule.specs.Seats.{first_seat_view};
@@ -52,7 +56,7 @@ impl Room {
 
 /// What a run leaves: its closed log, and its backends with what their lines were told.
 #[derive(Drop)]
-pub struct Played<D> {
+pub struct PlayedRun<D> {
     pub closed: Closed<D>,
     pub backends: Vec<Backend>,
 }
@@ -67,12 +71,16 @@ pub fn play_backends<R: Threads + Wait + Sync, D: Disk + Send, G: Gate + Sync>(
     room: Room,
     gate: &G,
     start: Lsn,
-) -> Played<D>
+) -> PlayedRun<D>
+    // The first pass is as the log's opening left it, and there are as many other numbers as
+    // backends.
     requires pass { IsPassOfLog log first }
     requires fresh { view_of_pass first ≡ first_seat_view (opening_of_log log) }
     requires passes { (setup_of_log log).passes ≡ 1 + vec_len room.backends }
     requires room { (scripts : _) × IsRoomFor scripts room }
     requires start { start.0 ≡ (setup_of_log log).segment_size }
+    // Each line was told an answer, the answers are what the passes' logs came to have, the log was
+    // closed, and the first pass was promised all that was told or knows of a failed disk.
     ensures { (script : List (List AskedLine))
         → AreBackendsOf script (scripts_of room.backends.items)
         → HasPlayed D.tape D.moment D.faults log script result.backends.items result.closed }
@@ -90,7 +98,7 @@ pub fn play_backends<R: Threads + Wait + Sync, D: Disk + Send, G: Gate + Sync>(
     let Rejoined { backends, end } = join_lanes(&log, &mut first, lanes, played, start);
     // No line asked for this flush, so none is told its answer.
     let _ = log.flush(rt, &mut first, end);
-    Played {
+    PlayedRun {
         closed: log.close(first),
         backends,
     }

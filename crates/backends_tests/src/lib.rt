@@ -1,27 +1,20 @@
-//! Tests of runs with several backends, each in a thread of its own.
+//! Tests of what backends are told, one alone and several in threads of their own. The crate itself
+//! is empty.
 #![tactic(auto)]
 
 #[cfg(test)]
 mod faults;
 #[cfg(test)]
-mod generated;
+mod lines;
 #[cfg(test)]
 mod listed;
 #[cfg(test)]
 mod meeting;
 #[cfg(test)]
-mod random;
+mod played;
 #[cfg(test)]
-mod random_runs;
+mod random_lines;
 #[cfg(test)]
-mod reading;
-#[cfg(test)]
-mod refusals;
-#[cfg(test)]
-mod rooms;
-#[cfg(test)]
-mod scripts;
-#[cfg(test)]
-mod side_by_side;
+mod rows;
 #[cfg(test)]
 mod told;

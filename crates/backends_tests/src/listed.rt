@@ -1,61 +1,60 @@
 //! The records that a listing names.
 
-use played_commands::dump;
+use crate::meeting::NOBODY;
+use crate::played::{Run, play};
+use crate::told::starts_told;
 use segment_disk::MemDisk;
 use std::alloc::Global;
-use std::process::Abort;
 use std::sync::Wait;
 use std::test::Fail;
 use std::thread::Threads;
 use wal_types::Lsn;
 
-// The number that a position's text spells, up to the first byte that is no part of it.
-fn position_in(text: &[u8]) -> Lsn {
-    let mut position = 0u64;
-    for byte in text {
-        match (*byte as char).to_digit(16) {
-            Some(digit) => position = position.wrapping_mul(16).wrapping_add(u64::from(digit)),
-            None if *byte == b'/' => {}
-            None => return Lsn(position),
-        }
-    }
-    Lsn(position)
-}
+/// A listing of all records.
+pub const DUMP: [&str; 3] = ["dump", "--seg", "1048576"];
 
-// Where the record of a line starts.
-fn start_in(line: &[u8]) -> Option<Lsn> {
-    let at = line
-        .windows(5)
-        .position(|word| word == b"lsn: ".as_slice())?;
-    line.get(at.wrapping_add(5)..).map(|text| position_in(text))
-}
+const DUMP_OF_COMMITS: [&str; 5] = ["dump", "--seg", "1048576", "--rmgr", "transaction"];
 
-/// Where the records of a listing start, in its order.
-pub fn starts_listed(alloc: Global, listing: &[u8]) -> Result<Vec<Lsn>, Fail> {
-    let mut starts = Vec::new(alloc);
+// Where a record's start stands in its line: what is before it has the same width in each.
+const START: usize = 69;
+
+const START_END: usize = 79;
+
+/// The records that a listing has, of these that start here, if they are the first ones.
+pub fn front_listed<'a>(listing: &[u8], starts: &'a [Lsn]) -> Option<&'a [Lsn]> {
+    let mut count = 0usize;
     for line in listing.split(|byte| *byte == b'\n') {
-        if let Some(start) = start_in(line) {
-            starts.push(start)?;
+        if !line.is_empty() {
+            let start = starts.get(count)?;
+            if line.get(START..START_END)? != start.text().as_bytes() {
+                return None;
+            }
+            count = count.wrapping_add(1);
         }
     }
-    Ok(starts)
+    starts.get(..count)
 }
 
-/// Checks that a disk's log comes to a clean end and that these records are listed of it with
-/// these options, and answers the disk.
-pub fn lists<R: Abort + Threads + Wait + Sync>(
+// Whether a disk's log comes to a clean end, and a command lists just the records that start here;
+// and the disk.
+fn lists<R: Threads + Wait + Sync>(
     rt: &R,
     alloc: Global,
+    words: &[&str],
     disk: MemDisk,
-    options: &[&str],
     starts: &[Lsn],
-) -> Result<MemDisk, Fail> {
-    let listed = dump(rt, alloc, disk, options)?;
-    assert_eq!(rt; listed.ended.status, 0);
-    assert_eq!(rt;
-        starts_listed(alloc, listed.out.taken())?.as_slice(),
-        starts
-    );
-    let ended = listed.ended;
-    Ok(ended.disk)
+) -> Result<(bool, MemDisk), Fail> {
+    let dumped = play(rt, alloc, words, Vec::new(alloc), disk, NOBODY)?;
+    let is_just_these = front_listed(dumped.out.taken(), starts) == Some(starts);
+    Ok((is_just_these && dumped.status == 0, dumped.disk))
+}
+
+/// Whether a run's records are listed where they were told, and as transactions just those that
+/// were told to be durable.
+pub fn is_listed<R: Threads + Wait + Sync>(rt: &R, alloc: Global, run: Run) -> Result<bool, Fail> {
+    let all = starts_told(alloc, &run.told, None)?;
+    let commits = starts_told(alloc, &run.told, Some(u64::MAX))?;
+    let (is_whole, disk) = lists(rt, alloc, &DUMP, run.disk, &all)?;
+    let (has_commits, _) = lists(rt, alloc, &DUMP_OF_COMMITS, disk, &commits)?;
+    Ok(is_whole && has_commits)
 }

@@ -2,102 +2,84 @@
 
 use backend_cli::{Cause, Told, ToldLists};
 use std::alloc::Global;
-use std::process::Abort;
 use std::test::Fail;
 use wal_types::Lsn;
 
-/// Where the records of a backend's lines start, in the order of the lines.
-pub fn starts_of(alloc: Global, told: &[Told]) -> Result<Vec<Lsn>, Fail> {
-    let mut starts = Vec::new(alloc);
+// Whether an answer tells that its record is durable by a moment; where none is given, each does.
+fn is_durable_by(answer: &Told, latest: Option<u64>) -> bool {
+    match latest {
+        Some(latest) => match answer {
+            Told::Hard { moment, .. } => *moment <= latest,
+            _ => false,
+        },
+        None => true,
+    }
+}
+
+// Adds where the records of a backend start. An error if they do not rise.
+fn add_starts(starts: &mut Vec<Lsn>, told: &[Told], latest: Option<u64>) -> Result<(), Fail> {
+    let mut last = Lsn(0);
     for answer in told {
         if let Some(start) = answer.reserved() {
-            starts.push(start)?;
-        }
-    }
-    Ok(starts)
-}
-
-/// Whether each record starts behind the one before.
-pub fn rises(starts: &[Lsn]) -> bool {
-    let mut last = Lsn(0);
-    for start in starts {
-        if *start <= last {
-            return false;
-        }
-        last = *start;
-    }
-    true
-}
-
-/// Where the records of all backends start, sorted; each backend's rise.
-pub fn all_starts<R: Abort>(rt: &R, alloc: Global, told: &ToldLists) -> Result<Vec<Lsn>, Fail> {
-    let mut all = Vec::new(alloc);
-    for backend in 0..told.len() {
-        let starts = starts_of(alloc, told.of(backend))?;
-        assert!(rt; rises(&starts), "backend {backend}");
-        all.extend_from_slice(&starts)?;
-    }
-    all.sort()?;
-    Ok(all)
-}
-
-// Adds where the commits of a backend start that were told to be durable by a moment.
-fn add_hard(hard: &mut Vec<Lsn>, told: &[Told], latest: u64) -> Result<(), Fail> {
-    for answer in told {
-        if let Told::Hard { start, moment, .. } = answer {
-            if *moment <= latest {
-                hard.push(*start)?;
+            if start <= last {
+                return Err(Fail::from("records in the order of the lines"));
+            }
+            last = start;
+            if is_durable_by(answer, latest) {
+                starts.push(start)?;
             }
         }
     }
     Ok(())
 }
 
-/// Where the commits of all backends start that were told to be durable from this moment on, or
-/// from an earlier one.
-pub fn hard_by(alloc: Global, told: &ToldLists, latest: u64) -> Result<Vec<Lsn>, Fail> {
-    let mut hard = Vec::new(alloc);
+/// Where the records of all backends start, sorted: those that were told to be durable by a moment,
+/// or all that were reserved. An error if those of a backend do not rise.
+pub fn starts_told(alloc: Global, told: &ToldLists, latest: Option<u64>) -> Result<Vec<Lsn>, Fail> {
+    let mut starts = Vec::new(alloc);
     for backend in 0..told.len() {
-        add_hard(&mut hard, told.of(backend), latest)?;
+        add_starts(&mut starts, told.of(backend), latest)?;
     }
-    Ok(hard)
+    starts.sort()?;
+    Ok(starts)
 }
 
-// The count of faults that an answer tells.
-fn faults_in(answer: &Told) -> Option<u64> {
+// A fault of the line's own call of the disk.
+const OWN_FAULT: Option<Cause> = Some(Cause::Disk { faults: 1 });
+
+/// Why a line was refused.
+pub fn cause_of(answer: &Told) -> Option<Cause> {
     match answer {
-        Told::Refused {
-            cause: Cause::Disk { faults } | Cause::Down { faults },
-            ..
-        } => Some(*faults),
+        Told::Refused { cause, .. } => Some(*cause),
         _ => None,
     }
 }
 
-/// Whether an answer tells that the disk had failed before, with this count of faults.
-pub fn is_down(answer: &Told, count: u64) -> bool {
-    match answer {
-        Told::Refused {
-            cause: Cause::Down { faults },
-            ..
-        } => *faults == count,
-        _ => false,
-    }
-}
-
-/// Whether each answer tells that a commit is durable, up to one that tells a fault of the disk,
-/// behind which each tells that it had failed, with the same count.
-pub fn is_hard_then_down(told: &[Told]) -> bool {
-    let mut failed = None;
+// Whether all lines of a backend were refused for this cause behind the first that was refused;
+// that one may have been refused for a fault of its own.
+fn is_refused_for(told: &[Told], refused: Option<Cause>) -> bool {
+    let mut is_refused = false;
     for answer in told {
-        let fits = match failed {
-            Some(count) => is_down(answer, count),
-            None => answer.is_hard() || faults_in(answer).is_some(),
-        };
-        if !fits {
+        let cause = cause_of(answer);
+        let is_first = !is_refused && (cause.is_none() || cause == OWN_FAULT);
+        if !is_first && cause != refused {
             return false;
         }
-        failed = faults_in(answer);
+        is_refused = cause.is_some();
     }
     true
+}
+
+/// How many lines of all backends were told an answer, if the refused ones were refused for this
+/// cause, and each behind them.
+pub fn count_told(told: &ToldLists, refused: Option<Cause>) -> Option<usize> {
+    let mut count = 0usize;
+    for backend in 0..told.len() {
+        let answers = told.of(backend);
+        if !is_refused_for(answers, refused) {
+            return None;
+        }
+        count = count.wrapping_add(answers.len());
+    }
+    Some(count)
 }

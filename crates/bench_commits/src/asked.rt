@@ -5,16 +5,16 @@ use std::env;
 
 /// What the log is written to.
 #[derive(Clone, Copy, Debug, PartialEq, Eq)]
-pub enum Place {
+pub enum Medium {
     Memory,
     Files,
 }
 
-impl Place {
-    fn of_word(word: &str) -> Option<Place> {
+impl Medium {
+    fn of_word(word: &str) -> Option<Medium> {
         match word {
-            "memory" => Some(Place::Memory),
-            "files" => Some(Place::Files),
+            "memory" => Some(Medium::Memory),
+            "files" => Some(Medium::Files),
             _ => None,
         }
     }
@@ -22,25 +22,25 @@ impl Place {
 
 /// How many threads commit, how many commits each makes, and where to.
 #[derive(Clone, Copy, Debug, PartialEq, Eq)]
-pub struct Asked {
+pub struct Options {
     pub backends: u32,
     pub commits: u32,
-    pub place: Place,
+    pub place: Medium,
 }
 
-impl Asked {
+impl Options {
     /// What the words behind the program's name ask for.
-    pub fn of_words(rt: HostRuntime) -> Result<Asked, Trouble> {
+    pub fn of_words(rt: HostRuntime) -> Result<Options, Trouble> {
         let mut words = env::args(&rt)?.skip(1);
         let (backends, commits) = (number(words.next())?, number(words.next())?);
         let place = match words.next() {
-            Some(word) => Place::of_word(word.as_str()).ok_or(Trouble::Usage)?,
+            Some(word) => Medium::of_word(word.as_str()).ok_or(Trouble::Usage)?,
             None => return Err(Trouble::Usage),
         };
         if words.next().is_some() || backends > 1000 || commits > 1_000_000 {
             return Err(Trouble::Usage);
         }
-        Ok(Asked {
+        Ok(Options {
             backends,
             commits,
             place,

@@ -1,8 +1,8 @@
 //! The log on which threads commit.
 
-use crate::asked::Asked;
+use crate::asked::Options;
 use crate::trouble::Trouble;
-use commit_lanes::{Job, Told, commits, work_side_by_side};
+use log_workers::{Job, LogAnswer, commits, work_side_by_side};
 use segment_disk::Disk;
 use std::alloc::Global;
 use std::sync::Wait;
@@ -14,7 +14,7 @@ pub fn sealed<D: Disk + Drop + Send, R: Threads + Wait + Sync>(
     rt: &R,
     alloc: Global,
     disk: D,
-    asked: Asked,
+    asked: Options,
 ) -> Result<u64, Trouble> {
     let work = work(alloc, asked)?;
     let Ok((log, mut first)) = Wal::open(alloc, disk, setup(asked)) else {
@@ -32,7 +32,7 @@ pub fn sealed<D: Disk + Drop + Send, R: Threads + Wait + Sync>(
     Ok(count)
 }
 
-fn setup(asked: Asked) -> Setup {
+fn setup(asked: Options) -> Setup {
     Setup {
         segment_size: 1 << 24,
         ring_pages: 64,
@@ -43,7 +43,7 @@ fn setup(asked: Asked) -> Setup {
 }
 
 // For each thread its commits, of transactions of its own.
-fn work(alloc: Global, asked: Asked) -> Result<Vec<Vec<Job>>, Trouble> {
+fn work(alloc: Global, asked: Options) -> Result<Vec<Vec<Job>>, Trouble> {
     let mut work = Vec::new(alloc);
     for backend in 0..asked.backends {
         let first = backend.wrapping_mul(asked.commits).wrapping_add(1);
@@ -58,7 +58,7 @@ fn work(alloc: Global, asked: Asked) -> Result<Vec<Vec<Job>>, Trouble> {
 fn sealed_of(commits: &[Job]) -> u64 {
     let sealed = commits.iter().filter(|commit| matches!(
         commit.told,
-        Some(Told::Committed(Ok(_)))
+        Some(LogAnswer::Committed(Ok(_)))
     ));
     sealed.count() as u64
 }

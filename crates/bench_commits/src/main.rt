@@ -6,7 +6,7 @@ mod asked;
 mod log;
 mod trouble;
 
-use asked::{Asked, Place};
+use asked::{Medium, Options};
 use log::sealed;
 use segment_disk::MemDisk;
 use segment_files::FileDisk;
@@ -30,15 +30,15 @@ fn main(rt: HostRuntime) -> ExitCode {
 }
 
 fn run<R: Threads + Wait + Sync>(threads: &R, rt: HostRuntime) -> Result<(), Trouble> {
-    let asked = Asked::of_words(rt)?;
+    let asked = Options::of_words(rt)?;
     let alloc = rt.alloc();
     let count = match asked.place {
-        Place::Memory => {
+        Medium::Memory => {
             let (segments, calls) = (asked.segments(), asked.calls());
             let disk = MemDisk::new(alloc, segments, calls, Vec::new(alloc), Vec::new(alloc))?;
             sealed(threads, alloc, disk, asked)?
         }
-        Place::Files => {
+        Medium::Files => {
             let disk = FileDisk::open(rt, alloc, FOLDER, process::id(rt.process()))?;
             sealed(threads, alloc, disk, asked)?
         }

@@ -7,7 +7,7 @@ mod played;
 
 use lines::{BACKENDS, scripts};
 use machine_core::{Event, Turn};
-use played::Played;
+use played::PlayedCore;
 use std::alloc::Global;
 use std::{env, io};
 use wal_core::Setup;
@@ -69,13 +69,13 @@ fn is_asked_for_kinds(rt: HostRuntime) -> bool {
     }
 }
 
-fn machine(alloc: Global) -> Option<Played> {
-    Played::new(alloc, SETUP, scripts(alloc).ok()?, Vec::new(alloc)).ok()
+fn machine(alloc: Global) -> Option<PlayedCore> {
+    PlayedCore::new(alloc, SETUP, scripts(alloc).ok()?, Vec::new(alloc)).ok()
 }
 
 // Turns of backends, chosen at random, until all lines are answered or no turn is left. How many
 // are left.
-fn play(core: &mut Played, turns: u64, counts: &mut Counts) -> u64 {
+fn play(core: &mut PlayedCore, turns: u64, counts: &mut Counts) -> u64 {
     let mut state = 0x9e37_79b9_7f4a_7c15u64;
     let mut left = turns;
     let mut ended = 0u64;
@@ -124,7 +124,7 @@ impl Counts {
     }
 
     // So many turns of a backend, fewer where it waits or is done. How many it had.
-    fn turns(&mut self, core: &mut Played, backend: u32, given: u64) -> u64 {
+    fn turns(&mut self, core: &mut PlayedCore, backend: u32, given: u64) -> u64 {
         for made in 0..given {
             let turn = core.turn(backend);
             self.count(turn);

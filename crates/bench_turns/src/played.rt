@@ -7,11 +7,11 @@ use wal_core::Setup;
 
 /// A core that is as turns leave it, which is what its next turn rests on.
 #[derive(Drop)]
-pub struct Played {
+pub struct PlayedCore {
     core: Core,
 }
 
-impl Model for Played {
+impl Model for PlayedCore {
     ghost use Rattle.machine_core.specs.declared.machine.Core.{Core};
     ghost use Rattle.machine_core.specs.Cores.{IsPlayed};
 
@@ -22,15 +22,15 @@ impl Model for Played {
     ghost invariant = { λ p. IsPlayed p.core };
 }
 
-impl Played {
+impl PlayedCore {
     /// A machine that begins with these scripts, on a disk that fails at these calls.
     pub fn new(
         alloc: Global,
         setup: Setup,
         scripts: Vec<Script>,
         fail: Vec<u64>,
-    ) -> Result<Played, CoreErr> {
-        Ok(Played {
+    ) -> Result<PlayedCore, CoreErr> {
+        Ok(PlayedCore {
             core: Core::new(alloc, setup, scripts, fail)?,
         })
     }

@@ -3,6 +3,13 @@
 /// XLOG_BLCKSZ: the size of a page of the log in bytes.
 pub const PAGE_SIZE: u64 = 8192;
 
+/// The size of a word of the log in bytes: records and headers take up whole words, and a disk
+/// writes each word whole.
+pub const WORD: u64 = 8;
+
+/// How many words a page has.
+pub const PAGE_WORDS: u64 = PAGE_SIZE / WORD;
+
 /// SizeOfXLogLongPHD: the length of the header of a segment's first page.
 pub const LONG_HEADER_LEN: u64 = 40;
 

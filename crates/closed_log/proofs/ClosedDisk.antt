@@ -13,7 +13,7 @@ use Rattle.segment_disk.specs.Tape.{Tape}
 use Rattle.wal_page.specs.Order.{Entry, IsChained, end_position}
 use Rattle.wal_core.specs.declared.setup.Setup.{Setup}
 use Rattle.wal_core.specs.Words.{Opening, down_word, flushed_word, log_limit, moment_word}
-use Rattle.wal_core.specs.Views.{FlushPromise, Joined, Plain, View, told_of}
+use Rattle.wal_core.specs.Views.{FlushPromise, Joined, Plain, View, receipts_of}
 use Rattle.wal_core.specs.Durable.{AreKept, IsPromiseKept, IsToldRightly}
 use Rattle.wal_core.specs.Sound.{IsSetup}
 use Rattle.wal_core.proofs.Tapes.{at_suited, at_told}
@@ -85,9 +85,9 @@ module _ (opening : Opening) (order : List Entry) (t : Tape) (v : View)
   sound_tape = ap (λ (w : Plain). w.tape) (sym same_writer) ∙ c.tape_is
 
   pub crashes : CrashesLeave opening order (flushed_word c.words) (moment_word c.words) t
-      (told_of v ∷ [])
+      (receipts_of v ∷ [])
   crashes = at_suited opening c.writer (λ (t : Tape). CrashesLeave opening order flushed moment t
-      (told_of v ∷ [])) t c.tape_is c.began ((c.closed).durable).crashes
+      (receipts_of v ∷ [])) t c.tape_is c.began ((c.closed).durable).crashes
 
   -- the moment that the words tell is one of the disk's
   pub moment_passed : moment_word c.words ≤ length t.calls
@@ -97,13 +97,13 @@ module _ (opening : Opening) (order : List Entry) (t : Tape) (v : View)
       omega (arith, counted, ((c.closed).durable).moment_low)
 
   abbrev told : IsToldRightly opening (c.sound).order (flushed_word c.words)
-      (moment_word c.words) (down_word c.words) (c.sound).writer (told_of v)
+      (moment_word c.words) (down_word c.words) (c.sound).writer (receipts_of v)
   told = told_rightly opening c.words (some c.writer) c.views c.sound c.id v c.here
 
   module _ (entries : List Entry) (p : FlushPromise) (was : WasPromised v entries p) where
     pub promise_held : HoldsPromise opening order t entries p
     promise_held = of_promise (HoldsPromise opening order t) v
-        (crashes.own 0 (told_of v) refl) (crashes.joined 0 (told_of v) refl) entries p was
+        (crashes.own 0 (receipts_of v) refl) (crashes.joined 0 (receipts_of v) refl) entries p was
 
     pub promise_since : opening.moment ≤ p.moment
     promise_since =

@@ -4,7 +4,7 @@ use Rattle.std.proofs.lemmas.List.Elements.{All-contains}
 use mathlib.Core.Option.{Option}
 use Rattle.wal_page.specs.Order.{Entry, end_position}
 use Rattle.wal_core.specs.Words.{Opening, down_word, end_form, flushed_word, moment_word}
-use Rattle.wal_core.specs.Views.{HasAt, FlushPromise, Joined, Plain, View, told_of}
+use Rattle.wal_core.specs.Views.{HasAt, FlushPromise, Joined, Plain, View, receipts_of}
 use Rattle.wal_core.specs.Durable.{IsPromised, IsToldRightly}
 use Rattle.wal_core.specs.Sound.{IsSound}
 use Rattle.wal_core.proofs.Lists.{part_at}
@@ -29,8 +29,8 @@ module _ (opening : Opening) (words : List ℕ) (home : Option Plain) (views : L
     (k : IsSound opening words home views) (id : ℕ) (v : View) (here : HasAt views id v) where
   -- what the state says of this view
   pub told_rightly : IsToldRightly opening k.order (flushed_word words) (moment_word words)
-      (down_word words) k.writer (told_of v)
-  told_rightly = (k.durable).views id (told_of v) (part_at told_of views id v here)
+      (down_word words) k.writer (receipts_of v)
+  told_rightly = (k.durable).views id (receipts_of v) (part_at receipts_of views id v here)
 
   pub within_words : (entries : List Entry) (p : FlushPromise) → WasPromised v entries p
       → IsPromised (flushed_word words) (moment_word words) p

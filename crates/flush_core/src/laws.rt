@@ -1,4 +1,5 @@
-//! Laws of the definitions, each proved by a function that does nothing.
+//! Laws of the definitions, each proved by a function that does nothing: what a caller of `Writer`
+//! may say of crashes without knowing its calls.
 
 ghost use Rattle.std.specs.Prelude.{ℕ, ◌<◌, ◌++◌, false, List, length};
 ghost use Rattle.segment_disk.specs.declared.disk.Call.{Call};

@@ -1,3 +1,9 @@
+// The writer of a log's pages on any disk (PostgreSQL's xlog.c, XLogWrite). Who calls it has the
+// writer, and so the disk, for itself: nothing is shared here. It puts the page under way, the same
+// one again as it fills, then the next one; a page that was hardened it puts again only with the
+// same words below that position. Each call makes the calls of the disk that its clauses list, and
+// no others. Behind a fault none is made: what the disk holds is no longer known, and nothing is
+// left to the caller but to take the disk back.
 ghost use Rattle.std.specs.Prelude.{◌≡◌, ℕ, ◌+◌, ◌*◌, ◌/◌, ◌%◌, ◌<◌, ◌≤◌, false, max, not, ◌==◌, OnOk, IfOk, IfErr, MatchResult};
 ghost use Rattle.byte_position.specs.Geometry.{pages_of};
 ghost use Rattle.flush_core.specs.Left.{PutHistory, SameBelow, first_puts, no_puts, with_put};
@@ -42,6 +48,7 @@ pub struct Writer<D> {
 impl<D: Disk> Writer<D> {
     /// A writer of a new log, which begins with segment 1. It makes no device call.
     pub fn new(disk: D, geometry: Geometry) -> Writer<D>
+        // Nothing is written, made or waits for a sync.
         ensures disk { disk_of result ≡ disk }
         ensures size { writer_segment_size result ≡ geometry }
         ensures written { written_of result ≡ geometry }
@@ -49,6 +56,7 @@ impl<D: Disk> Writer<D> {
         ensures synced { is_unsynced result ≡ false }
         ensures up { writer_fault result ≡ None }
         ensures as_written { IsMadeAsWritten result }
+        // On a disk that holds nothing no page has been put, and no word of one is there.
         ensures holds { HoldsNothing (D.tape disk) → IsWriter D.tape result no_pages }
         ensures only { HoldsNothing (D.tape disk)
             → HoldsOnly D.tape result (D.moment disk) no_puts }
@@ -66,12 +74,15 @@ impl<D: Disk> Writer<D> {
     /// A writer of a log that is there already: all below `written` is written and durable, in the
     /// segments from 1 to `made`. It makes no device call.
     pub fn resume(disk: D, geometry: Geometry, written: Lsn, made: u64) -> Writer<D>
+        // All that is there is written, and nothing waits for a sync.
         ensures disk { disk_of result ≡ disk }
         ensures size { writer_segment_size result ≡ geometry }
         ensures written { written_of result ≡ written.0 }
         ensures made { last_made result ≡ made }
         ensures synced { is_unsynced result ≡ false }
         ensures up { writer_fault result ≡ None }
+        // On a disk that holds just these pages of the log, all of them durable, they count as put,
+        // and as hardened from the disk's moment on.
         ensures holds { (pages : PutPages)
             → HoldsLogPages geometry written.0 made (D.tape disk) pages
             → IsWriter D.tape result pages }
@@ -134,18 +145,25 @@ impl<D: Disk> Writer<D> {
         upto: Lsn,
         bytes: &[u8; PAGE_SIZE as usize],
     ) -> Result<(), DiskFault>
+        // It is the page under way; what is whole of it reaches as far as before at least, and at
+        // most to its end.
         requires page { page ≡ written_of self.old / 8192 }
         requires rises { written_of self.old ≤ upto.0 }
         requires begun { page * 8192 < upto.0 }
         requires within { upto.0 ≤ (page + 1) * 8192 }
+        // At Ok the disk reads as the pages that were put, this one among them.
         ensures put { OnOk result ((pages : PutPages) → IsWriter D.tape self.old pages
             → IsWriter D.tape self.new (with_page pages page bytes.now)) }
+        // However it ends, what was hardened below a position stays, as long as the page has the
+        // same words there; and no word comes to the disk that was not put.
         ensures keeps { (moment position : ℕ) (pages : PutPages) → position ≤ written_of self.old
             → SameBelow position page bytes.now (pages page)
             → IsKept D.tape self.old moment position pages
             → IsKept D.tape self.new moment position pages }
         ensures only { (moment : ℕ) (puts : PutHistory) → HoldsOnly D.tape self.old moment puts
             → HoldsOnly D.tape self.new moment (with_put puts page bytes.now) }
+        // At Ok just these calls were made. At Err a front of them was, or none where the disk had
+        // failed before; and the log is written no further.
         ensures done { OnOk result (HasDone D.tape D.moment D.faults self.old self.new
             (calls_to_put self.old page upto.0 bytes.now)) }
         ensures written { MatchResult result (λ _. written_of self.new ≡ upto.0)
@@ -154,6 +172,7 @@ impl<D: Disk> Writer<D> {
             ≡ not (upto.0 % writer_segment_size self.old == 0)) }
         ensures failed { IfErr result (λ e. TellsFault D.tape D.moment D.faults self.old self.new
             e.faults (calls_to_put self.old page upto.0 bytes.now)) }
+        // Which segments are made.
         ensures made { MatchResult result
             (λ _. last_made self.new
             ≡ max (last_made self.old) (page / pages_of (writer_segment_size self.old)))
@@ -161,6 +180,7 @@ impl<D: Disk> Writer<D> {
         ensures as_written { OnOk result (writer_segment_size self.old ≤ written_of self.old
             → IsMadeAsWritten self.old → IsMadeAsWritten self.new) }
         ensures size { writer_segment_size self.new ≡ writer_segment_size self.old }
+        // At Ok the moment has risen: no two pages that are put have the same one.
         ensures moment_rises { OnOk result
             (D.moment (disk_of self.old) < D.moment (disk_of self.new)) }
         ensures moment_never_falls { D.moment (disk_of self.old) ≤ D.moment (disk_of self.new) }
@@ -186,6 +206,9 @@ impl<D: Disk> Writer<D> {
     /// for a position that is written.
     pub fn harden(&mut self, upto: Lsn) -> Result<u64, DiskFault>
         requires { upto.0 ≤ written_of self.old }
+        // The disk reads as before. At Ok each crash from the moment told on leaves what is below
+        // the position as it was put; however it ends, what was hardened before stays, and no page
+        // is written.
         ensures holds { OnOk result ((pages : PutPages) → IsWriter D.tape self.old pages
             → IsWriter D.tape self.new pages) }
         ensures hardened { IfOk result (λ moment. (pages : PutPages)
@@ -196,6 +219,8 @@ impl<D: Disk> Writer<D> {
             → IsKept D.tape self.new moment position pages }
         ensures only { (moment : ℕ) (puts : PutHistory) → HoldsOnly D.tape self.old moment puts
             → HoldsOnly D.tape self.new moment puts }
+        // At Ok one sync was made, or no call where nothing waits; at Err that sync failed, or the
+        // disk had failed before. Written and made stay as they are.
         ensures moment { IfOk result (λ moment. moment ≡ D.moment (disk_of self.new)) }
         ensures done { OnOk result (HasDone D.tape D.moment D.faults self.old self.new
             (calls_to_harden self.old)) }

@@ -1,4 +1,7 @@
-//! What a watch that has finished knows of the log, proved by a function that does nothing.
+//! What a watch that has finished knows of the log, proved by a function that does nothing. It is
+//! said of each state in which the view may stand, and not of the moment of the watch: others may
+//! have reserved and copied since. This is why a writer may write up to a bound that was learnt
+//! before it had the turn to write.
 
 ghost use Rattle.std.specs.Prelude.{◌≡◌, ◌≤◌, map};
 ghost use Rattle.wal_page.specs.Order.{end_position};

@@ -1,5 +1,11 @@
 //! Insertion locks, as their users take and watch them (PostgreSQL's xlog.c, WALInsertLockAcquire,
 //! WaitXLogInsertionsToFinish).
+//!
+//! A lock's word (words 2 to 9) is 0 if the lock is free, 1 if it is held and its holder has told
+//! no progress, else one more than an address below which all is copied under it. Anybody takes a
+//! lock that is free. Then its holder alone stores the word: its progress, and 0 once nothing is
+//! left to copy. A record is reserved and copied under one lock, which is taken first. So who loads
+//! the reserved end and then visits all eight misses no copy below that end that is not done.
 #![tactic(auto)]
 
 pub mod laws;
@@ -10,6 +16,3 @@ mod watching;
 pub use seeing::see_end;
 pub use taking::{AllHeld, try_take};
 pub use watching::{Watched, watch};
-
-// How many insertion locks there are.
-const LOCKS: u32 = 8;

@@ -1,5 +1,9 @@
 // How far records are reserved, as a watcher sees it (PostgreSQL's xlog.c,
-// WaitXLogInsertionsToFinish).
+// WaitXLogInsertionsToFinish, which reads CurrBytePos before it looks at a lock). The position word
+// (0) is loaded once, also while somebody has it locked: what is about to be reserved is not
+// reserved yet, so the lock bit is dropped. Nothing is stored, and the caller need hold nothing.
+// What was seen stays reserved, and the view keeps it. A record that is reserved later lies behind
+// it; so a watch that visits the locks after this load need not know of that record.
 ghost use Rattle.std.specs.Prelude.{◌≡◌, ◌<◌, ◌≤◌, ◌^◌};
 ghost use Rattle.wal_core.specs.Moves.{unlocked};
 ghost use Rattle.wal_core.specs.Words.{end_form};
@@ -23,6 +27,8 @@ pub fn see_end<D: Disk>(
 ) -> u64
     requires seat { IsSeatOn table.now seat.old }
     requires shape { shape.now ≡ (opening_of_table table.now).setup }
+    // What is seen now is the position that was met: no less than what was seen before, and at or
+    // behind the log's start. Nothing else of the view has changed.
     ensures sees { SeesTo shape.now upto result seat.new.me.0.reserving.seen seat.old.me.0 }
     ensures begun { shape.now.segment_size
         ≤ end_form shape.now seat.new.me.0.reserving.seen }
@@ -34,7 +40,8 @@ pub fn see_end<D: Disk>(
     upto.min(see_reserved(table, seat, shape))
 }
 
-// Loads the position, and tells the end of what is reserved.
+// Loads the position, and tells the end of what is reserved. Of the view only what is seen has
+// changed, which is the position met.
 pub(crate) fn see_reserved<D: Disk>(
     table: &LogTable<D>,
     seat: &mut LogSeat<D>,

@@ -1,4 +1,11 @@
-// All insertion locks are watched (PostgreSQL's xlog.c, WaitXLogInsertionsToFinish).
+// All insertion locks are watched (PostgreSQL's xlog.c, WaitXLogInsertionsToFinish): the position
+// is loaded, and then the eight locks' words, in this order. The other way round a record would be
+// missed that was reserved in between, under a lock that was visited already. Nothing is stored.
+// A free lock holds nothing back. One that tells an address lowers the bound to it, unless the
+// bound is lower. One that tells nothing, or less than is asked for, ends the watch: PostgreSQL
+// waits there (LWLockWaitForVar), here the caller is told and asks again.
+// What a finished watch knows stays true whatever others do, since copies only go on (laws.rt). So
+// who takes the writer out of its slot behind it may write up to the bound.
 ghost use Rattle.std.specs.Prelude.{◌≡◌, ◌<◌, ◌≤◌, true, false};
 ghost use Rattle.segment_disk.specs.Tape.{empty_state};
 ghost use Rattle.wal_core.specs.Moves.{begun, is_own, visited_on};
@@ -9,9 +16,9 @@ ghost use Rattle.wal_rule.specs.Tables.{IsSeatOn, opening_of_table};
 ghost use Rattle.insert_locks.specs.Watching.{HasFinished, HoldsBack, IsHeldBack, LetsPass};
 ghost use Rattle.insert_locks.specs.Watching.{bound_behind, with_watching};
 
-use crate::LOCKS;
 use crate::seeing::see_reserved;
 use machine_words::LogShape;
+use machine_words::layout::LOCKS;
 use segment_disk::Disk;
 use wal_rule::{LogSeat, LogTable};
 
@@ -37,8 +44,12 @@ pub fn watch<D: Disk>(
 ) -> Watched
     requires seat { IsSeatOn table.now seat.old }
     requires shape { shape.now ≡ (opening_of_table table.now).setup }
+    // All eight locks were visited. Below the bound all is copied that was reserved, and it is no
+    // less than the address asked for, or than the reserved end if that is less.
     ensures finished { (bound : _) → result ≡ Watched.Finished bound
         → HasFinished upto bound seat.old.me.0 seat.new.me.0 }
+    // The locks before this one let the watch pass, and this one does not: its word was met. Here
+    // as there nothing of the view has changed but what is seen reserved and what is watched.
     ensures behind { (lock word : _) → result ≡ Watched.Behind lock word
         → IsHeldBack upto lock word seat.old.me.0 seat.new.me.0 }
     ensures slots { seat.new.me.1 ≡ seat.old.me.1 }
@@ -57,8 +68,9 @@ pub fn watch<D: Disk>(
     Watched::Finished { upto: bound }
 }
 
-// Visits a lock, to learn up to the end of what is reserved. A pass's own lock tells nothing where
-// the pass copies nothing.
+// Visits a lock, to learn up to the end of what is reserved: the view watches as the machine has it
+// behind such a visit, which begins a watch at lock 0. A pass's own lock tells nothing where the
+// pass copies nothing.
 fn visit<D: Disk>(table: &LogTable<D>, seat: &mut LogSeat<D>, lock: u32, end: u64) -> u64
     requires seat { IsSeatOn table.now seat.old }
     requires lock { lock < 8 }

@@ -5,7 +5,7 @@ ghost use Rattle.wal_rule.specs.Passes.{view_of_pass};
 ghost use Rattle.wal_rule.specs.Seats.{first_seat_view};
 ghost use Rattle.wal_log.specs.Logs.{IsPassOfLog, opening_of_log};
 
-use commit_lanes::{Job, work_side_by_side};
+use log_workers::{Job, work_side_by_side};
 use segment_disk::MemDisk;
 use std::alloc::Global;
 use std::sync::Wait;

@@ -2,7 +2,7 @@
 
 use crate::filled::{Ended, SETUP, filled};
 use crate::steps::{Step, jobs_of};
-use commit_lanes::Job;
+use log_workers::Job;
 use segment_disk::Disk;
 use std::alloc::Global;
 use std::process::Abort;

@@ -1,7 +1,7 @@
 //! Calls with what they have to be told.
 
 use crate::records::record;
-use commit_lanes::{Call, Job, Told, transaction};
+use log_workers::{Job, LogAnswer, LogCall, transaction};
 use std::alloc::Global;
 use std::test::Fail;
 use wal_log::{CommitErr, FlushErr, Hard, InsertErr, Receipt, Sealed};
@@ -19,19 +19,19 @@ pub enum Step {
 impl Step {
     fn job(&self, alloc: Global) -> Result<Job, Fail> {
         let call = match self {
-            Step::Insert(len, _) => Call::Insert(record(alloc, 1, *len)?),
-            Step::Commit(_) => Call::Commit(transaction(alloc, 1)?),
-            Step::Flush(upto, _) => Call::Flush(*upto),
+            Step::Insert(len, _) => LogCall::Insert(record(alloc, 1, *len)?),
+            Step::Commit(_) => LogCall::Commit(transaction(alloc, 1)?),
+            Step::Flush(upto, _) => LogCall::Flush(*upto),
         };
         Ok(Job::of(call))
     }
 
     /// What its call has to be told.
-    pub fn told(&self) -> Told {
+    pub fn told(&self) -> LogAnswer {
         match self {
-            Step::Insert(_, told) => Told::Inserted(*told),
-            Step::Commit(told) => Told::Committed(*told),
-            Step::Flush(_, told) => Told::Flushed(*told),
+            Step::Insert(_, told) => LogAnswer::Inserted(*told),
+            Step::Commit(told) => LogAnswer::Committed(*told),
+            Step::Flush(_, told) => LogAnswer::Flushed(*told),
         }
     }
 }

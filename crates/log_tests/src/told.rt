@@ -1,7 +1,7 @@
 //! What backends were told of their records.
 
 use crate::reading::Found;
-use commit_lanes::{Job, Told};
+use log_workers::{Job, LogAnswer};
 use std::alloc::Global;
 use std::test::Fail;
 use wal_log::{Cause, CommitErr};
@@ -10,9 +10,9 @@ use wal_types::Lsn;
 // Where the record of a job starts that was inserted, or told to be durable.
 fn start_told(job: &Job) -> Option<Lsn> {
     match job.told? {
-        Told::Inserted(told) => told.ok().map(|receipt| receipt.start),
-        Told::Committed(told) => told.ok().map(|sealed| sealed.start),
-        Told::Flushed(_) => None,
+        LogAnswer::Inserted(told) => told.ok().map(|receipt| receipt.start),
+        LogAnswer::Committed(told) => told.ok().map(|sealed| sealed.start),
+        LogAnswer::Flushed(_) => None,
     }
 }
 
@@ -41,7 +41,7 @@ pub fn is_down_behind(jobs: &[Job], durable: usize) -> bool {
     let refused = match rest.next() {
         Some(first) => matches!(
             first.told,
-            Some(Told::Committed(Err(CommitErr {
+            Some(LogAnswer::Committed(Err(CommitErr {
                 cause: Cause::Disk { faults: 1 } | Cause::Down { faults: 1 },
                 ..
             })))
@@ -54,7 +54,7 @@ pub fn is_down_behind(jobs: &[Job], durable: usize) -> bool {
 fn is_known_down(job: &Job) -> bool {
     matches!(
         job.told,
-        Some(Told::Committed(Err(CommitErr {
+        Some(LogAnswer::Committed(Err(CommitErr {
             cause: Cause::Down { faults: 1 },
             reserved: None,
         })))

@@ -1,6 +1,6 @@
 -- All that is checked of a moment, by its parts.
 use Rattle.wal_core.specs.Words.{log_start}
-use Rattle.machine_checks.specs.declared.moment.Moment.{Moment}
+use Rattle.machine_checks.specs.declared.moment.MachineNow.{MachineNow}
 use Rattle.machine_checks.specs.declared.moment.Part.{Part}
 use Rattle.machine_checks.specs.declared.moment.Part.TheVariants.{Order, Locks, Turns, Progress, Ring, Pages, Positions}
 use Rattle.machine_checks.specs.Order.{OrderAgrees}
@@ -12,7 +12,7 @@ use Rattle.machine_checks.specs.Pages.{PagesAgree}
 use Rattle.machine_checks.specs.Positions.{PositionsAgree}
 
 -- a part of the words agrees with the records and the backends
-abbrev pub Agrees : Moment → Part → Type 0
+abbrev pub Agrees : MachineNow → Part → Type 0
 Agrees m Order = OrderAgrees (log_start m.setup) m.words.now m.order.now m.backends.now
 Agrees m Locks = LocksAgree m.words.now m.backends.now
 Agrees m Turns = TurnsAgree m.words.now m.backends.now

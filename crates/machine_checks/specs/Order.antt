@@ -5,21 +5,21 @@ use Rattle.wal_core.specs.Words.{position_word, prev_word}
 use Rattle.machine_turns.specs.declared.view.Place.{Place}
 use Rattle.machine_turns.specs.declared.view.Place.TheVariants.{Free, Locked, Loaded, Stored}
 use Rattle.machine_checks.specs.declared.moment.BackendNow.{BackendNow}
-use Rattle.machine_checks.specs.declared.moment.Reserved.{Reserved}
+use Rattle.machine_checks.specs.declared.moment.ReservedSpan.{ReservedSpan}
 
 -- each record starts where the one before ends and names the address at which that one starts; the
 -- first starts at a position, and names this address
-abbrev pub FollowOn : (position last : ℕ) → List Reserved → Type 0
+abbrev pub FollowOn : (position last : ℕ) → List ReservedSpan → Type 0
 FollowOn position last [] = Unit {0}
 FollowOn position last (r ∷ rs) =
     (r.start ≡ position) × (r.prev ≡ last) × FollowOn r.end r.address rs
 
 -- where the last record ends, and the address at which it starts
-abbrev pub end_of_records : ℕ → List Reserved → ℕ
+abbrev pub end_of_records : ℕ → List ReservedSpan → ℕ
 end_of_records position [] = position
 end_of_records position (r ∷ rs) = end_of_records r.end rs
 
-abbrev pub start_of_records : ℕ → List Reserved → ℕ
+abbrev pub start_of_records : ℕ → List ReservedSpan → ℕ
 start_of_records last [] = last
 start_of_records last (r ∷ rs) = start_of_records r.address rs
 
@@ -55,7 +55,7 @@ Met end last (Stored at prev) = (at ≡ end) × (prev ≡ last)
 
 -- The position stands behind the records that were reserved. The last start is that of the last
 -- record, unless a backend has stored the one of its own, which is not reserved yet
-pub record OrderAgrees (beginning : ℕ) (words : List ℕ) (order : List Reserved)
+pub record OrderAgrees (beginning : ℕ) (words : List ℕ) (order : List ReservedSpan)
     (backends : List BackendNow) : Type 0 where
   pub follow : FollowOn beginning 0 order
   pub position : IsPosition (position_word words) (end_of_records beginning order) backends

@@ -6,7 +6,7 @@ ghost use Rattle.machine_checks.specs.declared.moment.Part.{Part};
 ghost use Rattle.machine_checks.specs.Agreeing.{Agrees};
 
 use crate::locks::locks_agree;
-use crate::moment::{Moment, Part};
+use crate::moment::{MachineNow, Part};
 use crate::order::order_agrees;
 use crate::pages::pages_agree;
 use crate::positions::positions_agree;
@@ -15,7 +15,7 @@ use crate::ring::ring_agrees;
 use crate::turns::turns_agree;
 
 /// The first part that does not agree with the records and the backends; `None` where all do.
-pub fn fault_of(moment: &Moment) -> Option<Part>
+pub fn fault_of(moment: &MachineNow) -> Option<Part>
     requires { IsSetup moment.now.setup }
     ensures { MatchOption result ((part : Part) → Agrees moment.now part)
         (λ part. Agrees moment.now part → ⊥) }
@@ -45,11 +45,11 @@ pub fn fault_of(moment: &Moment) -> Option<Part>
 }
 
 /// Whether a part agrees with the records and the backends.
-pub fn agrees(moment: &Moment, part: Part) -> bool
+pub fn agrees(moment: &MachineNow, part: Part) -> bool
     requires { IsSetup moment.now.setup }
     ensures { IsTrue result ↔ Agrees moment.now part }
 {
-    let Moment {
+    let MachineNow {
         setup,
         words,
         order,

@@ -14,4 +14,4 @@ mod turns;
 mod words;
 
 pub use fault::{agrees, fault_of};
-pub use moment::{BackendNow, Moment, Part, Reserved};
+pub use moment::{BackendNow, MachineNow, Part, ReservedSpan};

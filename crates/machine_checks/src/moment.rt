@@ -6,7 +6,7 @@ use wal_core::Setup;
 /// A record that was reserved: the byte positions at which it starts and ends, the address at which
 /// it starts, and the one at which the record before starts, 0 where there is none.
 #[derive(Clone, Copy, Debug, PartialEq, Eq)]
-pub struct Reserved {
+pub struct ReservedSpan {
     pub start: u64,
     pub end: u64,
     pub address: u64,
@@ -22,12 +22,12 @@ pub struct BackendNow {
 
 /// All that the checks look at.
 #[derive(Clone, Copy)]
-pub struct Moment<'a> {
+pub struct MachineNow<'a> {
     pub setup: Setup,
     /// The words that all share, by their numbers.
     pub words: &'a [u64],
     /// The records that were reserved, in their order.
-    pub order: &'a [Reserved],
+    pub order: &'a [ReservedSpan],
     /// The log's words from segment 1 on, as far as records are reserved.
     pub log: &'a [u64],
     pub backends: &'a [BackendNow],

@@ -5,16 +5,17 @@ ghost use Rattle.wal_core.specs.Sound.{IsSetup};
 ghost use Rattle.wal_core.specs.Words.{log_start};
 ghost use Rattle.machine_checks.specs.Order.{FollowOn, IsPosition, Met, OrderAgrees, end_of_records, has_position, has_stored, locked_by, start_of_records};
 
-use crate::moment::{BackendNow, Reserved};
+use crate::moment::{BackendNow, ReservedSpan};
 use crate::words::word_at;
 use machine_turns::Place;
 use machine_words::LogShape;
+use machine_words::layout::{LAST_START, POSITION};
 use wal_core::Setup;
 
 pub(crate) fn order_agrees(
     setup: Setup,
     words: &[u64],
-    order: &[Reserved],
+    order: &[ReservedSpan],
     backends: &[BackendNow],
 ) -> bool
     requires { IsSetup setup }
@@ -27,12 +28,12 @@ pub(crate) fn order_agrees(
     let end = end_of_records(beginning, order);
     let last = start_of_records(0, order);
     follow_on(beginning, 0, order)
-        && position_is(word_at(words, 0), end, backends)
+        && position_is(word_at(words, POSITION), end, backends)
         && have_met(end, last, backends)
-        && (has_any_stored(backends) || word_at(words, 1) == last)
+        && (has_any_stored(backends) || word_at(words, LAST_START) == last)
 }
 
-fn follow_on(position: u64, last: u64, order: &[Reserved]) -> bool
+fn follow_on(position: u64, last: u64, order: &[ReservedSpan]) -> bool
     ensures { IsTrue result ↔ FollowOn position last order.now }
 {
     match order {
@@ -43,7 +44,7 @@ fn follow_on(position: u64, last: u64, order: &[Reserved]) -> bool
     }
 }
 
-fn end_of_records(position: u64, order: &[Reserved]) -> u64
+fn end_of_records(position: u64, order: &[ReservedSpan]) -> u64
     ensures { result ≡ end_of_records position order.now }
 {
     match order {
@@ -52,7 +53,7 @@ fn end_of_records(position: u64, order: &[Reserved]) -> u64
     }
 }
 
-fn start_of_records(last: u64, order: &[Reserved]) -> u64
+fn start_of_records(last: u64, order: &[ReservedSpan]) -> u64
     ensures { result ≡ start_of_records last order.now }
 {
     match order {

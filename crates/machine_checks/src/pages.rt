@@ -6,7 +6,9 @@ ghost use Rattle.machine_checks.specs.Pages.{ArePresent, HasPublished, IsEndIn, 
 
 use crate::moment::BackendNow;
 use crate::words::word_at;
+use byte_position::PAGE_SIZE;
 use machine_turns::Stage;
+use machine_words::layout::{BUFFER_ENDS, INITIALISED_END, WRITTEN};
 use wal_core::Setup;
 
 pub(crate) fn pages_agree(setup: Setup, words: &[u64], backends: &[BackendNow]) -> bool
@@ -14,9 +16,14 @@ pub(crate) fn pages_agree(setup: Setup, words: &[u64], backends: &[BackendNow]) 
     ensures { IsTrue result ↔ PagesAgree setup words.now backends.now }
 {
     are_ends(setup, words)
-        && are_present(setup, word_at(words, 13), word_at(words, 12), words)
+        && are_present(
+            setup,
+            word_at(words, WRITTEN),
+            word_at(words, INITIALISED_END),
+            words,
+        )
         && is_initialised_end(
-            word_at(words, 12),
+            word_at(words, INITIALISED_END),
             highest_end(words, setup.ring_pages),
             backends,
         )
@@ -29,7 +36,7 @@ fn are_ends(setup: Setup, words: &[u64]) -> bool
         → IsEndIn setup buffer (end_word words.now buffer)) }
 {
     for buffer in 0..setup.ring_pages {
-        if !is_end_in(setup, buffer, word_at(words, 17 + buffer as usize)) {
+        if !is_end_in(setup, buffer, word_at(words, BUFFER_ENDS + buffer as usize)) {
             return false;
         }
     }
@@ -41,9 +48,10 @@ fn is_end_in(setup: Setup, buffer: u32, end: u64) -> bool
     ensures { IsTrue result ↔ IsEndIn setup buffer end }
 {
     end == 0
-        || end % 8192 == 0
+        || end % PAGE_SIZE == 0
             && setup.segment_size < end
-            && (end / 8192).saturating_sub(1) % u64::from(setup.ring_pages) == u64::from(buffer)
+            && (end / PAGE_SIZE).saturating_sub(1) % u64::from(setup.ring_pages)
+                == u64::from(buffer)
 }
 
 // Each page that ends behind what is written, and was mapped, is there.
@@ -51,9 +59,9 @@ fn are_present(setup: Setup, written: u64, initialised: u64, words: &[u64]) -> b
     requires { 0 < setup.ring_pages }
     ensures { IsTrue result ↔ ArePresent setup written initialised words.now }
 {
-    for page in written / 8192..initialised / 8192 {
+    for page in written / PAGE_SIZE..initialised / PAGE_SIZE {
         let buffer = (page % u64::from(setup.ring_pages)) as usize;
-        if word_at(words, 17 + buffer) != (page + 1) * 8192 {
+        if word_at(words, BUFFER_ENDS + buffer) != (page + 1) * PAGE_SIZE {
             return false;
         }
     }
@@ -65,7 +73,7 @@ fn highest_end(words: &[u64], pages: u32) -> u64
 {
     let mut highest = 0;
     for buffer in 0..pages {
-        highest = word_at(words, 17 + buffer as usize).max(highest);
+        highest = word_at(words, BUFFER_ENDS + buffer as usize).max(highest);
     }
     highest
 }
@@ -74,8 +82,8 @@ fn is_initialised_end(initialised: u64, highest: u64, backends: &[BackendNow]) -
     ensures { IsTrue result ↔ IsInitialisedEnd initialised highest backends.now }
 {
     initialised == highest
-        || highest >= 8192
-            && highest - 8192 == initialised
+        || highest >= PAGE_SIZE
+            && highest - PAGE_SIZE == initialised
             && any_has_published(initialised, backends)
 }
 

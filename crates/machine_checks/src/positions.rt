@@ -6,6 +6,7 @@ ghost use Rattle.machine_checks.specs.Positions.{HasCopiedBelow, PositionsAgree}
 use crate::moment::BackendNow;
 use crate::words::word_at;
 use machine_turns::Flight;
+use machine_words::layout::{FLUSHED, WRITTEN};
 
 pub(crate) fn positions_agree(
     first: u64,
@@ -15,8 +16,8 @@ pub(crate) fn positions_agree(
 ) -> bool
     ensures { IsTrue result ↔ PositionsAgree first words.now log.now backends.now }
 {
-    let written = word_at(words, 13);
-    let flushed = word_at(words, 14);
+    let written = word_at(words, WRITTEN);
+    let flushed = word_at(words, FLUSHED);
     first <= flushed
         && flushed <= written
         && written.saturating_sub(first).div_ceil(8) <= log.len() as u64

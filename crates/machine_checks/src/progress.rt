@@ -6,6 +6,7 @@ ghost use Rattle.machine_checks.specs.Progress.{ProgressAgrees, TellsAtMost, mos
 use crate::moment::BackendNow;
 use crate::words::word_at;
 use machine_turns::Flight;
+use machine_words::layout::FIRST_LOCK;
 
 pub(crate) fn progress_agrees(words: &[u64], backends: &[BackendNow]) -> bool
     ensures { IsTrue result ↔ ProgressAgrees words.now backends.now }
@@ -19,7 +20,7 @@ fn tells_at_most(words: &[u64], lock: Option<u32>, flight: Flight) -> bool
     ensures { IsTrue result ↔ TellsAtMost words.now lock (most_of flight) }
 {
     match lock {
-        Some(lock) => is_at_most(word_at(words, 2 + lock as usize), flight),
+        Some(lock) => is_at_most(word_at(words, FIRST_LOCK + lock as usize), flight),
         None => true,
     }
 }

@@ -5,14 +5,16 @@ ghost use Rattle.machine_checks.specs.Ring.{IsLoggedOrToCopy, IsToCopy, PageAgre
 
 use crate::moment::BackendNow;
 use crate::words::word_at;
+use byte_position::{PAGE_SIZE, PAGE_WORDS};
 use machine_turns::Flight;
+use machine_words::layout::BUFFER_ENDS;
 use wal_core::Setup;
 
 pub(crate) fn ring_agrees(setup: Setup, words: &[u64], log: &[u64], backends: &[BackendNow]) -> bool
     ensures { IsTrue result ↔ RingAgrees setup words.now log.now backends.now }
 {
     for buffer in 0..setup.ring_pages {
-        if word_at(words, 17 + buffer as usize) != 0
+        if word_at(words, BUFFER_ENDS + buffer as usize) != 0
             && !page_agrees(setup, words, log, backends, buffer)
         {
             return false;
@@ -30,8 +32,8 @@ fn page_agrees(
 ) -> bool
     ensures { IsTrue result ↔ PageAgrees setup words.now log.now backends.now buffer }
 {
-    let begin = word_at(words, 17 + buffer as usize).saturating_sub(8192);
-    let from = 17 + setup.ring_pages as usize + buffer as usize * 1024;
+    let begin = word_at(words, BUFFER_ENDS + buffer as usize).saturating_sub(PAGE_SIZE);
+    let from = BUFFER_ENDS + setup.ring_pages as usize + buffer as usize * PAGE_WORDS as usize;
     for n in 0..1024 {
         let word = word_at(words, from + n);
         if !word_agrees(setup, log, backends, begin + 8 * n as u64, word) {

@@ -6,11 +6,13 @@ ghost use Rattle.machine_checks.specs.Turns.{TurnAgrees, TurnsAgree, maps, write
 use crate::moment::BackendNow;
 use crate::words::word_at;
 use machine_turns::{Hold, Stage};
+use machine_words::layout::{MAPPING_TURN, WRITE_TURN};
 
 pub(crate) fn turns_agree(words: &[u64], backends: &[BackendNow]) -> bool
     ensures { IsTrue result ↔ TurnsAgree words.now backends.now }
 {
-    mapping_agrees(word_at(words, 10), backends) && writing_agrees(word_at(words, 11), backends)
+    mapping_agrees(word_at(words, MAPPING_TURN), backends)
+        && writing_agrees(word_at(words, WRITE_TURN), backends)
 }
 
 fn mapping_agrees(turn: u64, backends: &[BackendNow]) -> bool

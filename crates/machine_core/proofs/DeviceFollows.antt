@@ -7,7 +7,7 @@ use Rattle.byte_position.specs.Geometry.{pages_of}
 use Rattle.segment_disk.specs.Failing.{is_listed}
 use Rattle.segment_disk.specs.Tape.{sync_call, write_call}
 use Rattle.wal_core.specs.Views.{Lent, Out, Plain, View}
-use Rattle.wal_core.specs.Moves.{Outcome, Done, Failed, after_sync, after_write, is_done, with_hold}
+use Rattle.wal_core.specs.Moves.{CallOutcome, Done, Failed, after_sync, after_write, is_done, with_hold}
 use Rattle.wal_core.proofs.WordLists.{word_again}
 use Rattle.wal_turns.specs.Doing.{Ask, Doing, Machine, ForLine, SetsDown, StoresWritten, SyncsFull, Writes}
 use Rattle.wal_turns.specs.Turned.{behind_call, goes_on, page_staged, page_or_end as machine_page_or_end, segment_or}
@@ -65,7 +65,7 @@ module _ (m : Machine) (number : ℕ) (v : View) (ask : Ask) (line : Line) (copi
   abbrev listed : Bool
   listed = is_listed m.failing ((w.plain).moment + 1)
 
-  abbrev outcome_by : Bool → Outcome
+  abbrev outcome_by : Bool → CallOutcome
   outcome_by b = cond b (Failed ((m.opening).faults + 1) (some false)) Done
 
   done_alike : (b : Bool) → not b ≡ is_done (outcome_by b)
@@ -146,7 +146,7 @@ module _ (m : Machine) (number : ℕ) (v : View) (ask : Ask) (line : Line) (copi
       on_segment : ℕ
       on_segment = (w.plain).written / 8192 % pages_of size
 
-      written_by : Outcome → WriterState
+      written_by : CallOutcome → WriterState
       written_by o = record writer {
         plain = after_write (segment_at writer) upto
             (write_call size (segment_at writer) on_segment w.page) o w.plain;
@@ -193,7 +193,7 @@ module _ (m : Machine) (number : ℕ) (v : View) (ask : Ask) (line : Line) (copi
       size : ℕ
       size = ((v.opening).setup).segment_size
 
-      synced_by : Outcome → WriterState
+      synced_by : CallOutcome → WriterState
       synced_by o = record writer {
         plain = after_sync (sync_call size (segment_waiting (w.plain).waiting)) o w.plain;
       }

@@ -13,7 +13,7 @@ use Rattle.wal_turns.specs.Turned.{bytes_staged}
 use Rattle.machine_turns.specs.declared.doing.Doing.{Doing as PlainDoing}
 use Rattle.machine_turns.specs.declared.doing.Doing.TheVariants as doings
 use Rattle.machine_turns.specs.declared.lane.Lane.{Lane}
-use Rattle.machine_turns.specs.Lanes.{Played}
+use Rattle.machine_turns.specs.Lanes.{PlayedTurn}
 use Rattle.machine_turns.specs.Writer.{WriterState}
 use Rattle.machine_core.proofs.Keeping.{IsLikeWriter, MayWrite}
 use Rattle.machine_core.specs.Playing.{CoreState, HasLaneOf, HasLoaded, HasRoomFor, HoldsPageFor, IsLaneOf, IsWriterOf, PlaysMachine, core_behind}
@@ -42,7 +42,7 @@ module _ (core : CoreState) (m : Machine) (k : PlaysMachine core m) (number : �
   alone id u l g apart at_u mine theirs =
       apart (sym (held_by id u g at_u theirs) ∙ held_by (number + 1) v l live.0 mine)
 
-  module _ (p : Played) (s : State) (w : View) (c : Backend) (full : Bool)
+  module _ (p : PlayedTurn) (s : State) (w : View) (c : Backend) (full : Bool)
       (words_are : s.words ≡ p.words)
       (views_are : s.views ≡ set views (number + 1) w)
       (writes : MayWrite core.writer p.writer v)

@@ -25,7 +25,7 @@ use Rattle.machine_turns.specs.declared.event.Turn.TheVariants as turns
 use Rattle.machine_turns.specs.declared.lane.Lane.{Lane}
 use Rattle.machine_turns.specs.declared.script.Line.{Line}
 use Rattle.machine_turns.specs.declared.script.Line.TheVariants.{Insert, Commit, Flush}
-use Rattle.machine_turns.specs.Lanes.{Played, Stepped, by_line, by_wait, copied_behind, finds_full, lane_answered, loads_down, moved_to, played, unmoved, word_awaited}
+use Rattle.machine_turns.specs.Lanes.{PlayedTurn, Stepped, by_line, by_wait, copied_behind, finds_full, lane_answered, loads_down, moved_to, played, unmoved, word_awaited}
 use Rattle.machine_turns.specs.Writer.{WriterState}
 use Rattle.machine_core.specs.Following.{Follows, StandsPlain, plain_step, step_made, view_left}
 use Rattle.machine_core.proofs.Keeping.{IsLikeWriter, Keeps}
@@ -68,7 +68,7 @@ line_record ask line value is asked = ⊎_elim
     commits_it value line (subst (λ (a : Ask). IsLineFor a line) commit is)) asked
 
 -- the turn and the plain data behind it are the machine's
-abbrev pub IsTurnOf : CoreState → ℕ → Played → Turn × Machine → Type 0
+abbrev pub IsTurnOf : CoreState → ℕ → PlayedTurn → Turn × Machine → Type 0
 IsTurnOf core number p t = (p.turn ≡ turn_of t.0) × PlaysMachine (core_behind core number p) t.1
 
 module _ (m : Machine) (number : ℕ) (v : View) (live : IsLive m.state (number + 1) v)
@@ -126,7 +126,7 @@ module _ (m : Machine) (number : ℕ) (v : View) (live : IsLive m.state (number 
 
     -- ---- the disk has failed
 
-    abbrev fell : Played
+    abbrev fell : PlayedTurn
     fell = unmoved (v.opening).setup words w lane (turns.Down (down_word words)) (lane_answered lane)
 
     old_position : unlocked (position_word (core.words).words) ≡ unlocked (position_word words)
@@ -164,7 +164,7 @@ module _ (m : Machine) (number : ℕ) (v : View) (live : IsLive m.state (number 
       abbrev st : Stepped
       st = plain_step m v line (slice_get script copied) w d
 
-      abbrev moved : Played
+      abbrev moved : PlayedTurn
       moved = moved_to (v.opening).setup words w lane st
 
       follows : Follows m v ask d st.left
@@ -275,7 +275,7 @@ module _ (m : Machine) (number : ℕ) (v : View) (live : IsLive m.state (number 
     abbrev down_now : Bool
     down_now = not (eqb (down_word words) 0)
 
-    abbrev plain_turn : Option ℕ → Played
+    abbrev plain_turn : Option ℕ → PlayedTurn
     plain_turn awaited = cond (down_now && (loads_down d || is_some awaited)) fell
         (by_wait (v.opening).setup words w lane line awaited)
 
@@ -475,7 +475,7 @@ module _ (core : CoreState) (m : Machine) (k : PlaysMachine core m) (number : �
 
       turns_here : IsTurnOf core number (played core.setup (core.words).words core.writer lane)
           (turned m number)
-      turns_here = subst (λ (y : Played × (Turn × Machine)). IsTurnOf core number y.0 y.1)
+      turns_here = subst (λ (y : PlayedTurn × (Turn × Machine)). IsTurnOf core number y.0 y.1)
           (λ i. (sym played_is i, sym turned_is i))
           (⊎_elim
           (λ (x : (slice_get b.asks lane.answered ≡ None)

@@ -11,7 +11,7 @@ use Rattle.segment_disk.specs.Failing.{is_listed}
 use Rattle.segment_disk.specs.Tape.{create_call, sync_call, write_call}
 use Rattle.wal_core.specs.Words.{flushed_word}
 use Rattle.wal_core.specs.Views.{Hold, Idle, Turned as HasTurned, Out, Lent, Plain, View}
-use Rattle.wal_core.specs.Moves.{Outcome, Done, Failed, after_create, after_sync, after_write, hardened, with_hold, with_lent}
+use Rattle.wal_core.specs.Moves.{CallOutcome, Done, Failed, after_create, after_sync, after_write, hardened, with_hold, with_lent}
 use Rattle.wal_core.specs.Steps.{home_behind, returned, slot_out, view_behind}
 use Rattle.wal_turns.specs.Doing.{Ask, Machine, ForLine}
 use Rattle.wal_turns.specs.Turned.{asked_end, bytes_staged, page_staged, segment_or}
@@ -376,7 +376,7 @@ module _ (m : Machine) (number : ℕ) (v : View) (ask : Ask) (line : Line) (copi
   size = ((v.opening).setup).segment_size
 
   -- how the call ends, with so many faults before it
-  abbrev outcome_by : ℕ → Outcome
+  abbrev outcome_by : ℕ → CallOutcome
   outcome_by n =
       cond (is_listed m.failing ((w.plain).moment + 1)) (Failed (n + 1) (some false)) Done
 

@@ -13,7 +13,7 @@ use Rattle.machine_words.specs.Numbers.{WordsState}
 use Rattle.machine_turns.specs.declared.doing.Doing.{Doing as PlainDoing}
 use Rattle.machine_turns.specs.declared.doing.Doing.TheVariants as doings
 use Rattle.machine_turns.specs.declared.lane.Lane.{Lane}
-use Rattle.machine_turns.specs.Lanes.{Played}
+use Rattle.machine_turns.specs.Lanes.{PlayedTurn}
 use Rattle.machine_turns.specs.Scripts.{rooms_of_lines}
 use Rattle.machine_turns.specs.Writer.{WriterState}
 use Rattle.machine_core.specs.Lines.{AreLinesFor, HasRecord}
@@ -99,7 +99,7 @@ pub record HasRoomFor (core : CoreState) : Type 0 where
   pub left : unlocked (position_word (core.words).words) + all_rooms_left core.lanes ≤ position
 
 -- the plain data behind a turn of backend number b
-abbrev pub core_behind : CoreState → ℕ → Played → CoreState
+abbrev pub core_behind : CoreState → ℕ → PlayedTurn → CoreState
 core_behind core number p = record core {
   words = record core.words { words = p.words };
   writer = p.writer;

@@ -1,4 +1,5 @@
-//! What a core begins with.
+//! What a core begins with: a lane for each script, about nothing, at its first line; and how far
+//! the log can come, by which the disk's room is taken before the first turn.
 
 ghost use Rattle.std.specs.Prelude.{◌≡◌, ◌+◌, ◌<◌, ◌≤◌, ◌^◌, All, IfOk, min, length};
 ghost use Rattle.byte_position.specs.Position.{end_address_of};
@@ -69,6 +70,7 @@ fn first_view(shape: &LogShape, number: u32) -> PlainView
 /// The address that the log will not pass: where it ends once the records of all scripts are
 /// written, or where it is full.
 pub(crate) fn log_end(shape: &LogShape, scripts: &[Script]) -> u64
+    // It is low, and no less than the log's start.
     ensures end { result ≡ end_address_of shape.now.segment_size
         (min (log_start shape.now + rooms_of_scripts scripts.now) (log_limit shape.now)) }
     ensures low { result < 2 ^ 45 }

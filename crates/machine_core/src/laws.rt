@@ -1,4 +1,5 @@
-//! Laws of turns on plain data, each proved by a function that does nothing.
+//! Laws of turns on plain data, each proved by a function that does nothing: by them what is proved
+//! of the machine's turns is proved of a core's.
 
 ghost use Rattle.std.specs.Prelude.{ℕ, Option};
 ghost use Rattle.wal_core.specs.Views.{View};

@@ -1,4 +1,6 @@
-//! The machine of many backends, played turn by turn over plain data (the replay of a schedule).
+//! The machine of many backends, played turn by turn over plain data (the replay of a schedule). A
+//! caller makes a `Core` and gives turns to backends in any order; it takes no memory then. Nothing
+//! runs beside it: the schedule alone says how the backends' steps interleave.
 #![tactic(auto)]
 
 mod beginning;

@@ -1,4 +1,7 @@
-//! The machine of many backends over plain data.
+//! The machine of many backends over plain data. A core that `new` gave, and that was changed by
+//! turns alone, plays some machine that runs (`IsPlayed`): that is what each call rests on, and
+//! what a turn leaves. What words and views hold between two turns keeps the machine's invariant; a
+//! caller reads them (`word`, `view`) and cannot change them.
 
 ghost use Rattle.std.specs.Prelude.{◌≡◌, ◌↔◌, ◌+◌, ◌<◌, ◌≤◌, [], List, length, slice_get, Some, None, IfOk, IfErr, IfSome, MatchResult};
 ghost use Rattle.segment_disk.specs.DiskImage.{LeftAt};
@@ -57,6 +60,8 @@ impl Core {
         scripts: Vec<Script>,
         fail: Vec<u64>,
     ) -> Result<Core, CoreErr>
+        // It begins as the machine whose log and disk hold nothing, and is played; `BadSetup` comes
+        // just where the setup is none, or has too few passes for the scripts.
         ensures bad_setup { IfErr result (λ e. e ≡ CoreErr.BadSetup
             ↔ ((IsSetup setup × (length scripts.items < setup.passes)) → ⊥)) }
         ensures begun { IfOk result (λ core. HasBegun setup fail.items (core_of core)) }
@@ -163,6 +168,8 @@ impl Core {
 
     /// The disk that a crash leaves now, with the words that the pick says.
     pub fn crash(&self, alloc: Global, pick: Pick) -> Result<MemDisk, Memory>
+        // Of the writer's disk, wherever the writer is: an image that a crash at its last moment
+        // may leave, the one that the pick names. The core goes on as it was.
         ensures left { IfOk result (λ disk. (m : Machine) (w : Plain)
             → PlaysMachine (core_of self.now) m → HasWriter m w
             → IfSome w.tape (λ tape. LeftAt tape (length tape.calls) (first_image disk))) }

@@ -4,7 +4,7 @@ use mathlib.Core.Logic.{dite}
 use mathlib.Core.Option.{Option, some, some-injective, some-ne-none}
 use native.Mathlib.Decide.{ℕ_discrete, dec_le}
 use Rattle.wal_core.specs.Words.{Opening, position_word, lock_word, mapping_turn, write_turn, initialised_word, written_word, flushed_word, moment_word, down_word, word_of_ring}
-use Rattle.wal_core.specs.Views.{HasAt, Flight, Landed, Copying, Stage, Away, Published, Hold, Idle, Plain, Reserving, Working, View, reserving_of, working_of, flight_of, mapper_of, writer_of, told_of}
+use Rattle.wal_core.specs.Views.{HasAt, Flight, Landed, Copying, Stage, Away, Published, Hold, Idle, Plain, Reserving, Working, View, reserving_of, working_of, flight_of, mapper_of, writer_of, receipts_of}
 use Rattle.wal_core.specs.Ordered.{entries_under, Role, active, spare, ended, unborn, IsUnused, TookIn}
 use Rattle.wal_core.specs.Locked.{HasTurn, HasWriteTurn}
 use Rattle.wal_core.specs.Ringed.{IsAwaited}
@@ -228,7 +228,7 @@ module _ (opening : Opening) (words : List ℕ) (home : Option Plain) (views : L
 
   -- what durability says of all views, of this one alone
   kept : DurabilityHolds opening k.order (flushed_word words) (moment_word words)
-      (down_word words) (some k.writer) k.writer (told_of v ∷ [])
+      (down_word words) (some k.writer) k.writer (receipts_of v ∷ [])
   kept = record {
     counted = (k.durable).counted;
     moment_low = (k.durable).moment_low;
@@ -243,8 +243,8 @@ module _ (opening : Opening) (words : List ℕ) (home : Option Plain) (views : L
     views = λ j x there. subst
         (IsToldRightly opening k.order (flushed_word words) (moment_word words) (down_word words)
         k.writer)
-        (only_one (told_of v) j x there).1
-        ((k.durable).views id (told_of v) (part_at told_of views id v here));
+        (only_one (receipts_of v) j x there).1
+        ((k.durable).views id (receipts_of v) (part_at receipts_of views id v here));
   }
 
   durable : LogIsDurable opening k.order words k.writer v
@@ -254,10 +254,10 @@ module _ (opening : Opening) (words : List ℕ) (home : Option Plain) (views : L
     moment_low = (k.durable).moment_low;
     on_disk = (k.durable).on_disk;
     crashes = crashes_leave_the_log opening k.order (flushed_word words) (moment_word words)
-        (down_word words) (some k.writer) k.writer (told_of v ∷ []) kept (k.setup_is).size
+        (down_word words) (some k.writer) k.writer (receipts_of v ∷ []) kept (k.setup_is).size
         (k.reserved).chained;
     down = down_tells opening k.order (flushed_word words) (moment_word words) (down_word words)
-        (some k.writer) k.writer (told_of v ∷ []) kept;
+        (some k.writer) k.writer (receipts_of v ∷ []) kept;
   }
 
   pub closed : IsClosed opening k.order words home k.writer views id v

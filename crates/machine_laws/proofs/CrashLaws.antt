@@ -23,9 +23,9 @@ use Rattle.wal_page.specs.Log.{IsLawfulWord, log_word_bytes}
 use Rattle.flush_core.proofs.LawfulLaws.{no_owner_before, no_word_before, word_fits, word_stands_at}
 use Rattle.wal_core.specs.declared.setup.Setup.{Setup}
 use Rattle.wal_core.specs.Words.{Opening}
-use Rattle.wal_core.specs.Views.{HasAt, Hold, Out, Joined, Lent, Plain, FlushPromise, Told, View, writer_of}
+use Rattle.wal_core.specs.Views.{HasAt, Hold, Out, Joined, Lent, Plain, FlushPromise, Receipts, View, writer_of}
 use Rattle.wal_core.specs.Locked.{IsWriteTurn}
-use Rattle.wal_core.specs.Moves.{Outcome, with_outcome}
+use Rattle.wal_core.specs.Moves.{CallOutcome, with_outcome}
 use Rattle.wal_core.specs.Steps.{MayStep, create, fault_number, number_lent, set_down, sync, value_behind, write}
 use Rattle.wal_core.specs.Durable.{AreKept, DurabilityHolds, IsFirm, IsPromiseKept, IsLawfulAt, IsLogBelow}
 use Rattle.machine_laws.specs.Crashes.{CrashesLeave, DownTells, HoldsPromise, LeavesLawful, PutsOwned}
@@ -96,7 +96,7 @@ module _ (setup : Setup) (valid : IsSegmentSize setup.segment_size) (order : Lis
     }
 
 module _ (o : Opening) (order : List Entry) (flushed moment down : ℕ) (home : _) (writer : Plain)
-    (parts : List Told) (h : DurabilityHolds o order flushed moment down home writer parts)
+    (parts : List Receipts) (h : DurabilityHolds o order flushed moment down home writer parts)
     (valid : IsSegmentSize (o.setup).segment_size)
     (chained : IsChained (o.setup).segment_size order) where
   module _ (t : Tape) (is : writer.tape ≡ Some t) (suited : BeganSuited o t) where
@@ -172,7 +172,7 @@ module _ (o : Opening) (order : List Entry) (flushed moment down : ℕ) (home : 
 
 -- a call leaves what the disk held when the log was opened
 pub stays_suited : (o : Opening) (order : List Entry) (flushed moment down : ℕ) (home : _)
-    (writer : Plain) (parts : List Told) (call : Call) (outcome : Outcome)
+    (writer : Plain) (parts : List Receipts) (call : Call) (outcome : CallOutcome)
     → DurabilityHolds o order flushed moment down home writer parts
     → IfSome writer.tape (BeganSuited o)
     → IfSome (with_outcome call outcome writer).tape (BeganSuited o)
@@ -189,7 +189,7 @@ zero_or : (n down : ℕ) → (n ≢ 0 → n ≡ down) → (n ≡ 0) ⊎ (n ≡ d
 zero_or n down is = elim (cases_eq n 0) [ inl zeros ↦ inl zeros | inr some_n ↦ inr (is some_n) ]
 
 module _ (o : Opening) (order : List Entry) (flushed moment down : ℕ) (home : _)
-    (writer : Plain) (parts : List Told)
+    (writer : Plain) (parts : List Receipts)
     (h : DurabilityHolds o order flushed moment down home writer parts) where
   no_fault : writer.fault ≡ none → down ≡ 0
   no_fault up = elim (cases_eq down 0) [
@@ -225,12 +225,12 @@ module _ (o : Opening) (order : List Entry) (flushed moment down : ℕ) (home : 
         ap (number_lent v (λ l. fault_number v (l.writer).fault)) may.1
         ∙ ap (fault_number v) (fault_in_hand l may.1)
 
-    pub no_create : (segment : ℕ) (outcome : Outcome) → MayStep v (create segment outcome) → ⊥
+    pub no_create : (segment : ℕ) (outcome : CallOutcome) → MayStep v (create segment outcome) → ⊥
     no_create segment outcome may = stuck may.0.0 may.0.1 (may.0.2).up
 
-    pub no_write : (segment page upto : ℕ) (bytes : List ℕ) (outcome : Outcome)
+    pub no_write : (segment page upto : ℕ) (bytes : List ℕ) (outcome : CallOutcome)
         → MayStep v (write segment page upto bytes outcome) → ⊥
     no_write segment page upto bytes outcome may = stuck may.0.0 may.0.1 (may.0.2).up
 
-    pub no_sync : (segment : ℕ) (outcome : Outcome) → MayStep v (sync segment outcome) → ⊥
+    pub no_sync : (segment : ℕ) (outcome : CallOutcome) → MayStep v (sync segment outcome) → ⊥
     no_sync segment outcome may = stuck may.0.0 may.0.1 (may.0.2).up

@@ -11,7 +11,7 @@ use Rattle.wal_page.specs.Order.{Entry}
 use Rattle.wal_page.specs.Log.{log_word_bytes}
 use Rattle.wal_core.specs.declared.setup.Setup.{Setup}
 use Rattle.wal_core.specs.Views.{Plain}
-use Rattle.wal_core.specs.Moves.{Outcome, Done, Failed, is_done}
+use Rattle.wal_core.specs.Moves.{CallOutcome, Done, Failed, is_done}
 use Rattle.wal_core.specs.Steps.{IsPageLoaded}
 use Rattle.wal_core.specs.Positioned.{ReadsBelow}
 use Rattle.wal_core.specs.Durable.{IsStaged}
@@ -46,7 +46,7 @@ module _ (setup : Setup) (valid : IsSegmentSize setup.segment_size) (order : Lis
     read_behind address t call reads =
         subst (ReadsBelow setup order address) (sym (state_behind t call)) reads
 
-    pub create_reads : (segment : ℕ) (outcome : Outcome) → w.written ≤ segment * size → (t : Tape)
+    pub create_reads : (segment : ℕ) (outcome : CallOutcome) → w.written ≤ segment * size → (t : Tape)
         → ReadUpto w.written t
         → ReadUpto w.written (tape_behind outcome (create_call size segment) t)
     create_reads segment Done above t reads = read_behind w.written t (create_call size segment)
@@ -58,7 +58,7 @@ module _ (setup : Setup) (valid : IsSegmentSize setup.segment_size) (order : Lis
         (ReadsBelow-create setup valid order (state_now t) w.written segment size made false above
         reads)
 
-    pub sync_reads : (segment : ℕ) (outcome : Outcome) (t : Tape) → ReadUpto w.written t
+    pub sync_reads : (segment : ℕ) (outcome : CallOutcome) (t : Tape) → ReadUpto w.written t
         → ReadUpto w.written (tape_behind outcome (sync_call size segment) t)
     sync_reads segment Done t reads = read_behind w.written t (sync_call size segment)
         (ReadsBelow-sync setup valid order (state_now t) w.written segment size true reads)
@@ -75,7 +75,7 @@ module _ (setup : Setup) (valid : IsSegmentSize setup.segment_size) (order : Lis
         (t : Tape) (reads : ReadUpto w.written t)
         (there : IsSomeAnd (state_now t segment)
         (λ (s : Segment). s.pages ≡ pages_of setup.segment_size)) where
-      pub write_reads : (outcome : Outcome)
+      pub write_reads : (outcome : CallOutcome)
           → ReadUpto (if is_done outcome then upto else w.written)
           (tape_behind outcome (write_call size segment page bytes) t)
       write_reads Done = read_behind upto t (write_call size segment page bytes)

@@ -7,7 +7,7 @@ use mathlib.Core.Option.{none, some}
 use Rattle.segment_disk.specs.Tape.{Tape}
 use Rattle.wal_page.specs.Order.{Entry}
 use Rattle.wal_core.specs.Words.{Opening}
-use Rattle.wal_core.specs.Views.{HasAt, Hold, Idle, Turned, Out, Joined, Lent, Plain, FlushPromise, Told, Writing}
+use Rattle.wal_core.specs.Views.{HasAt, Hold, Idle, Turned, Out, Joined, Lent, Plain, FlushPromise, Receipts, Writing}
 use Rattle.wal_core.specs.Moves.{no_writing, with_lent}
 use Rattle.wal_core.specs.Locked.{StandsTo}
 use Rattle.wal_core.specs.Durable.{AreKept, DurabilityHolds, IsToldRightly, IsFirm, IsInHand, IsPromiseKept, IsPromised}
@@ -16,7 +16,7 @@ use Rattle.wal_core.proofs.Tapes.{told_suited, at_suited}
 use Rattle.wal_core.specs.Suited.{IfSuited}
 
 -- a pass's part, by its own parts
-abbrev pub told : List Entry → List Joined → Writing → Told
+abbrev pub told : List Entry → List Joined → Writing → Receipts
 told entries joined writing =
     record { entries = entries; joined = joined; writing = writing }
 
@@ -43,7 +43,7 @@ lent_cases f P Turned g l is = absurd (cc)
 lent_cases f P (Out m) g l is = let same : f m ≡ l = cc in subst P same (g m refl)
 
 module _ (opening : Opening) (order : List Entry) (flushed moment down : ℕ) (writer : Plain) where
-  abbrev Is : Told → Type 0
+  abbrev Is : Receipts → Type 0
   Is x = IsToldRightly opening order flushed moment down writer x
 
   abbrev IsHeld : Lent → Type 0
@@ -139,9 +139,9 @@ module _ (opening : Opening) (order : List Entry) (flushed moment down : ℕ) (w
   }
 
   -- with another list of views
-  pub with_views : (home : _) (parts others : List Told)
+  pub with_views : (home : _) (parts others : List Receipts)
       → DurabilityHolds opening order flushed moment down home writer parts
-      → ((id : ℕ) (x : Told) → HasAt others id x → Is x)
+      → ((id : ℕ) (x : Receipts) → HasAt others id x → Is x)
       → DurabilityHolds opening order flushed moment down home writer others
   with_views home parts others h views = record {
     counted = h.counted;
@@ -157,13 +157,13 @@ module _ (opening : Opening) (order : List Entry) (flushed moment down : ℕ) (w
     views = views;
   }
 
-  pub view_set : (home : _) (parts : List Told) (id : ℕ) (x : Told)
+  pub view_set : (home : _) (parts : List Receipts) (id : ℕ) (x : Receipts)
       → DurabilityHolds opening order flushed moment down home writer parts → Is x
       → DurabilityHolds opening order flushed moment down home writer (set parts id x)
   view_set home parts id x h is = with_views home parts (set parts id x) h
       (one_set (λ _ y. Is y) parts id x (λ j y other at. h.views j y at) is)
 
-  pub view_added : (home : _) (parts : List Told) (x : Told)
+  pub view_added : (home : _) (parts : List Receipts) (x : Receipts)
       → DurabilityHolds opening order flushed moment down home writer parts → Is x
       → DurabilityHolds opening order flushed moment down home writer (parts ++ x ∷ [])
   view_added home parts x h is = with_views home parts (parts ++ x ∷ []) h
@@ -218,7 +218,7 @@ module _ (opening : Opening) (order : List Entry) (flushed moment down : ℕ) (w
 
   -- ---- with other words
 
-  pub with_down : (other : ℕ) (x : Told) → (down ≢ 0 → down ≡ other) → Is x
+  pub with_down : (other : ℕ) (x : Receipts) → (down ≢ 0 → down ≡ other) → Is x
       → IsToldRightly opening order flushed moment other writer x
   with_down other x same a = record {
     own_promised = a.own_promised;
@@ -241,7 +241,7 @@ module _ (opening : Opening) (order : List Entry) (flushed moment down : ℕ) (w
         moment_low = omega (arith, is.moment_low);
       }) ps all
 
-  pub with_words : (higher later : ℕ) (x : Told) → flushed ≤ higher → moment ≤ later → Is x
+  pub with_words : (higher later : ℕ) (x : Receipts) → flushed ≤ higher → moment ≤ later → Is x
       → IsToldRightly opening order higher later down writer x
   with_words higher later x up low a = record {
     own_promised = promised_later higher later up low (x.writing).promises a.own_promised;

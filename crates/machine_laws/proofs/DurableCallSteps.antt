@@ -9,8 +9,8 @@ use Rattle.segment_disk.specs.Tape.{create_call, state_now, sync_call, write_cal
 use Rattle.segment_disk.specs.Assured.{IsNowhere, TapeAssures}
 use Rattle.wal_page.specs.Order.{Entry}
 use Rattle.wal_core.specs.Words.{Opening}
-use Rattle.wal_core.specs.Views.{HasAt, Flight, Hold, Out, Lent, Plain, Told, View, Writing, told_of, writer_of}
-use Rattle.wal_core.specs.Moves.{Outcome, Done, Failed, after_create, after_sync, after_write}
+use Rattle.wal_core.specs.Views.{HasAt, Flight, Hold, Out, Lent, Plain, Receipts, View, Writing, receipts_of, writer_of}
+use Rattle.wal_core.specs.Moves.{CallOutcome, Done, Failed, after_create, after_sync, after_write}
 use Rattle.wal_core.specs.Locked.{IsWriteTurn}
 use Rattle.wal_core.specs.Positioned.{PositionsHold, ReadsBelow}
 use Rattle.wal_core.specs.Durable.{DurabilityHolds, IsLawfulAt}
@@ -23,7 +23,7 @@ use Rattle.wal_core.proofs.Tapes.{at_suited}
 
 -- ---- all that is written lies in segments that are made, or in the next one
 
-created_reached : (size segment : ℕ) (w : Plain) (outcome : Outcome) → segment ≡ w.made + 1
+created_reached : (size segment : ℕ) (w : Plain) (outcome : CallOutcome) → segment ≡ w.made + 1
     → w.written ≤ w.made * size + size
     → (let n = after_create segment (create_call size segment) outcome w in
     n.written ≤ n.made * size + size)
@@ -33,14 +33,14 @@ created_reached size segment w (Failed faults none) next reached = reached
 created_reached size segment w (Failed faults (some any)) next reached = reached
 
 module _ (size segment page upto : ℕ) (bytes : List ℕ) (w : Plain) where
-  pub written_rises : (outcome : Outcome) → w.written ≤ upto
+  pub written_rises : (outcome : CallOutcome) → w.written ≤ upto
       → w.written
       ≤ (after_write segment upto (write_call size segment page bytes) outcome w).written
   written_rises Done rises = rises
   written_rises (Failed faults none) rises = omega arith
   written_rises (Failed faults (some any)) rises = omega arith
 
-  written_reached : (outcome : Outcome) → upto ≤ w.made * size + size
+  written_reached : (outcome : CallOutcome) → upto ≤ w.made * size + size
       → w.written ≤ w.made * size + size
       → (let n = after_write segment upto (write_call size segment page bytes) outcome w in
       n.written ≤ n.made * size + size)
@@ -48,7 +48,7 @@ module _ (size segment page upto : ℕ) (bytes : List ℕ) (w : Plain) where
   written_reached (Failed faults none) high reached = reached
   written_reached (Failed faults (some any)) high reached = reached
 
-synced_reached : (size segment : ℕ) (w : Plain) (outcome : Outcome)
+synced_reached : (size segment : ℕ) (w : Plain) (outcome : CallOutcome)
     → w.written ≤ w.made * size + size
     → (let n = after_sync (sync_call size segment) outcome w in
     n.written ≤ n.made * size + size)
@@ -57,8 +57,8 @@ synced_reached size segment w (Failed faults none) reached = reached
 synced_reached size segment w (Failed faults (some any)) reached = reached
 
 module _ (o : Opening) (order : List Entry) (flushed moment down : ℕ) (home : _) (writer : Plain)
-    (parts : List Told) (h : DurabilityHolds o order flushed moment down home writer parts)
-    (id : ℕ) (v : View) (here : HasAt parts id (told_of v)) (opening : v.opening ≡ o)
+    (parts : List Receipts) (h : DurabilityHolds o order flushed moment down home writer parts)
+    (id : ℕ) (v : View) (here : HasAt parts id (receipts_of v)) (opening : v.opening ≡ o)
     (setup : IsSetup o.setup) (turn : ℕ) (writers : List (ℕ × Hold))
     (has : IsWriteTurn turn home writer writers) (at : HasAt writers id (writer_of v))
     (written : ℕ) (flights : List Flight) (writings : List Writing)
@@ -74,11 +74,11 @@ module _ (o : Opening) (order : List Entry) (flushed moment down : ℕ) (home : 
     low : flushed ≤ writer.written
     low = omega (arith, positions.flushed_low, positions.written_low)
 
-    pub create_keeps : (segment : ℕ) (outcome : Outcome) (met : ℕ)
+    pub create_keeps : (segment : ℕ) (outcome : CallOutcome) (met : ℕ)
         → MayStep v (create segment outcome)
         → DurabilityHolds o order flushed moment down home
         (after_create segment (create_call (o.setup).segment_size segment) outcome writer)
-        (set parts id (told_of (view_behind v (create segment outcome) met home)))
+        (set parts id (receipts_of (view_behind v (create segment outcome) met home)))
     create_keeps segment outcome met may =
         let l = may.0.0 in
         let holds = held l may.0.1 in
@@ -105,19 +105,19 @@ module _ (o : Opening) (order : List Entry) (flushed moment down : ℕ) (home : 
         (after_create segment (create_call ((v.opening).setup).segment_size segment) outcome)
         id v l here may.0.1
 
-    pub write_keeps : (segment page upto : ℕ) (bytes : List ℕ) (outcome : Outcome) (met : ℕ)
+    pub write_keeps : (segment page upto : ℕ) (bytes : List ℕ) (outcome : CallOutcome) (met : ℕ)
         → MayStep v (write segment page upto bytes outcome)
         → DurabilityHolds o order flushed moment down home
         (after_write segment upto (write_call (o.setup).segment_size segment page bytes) outcome
         writer)
-        (set parts id (told_of (view_behind v (write segment page upto bytes outcome) met home)))
+        (set parts id (receipts_of (view_behind v (write segment page upto bytes outcome) met home)))
     write_keeps segment page upto bytes outcome met may =
         let l = may.0.0 in
         let holds = held l may.0.1 in
         let call = write_call size segment page bytes in
         let step : IsNextWrite o.setup segment page upto bytes l =
         subst (λ (q : Opening). IsNextWrite q.setup segment page upto bytes l) opening may.0.2 in
-        let staged = ((h.views id (told_of v) here).in_hand l may.0.1).staged in
+        let staged = ((h.views id (receipts_of v) here).in_hand l may.0.1).staged in
         let own : (l.writer).written ≡ writer.written = ap (λ (p : Plain). p.written) holds.1 in
         let up : writer.fault ≡ none = ap (λ (p : Plain). p.fault) (sym holds.1) ∙ step.up in
         let page_is : segment * pages_of size + page ≡ writer.written / 8192 =
@@ -157,10 +157,10 @@ module _ (o : Opening) (order : List Entry) (flushed moment down : ℕ) (home : 
         outcome)
         id v l here may.0.1
 
-    pub sync_keeps : (segment : ℕ) (outcome : Outcome) (met : ℕ) → MayStep v (sync segment outcome)
+    pub sync_keeps : (segment : ℕ) (outcome : CallOutcome) (met : ℕ) → MayStep v (sync segment outcome)
         → DurabilityHolds o order flushed moment down home
         (after_sync (sync_call (o.setup).segment_size segment) outcome writer)
-        (set parts id (told_of (view_behind v (sync segment outcome) met home)))
+        (set parts id (receipts_of (view_behind v (sync segment outcome) met home)))
     sync_keeps segment outcome met may =
         let l = may.0.0 in
         let holds = held l may.0.1 in

@@ -22,7 +22,7 @@ use Rattle.segment_disk.proofs.ZeroWords.{word_of-zero_page}
 use Rattle.wal_core.specs.declared.setup.Setup.{Setup}
 use Rattle.wal_core.specs.Ringed.{log_word_of}
 use Rattle.wal_core.specs.Views.{Lent, Plain}
-use Rattle.wal_core.specs.Moves.{Outcome, Done, Failed, after_create, after_sync, after_write}
+use Rattle.wal_core.specs.Moves.{CallOutcome, Done, Failed, after_create, after_sync, after_write}
 use Rattle.wal_core.specs.Positioned.{ReadsBelow}
 use Rattle.wal_core.specs.Durable.{IsLawfulAt, IsLogBelow, IsOnDisk, IsStaged}
 use Rattle.wal_core.specs.Steps.{IsNextWrite}
@@ -191,7 +191,7 @@ module _ (setup : Setup) (valid : IsSegmentSize setup.segment_size) (order : Lis
     created_whole any done state s here elsewhere =
         after_each state (creating any done) IsWhole s here elsewhere
 
-    pub on_disk_created : (outcome : Outcome) (t : Tape) → IsOnDisk setup order w t
+    pub on_disk_created : (outcome : CallOutcome) (t : Tape) → IsOnDisk setup order w t
         → IsOnDisk setup order (after_create segment (create_call size segment) outcome w)
         (tape_behind outcome (create_call size segment) t)
     unfolding creating
@@ -287,7 +287,7 @@ module _ (setup : Setup) (valid : IsSegmentSize setup.segment_size) (order : Lis
     written_whole done state s whole = after_each state (writing done) IsWhole s
         (λ _. whole_written page (record { bytes = bytes }) done (state s) whole) (λ _. whole)
 
-    pub on_disk_written : (outcome : Outcome) (t : Tape) → IsOnDisk setup order w t
+    pub on_disk_written : (outcome : CallOutcome) (t : Tape) → IsOnDisk setup order w t
         → IsOnDisk setup order (after_write segment upto (write_call size segment page bytes)
         outcome w) (tape_behind outcome (write_call size segment page bytes) t)
     unfolding writing
@@ -371,7 +371,7 @@ module _ (setup : Setup) (valid : IsSegmentSize setup.segment_size) (order : Lis
       synced_whole done s whole = after_each (state_now t) (syncing done) IsWhole s
           (λ _. whole_synced done (state_now t s) whole) (λ _. whole)
 
-      pub on_disk_synced : (outcome : Outcome)
+      pub on_disk_synced : (outcome : CallOutcome)
           → IsOnDisk setup order (after_sync (sync_call size segment) outcome w)
           (tape_behind outcome (sync_call size segment) t)
       unfolding syncing

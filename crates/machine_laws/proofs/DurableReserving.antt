@@ -8,7 +8,7 @@ use Rattle.segment_disk.specs.Assured.{IsMadeUpto, IsNowhere, TapeAssures}
 use Rattle.wal_types.specs.declared.record.Record.{Record}
 use Rattle.wal_page.specs.Order.{Entry, IsChained, end_position}
 use Rattle.wal_core.specs.Words.{Opening, end_form}
-use Rattle.wal_core.specs.Views.{HasAt, Flight, Out, Joined, Lent, Place, Stored, Plain, FlushPromise, Told, View, told_of, writing_of}
+use Rattle.wal_core.specs.Views.{HasAt, Flight, Out, Joined, Lent, Place, Stored, Plain, FlushPromise, Receipts, View, receipts_of, writing_of}
 use Rattle.wal_core.specs.Ordered.{AtPlace}
 use Rattle.wal_core.specs.Moves.{after_store_position, entry_reserved}
 use Rattle.wal_core.specs.Positioned.{PositionsHold}
@@ -33,13 +33,13 @@ got_cases (x ∷ es) e f (suc k) is = got_cases es e f k is
 pub known_reserved : (o : Opening) (order : List Entry) (written flushed down : ℕ) (home : _)
     (writer : Plain) (flights : List Flight) (views : List View)
     → PositionsHold o order written flushed down home writer flights (map writing_of views)
-    → (id : ℕ) (x : Told) → HasAt (map told_of views) id x
+    → (id : ℕ) (x : Receipts) → HasAt (map receipts_of views) id x
     → (l : Lent) → (x.writing).hold ≡ Out l
     → l.known ≤ end_form o.setup (end_position (o.setup).segment_size order)
 known_reserved o order written flushed down home writer flights views p id x at l is =
-    let found = view_from told_of views id x at in
+    let found = view_from receipts_of views id x at in
     ((p.views id (found.0).writing (part_at writing_of views id found.0 found.1)).known l
-    (ap (λ (y : Told). (y.writing).hold) found.2 ∙ is)).0
+    (ap (λ (y : Receipts). (y.writing).hold) found.2 ∙ is)).0
 
 -- the position that a view has locked is the order's end
 pub at_end : (size end last prev locked holder id : ℕ) (place : Place) (at met : ℕ)
@@ -52,13 +52,13 @@ at_end size end last prev locked holder id place at met is stands =
 -- what a pass has behind its reservation
 reserved_is : (v : View) (locks : List ℕ) (value : Record) (at prev : ℕ)
     → v.reserving.place ≡ Stored at prev
-    → told_of (after_store_position locks value v)
+    → receipts_of (after_store_position locks value v)
     ≡ told (v.reserving.entries ++ entry_reserved v.reserving.number at value ∷ [])
     v.reserving.joined v.writing
 reserved_is v locks value at prev is = rw is refl
 
 module _ (o : Opening) (order : List Entry) (flushed moment down : ℕ) (home : _)
-    (writer : Plain) (parts : List Told)
+    (writer : Plain) (parts : List Receipts)
     (h : DurabilityHolds o order flushed moment down home writer parts)
     (valid : IsSegmentSize (o.setup).segment_size) (e : Entry)
     (chained : IsChained (o.setup).segment_size order)
@@ -73,7 +73,7 @@ module _ (o : Opening) (order : List Entry) (flushed moment down : ℕ) (home : 
   opened = o.moment
 
   module _ (reserved : writer.written ≤ end) (low : flushed ≤ writer.written)
-      (known : (id : ℕ) (x : Told) → HasAt parts id x → (l : Lent) → (x.writing).hold ≡ Out l
+      (known : (id : ℕ) (x : Receipts) → HasAt parts id x → (l : Lent) → (x.writing).hold ≡ Out l
       → l.known ≤ end) where
     kept_longer : (t : Tape) (es : List Entry) (p : FlushPromise) → IsPromiseKept o order t es p
         → IsPromised flushed moment p → IsPromiseKept o longer t es p
@@ -99,7 +99,7 @@ module _ (o : Opening) (order : List Entry) (flushed moment down : ℕ) (home : 
     }
 
     -- of each view, whose entries may be one more
-    longer_assured : (x : Told) (es : List Entry)
+    longer_assured : (x : Receipts) (es : List Entry)
         → ((l : Lent) → (x.writing).hold ≡ Out l → l.known ≤ end)
         → ((t : Tape) → writer.tape ≡ Some t → BeganSuited o t → (p : FlushPromise)
         → IsPromiseKept o order t x.entries p
@@ -173,7 +173,7 @@ module _ (o : Opening) (order : List Entry) (flushed moment down : ℕ) (home : 
           (λ t _ _. kept_longer t x.entries) (h.views j x at);
     }
 
-    pub reserve_keeps : (id : ℕ) (x : Told) → HasAt parts id x
+    pub reserve_keeps : (id : ℕ) (x : Receipts) → HasAt parts id x
         → DurabilityHolds o longer flushed moment down home writer
         (set parts id (told (x.entries ++ e ∷ []) x.joined x.writing))
     reserve_keeps id x here = view_set o longer flushed moment down writer home parts id
@@ -188,7 +188,7 @@ module _ (o : Opening) (order : List Entry) (flushed moment down : ℕ) (home : 
 pub store_position_keeps : (o : Opening) (order : List Entry) (flushed moment down : ℕ) (home : _)
     (writer : Plain) (views : List View) (id met : ℕ) (locks : List ℕ) (value : Record) (v : View)
     (at prev : ℕ) (last word locked holder written : ℕ) (flights : List Flight)
-    → DurabilityHolds o order flushed moment down home writer (map told_of views)
+    → DurabilityHolds o order flushed moment down home writer (map receipts_of views)
     → HasAt views id v → IsSetup o.setup → IsChained (o.setup).segment_size order
     → AtPlace (o.setup).segment_size (end_position (o.setup).segment_size order) last word locked
     holder id (v.reserving).place
@@ -197,17 +197,17 @@ pub store_position_keeps : (o : Opening) (order : List Entry) (flushed moment do
     → DurabilityHolds o (order ++ entry_reserved
     (v.reserving).number at value ∷ []) flushed moment down
     home writer
-    (set (map told_of views) id (told_of (view_behind v (store_position locks value) met home)))
+    (set (map receipts_of views) id (receipts_of (view_behind v (store_position locks value) met home)))
 store_position_keeps o order flushed moment down home writer views id met locks value v at prev
     last word locked holder written flights h here setup chained stands positions is =
     let e = entry_reserved (v.reserving).number at value in
     let start = at_end (o.setup).segment_size (end_position (o.setup).segment_size order) last word
     locked holder id (v.reserving).place at prev is stands in
-    subst (λ (x : Told). DurabilityHolds o (order ++ e ∷ []) flushed moment down home writer
-    (set (map told_of views) id x)) (sym (reserved_is v locks value at prev is))
-    (reserve_keeps o order flushed moment down home writer (map told_of views) h setup.size e
+    subst (λ (x : Receipts). DurabilityHolds o (order ++ e ∷ []) flushed moment down home writer
+    (set (map receipts_of views) id x)) (sym (reserved_is v locks value at prev is))
+    (reserve_keeps o order flushed moment down home writer (map receipts_of views) h setup.size e
     chained start positions.reserved
     (let low : flushed ≤ writer.written =
     omega (arith, positions.flushed_low, positions.written_low) in low)
     (known_reserved o order written flushed down home writer flights views positions) id
-    (told_of v) (part_at told_of views id v here))
+    (receipts_of v) (part_at receipts_of views id v here))

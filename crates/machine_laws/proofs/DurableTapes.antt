@@ -10,7 +10,7 @@ use Rattle.segment_disk.proofs.Fronts.{take-before}
 use Rattle.flush_core.proofs.LeftLaws.{TapeAssures-with_call, TapeAssures-failed}
 use Rattle.wal_page.specs.Order.{Entry}
 use Rattle.wal_core.specs.Views.{Plain}
-use Rattle.wal_core.specs.Moves.{Outcome, Done, Failed, with_outcome}
+use Rattle.wal_core.specs.Moves.{CallOutcome, Done, Failed, with_outcome}
 use Rattle.wal_core.proofs.Tapes.{tape_behind}
 use Rattle.wal_core.specs.Durable.{IsUnwritten, PutsNone}
 
@@ -32,7 +32,7 @@ module _ (size : ℕ) (IsThere : ℕ → Type 0) (Fits : ℕ → ℕ → List �
     left = λ m from image leaves. assures.left m (omega arith) image leaves;
   }
 
-  pub TapeAssures-behind : (call : Call) (outcome : Outcome) (moment : ℕ) (t : Tape)
+  pub TapeAssures-behind : (call : Call) (outcome : CallOutcome) (moment : ℕ) (t : Tape)
       → CallFits size Fits call → TapeAssures size IsThere Fits moment t
       → TapeAssures size IsThere Fits moment (tape_behind outcome call t)
   TapeAssures-behind call Done moment t fits assures =
@@ -54,7 +54,7 @@ unwritten_before size opened moment t call e within unwritten =
     (ap (λ (calls : List Call). drop opened calls)
     (take-before t.calls (call ∷ []) moment within)) unwritten
 
-pub IsUnwritten-behind : (size opened moment : ℕ) (call : Call) (outcome : Outcome) (t : Tape)
+pub IsUnwritten-behind : (size opened moment : ℕ) (call : Call) (outcome : CallOutcome) (t : Tape)
     (e : Entry) → moment ≤ length t.calls → IsUnwritten size opened t moment e
     → IsUnwritten size opened (tape_behind outcome call t) moment e
 IsUnwritten-behind size opened moment call Done t e within unwritten =
@@ -64,7 +64,7 @@ IsUnwritten-behind size opened moment call (Failed faults (some made)) t e withi
     unwritten_before size opened moment t (failed_call made call) e within unwritten
 
 -- the moment counts the calls
-pub counted_behind : (call : Call) (outcome : Outcome) (w : Plain) (t : Tape)
+pub counted_behind : (call : Call) (outcome : CallOutcome) (w : Plain) (t : Tape)
     → w.moment ≡ length t.calls
     → (with_outcome call outcome w).moment ≡ length (tape_behind outcome call t).calls
 counted_behind call Done w t count = omega (arith, count, length-append t.calls (call ∷ []))
@@ -72,7 +72,7 @@ counted_behind call (Failed faults none) w t count = count
 counted_behind call (Failed faults (some made)) w t count =
     omega (arith, count, length-append t.calls (failed_call made call ∷ []))
 
-pub moment_rises : (call : Call) (outcome : Outcome) (w : Plain)
+pub moment_rises : (call : Call) (outcome : CallOutcome) (w : Plain)
     → w.moment ≤ (with_outcome call outcome w).moment
 moment_rises call Done w = omega arith
 moment_rises call (Failed faults none) w = omega arith

@@ -9,7 +9,7 @@ use Rattle.segment_disk.specs.Assured.{IsMadeUpto}
 use Rattle.flush_core.proofs.LeftLaws.{TapeAssures-now}
 use Rattle.wal_page.specs.Order.{Entry}
 use Rattle.wal_core.specs.Words.{Opening}
-use Rattle.wal_core.specs.Views.{HasAt, Hold, Idle, Turned, Out, Joined, Lent, Plain, Told, View, told_of, writer_of}
+use Rattle.wal_core.specs.Views.{HasAt, Hold, Idle, Turned, Out, Joined, Lent, Plain, Receipts, View, receipts_of, writer_of}
 use Rattle.wal_core.specs.Moves.{lent, after_join, after_split, no_writing, orphan_of, split_off, spent, with_hold, with_lent, without_work, after_load_down, after_load_flushed, after_load_moment, after_load_word, after_load_written, after_set_down, after_slot_out, after_store_flushed, after_store_moment, after_store_written, after_take_write_turn, hardened}
 use Rattle.wal_core.specs.Locked.{IsWriteTurn}
 use Rattle.wal_core.specs.Durable.{DurabilityHolds, IsToldRightly, IsFirm, IsInHand, IsLogBelow, IsOnDisk, IsStaged}
@@ -21,17 +21,17 @@ use Rattle.machine_laws.proofs.DurableTapes.{TapeAssures-later}
 use Rattle.wal_core.specs.Suited.{IfSuited}
 
 module _ (o : Opening) (order : List Entry) (flushed moment down : ℕ) (home : Option Plain)
-    (writer : Plain) (parts : List Told)
+    (writer : Plain) (parts : List Receipts)
     (h : DurabilityHolds o order flushed moment down home writer parts) where
-  abbrev Holds : List Told → Type 0
+  abbrev Holds : List Receipts → Type 0
   Holds views = DurabilityHolds o order flushed moment down home writer views
 
-  abbrev Is : Told → Type 0
+  abbrev Is : Receipts → Type 0
   Is x = IsToldRightly o order flushed moment down writer x
 
-  module _ (id : ℕ) (v : View) (here : HasAt parts id (told_of v)) where
-    was : Is (told_of v)
-    was = h.views id (told_of v) here
+  module _ (id : ℕ) (v : View) (here : HasAt parts id (receipts_of v)) where
+    was : Is (receipts_of v)
+    was = h.views id (receipts_of v) here
 
     abbrev es : List Entry
     es = v.reserving.entries
@@ -39,7 +39,7 @@ module _ (o : Opening) (order : List Entry) (flushed moment down : ℕ) (home : 
     abbrev js : List Joined
     js = v.reserving.joined
 
-    one : (x : Told) → Is x → Holds (set parts id x)
+    one : (x : Receipts) → Is x → Holds (set parts id x)
     one x is = view_set o order flushed moment down writer home parts id x h is
 
     -- nothing in hand
@@ -50,40 +50,40 @@ module _ (o : Opening) (order : List Entry) (flushed moment down : ℕ) (home : 
         (record v.writing { hold = hold }) refl refl refl was
         (λ l is. absurd (nothing l is)))
 
-    pub same : Holds (set parts id (told_of v))
-    same = one (told_of v) was
+    pub same : Holds (set parts id (receipts_of v))
+    same = one (receipts_of v) was
 
-    pub load_written_keeps : (met : ℕ) → Holds (set parts id (told_of (after_load_written met v)))
+    pub load_written_keeps : (met : ℕ) → Holds (set parts id (receipts_of (after_load_written met v)))
     load_written_keeps met = one (told es js (record v.writing { written = met }))
         (rebuilt o order flushed moment down writer es js v.writing
         (record v.writing { written = met }) refl refl refl was was.in_hand)
 
-    pub load_flushed_keeps : (met : ℕ) → Holds (set parts id (told_of (after_load_flushed met v)))
+    pub load_flushed_keeps : (met : ℕ) → Holds (set parts id (receipts_of (after_load_flushed met v)))
     load_flushed_keeps met = one (told es js (record v.writing { flushed = met }))
         (rebuilt o order flushed moment down writer es js v.writing
         (record v.writing { flushed = met }) refl refl refl was was.in_hand)
 
     pub load_moment_keeps : v.writing.flushed ≤ flushed
-        → Holds (set parts id (told_of (after_load_moment moment v)))
-    load_moment_keeps low = one (told_of (after_load_moment moment v))
+        → Holds (set parts id (receipts_of (after_load_moment moment v)))
+    load_moment_keeps low = one (receipts_of (after_load_moment moment v))
         (is_promised o order flushed moment down writer v.writing.flushed moment es js v.writing
         h.begun (omega arith) low
         (IfSome_then writer.tape h.firm (λ t firm suited.
         IsFirm-lower o.setup order v.writing.flushed flushed moment t low (firm suited))) was)
 
-    pub load_down_keeps : Holds (set parts id (told_of (after_load_down down v)))
-    load_down_keeps = one (told_of (after_load_down down v))
+    pub load_down_keeps : Holds (set parts id (receipts_of (after_load_down down v)))
+    load_down_keeps = one (receipts_of (after_load_down down v))
         (met_down o order flushed moment down writer es js v.writing was)
 
-    pub take_turn_keeps : (met : ℕ) → Holds (set parts id (told_of (after_take_write_turn met v)))
+    pub take_turn_keeps : (met : ℕ) → Holds (set parts id (receipts_of (after_take_write_turn met v)))
     take_turn_keeps met = by_test (met == 0)
       where
         by_test : (b : Bool)
-            → Holds (set parts id (told_of (if b then with_hold Turned v else v)))
+            → Holds (set parts id (receipts_of (if b then with_hold Turned v else v)))
         by_test true = empty_handed Turned (λ l is. absurd (cc))
         by_test false = same
 
-    pub release_turn_keeps : Holds (set parts id (told_of (with_hold Idle v)))
+    pub release_turn_keeps : Holds (set parts id (receipts_of (with_hold Idle v)))
     release_turn_keeps = empty_handed Idle (λ l is. absurd (cc))
 
     -- with the writer in hand, where what is said of it stays
@@ -97,7 +97,7 @@ module _ (o : Opening) (order : List Entry) (flushed moment down : ℕ) (home : 
         (record v.writing { hold = with_lent f v.writing.hold }) refl refl refl was
         (lent_cases f (IsInHand o order moment writer) v.writing.hold stays))
 
-    pub store_written_keeps : Holds (set parts id (told_of (after_store_written v)))
+    pub store_written_keeps : Holds (set parts id (receipts_of (after_store_written v)))
     store_written_keeps = in_hand_keeps (λ l. record l { stored = (l.writer).written })
         (λ m is. let i = was.in_hand m is in record {
           staged = i.staged;
@@ -109,7 +109,7 @@ module _ (o : Opening) (order : List Entry) (flushed moment down : ℕ) (home : 
 
     pub load_word_keeps : (k met : ℕ)
         → ((m : Lent) → v.writing.hold ≡ Out m → IsStaged o.setup order m.known (k, met))
-        → Holds (set parts id (told_of (after_load_word k met v)))
+        → Holds (set parts id (receipts_of (after_load_word k met v)))
     load_word_keeps k met staged =
         in_hand_keeps (λ l. record l { staged = (k, met) ∷ l.staged })
         (λ m is. let i = was.in_hand m is in record {
@@ -122,7 +122,7 @@ module _ (o : Opening) (order : List Entry) (flushed moment down : ℕ) (home : 
         })
 
     -- with the writer at home, or away
-    rehomed : (elsewhere : Option Plain) (others : List Told)
+    rehomed : (elsewhere : Option Plain) (others : List Receipts)
         → (elsewhere ≡ some writer → down ≡ 0 → writer.fault ≡ none) → Holds others
         → DurabilityHolds o order flushed moment down elsewhere writer others
     rehomed elsewhere others at_home g = record {
@@ -146,8 +146,8 @@ module _ (o : Opening) (order : List Entry) (flushed moment down : ℕ) (home : 
       held l is = stands_out turn has.holder home writer id v.reserving.number v.writing.hold l is
           (has.each id (writer_of v) at)
 
-      nothing_loaded : Holds (set parts id (told_of (after_slot_out writer v)))
-      nothing_loaded = one (told_of (after_slot_out writer v))
+      nothing_loaded : Holds (set parts id (receipts_of (after_slot_out writer v)))
+      nothing_loaded = one (receipts_of (after_slot_out writer v))
           (rebuilt o order flushed moment down writer es js v.writing
           ((after_slot_out writer v).writing) refl refl refl was
           (λ l is. let taken : lent writer v ≡ l = cc in
@@ -161,26 +161,26 @@ module _ (o : Opening) (order : List Entry) (flushed moment down : ℕ) (home : 
 
       pub slot_out_keeps : (met : ℕ) → MayStep v slot_out
           → DurabilityHolds o order flushed moment down (home_behind v slot_out home) writer
-          (set parts id (told_of (view_behind v slot_out met home)))
+          (set parts id (receipts_of (view_behind v slot_out met home)))
       slot_out_keeps met may =
           let there : home ≡ some writer = stands_turned turn has.holder home writer id
           v.reserving.number v.writing.hold may (has.each id (writer_of v) at) in
           subst (λ (p : Option Plain). DurabilityHolds o order flushed moment down none writer
-          (set parts id (told_of (with_slot v p)))) (sym there)
-          (rehomed none (set parts id (told_of (after_slot_out writer v)))
+          (set parts id (receipts_of (with_slot v p)))) (sym there)
+          (rehomed none (set parts id (receipts_of (after_slot_out writer v)))
           (λ is. absurd (cc)) nothing_loaded)
 
       pub slot_in_keeps : (met : ℕ) → MayStep v slot_in
           → DurabilityHolds o order flushed moment down (home_behind v slot_in home) writer
-          (set parts id (told_of (view_behind v slot_in met home)))
+          (set parts id (receipts_of (view_behind v slot_in met home)))
       slot_in_keeps met may =
           let l = may.0 in
           let own = (held l may.1).1 in
           let back : returned v v.writing.hold home ≡ some writer =
           ap (λ (hold : Hold). returned v hold home) may.1 ∙ ap some own in
           subst (λ (p : Option Plain). DurabilityHolds o order flushed moment down p writer
-          (set parts id (told_of (with_hold Turned v)))) (sym back)
-          (rehomed (some writer) (set parts id (told_of (with_hold Turned v)))
+          (set parts id (receipts_of (with_hold Turned v)))) (sym back)
+          (rehomed (some writer) (set parts id (receipts_of (with_hold Turned v)))
           (λ _ up. elim may.2 [
             | inl done ↦ ap (λ (p : Plain). p.fault) (sym own) ∙ done.0
             | inr told_down ↦ absurd (told_down (was.down_set told_down ∙ up))
@@ -189,7 +189,7 @@ module _ (o : Opening) (order : List Entry) (flushed moment down : ℕ) (home : 
 
       pub set_down_keeps : (met : ℕ) → MayStep v set_down
           → DurabilityHolds o order flushed moment (value_behind v set_down met) home writer
-          (set parts id (told_of (view_behind v set_down met home)))
+          (set parts id (receipts_of (view_behind v set_down met home)))
       set_down_keeps met may =
           let l = may.0 in
           let faults = may.2.0 in
@@ -216,11 +216,11 @@ module _ (o : Opening) (order : List Entry) (flushed moment down : ℕ) (home : 
                 (h.views j x there);
           } in
           subst (λ (n : ℕ). DurabilityHolds o order flushed moment n home writer
-          (set parts id (told_of (after_set_down n v)))) (sym number)
+          (set parts id (receipts_of (after_set_down n v)))) (sym number)
           (view_set o order flushed moment faults writer home parts id
-          (told_of (after_set_down faults v)) behind
+          (receipts_of (after_set_down faults v)) behind
           (did_set_down o order flushed moment faults writer es js v.writing
-          (behind.views id (told_of v) here)))
+          (behind.views id (receipts_of v) here)))
 
       -- nothing waits: all that is written is durable
       all_firm : writer.waiting ≡ none
@@ -237,7 +237,7 @@ module _ (o : Opening) (order : List Entry) (flushed moment down : ℕ) (home : 
 
       pub store_moment_keeps : (met : ℕ) → MayStep v store_moment
           → DurabilityHolds o order flushed (value_behind v store_moment met) down home writer
-          (set parts id (told_of (view_behind v store_moment met home)))
+          (set parts id (receipts_of (view_behind v store_moment met home)))
       store_moment_keeps met may =
           let l = may.0 in
           let holds = held l may.1 in
@@ -265,11 +265,11 @@ module _ (o : Opening) (order : List Entry) (flushed moment down : ℕ) (home : 
             views = λ j x there. with_words o order flushed moment down writer flushed
                 writer.moment x (omega arith) h.moment_low (h.views j x there);
           } in
-          let now = behind.views id (told_of v) here in
+          let now = behind.views id (receipts_of v) here in
           subst (λ (n : ℕ). DurabilityHolds o order flushed n down home writer
-          (set parts id (told_of (after_store_moment v)))) (sym number)
+          (set parts id (receipts_of (after_store_moment v)))) (sym number)
           (view_set o order flushed writer.moment down writer home parts id
-          (told_of (after_store_moment v)) behind
+          (receipts_of (after_store_moment v)) behind
           (rebuilt o order flushed writer.moment down writer es js v.writing
           ((after_store_moment v).writing) refl refl refl now
           (lent_cases hardened (IsInHand o order writer.moment writer) v.writing.hold
@@ -289,7 +289,7 @@ module _ (o : Opening) (order : List Entry) (flushed moment down : ℕ) (home : 
       pub store_flushed_keeps : (met : ℕ) → 1 ≤ flushed → flushed ≤ writer.written
           → MayStep v store_flushed
           → DurabilityHolds o order (value_behind v store_flushed met) moment down home writer
-          (set parts id (told_of (view_behind v store_flushed met home)))
+          (set parts id (receipts_of (view_behind v store_flushed met home)))
       store_flushed_keeps met some_flushed low may =
           let l = may.0 in
           let holds = held l may.1 in
@@ -319,35 +319,35 @@ module _ (o : Opening) (order : List Entry) (flushed moment down : ℕ) (home : 
                 (omega arith) (h.views j x there);
           } in
           subst (λ (n : ℕ × ℕ). DurabilityHolds o order n.0 moment down home writer
-          (set parts id (told_of (after_store_flushed n.0 n.1 v))))
+          (set parts id (receipts_of (after_store_flushed n.0 n.1 v))))
           (λ j. (sym number j, sym from j))
           (view_set o order l.hard moment down writer home parts id
-          (told_of (after_store_flushed l.hard l.hard_moment v)) behind
+          (receipts_of (after_store_flushed l.hard l.hard_moment v)) behind
           (is_promised o order l.hard moment down writer l.hard l.hard_moment es js v.writing
           (hand.since some_hard) hand.moment_low (omega arith) (hand.firm some_hard)
-          (behind.views id (told_of v) here)))
+          (behind.views id (receipts_of v) here)))
 
     -- ---- passes that begin and end
 
-    pub split_keeps : Holds (set parts id (told_of (after_split v)) ++ told_of (split_off v) ∷ [])
+    pub split_keeps : Holds (set parts id (receipts_of (after_split v)) ++ receipts_of (split_off v) ∷ [])
     split_keeps = view_added o order flushed moment down writer home
-        (set parts id (told_of v)) (told [] [] no_writing) same
+        (set parts id (receipts_of v)) (told [] [] no_writing) same
         (is_new o order flushed moment down writer)
 
     pub give_up_keeps :
-        Holds (set parts id (told_of (without_work v)) ++ told_of (orphan_of v) ∷ [])
+        Holds (set parts id (receipts_of (without_work v)) ++ receipts_of (orphan_of v) ∷ [])
     give_up_keeps = view_added o order flushed moment down writer home
-        (set parts id (told_of v)) (told [] [] no_writing) same
+        (set parts id (receipts_of v)) (told [] [] no_writing) same
         (is_new o order flushed moment down writer)
 
-    pub join_keeps : (other : ℕ) (w : View) → HasAt parts other (told_of w)
-        → Holds (set (set parts other (told_of (spent w))) id (told_of (after_join v w)))
+    pub join_keeps : (other : ℕ) (w : View) → HasAt parts other (receipts_of w)
+        → Holds (set (set parts other (receipts_of (spent w))) id (receipts_of (after_join v w)))
     join_keeps other w there =
         let began = is_new o order flushed moment down writer in
         view_set o order flushed moment down writer home
-        (set parts other (told [] [] no_writing)) id (told_of (after_join v w))
+        (set parts other (told [] [] no_writing)) id (receipts_of (after_join v w))
         (view_set o order flushed moment down writer home parts other (told [] [] no_writing) h
         began)
         (is_joined o order flushed moment down writer es w.reserving.entries js
         w.reserving.joined v.writing w.writing w.reserving.number w.reserving.filled was
-        (h.views other (told_of w) there))
+        (h.views other (receipts_of w) there))

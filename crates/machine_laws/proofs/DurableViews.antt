@@ -7,8 +7,8 @@ use Rattle.segment_disk.specs.Tape.{Tape}
 use Rattle.segment_disk.specs.Assured.{CallFits, IsMadeUpto, IsNowhere, TapeAssures}
 use Rattle.wal_page.specs.Order.{Entry}
 use Rattle.wal_core.specs.Words.{Opening}
-use Rattle.wal_core.specs.Views.{HasAt, Hold, Out, Joined, Lent, Plain, FlushPromise, Told, View, told_of}
-use Rattle.wal_core.specs.Moves.{Outcome, Done, Failed, with_lent, with_outcome}
+use Rattle.wal_core.specs.Views.{HasAt, Hold, Out, Joined, Lent, Plain, FlushPromise, Receipts, View, receipts_of}
+use Rattle.wal_core.specs.Moves.{CallOutcome, Done, Failed, with_lent, with_outcome}
 use Rattle.wal_core.specs.Durable.{AreKept, DurabilityHolds, IsToldRightly, IsFirm, IsInHand, IsPromiseKept, IsLawfulAt, IsLogBelow, IsOnDisk, IsPromised}
 use Rattle.wal_core.specs.Steps.{IsCallFault, with_call_on}
 use Rattle.machine_laws.proofs.DurableAssured.{lent_cases, rebuilt, told, view_set}
@@ -18,14 +18,14 @@ use Rattle.machine_laws.proofs.DurableTapes.{IsUnwritten-behind, TapeAssures-beh
 use Rattle.wal_core.specs.Suited.{BeganSuited, IfSuited}
 
 -- a call leaves of the writer all but its tape, its moment and its fault
-pub same_written : (call : Call) (outcome : Outcome) (w : Plain)
+pub same_written : (call : Call) (outcome : CallOutcome) (w : Plain)
     → (with_outcome call outcome w).written ≡ w.written
 same_written call Done w = refl
 same_written call (Failed faults none) w = refl
 same_written call (Failed faults (some made)) w = refl
 
 -- a fault that is told is one of this call
-pub fault_rose : (v : View) (call : Call) (outcome : Outcome) (w : Plain) → w.fault ≡ none
+pub fault_rose : (v : View) (call : Call) (outcome : CallOutcome) (w : Plain) → w.fault ≡ none
     → IsCallFault v outcome → (f : ℕ) → (with_outcome call outcome w).fault ≡ some f
     → Rose (v.opening).faults f
 fault_rose v call Done w up rose f is = absurd (some-ne-none f (sym is ∙ up))
@@ -35,15 +35,15 @@ fault_rose v call (Failed faults (some made)) w up rose f is =
     subst (Rose (v.opening).faults) (some-injective faults f is) rose
 
 -- the writer behind the call
-pub record ComesBehind (call : Call) (outcome : Outcome) (w n : Plain) : Type 0 where
+pub record ComesBehind (call : Call) (outcome : CallOutcome) (w n : Plain) : Type 0 where
   pub tape : n.tape ≡ (with_outcome call outcome w).tape
   pub moment : n.moment ≡ (with_outcome call outcome w).moment
   pub rises : w.written ≤ n.written
 
 module _ (o : Opening) (order : List Entry) (flushed moment down : ℕ) (home : _)
-    (w : Plain) (parts : List Told)
+    (w : Plain) (parts : List Receipts)
     (h : DurabilityHolds o order flushed moment down home w parts)
-    (low : flushed ≤ w.written) (call : Call) (outcome : Outcome) (n : Plain)
+    (low : flushed ≤ w.written) (call : Call) (outcome : CallOutcome) (n : Plain)
     (is : ComesBehind call outcome w n)
     (lawful : CallFits (o.setup).segment_size (IsLawfulAt o.setup order) call)
     (fits : (a : ℕ) → a ≤ w.written
@@ -96,7 +96,7 @@ module _ (o : Opening) (order : List Entry) (flushed moment down : ℕ) (home : 
     firm = λ some_hard. firm_behind l.hard l.hard_moment i.hard_low (i.firm some_hard);
   }
 
-  assured_behind : (x : Told) → IsToldRightly o order flushed moment down w x
+  assured_behind : (x : Receipts) → IsToldRightly o order flushed moment down w x
       → IsToldRightly o order flushed moment down n x
   assured_behind x a = record {
     own_promised = a.own_promised;
@@ -153,15 +153,15 @@ module _ (o : Opening) (order : List Entry) (flushed moment down : ℕ) (home : 
 
     -- of all views, where the one that has the writer keeps the new one
     pub call_keeps : (f : Plain → Plain) (id : ℕ) (v : View) (l : Lent)
-        → HasAt parts id (told_of v) → (v.writing).hold ≡ Out l
+        → HasAt parts id (receipts_of v) → (v.writing).hold ≡ Out l
         → DurabilityHolds o order flushed moment down home n
-        (set parts id (told_of (with_call_on v f (v.writing).hold)))
+        (set parts id (receipts_of (with_call_on v f (v.writing).hold)))
     call_keeps f id v l here out =
         let g = λ (m : Lent). record m { writer = f l.writer } in
         let x = record v.writing { hold = with_lent g v.writing.hold } in
-        let now = assured_behind (told_of v) (h.views id (told_of v) here) in
+        let now = assured_behind (receipts_of v) (h.views id (receipts_of v) here) in
         subst (λ (hold : Hold). DurabilityHolds o order flushed moment down home n
-        (set parts id (told_of (with_call_on v f hold)))) (sym out)
+        (set parts id (receipts_of (with_call_on v f hold)))) (sym out)
         (view_set o order flushed moment down n home parts id
         (told v.reserving.entries v.reserving.joined x) all_behind
         (rebuilt o order flushed moment down n v.reserving.entries v.reserving.joined v.writing x

@@ -3,7 +3,7 @@
 use Rattle.std.proofs.Common.{◌≡◌, ◌≢◌, ℕ, ◌<◌, ◌≤◌, true, List, [], ◌∷◌, ◌++◌, map, max, set, refl, sym, ◌∙◌, subst, ⊎_elim, arith}
 use mathlib.Core.Option.{Option}
 use Rattle.wal_core.specs.Words.{Opening, position_word, prev_word, written_word, flushed_word, down_word, end_form}
-use Rattle.wal_core.specs.Views.{HasAt, Flight, Plain, Reserving, View, Writing, reserving_of, flight_of, writing_of, told_of}
+use Rattle.wal_core.specs.Views.{HasAt, Flight, Plain, Reserving, View, Writing, reserving_of, flight_of, writing_of, receipts_of}
 use Rattle.wal_core.specs.Ordered.{OrderHolds}
 use Rattle.wal_core.specs.Positioned.{PositionsHold}
 use Rattle.wal_core.specs.Moves.{after_split, split_off, after_join, spent, without_work, orphan_of}
@@ -138,7 +138,7 @@ module _ (words : List ℕ) (home : Option Plain) (views : List View) (id : ℕ)
   -- a down value that the view met or set is the down word
   failed : IsStranded v → down_word words ≢ 0
   failed may none =
-      let told = (k.durable).views id (told_of v) (told_here words home views id v k here) in
+      let told = (k.durable).views id (receipts_of v) (told_here words home views id v k here) in
       ⊎_elim (λ met. met (told.down_met met ∙ none)) (λ set. set (told.down_set set ∙ none))
       may.down
 

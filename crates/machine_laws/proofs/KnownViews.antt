@@ -2,7 +2,7 @@
 use Rattle.std.proofs.Common.{ℕ, List, map}
 use mathlib.Core.Option.{Option}
 use Rattle.wal_core.specs.Words.{write_turn, written_word, flushed_word, down_word}
-use Rattle.wal_core.specs.Views.{HasAt, Plain, View, flight_of, writer_of, writing_of, told_of}
+use Rattle.wal_core.specs.Views.{HasAt, Plain, View, flight_of, writer_of, writing_of, receipts_of}
 use Rattle.wal_core.specs.Sound.{IsSound}
 use Rattle.wal_core.proofs.Lists.{part_at}
 use Rattle.machine_laws.specs.PositionParts.{Positions, HasPositions}
@@ -33,5 +33,5 @@ module _ (words : List ℕ) (home : Option Plain) (views : List View) (id : ℕ)
     here = part_at writing_of views id v here;
   }
 
-  pub told_here : HasAt views id v → HasAt (map told_of views) id (told_of v)
-  told_here here = part_at told_of views id v here
+  pub told_here : HasAt views id v → HasAt (map receipts_of views) id (receipts_of v)
+  told_here here = part_at receipts_of views id v here

@@ -10,11 +10,11 @@ use Rattle.wal_types.specs.declared.record.Record.{Record}
 use Rattle.wal_page.specs.Order.{Entry, end_position, position_behind, prev_of}
 use Rattle.wal_page.proofs.OrderLaws.{room_at-pos}
 use Rattle.wal_core.specs.Words.{flushed_word, moment_word, write_turn}
-use Rattle.wal_core.specs.Views.{HasAt, FlushPromise, Place, Locked, Plain, Lent, Hold, Idle, Turned, Out, Taken, View, reserving_of, told_of, working_of, writer_of, writing_of}
+use Rattle.wal_core.specs.Views.{HasAt, FlushPromise, Place, Locked, Plain, Lent, Hold, Idle, Turned, Out, Taken, View, reserving_of, receipts_of, working_of, writer_of, writing_of}
 use Rattle.wal_core.specs.Ordered.{AtPlace}
 use Rattle.wal_core.specs.Locked.{StandsTo}
 use Rattle.wal_core.specs.Durable.{IsPromised}
-use Rattle.wal_core.specs.Moves.{Outcome, Done, Failed, after_store_position, after_write, entry_reserved, hardened, with_hold, with_lent, with_outcome, with_place, with_stage, with_working}
+use Rattle.wal_core.specs.Moves.{CallOutcome, Done, Failed, after_store_position, after_write, entry_reserved, hardened, with_hold, with_lent, with_outcome, with_place, with_stage, with_working}
 use Rattle.segment_disk.specs.declared.disk.Call.{Call}
 use Rattle.wal_core.specs.Steps.{StepKind, MayStep, word_of_step, value_behind, number_lent, load_position, take_write_turn, slot_out, slot_in, release_write_turn, lock_position, load_prev, store_prev, store_position, give_position_back, load_lock, take_lock, advance, release, load_buffer_end, store_ring_word, load_ring_word, load_written, load_flushed, load_moment, load_down, store_written, store_moment, store_flushed, set_down, take_mapping_turn, load_initialised_end, clear_end, zero_ring_word, publish_end, publish_initialised_end, release_mapping_turn, create, write, sync, with_slot, with_call_on}
 use Rattle.wal_core.specs.Sound.{IsSound}
@@ -77,13 +77,13 @@ stored_out (Out l) some_stored = (l, refl)
 
 -- ---- the writer's moment behind a call
 
-outcome_later : (call : Call) (outcome : Outcome) (writer : Plain)
+outcome_later : (call : Call) (outcome : CallOutcome) (writer : Plain)
     → writer.moment ≤ (with_outcome call outcome writer).moment
 outcome_later call Done writer = omega arith
 outcome_later call (Failed faults none) writer = omega arith
 outcome_later call (Failed faults (some made)) writer = omega arith
 
-outcome_written : (call : Call) (outcome : Outcome) (writer : Plain)
+outcome_written : (call : Call) (outcome : CallOutcome) (writer : Plain)
     → (with_outcome call outcome writer).written ≡ writer.written
 outcome_written call Done writer = refl
 outcome_written call (Failed faults none) writer = refl
@@ -248,7 +248,7 @@ module _ (words : List ℕ) (home : Option Plain) (views : List View) (id : ℕ)
       let same : hard_in (u.0).writing.hold ≡ y.hard = ap (λ (z : Promised). z.hard) u.2 in
       let has = stored_out (u.0).writing.hold (λ none. some_stored (sym same ∙ none)) in
       let is : hard_in (u.0).writing.hold ≡ (has.0).hard = ap hard_in has.1 in
-      let low = (((k.durable).views j (told_of u.0) (part_at told_of views j u.0 u.1)).in_hand
+      let low = (((k.durable).views j (receipts_of u.0) (part_at receipts_of views j u.0 u.1)).in_hand
       has.0 has.1).hard_low in
       omega (arith, same, is, low))
 
@@ -260,7 +260,7 @@ module _ (words : List ℕ) (home : Option Plain) (views : List View) (id : ℕ)
       (All-weaker (IsPromised (flushed_word words) (moment_word words))
       (λ (p : FlushPromise). p.upto ≤ flushed_word words) (λ p promised. promised.upto_low)
       (v.writing).promises
-      ((k.durable).views id (told_of v) (part_at told_of views id v here)).own_promised)
+      ((k.durable).views id (receipts_of v) (part_at receipts_of views id v here)).own_promised)
 
   position_stored : (locks : List ℕ) (value : Record) → MayStep v (store_position locks value)
       → HasMoments (store_position locks value)
@@ -291,7 +291,7 @@ module _ (words : List ℕ) (home : Option Plain) (views : List View) (id : ℕ)
       → Now (flushed_word words) (moment_word words) other parts
   called = calls v.opening (flushed_word words) (moment_word words) k.writer parts now
 
-  wrote : (segment upto : ℕ) (call : Call) (outcome : Outcome)
+  wrote : (segment upto : ℕ) (call : Call) (outcome : CallOutcome)
       → Now (flushed_word words) (moment_word words)
       (after_write segment upto call outcome k.writer) parts
   wrote segment upto call Done =

@@ -16,7 +16,7 @@ use Rattle.wal_page.proofs.WordPositions.{end_address_of-first_position}
 use Rattle.wal_page.proofs.LogWordLaws.{log_word-unowned}
 use Rattle.wal_core.specs.declared.setup.Setup.{Setup}
 use Rattle.wal_core.specs.Words.{Opening, position_word, prev_word, lock_word, mapping_turn, write_turn, initialised_word, written_word, flushed_word, moment_word, down_word, end_word, end_form, word_of_ring}
-use Rattle.wal_core.specs.Views.{HasAt, Plain, Away, Landed, Copying, AreSomeOf, View, mapper_of, told_of, writer_of}
+use Rattle.wal_core.specs.Views.{HasAt, Plain, Away, Landed, Copying, AreSomeOf, View, mapper_of, receipts_of, writer_of}
 use Rattle.wal_core.specs.Opened.{AreFirstWords, IsFirstWriter, IsNew, first_view}
 use Rattle.wal_core.specs.Ordered.{HasLive, IsUnused, OrderHolds, Role, active, spare, ended, unborn}
 use Rattle.wal_core.specs.Locked.{LocksHold, ProgressHolds, most_told}
@@ -302,7 +302,7 @@ module _ (opening : Opening) (words : List ℕ) (writer : Plain) (new : IsNew op
       (IsLogBelow setup [] upto) n) (sym (nothing n)) (none_below n upto is)
 
   told_begins : IsToldRightly opening [] (flushed_word words) (moment_word words)
-      (down_word words) writer (told_of view)
+      (down_word words) writer (receipts_of view)
   told_begins = record {
     own_promised = All-nil _;
     joined_promised = All-nil _;
@@ -314,7 +314,7 @@ module _ (opening : Opening) (words : List ℕ) (writer : Plain) (new : IsNew op
   }
 
   durable_begins : DurabilityHolds opening [] (flushed_word words) (moment_word words)
-      (down_word words) (some writer) writer (told_of view ∷ [])
+      (down_word words) (some writer) writer (receipts_of view ∷ [])
   durable_begins = record {
     counted = begins.counted;
     moment_low = (let moment = first.moment in let same = begins.moment_is in omega arith);
@@ -339,7 +339,7 @@ module _ (opening : Opening) (words : List ℕ) (writer : Plain) (new : IsNew op
     down_is = λ down. absurd (down first.down);
     down_at_home = λ home up. begins.fault;
     fault_rose = λ f is. absurd (some-ne-none f (sym is ∙ begins.fault));
-    views = only_one (told_of view) _ told_begins;
+    views = only_one (receipts_of view) _ told_begins;
   }
 
 -- a disk that holds nothing then is one on which a log may begin

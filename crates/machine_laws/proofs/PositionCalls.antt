@@ -9,12 +9,12 @@ use Rattle.segment_disk.specs.Tape.{Tape, create_call, state_now, sync_call, wri
 use Rattle.wal_page.specs.Order.{end_position}
 use Rattle.wal_core.specs.declared.setup.Setup.{Setup}
 use Rattle.wal_core.specs.Words.{end_form}
-use Rattle.wal_core.specs.Views.{HasAt, Plain, Lent, Hold, Out, Told, View, flight_of, told_of}
+use Rattle.wal_core.specs.Views.{HasAt, Plain, Lent, Hold, Out, Receipts, View, flight_of, receipts_of}
 use Rattle.wal_core.specs.Suited.{BeganSuited, IfSuited}
 use Rattle.wal_core.proofs.Tapes.{at_suited, at_told, began_behind, on_tape, tape_behind}
 use Rattle.wal_core.specs.Positioned.{IsCopiedBelow, ReadsBelow}
 use Rattle.wal_core.specs.Durable.{DurabilityHolds, IsOnDisk}
-use Rattle.wal_core.specs.Moves.{Outcome, Done, Failed, is_done, with_hold, with_outcome, after_create, after_write, after_sync}
+use Rattle.wal_core.specs.Moves.{CallOutcome, Done, Failed, is_done, with_hold, with_outcome, after_create, after_write, after_sync}
 use Rattle.wal_core.specs.Steps.{MayStep, IsNextWrite, view_behind, create, write, sync}
 use Rattle.machine_laws.specs.PositionParts.{Positions, HasPositions, HoldAmong, HoldBehind}
 use Rattle.machine_laws.proofs.Copies.{IsCopiedBelow-lower}
@@ -23,7 +23,7 @@ use Rattle.machine_laws.proofs.PositionSteps.{calls}
 use Rattle.machine_laws.proofs.PositionKept.{stands}
 
 -- a call changes of the writer no position by itself
-same_written : (call : Call) (outcome : Outcome) (w : Plain)
+same_written : (call : Call) (outcome : CallOutcome) (w : Plain)
     → (with_outcome call outcome w).written ≡ w.written
 same_written call Done w = refl
 same_written call (Failed faults none) w = refl
@@ -73,7 +73,7 @@ module _ (p : Positions) (id : ℕ) (v : View) (t : HasPositions p id v) where
       (subst (λ (a : ℕ). IsCopiedBelow size p.flights a) (sym same) (t.holds).copied)
       (subst (λ (a : ℕ). IfSuited v.opening (f p.writer) (ReadUpto a)) (sym same) reads)
 
-  module _ (moment : ℕ) (tolds : List Told)
+  module _ (moment : ℕ) (tolds : List Receipts)
       (d : DurabilityHolds v.opening p.order p.flushed moment p.down p.home p.writer tolds) where
     -- what is read before, of a disk that held at the opening what a log may begin on
     read_now : (tape : Tape) → (p.writer).tape ≡ Some tape → BeganSuited v.opening tape
@@ -82,7 +82,7 @@ module _ (p : Positions) (id : ℕ) (v : View) (t : HasPositions p id v) where
         at_suited v.opening p.writer (ReadUpto (p.writer).written) tape is suited (t.holds).reads
 
     -- what is read behind a call
-    read_behind : (call : Call) (outcome : Outcome) (address : ℕ)
+    read_behind : (call : Call) (outcome : CallOutcome) (address : ℕ)
         → ((tape : Tape) → (p.writer).tape ≡ Some tape → BeganSuited v.opening tape
         → ReadUpto address (tape_behind outcome call tape))
         → IfSuited v.opening (with_outcome call outcome p.writer) (ReadUpto address)
@@ -94,7 +94,7 @@ module _ (p : Positions) (id : ℕ) (v : View) (t : HasPositions p id v) where
         reads tape is (began_behind v.opening call outcome tape
         (omega (arith, d.begun, d.moment_low, counts)) suited))
 
-    pub sync_keeps : (met segment : ℕ) (outcome : Outcome) → MayStep v (sync segment outcome)
+    pub sync_keeps : (met segment : ℕ) (outcome : CallOutcome) → MayStep v (sync segment outcome)
         → HoldBehind
         (record p { writer = after_sync (sync_call size segment) outcome p.writer }) id v
         (view_behind v (sync segment outcome) met p.home)
@@ -108,7 +108,7 @@ module _ (p : Positions) (id : ℕ) (v : View) (t : HasPositions p id v) where
         (λ tape is suited. sync_reads setup t.size p.order p.writer segment outcome tape
         (read_now tape is suited))))
 
-    pub create_keeps : (met segment : ℕ) (outcome : Outcome) → MayStep v (create segment outcome)
+    pub create_keeps : (met segment : ℕ) (outcome : CallOutcome) → MayStep v (create segment outcome)
         → HoldBehind (record p {
           writer = after_create segment (create_call size segment) outcome p.writer;
         }) id v (view_behind v (create segment outcome) met p.home)
@@ -153,8 +153,8 @@ module _ (p : Positions) (id : ℕ) (v : View) (t : HasPositions p id v) where
           )))
     ]
 
-    pub write_keeps : (met segment page upto : ℕ) (bytes : List ℕ) (outcome : Outcome)
-        → HasAt tolds id (told_of v) → MayStep v (write segment page upto bytes outcome)
+    pub write_keeps : (met segment page upto : ℕ) (bytes : List ℕ) (outcome : CallOutcome)
+        → HasAt tolds id (receipts_of v) → MayStep v (write segment page upto bytes outcome)
         → HoldBehind (record p {
           writer = after_write segment upto (write_call size segment page bytes) outcome p.writer;
         }) id v (view_behind v (write segment page upto bytes outcome) met p.home)
@@ -166,7 +166,7 @@ module _ (p : Positions) (id : ℕ) (v : View) (t : HasPositions p id v) where
         subst (λ (w : Plain). IsNextWrite setup segment page upto bytes
         (record l { writer = w })) s.3 (may.0).2 in
         let known = ((t.holds).views id v.writing t.here).known l is in
-        let hand = (d.views id (told_of v) told_here).in_hand l is in
+        let hand = (d.views id (receipts_of v) told_here).in_hand l is in
         let both = between (is_done outcome) (p.writer).written upto n.rises in
         let first = behind_first segment page n.on_segment n.page_is in
         subst (λ (h : Hold). HoldBehind (record p {

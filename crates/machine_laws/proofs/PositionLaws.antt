@@ -5,7 +5,7 @@ use Rattle.segment_disk.specs.Tape.{state_now}
 use Rattle.wal_page.specs.EntryWords.{address_of_word, words_owned}
 use Rattle.wal_core.specs.Words.{Opening, written_word}
 use Rattle.wal_core.specs.Suited.{IfSuited}
-use Rattle.wal_core.specs.Views.{HasAt, Copy, Copying, Plain, View, writing_of, told_of}
+use Rattle.wal_core.specs.Views.{HasAt, Copy, Copying, Plain, View, writing_of, receipts_of}
 use Rattle.wal_core.specs.Positioned.{ReadsBelow}
 use Rattle.wal_core.specs.Sound.{IsSound}
 use Rattle.wal_core.proofs.Lists.{part_at}
@@ -21,7 +21,7 @@ module _ (opening : Opening) (words : List ℕ) (home : Option Plain) (views : L
 
   knows_no_more : (id : ℕ) (v : View) → HasAt views id v → KnowsNoMore words v
   knows_no_more id v here =
-      let told = (k.durable).views id (told_of v) (part_at told_of views id v here) in
+      let told = (k.durable).views id (receipts_of v) (part_at receipts_of views id v here) in
       let within = (k.positions).views id v.writing (part_at writing_of views id v here) in
       record {
         promised = told.own_promised;

@@ -4,7 +4,7 @@ use mathlib.Core.Option.{Option}
 use Rattle.wal_page.specs.Order.{Entry}
 use Rattle.wal_core.specs.declared.setup.Setup.{Setup}
 use Rattle.wal_core.specs.Words.{lock_word, position_word, prev_word, written_word, flushed_word, moment_word, down_word}
-use Rattle.wal_core.specs.Views.{HasAt, Plain, Flight, Writing, Locked, Taken, View, reserving_of, working_of, flight_of, writing_of, told_of}
+use Rattle.wal_core.specs.Views.{HasAt, Plain, Flight, Writing, Locked, Taken, View, reserving_of, working_of, flight_of, writing_of, receipts_of}
 use Rattle.wal_core.specs.Positioned.{PositionsHold}
 use Rattle.wal_core.specs.Moves.{with_place, with_stage, with_working}
 use Rattle.wal_core.specs.Steps.{StepKind, MayStep, word_of_step, home_behind, load_position, take_write_turn, slot_out, slot_in, release_write_turn, lock_position, load_prev, store_prev, store_position, give_position_back, load_lock, take_lock, advance, release, load_buffer_end, store_ring_word, load_ring_word, load_written, load_flushed, load_moment, load_down, store_written, store_moment, store_flushed, set_down, take_mapping_turn, load_initialised_end, clear_end, zero_ring_word, publish_end, publish_initialised_end, release_mapping_turn, create, write, sync}
@@ -87,7 +87,7 @@ module _ (words : List ℕ) (home : Option Plain) (views : List View) (id : ℕ)
 
   -- the writer's holder knows the down value that it set
   down_known : (v.writing).down_set ≢ 0 → (v.writing).down_set ≡ down_word words
-  down_known = ((k.durable).views id (told_of v) (told_here words home views id v k here)).down_set
+  down_known = ((k.durable).views id (receipts_of v) (told_here words home views id v k here)).down_set
 
   pub lock_low : (lock : ℕ) → Contains (v.working).locks lock → lock < 8
   lock_low lock has =
@@ -210,16 +210,16 @@ module _ (words : List ℕ) (home : Option Plain) (views : List View) (id : ℕ)
       (writer_behind v (create segment outcome) k.writer)
       (λ e. omega arith) (λ e. omega arith) (λ e. omega arith)
       (calls.create_keeps p id v known
-      (moment_word words) (map told_of views) k.durable (slice_index words 11) segment outcome may)
+      (moment_word words) (map receipts_of views) k.durable (slice_index words 11) segment outcome may)
   positions_hold (write segment page upto bytes outcome) may =
       by_law (write segment page upto bytes outcome) k.order
       (writer_behind v (write segment page upto bytes outcome) k.writer)
       (λ e. omega arith) (λ e. omega arith) (λ e. omega arith)
       (calls.write_keeps p id v known
-      (moment_word words) (map told_of views) k.durable (slice_index words 11) segment page upto
+      (moment_word words) (map receipts_of views) k.durable (slice_index words 11) segment page upto
       bytes outcome (told_here words home views id v k here) may)
   positions_hold (sync segment outcome) may = by_law (sync segment outcome) k.order
       (writer_behind v (sync segment outcome) k.writer)
       (λ e. omega arith) (λ e. omega arith) (λ e. omega arith)
       (calls.sync_keeps p id v known
-      (moment_word words) (map told_of views) k.durable (slice_index words 11) segment outcome may)
+      (moment_word words) (map receipts_of views) k.durable (slice_index words 11) segment outcome may)

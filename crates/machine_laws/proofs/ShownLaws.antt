@@ -7,7 +7,7 @@ use native.Mathlib.Decide.{dec_le}
 use Rattle.wal_page.specs.EntryWords.{address_of_word}
 use Rattle.wal_core.specs.declared.setup.Setup.{Setup}
 use Rattle.wal_core.specs.Words.{Opening, initialised_word, written_word, mapping_turn, end_word, word_of_ring}
-use Rattle.wal_core.specs.Views.{HasAt, Stage, Away, Taken, Looked, Ready, Zeroing, Published, Plain, View, Copy, Flight, Copying, working_of, flight_of, watching_of, mapper_of, confirmed_of, told_of}
+use Rattle.wal_core.specs.Views.{HasAt, Stage, Away, Taken, Looked, Ready, Zeroing, Published, Plain, View, Copy, Flight, Copying, working_of, flight_of, watching_of, mapper_of, confirmed_of, receipts_of}
 use Rattle.wal_core.specs.Locked.{HasTurn}
 use Rattle.wal_core.specs.Ringed.{IsAwaited, log_word_of}
 use Rattle.wal_core.specs.Paged.{AtStage, PagesHold}
@@ -180,7 +180,7 @@ module _ (opening : Opening) (words : List ℕ) (home : Option Plain) (views : L
     ring = λ n here. let same = word_is n here in
         ⊎_elim (λ t. inl (same ∙ t)) (λ t. inr (same ∙ t.0, t.1)) ((s.ring).words n);
     staged = λ id v l here out.
-        (((s.durable).views id (told_of v) (part_at told_of views id v here)).in_hand l out).staged;
+        (((s.durable).views id (receipts_of v) (part_at receipts_of views id v here)).in_hand l out).staged;
     watched = λ id v n here all past low.
         let mine = part_at watching_of views id v here in
         let ends = (s.watching).reserved id v.watching mine in

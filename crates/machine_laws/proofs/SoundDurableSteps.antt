@@ -6,8 +6,8 @@ use Rattle.segment_disk.specs.Tape.{create_call, sync_call, write_call}
 use Rattle.wal_types.specs.declared.record.Record.{Record}
 use Rattle.wal_page.specs.Order.{Entry}
 use Rattle.wal_core.specs.Words.{Opening, flushed_word, moment_word, down_word, written_word, write_turn}
-use Rattle.wal_core.specs.Views.{HasAt, Plain, Told, View, reserving_of, told_of, working_of, writer_of, writing_of, flight_of, Taken, Locked}
-use Rattle.wal_core.specs.Moves.{Outcome, after_create, after_sync, after_write, after_join, entry_reserved, after_split, orphan_of, split_off, spent, without_work, with_place, with_stage, with_working}
+use Rattle.wal_core.specs.Views.{HasAt, Plain, Receipts, View, reserving_of, receipts_of, working_of, writer_of, writing_of, flight_of, Taken, Locked}
+use Rattle.wal_core.specs.Moves.{CallOutcome, after_create, after_sync, after_write, after_join, entry_reserved, after_split, orphan_of, split_off, spent, without_work, with_place, with_stage, with_working}
 use Rattle.wal_core.specs.Durable.{DurabilityHolds}
 use Rattle.wal_core.specs.Sound.{IsSound}
 use Rattle.wal_core.specs.Steps.{StepKind, MayStep, home_behind, place_at, value_behind, view_behind, word_of_step, load_position, take_write_turn, slot_out, slot_in, release_write_turn, lock_position, load_prev, store_prev, store_position, give_position_back, load_lock, take_lock, advance, release, load_buffer_end, store_ring_word, load_ring_word, load_written, load_flushed, load_moment, load_down, store_written, store_moment, store_flushed, set_down, take_mapping_turn, load_initialised_end, clear_end, zero_ring_word, publish_end, publish_initialised_end, release_mapping_turn, create, write, sync}
@@ -19,8 +19,8 @@ use Rattle.machine_laws.proofs.DurableReserving.{store_position_keeps}
 use Rattle.machine_laws.proofs.DurableViewSteps as one
 
 -- one of two views, of which the part is the same
-either_told : (b : Bool) (x y : View) → told_of x ≡ told_of y
-    → told_of (if b then x else y) ≡ told_of y
+either_told : (b : Bool) (x y : View) → receipts_of x ≡ receipts_of y
+    → receipts_of (if b then x else y) ≡ receipts_of y
 either_told true x y same = same
 either_told false x y same = refl
 
@@ -29,8 +29,8 @@ module _ (words : List ℕ) (home : Option Plain) (views : List View) (id : ℕ)
   abbrev o : Opening
   o = v.opening
 
-  mine : HasAt (map told_of views) id (told_of v)
-  mine = part_at told_of views id v here
+  mine : HasAt (map receipts_of views) id (receipts_of v)
+  mine = part_at receipts_of views id v here
 
   turn_at : HasAt (map writer_of views) id (writer_of v)
   turn_at = part_at writer_of views id v here
@@ -48,13 +48,13 @@ module _ (words : List ℕ) (home : Option Plain) (views : List View) (id : ℕ)
       -- the words of which it speaks are these
       with_words : (f m d : ℕ) → f ≡ flushed_word (set words i n) → m ≡ moment_word (set words i n)
           → d ≡ down_word (set words i n)
-          → DurabilityHolds o order f m d elsewhere writer (set (map told_of views) id (told_of w))
+          → DurabilityHolds o order f m d elsewhere writer (set (map receipts_of views) id (receipts_of w))
           → DurabilityHolds o order (flushed_word (set words i n)) (moment_word (set words i n))
-          (down_word (set words i n)) elsewhere writer (map told_of (set views id w))
+          (down_word (set words i n)) elsewhere writer (map receipts_of (set views id w))
       with_words f m d flushed moment down h =
-          subst (λ (x : ℕ × ℕ × ℕ × List Told).
+          subst (λ (x : ℕ × ℕ × ℕ × List Receipts).
           DurabilityHolds o order x.0 x.1 x.2 elsewhere writer x.3)
-          (λ j. (flushed j, moment j, down j, sym (part_set told_of views id w) j)) h
+          (λ j. (flushed j, moment j, down j, sym (part_set receipts_of views id w) j)) h
 
       -- they are not stored
       stays : (j : ℕ) → j ≢ i → slice_index words j ≡ slice_index (set words i n) j
@@ -62,19 +62,19 @@ module _ (words : List ℕ) (home : Option Plain) (views : List View) (id : ℕ)
 
       elsewhere_stored : 14 ≢ i → 15 ≢ i → 16 ≢ i
           → DurabilityHolds o order (flushed_word words) (moment_word words) (down_word words)
-          elsewhere writer (set (map told_of views) id (told_of w))
+          elsewhere writer (set (map receipts_of views) id (receipts_of w))
           → DurabilityHolds o order (flushed_word (set words i n)) (moment_word (set words i n))
-          (down_word (set words i n)) elsewhere writer (map told_of (set views id w))
+          (down_word (set words i n)) elsewhere writer (map receipts_of (set views id w))
       elsewhere_stored flushed moment down h =
           with_words (flushed_word words) (moment_word words) (down_word words)
           (stays 14 flushed) (stays 15 moment) (stays 16 down) h
 
   -- a word is loaded
   loaded : (i : ℕ) (w : View) → DurabilityHolds o k.order (flushed_word words) (moment_word words)
-      (down_word words) home k.writer (set (map told_of views) id (told_of w))
+      (down_word words) home k.writer (set (map receipts_of views) id (receipts_of w))
       → (let later = set words i (slice_index words i) in
       DurabilityHolds o k.order (flushed_word later) (moment_word later) (down_word later) home
-      k.writer (map told_of (set views id w)))
+      k.writer (map receipts_of (set views id w)))
   loaded i w h =
       let later = set words i (slice_index words i) in
       let again = sym (word_again words i) in
@@ -83,15 +83,15 @@ module _ (words : List ℕ) (home : Option Plain) (views : List View) (id : ℕ)
       (ap (λ (l : List ℕ). moment_word l) again) (ap (λ (l : List ℕ). down_word l) again) h
 
   -- nothing of which it speaks becomes another
-  untouched : (i n : ℕ) (w : View) → told_of w ≡ told_of v → 14 ≢ i → 15 ≢ i → 16 ≢ i
+  untouched : (i n : ℕ) (w : View) → receipts_of w ≡ receipts_of v → 14 ≢ i → 15 ≢ i → 16 ≢ i
       → DurabilityHolds o k.order (flushed_word (set words i n)) (moment_word (set words i n))
-      (down_word (set words i n)) home k.writer (map told_of (set views id w))
+      (down_word (set words i n)) home k.writer (map receipts_of (set views id w))
   untouched i n w is flushed moment down =
       elsewhere_stored k.order k.writer home i n w flushed moment down
-      (subst (λ (x : Told). DurabilityHolds o k.order (flushed_word words) (moment_word words)
-      (down_word words) home k.writer (set (map told_of views) id x)) (sym is)
+      (subst (λ (x : Receipts). DurabilityHolds o k.order (flushed_word words) (moment_word words)
+      (down_word words) home k.writer (set (map receipts_of views) id x)) (sym is)
       (one.same o k.order (flushed_word words) (moment_word words) (down_word words) home k.writer
-      (map told_of views) k.durable id v mine))
+      (map receipts_of views) k.durable id v mine))
 
   lock_below : (lock : ℕ) → Contains (v.working).locks lock → lock < 8
   lock_below lock has =
@@ -101,34 +101,34 @@ module _ (words : List ℕ) (home : Option Plain) (views : List View) (id : ℕ)
 
   pub durable-split : HasDurableWith o words home views k
       (set views id (after_split v) ++ split_off v ∷ [])
-  durable-split = subst (λ (parts : List Told). DurabilityHolds o k.order (flushed_word words)
+  durable-split = subst (λ (parts : List Receipts). DurabilityHolds o k.order (flushed_word words)
       (moment_word words) (down_word words) home k.writer parts)
-      (sym (part_added told_of (set views id (after_split v)) (split_off v)
-      ∙ ap (λ (xs : List Told). xs ++ told_of (split_off v) ∷ [])
-      (part_set told_of views id (after_split v))))
+      (sym (part_added receipts_of (set views id (after_split v)) (split_off v)
+      ∙ ap (λ (xs : List Receipts). xs ++ receipts_of (split_off v) ∷ [])
+      (part_set receipts_of views id (after_split v))))
       (one.split_keeps o k.order (flushed_word words) (moment_word words) (down_word words) home
-      k.writer (map told_of views) k.durable id v mine)
+      k.writer (map receipts_of views) k.durable id v mine)
 
   pub durable-given_up : HasDurableWith o words home views k
       (set views id (without_work v) ++ orphan_of v ∷ [])
-  durable-given_up = subst (λ (parts : List Told). DurabilityHolds o k.order (flushed_word words)
+  durable-given_up = subst (λ (parts : List Receipts). DurabilityHolds o k.order (flushed_word words)
       (moment_word words) (down_word words) home k.writer parts)
-      (sym (part_added told_of (set views id (without_work v)) (orphan_of v)
-      ∙ ap (λ (xs : List Told). xs ++ told_of (orphan_of v) ∷ [])
-      (part_set told_of views id (without_work v))))
+      (sym (part_added receipts_of (set views id (without_work v)) (orphan_of v)
+      ∙ ap (λ (xs : List Receipts). xs ++ receipts_of (orphan_of v) ∷ [])
+      (part_set receipts_of views id (without_work v))))
       (one.give_up_keeps o k.order (flushed_word words) (moment_word words) (down_word words) home
-      k.writer (map told_of views) k.durable id v mine)
+      k.writer (map receipts_of views) k.durable id v mine)
 
   pub durable-taken_in : (other : ℕ) (u : View) → HasAt views other u
       → HasDurableWith o words home views k (set (set views other (spent u)) id (after_join v u))
-  durable-taken_in other u there = subst (λ (parts : List Told). DurabilityHolds o k.order
+  durable-taken_in other u there = subst (λ (parts : List Receipts). DurabilityHolds o k.order
       (flushed_word words) (moment_word words) (down_word words) home k.writer parts)
-      (sym (part_set told_of (set views other (spent u)) id (after_join v u)
-      ∙ ap (λ (xs : List Told). set xs id (told_of (after_join v u)))
-      (part_set told_of views other (spent u))))
+      (sym (part_set receipts_of (set views other (spent u)) id (after_join v u)
+      ∙ ap (λ (xs : List Receipts). set xs id (receipts_of (after_join v u)))
+      (part_set receipts_of views other (spent u))))
       (one.join_keeps o k.order (flushed_word words) (moment_word words) (down_word words) home
-      k.writer (map told_of views) k.durable id v mine other u
-      (part_at told_of views other u there))
+      k.writer (map receipts_of views) k.durable id v mine other u
+      (part_at receipts_of views other u there))
 
   -- ---- an entry, and calls of the device
 
@@ -151,14 +151,14 @@ module _ (words : List ℕ) (home : Option Plain) (views : List View) (id : ℕ)
       (λ e. omega arith)
       (subst (λ (p : ℕ). DurabilityHolds o (k.order ++ entry p ∷ []) (flushed_word words)
       (moment_word words) (down_word words) home k.writer
-      (set (map told_of views) id (told_of w))) place
+      (set (map receipts_of views) id (receipts_of w))) place
       (store_position_keeps o k.order (flushed_word words) (moment_word words) (down_word words)
       home k.writer views id met locks value v at prev _ _ _ _ _ _ k.durable here k.setup_is
       (k.reserved).chained
       ((k.reserved).places id v.reserving (part_at reserving_of views id v here) live)
       k.positions is))
 
-  pub durable-create : (segment : ℕ) (outcome : Outcome) → MayStep v (create segment outcome)
+  pub durable-create : (segment : ℕ) (outcome : CallOutcome) → MayStep v (create segment outcome)
       → HasDurable words home views id v (create segment outcome) k.order
       (after_create segment (create_call ((v.opening).setup).segment_size segment) outcome
       k.writer)
@@ -167,11 +167,11 @@ module _ (words : List ℕ) (home : Option Plain) (views : List View) (id : ℕ)
       elsewhere_stored k.order _ home 11 met (view_behind v (create segment outcome) met home)
       (λ e. omega arith) (λ e. omega arith) (λ e. omega arith)
       (create_keeps o k.order (flushed_word words) (moment_word words) (down_word words) home
-      k.writer (map told_of views) k.durable id v mine refl k.setup_is (write_turn words)
+      k.writer (map receipts_of views) k.durable id v mine refl k.setup_is (write_turn words)
       (map writer_of views) (k.locks).writing turn_at (written_word words) (map flight_of views)
       (map writing_of views) k.positions segment outcome met may)
 
-  pub durable-write : (segment page upto : ℕ) (bytes : List ℕ) (outcome : Outcome)
+  pub durable-write : (segment page upto : ℕ) (bytes : List ℕ) (outcome : CallOutcome)
       → MayStep v (write segment page upto bytes outcome)
       → HasDurable words home views id v (write segment page upto bytes outcome) k.order
       (after_write segment upto
@@ -182,11 +182,11 @@ module _ (words : List ℕ) (home : Option Plain) (views : List View) (id : ℕ)
       (view_behind v (write segment page upto bytes outcome) met home)
       (λ e. omega arith) (λ e. omega arith) (λ e. omega arith)
       (write_keeps o k.order (flushed_word words) (moment_word words) (down_word words) home
-      k.writer (map told_of views) k.durable id v mine refl k.setup_is (write_turn words)
+      k.writer (map receipts_of views) k.durable id v mine refl k.setup_is (write_turn words)
       (map writer_of views) (k.locks).writing turn_at (written_word words) (map flight_of views)
       (map writing_of views) k.positions segment page upto bytes outcome met may)
 
-  pub durable-sync : (segment : ℕ) (outcome : Outcome) → MayStep v (sync segment outcome)
+  pub durable-sync : (segment : ℕ) (outcome : CallOutcome) → MayStep v (sync segment outcome)
       → HasDurable words home views id v (sync segment outcome) k.order
       (after_sync (sync_call ((v.opening).setup).segment_size segment) outcome k.writer)
   durable-sync segment outcome may =
@@ -194,7 +194,7 @@ module _ (words : List ℕ) (home : Option Plain) (views : List View) (id : ℕ)
       elsewhere_stored k.order _ home 11 met (view_behind v (sync segment outcome) met home)
       (λ e. omega arith) (λ e. omega arith) (λ e. omega arith)
       (sync_keeps o k.order (flushed_word words) (moment_word words) (down_word words) home
-      k.writer (map told_of views) k.durable id v mine refl k.setup_is (write_turn words)
+      k.writer (map receipts_of views) k.durable id v mine refl k.setup_is (write_turn words)
       (map writer_of views) (k.locks).writing turn_at (written_word words) (map flight_of views)
       (map writing_of views) k.positions segment outcome met may)
 
@@ -215,24 +215,24 @@ module _ (words : List ℕ) (home : Option Plain) (views : List View) (id : ℕ)
       elsewhere_stored k.order k.writer home 11 _ _ (λ e. omega arith) (λ e. omega arith)
       (λ e. omega arith)
       (one.take_turn_keeps o k.order (flushed_word words) (moment_word words) (down_word words)
-      home k.writer (map told_of views) k.durable id v mine (slice_index words 11))
+      home k.writer (map receipts_of views) k.durable id v mine (slice_index words 11))
   durable-inside slot_out may inside staged =
       elsewhere_stored k.order k.writer (home_behind v slot_out home) 11 _ _ (λ e. omega arith)
       (λ e. omega arith) (λ e. omega arith)
       (one.slot_out_keeps o k.order (flushed_word words) (moment_word words) (down_word words)
-      home k.writer (map told_of views) k.durable id v mine (write_turn words)
+      home k.writer (map receipts_of views) k.durable id v mine (write_turn words)
       (map writer_of views) (k.locks).writing turn_at (slice_index words 11) may)
   durable-inside slot_in may inside staged =
       elsewhere_stored k.order k.writer (home_behind v slot_in home) 11 _ _ (λ e. omega arith)
       (λ e. omega arith) (λ e. omega arith)
       (one.slot_in_keeps o k.order (flushed_word words) (moment_word words) (down_word words)
-      home k.writer (map told_of views) k.durable id v mine (write_turn words)
+      home k.writer (map receipts_of views) k.durable id v mine (write_turn words)
       (map writer_of views) (k.locks).writing turn_at (slice_index words 11) may)
   durable-inside release_write_turn may inside staged =
       elsewhere_stored k.order k.writer home 11 _ _ (λ e. omega arith) (λ e. omega arith)
       (λ e. omega arith)
       (one.release_turn_keeps o k.order (flushed_word words) (moment_word words) (down_word words)
-      home k.writer (map told_of views) k.durable id v mine)
+      home k.writer (map receipts_of views) k.durable id v mine)
   durable-inside (lock_position expected) may inside staged =
       untouched 0 _ _ (either_told (slice_index words 0 == expected)
       (with_place (Locked expected) v) v refl) (λ e. omega arith) (λ e. omega arith)
@@ -267,35 +267,35 @@ module _ (words : List ℕ) (home : Option Plain) (views : List View) (id : ℕ)
       elsewhere_stored k.order k.writer home (word_of_step v (load_ring_word i)) _ _
       (λ e. omega arith) (λ e. omega arith) (λ e. omega arith)
       (one.load_word_keeps o k.order (flushed_word words) (moment_word words) (down_word words)
-      home k.writer (map told_of views) k.durable id v mine i
+      home k.writer (map receipts_of views) k.durable id v mine i
       (slice_index words (word_of_step v (load_ring_word i))) staged)
   durable-inside load_written may inside staged =
       loaded 13 _ (one.load_written_keeps o k.order (flushed_word words) (moment_word words)
-      (down_word words) home k.writer (map told_of views) k.durable id v mine
+      (down_word words) home k.writer (map receipts_of views) k.durable id v mine
       (slice_index words 13))
   durable-inside load_flushed may inside staged =
       loaded 14 _ (one.load_flushed_keeps o k.order (flushed_word words) (moment_word words)
-      (down_word words) home k.writer (map told_of views) k.durable id v mine
+      (down_word words) home k.writer (map receipts_of views) k.durable id v mine
       (slice_index words 14))
   durable-inside load_moment may inside staged =
       loaded 15 _ (one.load_moment_keeps o k.order (flushed_word words) (moment_word words)
-      (down_word words) home k.writer (map told_of views) k.durable id v mine
+      (down_word words) home k.writer (map receipts_of views) k.durable id v mine
       ((k.positions).views id v.writing (part_at writing_of views id v here)).flushed_met)
   durable-inside load_down may inside staged =
       loaded 16 _ (one.load_down_keeps o k.order (flushed_word words) (moment_word words)
-      (down_word words) home k.writer (map told_of views) k.durable id v mine)
+      (down_word words) home k.writer (map receipts_of views) k.durable id v mine)
   durable-inside store_written may inside staged =
       elsewhere_stored k.order k.writer home 13 _ _ (λ e. omega arith) (λ e. omega arith)
       (λ e. omega arith)
       (one.store_written_keeps o k.order (flushed_word words) (moment_word words)
-      (down_word words) home k.writer (map told_of views) k.durable id v mine)
+      (down_word words) home k.writer (map receipts_of views) k.durable id v mine)
   durable-inside store_moment may inside staged =
       let n = value_behind v store_moment (slice_index words 15) in
       with_words k.order k.writer home 15 n _ (flushed_word words) n (down_word words)
       (away 15 n 14 (λ e. omega arith)) (stored 15 n (omega arith))
       (away 15 n 16 (λ e. omega arith))
       (one.store_moment_keeps o k.order (flushed_word words) (moment_word words)
-      (down_word words) home k.writer (map told_of views) k.durable id v mine (write_turn words)
+      (down_word words) home k.writer (map receipts_of views) k.durable id v mine (write_turn words)
       (map writer_of views) (k.locks).writing turn_at (slice_index words 15) may)
   durable-inside store_flushed may inside staged =
       let n = value_behind v store_flushed (slice_index words 14) in
@@ -303,7 +303,7 @@ module _ (words : List ℕ) (home : Option Plain) (views : List View) (id : ℕ)
       (stored 14 n (omega arith)) (away 14 n 15 (λ e. omega arith))
       (away 14 n 16 (λ e. omega arith))
       (one.store_flushed_keeps o k.order (flushed_word words) (moment_word words)
-      (down_word words) home k.writer (map told_of views) k.durable id v mine (write_turn words)
+      (down_word words) home k.writer (map receipts_of views) k.durable id v mine (write_turn words)
       (map writer_of views) (k.locks).writing turn_at (slice_index words 14) some_flushed low may)
   durable-inside set_down may inside staged =
       let n = value_behind v set_down (slice_index words 16) in
@@ -311,7 +311,7 @@ module _ (words : List ℕ) (home : Option Plain) (views : List View) (id : ℕ)
       (away 16 n 14 (λ e. omega arith)) (away 16 n 15 (λ e. omega arith))
       (stored 16 n (omega arith))
       (one.set_down_keeps o k.order (flushed_word words) (moment_word words)
-      (down_word words) home k.writer (map told_of views) k.durable id v mine (write_turn words)
+      (down_word words) home k.writer (map receipts_of views) k.durable id v mine (write_turn words)
       (map writer_of views) (k.locks).writing turn_at (slice_index words 16) may)
   durable-inside take_mapping_turn may inside staged =
       untouched 10 _ _ (either_told (slice_index words 10 == 0) (with_stage Taken v) v refl)

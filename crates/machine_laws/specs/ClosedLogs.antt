@@ -5,7 +5,7 @@ use Rattle.segment_disk.specs.Tape.{state_now}
 use Rattle.wal_page.specs.Order.{Entry, IsChained, end_position, prev_of}
 use Rattle.wal_core.specs.Words.{Opening, position_word, prev_word, lock_word, mapping_turn, write_turn, written_word, flushed_word, moment_word, down_word, word_of_ring, end_form, log_limit}
 use Rattle.wal_core.specs.Suited.{IfSuited}
-use Rattle.wal_core.specs.Views.{HasAt, Landed, Plain, Reserving, View, told_of}
+use Rattle.wal_core.specs.Views.{HasAt, Landed, Plain, Reserving, View, receipts_of}
 use Rattle.wal_core.specs.Ordered.{entries_under, BeginsWith, TookIn}
 use Rattle.wal_core.specs.Ringed.{log_word_of}
 use Rattle.wal_core.specs.Positioned.{ReadsBelow}
@@ -78,8 +78,8 @@ module _ (opening : Opening) (order : List Entry) (words : List ℕ) where
     pub moment_low : moment_word words ≤ writer.moment
     pub on_disk : IfSuited opening writer (IsOnDisk opening.setup order writer)
     pub crashes : IfSuited opening writer (λ t. CrashesLeave opening order (flushed_word words)
-        (moment_word words) t (told_of v ∷ []))
-    pub down : DownTells opening (down_word words) (some writer) writer (told_of v ∷ [])
+        (moment_word words) t (receipts_of v ∷ []))
+    pub down : DownTells opening (down_word words) (some writer) writer (receipts_of v ∷ [])
 
   -- the log is at rest in the hand of one pass, with its writer at home
   pub record IsClosed (home : Option Plain) (writer : Plain) (views : List View) (id : ℕ)

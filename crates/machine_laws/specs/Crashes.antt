@@ -13,7 +13,7 @@ use Rattle.segment_disk.specs.ImageWords.{zero_word}
 use Rattle.flush_core.specs.Lawful.{IsLawful}
 use Rattle.wal_core.specs.declared.setup.Setup.{Setup}
 use Rattle.wal_core.specs.Words.{Opening}
-use Rattle.wal_core.specs.Views.{HasAt, Joined, Plain, FlushPromise, Told}
+use Rattle.wal_core.specs.Views.{HasAt, Joined, Plain, FlushPromise, Receipts}
 use Rattle.wal_core.specs.Durable.{IsUnwritten}
 
 -- each image that a crash leaves from a moment on holds nothing but words of the log, and all of
@@ -42,22 +42,22 @@ pub record HoldsPromise (opening : Opening) (order : List Entry) (tape : Tape)
 -- of a disk that tells what it holds: nothing but the log since the opening; all below the flushed
 -- address from the moment on that the words tell; and what each promise says
 pub record CrashesLeave (opening : Opening) (order : List Entry) (flushed moment : ℕ)
-    (tape : Tape) (parts : List Told) : Type 0 where
+    (tape : Tape) (parts : List Receipts) : Type 0 where
   pub only : LeavesLawful opening.setup order 0 opening.moment tape
   pub flushed_kept : LeavesLawful opening.setup order flushed moment tape
   pub owned : All (λ (c : Call). PutsOwned (opening.setup).segment_size order c.segment c.kind)
       (drop opening.moment tape.calls)
-  pub own : (id : ℕ) (x : Told) → HasAt parts id x
+  pub own : (id : ℕ) (x : Receipts) → HasAt parts id x
       → All (HoldsPromise opening order tape x.entries) (x.writing).promises
-  pub joined : (id : ℕ) (x : Told) → HasAt parts id x
+  pub joined : (id : ℕ) (x : Receipts) → HasAt parts id x
       → All (λ (j : Joined). All (HoldsPromise opening order tape j.entries) j.promises) x.joined
 
 -- the down value is 0, or the count of faults that the writer met; with the writer at home it is 0
 -- exactly where the writer met none; and what a pass met and set of it is 0 or it
 pub record DownTells (opening : Opening) (down : ℕ) (home : Option Plain) (writer : Plain)
-    (parts : List Told) : Type 0 where
+    (parts : List Receipts) : Type 0 where
   pub is_met : down ≢ 0 → (writer.fault ≡ some down) × Rose opening.faults down
   pub at_home : home ≡ some writer → (down ≡ 0) ↔ (writer.fault ≡ none)
-  pub views : (id : ℕ) (x : Told) → HasAt parts id x
+  pub views : (id : ℕ) (x : Receipts) → HasAt parts id x
       → (((x.writing).down_met ≡ 0) ⊎ ((x.writing).down_met ≡ down))
       × (((x.writing).down_set ≡ 0) ⊎ ((x.writing).down_set ≡ down))

@@ -3,7 +3,7 @@ use Rattle.std.specs.Prelude.{◌≡◌, ℕ, List, map, set, slice_index}
 use mathlib.Core.Option.{Option}
 use Rattle.wal_page.specs.Order.{Entry}
 use Rattle.wal_core.specs.Words.{Opening, flushed_word, moment_word, down_word}
-use Rattle.wal_core.specs.Views.{Flight, HasAt, Hold, Lent, Out, Plain, Told, View, Writing, told_of, writer_of}
+use Rattle.wal_core.specs.Views.{Flight, HasAt, Hold, Lent, Out, Plain, Receipts, View, Writing, receipts_of, writer_of}
 use Rattle.wal_core.specs.Locked.{IsWriteTurn}
 use Rattle.wal_core.specs.Positioned.{PositionsHold}
 use Rattle.wal_core.specs.Durable.{DurabilityHolds, IsStaged}
@@ -39,7 +39,7 @@ module _ (words : List ℕ) (home : Option Plain) (views : List View) (id : ℕ)
     abbrev pub HasDurable : List Entry → Plain → Type 0
     HasDurable order writer = DurabilityHolds v.opening order (flushed_word words_then)
         (moment_word words_then) (down_word words_then) (home_behind v e home) writer
-        (map told_of (set views id (view_behind v e met_then home)))
+        (map receipts_of (set views id (view_behind v e met_then home)))
 
 -- what a call of the device rests on: what is durable holds, and so do the positions; and the view
 -- that makes it is there, with what is fixed, among those of which one may have the turn to write
@@ -51,7 +51,7 @@ pub record CallsFrom : Type 0 where
   pub down : ℕ
   pub home : Option Plain
   pub writer : Plain
-  pub parts : List Told
+  pub parts : List Receipts
   pub id : ℕ
   pub view : View
   pub turn : ℕ
@@ -60,7 +60,7 @@ pub record CallsFrom : Type 0 where
   pub flights : List Flight
   pub writings : List Writing
   pub durable : DurabilityHolds opening order flushed moment down home writer parts
-  pub here : HasAt parts id (told_of view)
+  pub here : HasAt parts id (receipts_of view)
   pub opening_is : view.opening ≡ opening
   pub setup_is : IsSetup opening.setup
   pub turn_is : IsWriteTurn turn home writer writers
@@ -70,11 +70,11 @@ pub record CallsFrom : Type 0 where
 -- what is durable holds behind it, with the writer that the call leaves
 abbrev pub IsDurableBehind : CallsFrom → StepKind → ℕ → Plain → Type 0
 IsDurableBehind c e met writer = DurabilityHolds c.opening c.order c.flushed c.moment c.down c.home
-    writer (set c.parts c.id (told_of (view_behind c.view e met c.home)))
+    writer (set c.parts c.id (receipts_of (view_behind c.view e met c.home)))
 
 -- what is durable in a state that keeps the invariant, where its views alone become others
 module _ (opening : Opening) (words : List ℕ) (home : Option Plain) (views : List View)
     (s : IsSound opening words home views) (changed : List View) where
   abbrev pub HasDurableWith : Type 0
   HasDurableWith = DurabilityHolds opening s.order (flushed_word words) (moment_word words)
-      (down_word words) home s.writer (map told_of changed)
+      (down_word words) home s.writer (map receipts_of changed)

@@ -1,5 +1,6 @@
 //! What a state that keeps the invariant shows of the last pass, proved by functions that do
-//! nothing.
+//! nothing. Who has all numbers knows that no other pass is left to step: what it finds in the
+//! words then is final.
 
 ghost use Rattle.std.specs.Prelude.{◌⊎◌, ℕ, List};
 ghost use mathlib.Core.Option.{Option};

@@ -1,16 +1,17 @@
 //! What holds of each image that a crash leaves, and of the down value: laws proved by functions
-//! that do nothing.
+//! that do nothing. By these alone the users of a log speak of crashes: they need not know how the
+//! pages came to the disk.
 
 ghost use Rattle.std.specs.Prelude.{◌≡◌, ◌≢◌, ℕ, List, IfSome};
 ghost use Rattle.segment_disk.specs.declared.disk.Call.{Call};
 ghost use mathlib.Core.Option.{Option};
 ghost use Rattle.wal_page.specs.Order.{Entry, IsChained};
 ghost use Rattle.wal_core.specs.Words.{Opening};
-ghost use Rattle.wal_core.specs.Views.{HasAt, Hold, Plain, Told, View, writer_of};
+ghost use Rattle.wal_core.specs.Views.{HasAt, Hold, Plain, Receipts, View, writer_of};
 ghost use Rattle.wal_core.specs.Suited.{BeganSuited, IfSuited};
 ghost use Rattle.wal_core.specs.Locked.{IsWriteTurn};
 ghost use Rattle.wal_core.specs.Durable.{DurabilityHolds};
-ghost use Rattle.wal_core.specs.Moves.{Outcome, with_outcome};
+ghost use Rattle.wal_core.specs.Moves.{CallOutcome, with_outcome};
 ghost use Rattle.wal_core.specs.Sound.{IsSetup};
 ghost use Rattle.wal_core.specs.Steps.{MayStep, create, set_down, sync, value_behind, write};
 ghost use Rattle.machine_laws.specs.Crashes.{CrashesLeave, DownTells};
@@ -21,7 +22,7 @@ ghost use Rattle.machine_laws.specs.Crashes.{CrashesLeave, DownTells};
 /// that are there.
 pub fn crashes_leave_what_was_promised()
     ensures lawful { (o : Opening) (order : List Entry) (flushed moment down : ℕ)
-        (home : Option Plain) (writer : Plain) (parts : List Told)
+        (home : Option Plain) (writer : Plain) (parts : List Receipts)
         → DurabilityHolds o order flushed moment down home writer parts → IsSetup o.setup
         → IsChained (o.setup).segment_size order
         → IfSuited o writer (λ t. CrashesLeave o order flushed moment t parts) }
@@ -31,8 +32,8 @@ pub fn crashes_leave_what_was_promised()
 /// was one on which a log may begin stays one of which all this is said.
 pub fn calls_leave_what_the_log_began_on()
     ensures { (o : Opening) (order : List Entry) (flushed moment down : ℕ)
-        (home : Option Plain) (writer : Plain) (parts : List Told) (call : Call)
-        (outcome : Outcome)
+        (home : Option Plain) (writer : Plain) (parts : List Receipts) (call : Call)
+        (outcome : CallOutcome)
         → DurabilityHolds o order flushed moment down home writer parts
         → IfSome writer.tape (BeganSuited o)
         → IfSome (with_outcome call outcome writer).tape (BeganSuited o) }
@@ -41,19 +42,19 @@ pub fn calls_leave_what_the_log_began_on()
 /// What the down value tells; once it is not 0 it stays, and no call of the device follows.
 pub fn down_tells_of_the_fault()
     ensures tells { (o : Opening) (order : List Entry) (flushed moment down : ℕ)
-        (home : Option Plain) (writer : Plain) (parts : List Told)
+        (home : Option Plain) (writer : Plain) (parts : List Receipts)
         → DurabilityHolds o order flushed moment down home writer parts
         → DownTells o down home writer parts }
     ensures stays { (o : Opening) (order : List Entry) (flushed moment down : ℕ)
-        (home : Option Plain) (writer : Plain) (parts : List Told)
+        (home : Option Plain) (writer : Plain) (parts : List Receipts)
         (id met : ℕ) (v : View) (turn : ℕ) (writers : List (ℕ × Hold))
         → DurabilityHolds o order flushed moment down home writer parts → down ≢ 0
         → IsWriteTurn turn home writer writers → HasAt writers id (writer_of v)
         → MayStep v set_down → value_behind v set_down met ≡ down }
     ensures no_call { (o : Opening) (order : List Entry) (flushed moment down : ℕ)
-        (home : Option Plain) (writer : Plain) (parts : List Told)
+        (home : Option Plain) (writer : Plain) (parts : List Receipts)
         (id : ℕ) (v : View) (turn : ℕ) (writers : List (ℕ × Hold))
-        (segment page upto : ℕ) (bytes : List ℕ) (outcome : Outcome)
+        (segment page upto : ℕ) (bytes : List ℕ) (outcome : CallOutcome)
         → DurabilityHolds o order flushed moment down home writer parts → down ≢ 0
         → IsWriteTurn turn home writer writers → HasAt writers id (writer_of v)
         → (¬ MayStep v (create segment outcome))

@@ -1,14 +1,15 @@
 //! Durability behind each kind of step, from a state that keeps the invariant: laws proved by
-//! functions that do nothing.
+//! functions that do nothing. The laws of `durable_steps`, `new_entries` and `device_calls`, with
+//! what the other parts of the invariant give them set in.
 
 ghost use Rattle.std.specs.Prelude.{◌≡◌, ℕ, true, List, [], ◌∷◌, ◌++◌, map, set, slice_index};
 ghost use mathlib.Core.Option.{Option};
 ghost use Rattle.segment_disk.specs.Tape.{create_call, sync_call, write_call};
 ghost use Rattle.wal_types.specs.declared.record.Record.{Record};
 ghost use Rattle.wal_core.specs.Words.{Opening, down_word, flushed_word, moment_word};
-ghost use Rattle.wal_core.specs.Views.{HasAt, Plain, View, told_of};
+ghost use Rattle.wal_core.specs.Views.{HasAt, Plain, View, receipts_of};
 ghost use Rattle.wal_core.specs.Suited.{IfSuited};
-ghost use Rattle.wal_core.specs.Moves.{Outcome, after_create, after_sync, after_write, after_join, entry_reserved, after_split, orphan_of, split_off, spent, without_work};
+ghost use Rattle.wal_core.specs.Moves.{CallOutcome, after_create, after_sync, after_write, after_join, entry_reserved, after_split, orphan_of, split_off, spent, without_work};
 ghost use Rattle.wal_core.specs.Sound.{IsSound};
 ghost use Rattle.wal_core.specs.Steps.{StepKind, MayStep, create, place_at, store_position, sync, word_of_step, write};
 ghost use Rattle.machine_laws.specs.Crashes.{CrashesLeave, DownTells};
@@ -35,20 +36,20 @@ pub fn steps_leave_a_sound_log_durable()
 pub fn calls_leave_a_sound_log_durable()
     ensures create { (words : List ℕ) (home : Option Plain) (views : List View) (id : ℕ) (v : View)
         (s : IsSound v.opening words home views) → HasAt views id v
-        → (segment : ℕ) (outcome : Outcome) → MayStep v (create segment outcome)
+        → (segment : ℕ) (outcome : CallOutcome) → MayStep v (create segment outcome)
         → HasDurable words home views id v (create segment outcome) s.order
         (after_create segment (create_call ((v.opening).setup).segment_size segment) outcome
         s.writer) }
     ensures write { (words : List ℕ) (home : Option Plain) (views : List View) (id : ℕ) (v : View)
         (s : IsSound v.opening words home views) → HasAt views id v
-        → (segment page upto : ℕ) (bytes : List ℕ) (outcome : Outcome)
+        → (segment page upto : ℕ) (bytes : List ℕ) (outcome : CallOutcome)
         → MayStep v (write segment page upto bytes outcome)
         → HasDurable words home views id v (write segment page upto bytes outcome) s.order
         (after_write segment upto
         (write_call ((v.opening).setup).segment_size segment page bytes) outcome s.writer) }
     ensures sync { (words : List ℕ) (home : Option Plain) (views : List View) (id : ℕ) (v : View)
         (s : IsSound v.opening words home views) → HasAt views id v
-        → (segment : ℕ) (outcome : Outcome) → MayStep v (sync segment outcome)
+        → (segment : ℕ) (outcome : CallOutcome) → MayStep v (sync segment outcome)
         → HasDurable words home views id v (sync segment outcome) s.order
         (after_sync (sync_call ((v.opening).setup).segment_size segment) outcome s.writer) }
 {}
@@ -76,8 +77,8 @@ pub fn sound_logs_show_what_crashes_leave()
     ensures crashes { (opening : Opening) (words : List ℕ) (home : Option Plain) (views : List View)
         (s : IsSound opening words home views)
         → IfSuited opening s.writer (λ t. CrashesLeave opening s.order (flushed_word words)
-        (moment_word words) t (map told_of views)) }
+        (moment_word words) t (map receipts_of views)) }
     ensures down { (opening : Opening) (words : List ℕ) (home : Option Plain) (views : List View)
         (s : IsSound opening words home views)
-        → DownTells opening (down_word words) home s.writer (map told_of views) }
+        → DownTells opening (down_word words) home s.writer (map receipts_of views) }
 {}

@@ -1,4 +1,6 @@
-//! The laws of the machine's steps, each proved by a function that does nothing.
+//! The laws of the machine's steps, each proved by a function that does nothing. A table of shared
+//! words rests on them: what a step asks for is said of its own pass's view alone, so the invariant
+//! holds between any two steps, in whatever order the passes' steps come.
 
 ghost use Rattle.std.specs.Prelude.{◌≡◌, ℕ, true, List};
 ghost use mathlib.Core.Option.{Option};

@@ -1,8 +1,9 @@
-//! Laws of the machine: every kind of step keeps each part of its invariant (the reserved order; the
-//! insertion locks, the turns and watchers; the words in memory and the pages in buffers; the
+//! Laws of the machine: every kind of step keeps each part of its invariant (the reserved order;
+//! the insertion locks, the turns and watchers; the words in memory and the pages in buffers; the
 //! positions; what a crash leaves); so each step keeps the whole, which holds at the opening, and
-//! what is told of flushes names moments that rise. Last, what every state that keeps it shows,
-//! and what its last pass knows once it is about nothing.
+//! what is told of flushes names moments that rise. Last, what every state that keeps it shows, and
+//! what its last pass knows once it is about nothing. Why each part is kept is told above its
+//! definition, in the specs of wal_core.
 #![tactic(auto)]
 
 pub mod closing;

@@ -1,5 +1,7 @@
 //! Every step keeps what is said of locks, of what they tell, of those who watch them, and of the
-//! two turns; each law is proved by a function that does nothing.
+//! two turns (words 2 to 9, 10 and 11); each law is proved by a function that does nothing. Such a
+//! word changes by an exchange that meets 0, and else by its holder alone: so the steps of others
+//! leave what a holder has, and what it told.
 
 ghost use Rattle.std.specs.Prelude.{◌≡◌, ◌≢◌, ℕ, true, ◌++◌, [], ◌∷◌, List, length, map, set, slice_index};
 ghost use mathlib.Core.Option.{Option};

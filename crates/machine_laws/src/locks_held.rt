@@ -1,6 +1,7 @@
 //! Laws of who holds which insertion lock (PostgreSQL's xlog.c, WALInsertLockAcquire and
 //! WALInsertLockRelease), each proved by a function that does nothing. `later` is what the locks'
-//! words are behind a step.
+//! words are behind a step. An entry in flight always stands under a lock that its view holds: that
+//! is how a watcher finds it.
 
 ghost use Rattle.std.specs.Prelude.{◌≡◌, ◌≢◌, ℕ, ◌<◌, Contains, List, [], ◌∷◌, ◌++◌, set};
 ghost use Rattle.wal_core.specs.Views.{HasAt, Copy, Copying, Flight, Landed, Working, AreSomeOf, View, working_of};

@@ -1,6 +1,7 @@
 //! Laws of what the words of insertion locks tell of the copies under them (PostgreSQL's xlog.c,
 //! WALInsertLockUpdateInsertingAt), each proved by a function that does nothing. `later` is what
-//! the locks' words are behind a step.
+//! the locks' words are behind a step. A copy only goes on, so what was told of it stays true; and
+//! a lock that is taken tells nothing of the copy before.
 
 ghost use Rattle.std.specs.Prelude.{◌≡◌, ℕ, ◌+◌, ◌<◌, ◌≤◌, Contains, List, [], ◌∷◌, ◌++◌, set};
 ghost use Rattle.wal_page.specs.EntryWords.{address_of_word};

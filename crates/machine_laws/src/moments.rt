@@ -1,4 +1,7 @@
-//! The laws of the moments, each proved by a function that does nothing.
+//! The laws of the moments, each proved by a function that does nothing: a log that is told of a
+//! flush is never told an earlier moment than before, and a later one where it has reserved more
+//! since that the flush covers. The calls of the disk come one after another, and only who has the
+//! writer in hand stores a moment.
 
 ghost use Rattle.std.specs.Prelude.{List, [], ◌∷◌, ℕ};
 ghost use mathlib.Core.Option.{Option};

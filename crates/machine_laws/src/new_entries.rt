@@ -1,11 +1,14 @@
-//! An entry joins the order, a law proved by a function that does nothing.
+//! An entry joins the order, a law proved by a function that does nothing. It does by the store of
+//! the position (word 0), by who has that locked (PostgreSQL's xlog.c, ReserveXLogInsertLocation).
+//! The new entry lies behind all that is written or was promised: so no promise speaks of it, and
+//! none that was made before is touched.
 
 ghost use Rattle.std.specs.Prelude.{◌≡◌, ℕ, List, [], ◌∷◌, ◌++◌, map, set};
 ghost use mathlib.Core.Option.{Option};
 ghost use Rattle.wal_types.specs.declared.record.Record.{Record};
 ghost use Rattle.wal_page.specs.Order.{Entry, IsChained, end_position};
 ghost use Rattle.wal_core.specs.Words.{Opening};
-ghost use Rattle.wal_core.specs.Views.{HasAt, Flight, Plain, Stored, Told, View, Writing, told_of, writing_of};
+ghost use Rattle.wal_core.specs.Views.{HasAt, Flight, Plain, Stored, Receipts, View, Writing, receipts_of, writing_of};
 ghost use Rattle.wal_core.specs.Ordered.{AtPlace};
 ghost use Rattle.wal_core.specs.Positioned.{PositionsHold};
 ghost use Rattle.wal_core.specs.Durable.{DurabilityHolds};
@@ -20,7 +23,7 @@ pub fn reserving_keeps_durability()
         (home : Option Plain) (writer : Plain) (views : List View)
         (id met : ℕ) (locks : List ℕ) (value : Record) (v : View) (at prev : ℕ)
         (last word locked holder written : ℕ) (flights : List Flight)
-        → DurabilityHolds o order flushed moment down home writer (map told_of views)
+        → DurabilityHolds o order flushed moment down home writer (map receipts_of views)
         → HasAt views id v → IsSetup o.setup → IsChained (o.setup).segment_size order
         → AtPlace (o.setup).segment_size (end_position (o.setup).segment_size order) last word
         locked holder id (v.reserving).place
@@ -30,6 +33,6 @@ pub fn reserving_keeps_durability()
         → DurabilityHolds o (order ++ entry_reserved (v.reserving).number at value ∷ [])
         flushed moment
         down home writer
-        (set (map told_of views) id
-        (told_of (view_behind v (store_position locks value) met home))) }
+        (set (map receipts_of views) id
+        (receipts_of (view_behind v (store_position locks value) met home))) }
 {}

@@ -1,4 +1,5 @@
-//! The law of the opening.
+//! The law of the opening: with the words, the writer and the one view of a log that holds nothing,
+//! the invariant holds before the first step.
 
 ghost use Rattle.std.specs.Prelude.{List, [], ◌∷◌, ℕ, IfSome};
 ghost use mathlib.Core.Option.{some};

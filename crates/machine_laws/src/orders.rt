@@ -1,6 +1,8 @@
-//! Laws of the machine's steps on the reserved order, each proved by a function that does nothing.
-//! In each the view is live and has its part in the order; what the step loads and stores is told
-//! by the machine itself (`value_behind`, `view_behind`).
+//! Laws of the machine's steps on the reserved order, each proved by a function that does nothing
+//! (PostgreSQL's xlog.c, ReserveXLogInsertLocation). In each the view is live and has its part in
+//! the order; what the step loads and stores is told by the machine itself (`value_behind`,
+//! `view_behind`). Only who has the position (word 0) locked stores into it and into the last start
+//! (word 1): so what it has met of them is so until it unlocks the position, whatever others do.
 
 ghost use Rattle.std.specs.Prelude.{◌≡◌, ◌≢◌, ℕ, ◌<◌, ◌≤◌, true, List, [], ◌∷◌, ◌++◌, set};
 ghost use mathlib.Core.Option.{Option};

@@ -1,4 +1,9 @@
-//! The pages in the ring's buffers, through each kind of step that changes what is said of them.
+//! The pages in the ring's buffers, through each kind of step that changes what is said of them
+//! (PostgreSQL's xlog.c, GetXLogBuffer, AdvanceXLInsertBuffer). Who has the turn to map goes from
+//! stage to stage alone; a page is given up only where it ends at or below what was loaded as
+//! written, so no copy and no write is still about it. A pass that has met a page's end may store
+//! there as long as a word of the page is still to be copied, since a page with such a word is not
+//! written whole.
 
 ghost use Rattle.std.specs.Prelude.{◌≡◌, ℕ, ◌+◌, ◌*◌, ◌/◌, ◌%◌, ◌<◌, ◌≤◌, List, [], ◌∷◌, ◌++◌, max, set};
 ghost use Rattle.wal_core.specs.declared.setup.Setup.{Setup};

@@ -1,4 +1,5 @@
-//! Passes that come and go keep the invariant.
+//! Passes that come and go keep the invariant. No word changes by it; a number goes from one pass
+//! to another, and what a pass holds that gives up stays with a view with which nobody steps.
 
 ghost use Rattle.std.specs.Prelude.{ℕ};
 ghost use Rattle.wal_core.specs.Words.{Opening};

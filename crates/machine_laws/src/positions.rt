@@ -1,6 +1,8 @@
-//! Laws of the machine's steps on the written and flushed positions, each proved by a function that
-//! does nothing. In each the view has its part in them; what the step loads and stores is told by
-//! the machine itself (`value_behind`, `view_behind`, `home_behind`).
+//! Laws of the machine's steps on the written and flushed positions (words 13 and 14; PostgreSQL's
+//! xlog.c, LogwrtResult), each proved by a function that does nothing. In each the view has its
+//! part in them; what the step loads and stores is told by the machine itself (`value_behind`,
+//! `view_behind`, `home_behind`). Both words are stored with the writer in hand and never fall: so
+//! what a pass has met is a lower bound for good, and what is known to be copied stays so.
 
 ghost use Rattle.std.specs.Prelude.{◌≡◌, ◌≢◌, ℕ, ◌≤◌, true, List, [], ◌∷◌, ◌++◌, map, set};
 ghost use mathlib.Core.Option.{Option};
@@ -8,13 +10,13 @@ ghost use Rattle.segment_disk.specs.Tape.{create_call, sync_call, write_call};
 ghost use Rattle.wal_types.specs.declared.record.Record.{Record};
 ghost use Rattle.wal_page.specs.Order.{end_position};
 ghost use Rattle.wal_core.specs.Words.{end_form};
-ghost use Rattle.wal_core.specs.Views.{HasAt, Plain, Reserving, Told, View, flight_of, told_of, watching_of, working_of, writing_of};
+ghost use Rattle.wal_core.specs.Views.{HasAt, Plain, Reserving, Receipts, View, flight_of, receipts_of, watching_of, working_of, writing_of};
 ghost use Rattle.wal_core.specs.Ordered.{OrderHolds};
 ghost use Rattle.wal_core.specs.Locked.{AreHeld};
 ghost use Rattle.wal_core.specs.Watched.{WatchHolds};
 ghost use Rattle.wal_core.specs.Durable.{DurabilityHolds};
 ghost use Rattle.wal_core.specs.Sound.{IsSound};
-ghost use Rattle.wal_core.specs.Moves.{Outcome, entry_reserved, after_split, split_off, after_join, spent, without_work, orphan_of, after_create, after_write, after_sync};
+ghost use Rattle.wal_core.specs.Moves.{CallOutcome, entry_reserved, after_split, split_off, after_join, spent, without_work, orphan_of, after_create, after_write, after_sync};
 ghost use Rattle.wal_core.specs.Steps.{MayStep, place_at, value_behind, view_behind, home_behind};
 ghost use Rattle.wal_core.specs.Steps.{take_write_turn, release_write_turn, slot_out, slot_in};
 ghost use Rattle.wal_core.specs.Steps.{load_ring_word, load_written, load_flushed, load_moment, load_down};
@@ -108,26 +110,26 @@ pub fn the_writer_goes_out_and_home()
 /// which only a write that is done raises.
 pub fn calls_leave_the_log_readable()
     ensures create { (p : Positions) (id : ℕ) (v : View) → HasPositions p id v
-        → (moment : ℕ) (tolds : List Told)
+        → (moment : ℕ) (tolds : List Receipts)
         → DurabilityHolds v.opening p.order p.flushed moment p.down p.home p.writer tolds
-        → (met segment : ℕ) (outcome : Outcome) → MayStep v (create segment outcome)
+        → (met segment : ℕ) (outcome : CallOutcome) → MayStep v (create segment outcome)
         → HoldBehind (record p {
           writer = after_create segment
               (create_call ((v.opening).setup).segment_size segment) outcome p.writer;
         }) id v (view_behind v (create segment outcome) met p.home) }
     ensures write { (p : Positions) (id : ℕ) (v : View) → HasPositions p id v
-        → (moment : ℕ) (tolds : List Told)
+        → (moment : ℕ) (tolds : List Receipts)
         → DurabilityHolds v.opening p.order p.flushed moment p.down p.home p.writer tolds
-        → (met segment page upto : ℕ) (bytes : List ℕ) (outcome : Outcome)
-        → HasAt tolds id (told_of v) → MayStep v (write segment page upto bytes outcome)
+        → (met segment page upto : ℕ) (bytes : List ℕ) (outcome : CallOutcome)
+        → HasAt tolds id (receipts_of v) → MayStep v (write segment page upto bytes outcome)
         → HoldBehind (record p {
           writer = after_write segment upto
               (write_call ((v.opening).setup).segment_size segment page bytes) outcome p.writer;
         }) id v (view_behind v (write segment page upto bytes outcome) met p.home) }
     ensures sync { (p : Positions) (id : ℕ) (v : View) → HasPositions p id v
-        → (moment : ℕ) (tolds : List Told)
+        → (moment : ℕ) (tolds : List Receipts)
         → DurabilityHolds v.opening p.order p.flushed moment p.down p.home p.writer tolds
-        → (met segment : ℕ) (outcome : Outcome) → MayStep v (sync segment outcome)
+        → (met segment : ℕ) (outcome : CallOutcome) → MayStep v (sync segment outcome)
         → HoldBehind (record p {
           writer = after_sync (sync_call ((v.opening).setup).segment_size segment) outcome
               p.writer;

@@ -1,5 +1,7 @@
 //! The log's words in memory, through each kind of step that changes what is said of them; and what
-//! a load of one of the ring's words meets.
+//! a load of one of the ring's words meets (PostgreSQL's xlog.c, CopyXLogRecordToWAL, XLogWrite).
+//! Each word is stored by the one copy that owns it, so copies under different locks do not meet; a
+//! load for a write, below what is known to be copied, meets the log's word and no older one.
 
 ghost use Rattle.std.specs.Prelude.{◌≡◌, ◌≢◌, ℕ, ◌+◌, ◌/◌, ◌<◌, ◌≤◌, Contains, List, [], ◌∷◌, ◌++◌, set};
 ghost use mathlib.Core.Option.{Option};

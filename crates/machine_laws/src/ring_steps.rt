@@ -1,5 +1,6 @@
 //! Ring and pages behind each kind of step that changes what is said of them, where a state keeps
-//! the invariant that has the pass's view: over the words and views behind the step.
+//! the invariant that has the pass's view: over the words and views behind the step. The laws of
+//! `ring` and `pages` beside this, with the step's own word and value set in.
 
 ghost use Rattle.std.specs.Prelude.{◌≡◌, ℕ, ◌+◌, true, List, [], ◌∷◌, ◌++◌, set, ◌==◌, if◌then◌else◌};
 ghost use mathlib.Core.Option.{Option};

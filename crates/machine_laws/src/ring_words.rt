@@ -1,4 +1,5 @@
-//! A store into one word, as the laws of ring and pages take it.
+//! A store into one word, as the laws of ring and pages take it: it changes one buffer's end, or
+//! one word of the ring, and leaves all others.
 
 ghost use Rattle.std.specs.Prelude.{◌≡◌, ℕ, ◌+◌, ◌*◌, ◌<◌, List, length, set};
 ghost use Rattle.wal_core.specs.declared.setup.Setup.{Setup};

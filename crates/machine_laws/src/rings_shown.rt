@@ -1,4 +1,5 @@
-//! What the invariant shows of the ring.
+//! What the invariant shows of the ring, for who looks at words and views and does not open the
+//! invariant itself.
 
 ghost use Rattle.std.specs.Prelude.{ℕ, List};
 ghost use mathlib.Core.Option.{Option};

@@ -1,5 +1,8 @@
 //! Laws of those who watch the copies under the insertion locks (PostgreSQL's xlog.c,
-//! WaitXLogInsertionsToFinish), each proved by a function that does nothing.
+//! WaitXLogInsertionsToFinish), each proved by a function that does nothing. A watcher sees a
+//! reserved end, then visits the locks one by one, while others take, tell and release them: what
+//! it has learnt stays true, since an entry that comes later lies behind that end, and a copy under
+//! a lock that it visited only goes on.
 
 ghost use Rattle.std.specs.Prelude.{◌≡◌, ◌≢◌, ℕ, ◌≤◌, List, [], ◌∷◌, ◌++◌, set, map};
 ghost use Rattle.byte_position.specs.Geometry.{IsSegmentSize};

@@ -2,13 +2,13 @@
 #![tactic(auto)]
 
 #[cfg(test)]
+mod checks;
+#[cfg(test)]
+mod lines;
+#[cfg(test)]
+mod opening;
+#[cfg(test)]
 mod played;
-#[cfg(test)]
-mod random;
-#[cfg(test)]
-mod records;
-#[cfg(test)]
-mod refused;
 #[cfg(test)]
 mod reserved;
 #[cfg(test)]
@@ -17,5 +17,3 @@ mod schedule;
 mod schedules;
 #[cfg(test)]
 mod turns;
-#[cfg(test)]
-mod words;

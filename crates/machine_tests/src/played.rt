@@ -1,14 +1,23 @@
 //! A machine that tests play.
 
 ghost use Rattle.wal_core.specs.Sound.{IsSetup};
-ghost use Rattle.machine_words.specs.Numbers.{IsWord};
 
-use machine_core::{Core, CoreErr, PlainView, Script, Turn, Word};
+use machine_core::{Core, Place, PlainView, Script, Turn, Word};
 use machine_words::is_setup;
 use segment_disk::{MemDisk, Memory, Pick};
 use std::alloc::{AllocError, Global};
 use std::marker::Model;
+use std::test::Fail;
 use wal_core::Setup;
+
+/// Segments of 1 MiB, of which the log may fill two, and a ring of four pages.
+pub const SETUP: Setup = Setup {
+    segment_size: 1_048_576,
+    ring_pages: 4,
+    cap_segments: 2,
+    sysid: 1,
+    passes: 9,
+};
 
 /// A core that is as turns leave it, which is what its next turn rests on.
 #[derive(Drop)]
@@ -38,9 +47,9 @@ impl Played {
         setup: Setup,
         scripts: Vec<Script>,
         fail: Vec<u64>,
-    ) -> Result<Played, CoreErr> {
+    ) -> Result<Played, Fail> {
         if !is_setup(setup) {
-            return Err(CoreErr::BadSetup);
+            return Err(Fail::from("a setup"));
         }
         Ok(Played {
             core: Core::new(alloc, setup, scripts, fail)?,
@@ -50,15 +59,6 @@ impl Played {
 
     pub fn turn(&mut self, backend: u32) -> Turn {
         self.core.turn(backend)
-    }
-
-    /// The last of so many turns of a backend, `Done` where it is none.
-    pub fn turns(&mut self, backend: u32, count: u32) -> Turn {
-        let mut last = Turn::Done;
-        for _ in 0..count {
-            last = self.turn(backend);
-        }
-        last
     }
 
     pub fn answered(&self, backend: u32) -> u64 {
@@ -73,11 +73,9 @@ impl Played {
         self.core.view(backend)
     }
 
-    /// A word. Of the ring those of the first four buffers, which each ring has.
-    pub fn word(&self, word: Word) -> u64
-        requires { IsWord 4 word }
-    {
-        self.core.word(word)
+    /// How far a backend is with a reservation.
+    pub fn place(&self, backend: u32) -> Option<Place> {
+        Some(self.view(backend)?.place)
     }
 
     pub fn setup(&self) -> Setup
@@ -88,7 +86,7 @@ impl Played {
 
     /// All words that the backends share, by their numbers.
     pub fn words(&self, alloc: Global) -> Result<Vec<u64>, AllocError> {
-        let mut words = self.first_words(alloc)?;
+        let mut words = Vec::from_slice(alloc, &self.words_outside_the_ring())?;
         for buffer in 0..self.setup.ring_pages {
             words.push(self.core.word(Word::BufferEnd(buffer)))?;
         }
@@ -98,22 +96,27 @@ impl Played {
         Ok(words)
     }
 
-    // The words up to the first buffer's end.
-    fn first_words(&self, alloc: Global) -> Result<Vec<u64>, AllocError> {
-        let mut words = Vec::with_capacity(alloc, 17 + self.setup.ring_pages as usize * 1025)?;
-        words.push(self.core.word(Word::Position))?;
-        words.push(self.core.word(Word::LastStart))?;
-        for lock in 0..8 {
-            words.push(self.core.word(Word::Lock(lock)))?;
-        }
-        words.push(self.core.word(Word::MappingTurn))?;
-        words.push(self.core.word(Word::WriteTurn))?;
-        words.push(self.core.word(Word::InitialisedEnd))?;
-        words.push(self.core.word(Word::Written))?;
-        words.push(self.core.word(Word::Flushed))?;
-        words.push(self.core.word(Word::Moment))?;
-        words.push(self.core.word(Word::Down))?;
-        Ok(words)
+    /// The words that are no part of the ring, by their numbers, which are the lowest.
+    pub fn words_outside_the_ring(&self) -> [u64; 17] {
+        [
+            self.core.word(Word::Position),
+            self.core.word(Word::LastStart),
+            self.core.word(Word::Lock(0)),
+            self.core.word(Word::Lock(1)),
+            self.core.word(Word::Lock(2)),
+            self.core.word(Word::Lock(3)),
+            self.core.word(Word::Lock(4)),
+            self.core.word(Word::Lock(5)),
+            self.core.word(Word::Lock(6)),
+            self.core.word(Word::Lock(7)),
+            self.core.word(Word::MappingTurn),
+            self.core.word(Word::WriteTurn),
+            self.core.word(Word::InitialisedEnd),
+            self.core.word(Word::Written),
+            self.core.word(Word::Flushed),
+            self.core.word(Word::Moment),
+            self.core.word(Word::Down),
+        ]
     }
 
     pub fn crash(&self, alloc: Global, pick: Pick) -> Result<MemDisk, Memory> {

@@ -1,36 +1,35 @@
 //! A schedule under way, with what it reserved.
 
-use crate::played::Played;
-use crate::random::{BACKENDS, LINES, Planned, Random, planned_lines, scripts_of};
-use crate::records::{Found, SETUP, records_left};
-use crate::reserved::LogWords;
-use machine_checks::{BackendNow, Moment, Part, fault_of};
+use crate::lines::{Ask, Planned, records_left, script_of};
+use crate::played::{Played, SETUP};
+use crate::reserved::Log;
+use machine_checks::{BackendNow, MachineNow, Part, fault_of};
 use machine_core::{Event, Flight, Turn};
+use rand_xoshiro::SplitMix64;
+use rand_xoshiro::rand_core::{Rng, SeedableRng};
 use segment_disk::Pick;
 use std::alloc::Global;
 use std::test::Fail;
 use wal_core::Setup;
 
-/// How long a backend is let go on at most.
-#[derive(Clone, Copy, Debug, PartialEq, Eq)]
-pub enum Grain {
-    One,
-    Few,
-    Mixed,
-}
+const BACKENDS: u32 = 8;
 
-impl Grain {
-    // How many turns a backend is given now.
-    fn turns(self, random: &mut Random) -> u64 {
-        match self {
-            Grain::One => 1,
-            Grain::Few => 1 + random.below(64),
-            Grain::Mixed => match random.below(8) {
-                0 => 1 + random.below(1500),
-                1 | 2 => 1 + random.below(64),
-                _ => 1 + random.below(4),
-            },
-        }
+// How many lines each backend has.
+const LINES: u32 = 20;
+
+// Of twenty lines an insert of up to three pages, five commits, two flushes, small inserts.
+fn planned(random: &mut SplitMix64, xid: u32) -> Planned {
+    let (ask, rmid, len) = match random.next_u64() % 20 {
+        0 => (Ask::Insert, 10, 1 + random.next_u64() % (3 * 8168)),
+        1..=5 => (Ask::Commit, 1, 8),
+        6..=7 => (Ask::Flush, 0, 0),
+        _ => (Ask::Insert, 10, 1 + random.next_u64() % 200),
+    };
+    Planned {
+        ask,
+        rmid,
+        xid,
+        len: len as usize,
     }
 }
 
@@ -49,218 +48,213 @@ fn named(part: Part) -> &'static str {
 /// Eight backends, what they are to do, and what is known of what they did.
 #[derive(Drop)]
 pub struct Schedule {
-    pub core: Played,
-    /// What all lines are to do, one backend's behind another's.
-    pub plan: Vec<Planned>,
-    /// The numbers of the lines whose records are reserved, in their order.
-    pub order: Vec<u32>,
-    /// Which lock each backend has taken, and not released.
-    locks: [Option<u32>; 8],
-    /// The records that are reserved, and their words.
-    log: LogWords,
-    /// The first thing that was found wrong.
-    pub wrong: Option<&'static str>,
+    core: Played,
+    random: SplitMix64,
+    // One of these numbers is picked, up to which a backend is given turns.
+    grain: &'static [u64; 8],
+    // What all lines are to do, one backend's behind another's. A record's transaction is one more
+    // than its line's number.
+    plan: Vec<Planned>,
+    // What each backend knows, and which lock it has.
+    backends: Vec<BackendNow>,
+    log: Log,
+    // How many records were reserved when a backend had reserved its last one.
+    reserved: [usize; 8],
+    // So many of the first records are promised: a commit or a flush was answered behind them.
+    promised: usize,
+    // The first thing that was found wrong.
+    wrong: Option<&'static str>,
     turns: u64,
+    answered: u64,
 }
 
 impl Schedule {
     /// Random lines on a ring of so many pages.
-    pub fn new(alloc: Global, ring_pages: u32, random: &mut Random) -> Result<Schedule, Fail> {
-        let setup = Setup {
-            ring_pages,
-            ..SETUP
-        };
-        let plan = planned_lines(alloc, random)?;
-        let scripts = scripts_of(alloc, &plan)?;
-        let Ok(core) = Played::new(alloc, setup, scripts, Vec::new(alloc)) else {
-            return Err(Fail::from("a setup and memory"));
-        };
+    pub fn new(
+        alloc: Global,
+        ring_pages: u32,
+        seed: u64,
+        grain: &'static [u64; 8],
+    ) -> Result<Schedule, Fail> {
+        let mut random = SplitMix64::seed_from_u64(seed);
+        let plan = plan(alloc, &mut random)?;
+        let core = machine(alloc, ring_pages, &plan)?;
         Ok(Schedule {
+            backends: backends(alloc, &core)?,
             core,
+            random,
+            grain,
             plan,
-            order: Vec::new(alloc),
-            locks: [None; 8],
-            log: LogWords::new(alloc),
+            log: Log::new(alloc),
+            reserved: [0; 8],
+            promised: 0,
             wrong: None,
             turns: 0,
+            answered: 0,
         })
     }
 
-    // A turn, and what is known behind it.
-    fn turn(&mut self, alloc: Global, backend: u32) -> Result<Turn, Fail> {
+    // A turn, and what is known behind it. Whether the backend moved.
+    fn turn(&mut self, alloc: Global, backend: u32) -> Result<bool, Fail> {
         let line = self.core.answered(backend);
         let turn = self.core.turn(backend);
         if let Turn::Moved { event } = turn {
             self.note(alloc, backend, line, event)?;
         }
+        if self.core.answered(backend) != line {
+            self.note_answer(backend, line);
+        }
         self.turns = self.turns.wrapping_add(1);
         if self.turns % 100 == 0 && self.wrong.is_none() {
-            self.wrong = self.fault(alloc)?.map(named);
+            self.wrong = self.fault(alloc)?;
         }
-        Ok(turn)
+        Ok(matches!(turn, Turn::Moved { .. }))
     }
 
-    // Notes what is reserved, and who holds a lock.
     fn note(&mut self, alloc: Global, backend: u32, line: u64, event: Event) -> Result<(), Fail> {
+        let view = self.core.view(backend).ok_or("a backend")?;
+        if let Some(now) = self.backends.get_mut(backend as usize) {
+            now.view = view;
+        }
         match event {
-            Event::StorePosition => self.reserved(alloc, backend, line)?,
             Event::TakeLock { lock } => self.hold(backend, None, Some(lock)),
             Event::ReleaseLock { lock } => self.hold(backend, Some(lock), None),
+            Event::StorePosition => self.reserve(alloc, backend, line, view.flight)?,
             _ => {}
         }
         Ok(())
     }
 
-    fn reserved(&mut self, alloc: Global, backend: u32, line: u64) -> Result<(), Fail> {
-        let number = u64::from(backend) * u64::from(LINES) + line.min(1000);
-        let number = number.min(1000) as u32;
-        self.order.push(number)?;
-        let planned = self.planned(number);
-        let flight = self.core.view(backend).map(|view| view.flight);
-        match flight {
-            Some(Flight::Copying { start, prev, .. }) => {
-                self.log
-                    .add(alloc, &planned.line(alloc, number + 1)?, start, prev)
-            }
-            _ => Ok(()),
-        }
-    }
-
     // A backend that has this lock, or none, has that one from now on.
     fn hold(&mut self, backend: u32, old: Option<u32>, new: Option<u32>) {
-        match self.locks.get_mut(backend as usize) {
-            Some(lock) if *lock == old => *lock = new,
+        match self.backends.get_mut(backend as usize) {
+            Some(now) if now.lock == old => now.lock = new,
             _ => self.wrong = Some("a lock is taken or released out of turn"),
         }
     }
 
+    // The record of a line is reserved.
+    fn reserve(
+        &mut self,
+        alloc: Global,
+        backend: u32,
+        line: u64,
+        flight: Flight,
+    ) -> Result<(), Fail> {
+        let planned = self.planned(backend, line).ok_or("a line")?;
+        let Flight::Copying { start, prev, .. } = flight else {
+            return Err(Fail::from("a record that is to be copied"));
+        };
+        self.log.add(alloc, planned, start, prev)?;
+        if let Some(reserved) = self.reserved.get_mut(backend as usize) {
+            *reserved = self.log.order.len();
+        }
+        Ok(())
+    }
+
+    fn planned(&self, backend: u32, line: u64) -> Option<Planned> {
+        let number = (u64::from(backend) * u64::from(LINES)).wrapping_add(line);
+        self.plan.get(number as usize).copied()
+    }
+
+    // A line is answered. All records of its backend are promised where it flushes.
+    fn note_answer(&mut self, backend: u32, line: u64) {
+        self.answered = self.answered.wrapping_add(1);
+        let reserved = self.reserved.get(backend as usize).copied();
+        let planned = self.planned(backend, line);
+        if planned.is_some_and(|planned| planned.flushes()) {
+            self.promised = self.promised.max(reserved.unwrap_or(0));
+        }
+    }
+
     // The part of the words that is not what it has to be, if any.
-    fn fault(&self, alloc: Global) -> Result<Option<Part>, Fail> {
+    fn fault(&self, alloc: Global) -> Result<Option<&'static str>, Fail> {
         let words = self.core.words(alloc)?;
-        let backends = self.backends(alloc)?;
-        let moment = Moment {
+        let moment = MachineNow {
             setup: self.core.setup(),
             words: &words,
             order: &self.log.order,
             log: &self.log.words,
-            backends: &backends,
+            backends: &self.backends,
         };
-        Ok(fault_of(&moment))
+        Ok(fault_of(&moment).map(named))
     }
 
-    fn backends(&self, alloc: Global) -> Result<Vec<BackendNow>, Fail> {
-        let mut backends = Vec::new(alloc);
-        for backend in 0..BACKENDS {
-            let view = self.core.view(backend).ok_or("a backend")?;
-            let lock = self.locks.get(backend as usize).copied().unwrap_or(None);
-            backends.push(BackendNow { view, lock })?;
-        }
-        Ok(backends)
-    }
-
-    /// What the line with a number is to do.
-    pub fn planned(&self, number: u32) -> Planned {
-        self.plan
-            .get(number as usize)
-            .copied()
-            .unwrap_or(Planned::Flush)
-    }
-
-    // So many turns of a backend, fewer where it waits or is done.
-    fn turns_of(&mut self, alloc: Global, backend: u32, turns: u64) -> Result<(), Fail> {
-        for _ in 0..turns {
-            if !matches!(self.turn(alloc, backend)?, Turn::Moved { .. }) {
+    // Lets some backend go on.
+    fn go_on(&mut self, alloc: Global) -> Result<(), Fail> {
+        let backend = (self.random.next_u64() % 8) as u32;
+        let most = self.grain[(self.random.next_u64() % 8) as usize].max(1);
+        for _ in 0..self.random.next_u64() % most + 1 {
+            if !self.turn(alloc, backend)? {
                 return Ok(());
             }
         }
         Ok(())
     }
 
-    /// So many times some backend goes on.
-    pub fn play(
-        &mut self,
-        alloc: Global,
-        random: &mut Random,
-        grain: Grain,
-        times: u64,
-    ) -> Result<(), Fail> {
-        for _ in 0..times {
-            let backend = random.below(u64::from(BACKENDS)) as u32;
-            self.turns_of(alloc, backend, grain.turns(random))?;
+    /// Up to so many times some backend goes on.
+    pub fn cut_off(&mut self, alloc: Global, most: u64) -> Result<(), Fail> {
+        for _ in 0..self.random.next_u64() % most.max(1) {
+            self.go_on(alloc)?;
         }
         Ok(())
     }
 
-    /// Goes on until all lines are answered. False where they are not behind a great many turns.
-    pub fn finish(
-        &mut self,
-        alloc: Global,
-        random: &mut Random,
-        grain: Grain,
-    ) -> Result<bool, Fail> {
-        for _ in 0..10_000 {
-            if self.has_answered_all() {
-                return Ok(true);
+    /// Goes on until all lines are answered, or behind a great many turns.
+    pub fn finish(&mut self, alloc: Global) -> Result<(), Fail> {
+        for _ in 0..10_000_000 {
+            if self.answered == u64::from(BACKENDS * LINES) {
+                return Ok(());
             }
-            self.play(alloc, random, grain, 1000)?;
+            self.go_on(alloc)?;
         }
-        Ok(false)
+        self.wrong = Some("not all lines are answered");
+        Ok(())
     }
 
-    fn has_answered_all(&self) -> bool {
-        for backend in 0..BACKENDS {
-            if self.core.answered(backend) != u64::from(LINES) {
-                return false;
+    /// What was found wrong, or is with what a crash leaves now, if anything.
+    pub fn wrong(&self, alloc: Global) -> Result<Option<&'static str>, Fail> {
+        if self.wrong.is_some() {
+            return Ok(self.wrong);
+        }
+        for pick in [Pick::Old, Pick::New, Pick::Odd] {
+            let found = records_left(alloc, &self.core, pick)?;
+            if !self.log.records.starts_with(&found) {
+                return Ok(Some("records are read that are no front of the order"));
             }
-        }
-        true
-    }
-
-    /// What is wrong with the records that a crash leaves now, if anything.
-    pub fn crash_fault(&self, alloc: Global, pick: Pick) -> Result<Option<&'static str>, Fail> {
-        let found = records_left(alloc, &self.core, pick)?;
-        if found.len() > self.order.len() {
-            return Ok(Some("more records are read than were reserved"));
-        }
-        if !self.begins_with(&found) {
-            return Ok(Some("records are read that are no front of the order"));
-        }
-        if self.promises_behind(found.len()) {
-            return Ok(Some("a record is lost of which a commit or a flush was answered"));
+            if found.len() < self.promised {
+                return Ok(Some("a record is lost of which a commit or a flush was answered"));
+            }
         }
         Ok(None)
     }
+}
 
-    fn begins_with(&self, found: &[Found]) -> bool {
-        for (found, number) in found.iter().zip(self.order.iter()) {
-            if found.xid != number.wrapping_add(1) || found.len != self.planned(*number).len() {
-                return false;
-            }
-        }
-        true
+fn plan(alloc: Global, random: &mut SplitMix64) -> Result<Vec<Planned>, Fail> {
+    let mut plan = Vec::new(alloc);
+    for number in 0..BACKENDS * LINES {
+        plan.push(planned(random, number + 1))?;
     }
+    Ok(plan)
+}
 
-    // Whether a record is promised behind the first so many.
-    fn promises_behind(&self, count: usize) -> bool {
-        for number in self.order.iter().skip(count) {
-            if self.is_promised(*number) {
-                return true;
-            }
-        }
-        false
+fn machine(alloc: Global, ring_pages: u32, plan: &[Planned]) -> Result<Played, Fail> {
+    let setup = Setup {
+        ring_pages,
+        ..SETUP
+    };
+    let mut scripts = Vec::new(alloc);
+    for lines in plan.chunks(LINES as usize) {
+        scripts.push(script_of(alloc, lines)?)?;
     }
+    Played::new(alloc, setup, scripts, Vec::new(alloc))
+}
 
-    // Whether its own line, a commit, or a later line of its backend that flushes, is answered.
-    fn is_promised(&self, number: u32) -> bool {
-        let backend = number / LINES;
-        let answered = self.core.answered(backend).min(u64::from(LINES)) as u32;
-        for line in number % LINES..answered {
-            let first = (backend as u64 * u64::from(LINES)) as usize;
-            let planned = self.plan.get(first + line as usize);
-            if matches!(planned, Some(Planned::Commit | Planned::Flush)) {
-                return true;
-            }
-        }
-        false
+fn backends(alloc: Global, core: &Played) -> Result<Vec<BackendNow>, Fail> {
+    let mut backends = Vec::new(alloc);
+    for backend in 0..BACKENDS {
+        let view = core.view(backend).ok_or("a backend")?;
+        backends.push(BackendNow { view, lock: None })?;
     }
+    Ok(backends)
 }

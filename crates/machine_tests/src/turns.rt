@@ -1,245 +1,488 @@
-//! Single turns, and what small schedules of them come to.
+//! What single turns, and small schedules of them, tell and leave, as rows.
 
-use crate::played::Played;
-use crate::records::{Found, SETUP, body, commit, insert, records_left, two_commits};
-use machine_core::{CoreErr, Event, Line, Place, Script, Turn, Word};
+use crate::lines::{Ask, Found, Planned, records_left, script_of};
+use crate::played::{Played, SETUP};
+use machine_core::{Event, Place, Turn};
 use segment_disk::Pick;
 use std::alloc::Global;
 use std::process::Abort;
 use std::test::Fail;
 use wal_core::Setup;
 
-// What a core says to a setup with so many scripts of no lines.
-fn refusal(alloc: Global, setup: Setup, scripts: u32) -> Result<Option<CoreErr>, Fail> {
-    let mut empty = Vec::new(alloc);
-    for _ in 0..scripts {
-        empty.push(Script::of(Vec::new(alloc)))?;
+// A machine, the turns that its backends have, and what is left behind them.
+struct Row {
+    what: &'static str,
+    cap_segments: u32,
+    // The calls of the disk that fail, by their numbers from 1.
+    fail: &'static [u64],
+    scripts: &'static [&'static [Planned]],
+    steps: &'static [Step],
+    // How many calls the disk got, and the records that a crash leaves where it keeps durable words
+    // alone.
+    calls: u64,
+    left: &'static [Found],
+}
+
+// So many turns of a backend, fewer where a line is answered or a call of the disk fails, and what
+// is seen behind them.
+struct Step {
+    backend: u32,
+    turns: u32,
+    // What the last one told, where it is looked at.
+    told: Option<Turn>,
+    // How many lines of the backend are answered, and how far it is with a reservation.
+    answered: u64,
+    place: Place,
+    is_full: bool,
+    // What some of the shared words hold, by their numbers.
+    words: &'static [(usize, u64)],
+}
+
+const STEP: Step = Step {
+    backend: 0,
+    turns: 1,
+    told: None,
+    answered: 0,
+    place: Place::Free,
+    is_full: false,
+    words: &[],
+};
+
+const POSITION: usize = 0;
+
+const LAST_START: usize = 1;
+
+const LOCK_1: usize = 3;
+
+const FLUSHED: usize = 14;
+
+const FLUSH: Planned = Planned {
+    ask: Ask::Flush,
+    rmid: 0,
+    xid: 0,
+    len: 0,
+};
+
+// A record of 40 bytes.
+const COMMIT_700: Planned = Planned {
+    ask: Ask::Commit,
+    rmid: 1,
+    xid: 700,
+    len: 8,
+};
+
+const COMMIT_701: Planned = Planned {
+    xid: 701,
+    ..COMMIT_700
+};
+
+// Backend 0 is told that its commit's call failed, and then, as all others are, that the disk had.
+const FAILS: &[Step] = &[
+    Step {
+        turns: 1100,
+        ..STEP
+    },
+    Step {
+        turns: 3,
+        answered: 1,
+        ..STEP
+    },
+    Step {
+        told: Some(Turn::Down { faults: 1 }),
+        answered: 2,
+        ..STEP
+    },
+    Step {
+        turns: 2000,
+        told: Some(Turn::Done),
+        answered: 2,
+        ..STEP
+    },
+    Step {
+        backend: 1,
+        told: Some(Turn::Down { faults: 1 }),
+        answered: 1,
+        ..STEP
+    },
+    Step {
+        backend: 1,
+        turns: 2000,
+        told: Some(Turn::Done),
+        answered: 1,
+        ..STEP
+    },
+    Step {
+        turns: 2000,
+        told: Some(Turn::Done),
+        answered: 2,
+        ..STEP
+    },
+];
+
+// Backend 1 has reserved and copied, and is about to flush, when a call of backend 0 fails.
+const FAILS_UNDER_WAY: &[Step] = &[
+    Step {
+        backend: 1,
+        turns: 18,
+        ..STEP
+    },
+    Step {
+        turns: 1100,
+        ..STEP
+    },
+    Step {
+        turns: 2000,
+        answered: 1,
+        ..STEP
+    },
+    Step {
+        backend: 1,
+        turns: 2000,
+        told: Some(Turn::Down { faults: 1 }),
+        answered: 1,
+        ..STEP
+    },
+    Step {
+        turns: 2000,
+        told: Some(Turn::Done),
+        answered: 1,
+        ..STEP
+    },
+    Step {
+        backend: 1,
+        turns: 2000,
+        told: Some(Turn::Done),
+        answered: 1,
+        ..STEP
+    },
+];
+
+// Backend 0 waits for the position, which backend 1 has locked.
+const WAITS: Step = Step {
+    told: Some(Turn::Waits {
+        on: 0,
+        value: 1_045_489,
+    }),
+    words: &[(POSITION, 1_045_489), (LOCK_1, 1)],
+    ..STEP
+};
+
+const FAILING: Row = Row {
+    what: "the create of the first commit fails",
+    cap_segments: 2,
+    fail: &[1],
+    scripts: &[&[COMMIT_700, FLUSH], &[COMMIT_700], &[COMMIT_701]],
+    steps: FAILS,
+    calls: 1,
+    left: &[],
+};
+
+const FAILING_UNDER_WAY: Row = Row {
+    what: "the create fails while another backend is under way",
+    scripts: &[&[COMMIT_700], &[COMMIT_701]],
+    steps: FAILS_UNDER_WAY,
+    ..FAILING
+};
+
+static ROWS: &[Row] = &[
+    Row {
+        what: "one commit on an empty log takes 1,064 turns",
+        cap_segments: 2,
+        fail: &[],
+        scripts: &[&[COMMIT_700]],
+        steps: &[
+            Step {
+                turns: 0,
+                words: &[(POSITION, 1_045_488)],
+                ..STEP
+            },
+            // The insert, under the lock of the pass with the number 1.
+            Step {
+                turns: 18,
+                told: Some(Turn::Moved {
+                    event: Event::ReleaseLock { lock: 1 },
+                }),
+                words: &[(POSITION, 1_045_528), (LAST_START, 1_048_616)],
+                ..STEP
+            },
+            // The flush.
+            Step {
+                told: Some(Turn::Moved {
+                    event: Event::LoadDown,
+                }),
+                ..STEP
+            },
+            Step {
+                told: Some(Turn::Moved {
+                    event: Event::LoadPosition,
+                }),
+                ..STEP
+            },
+            Step {
+                turns: 1043,
+                ..STEP
+            },
+            Step {
+                told: Some(Turn::Moved {
+                    event: Event::ReleaseWriteTurn,
+                }),
+                answered: 1,
+                ..STEP
+            },
+            Step {
+                told: Some(Turn::Done),
+                answered: 1,
+                words: &[(FLUSHED, 1_048_656)],
+                ..STEP
+            },
+        ],
+        // The segment is made, its first page is written, and it is synced.
+        calls: 3,
+        left: &[(700, 1_048_616, 8)],
+    },
+    FAILING,
+    Row {
+        what: "the write of the first commit fails",
+        fail: &[2],
+        calls: 2,
+        ..FAILING
+    },
+    Row {
+        what: "the sync of the first commit fails",
+        fail: &[3],
+        calls: 3,
+        ..FAILING
+    },
+    FAILING_UNDER_WAY,
+    Row {
+        what: "the write fails while another backend is under way",
+        fail: &[2],
+        calls: 2,
+        ..FAILING_UNDER_WAY
+    },
+    Row {
+        what: "the sync fails while another backend is under way",
+        fail: &[3],
+        calls: 3,
+        ..FAILING_UNDER_WAY
+    },
+    Row {
+        what: "records stand in the order of their turns",
+        cap_segments: 2,
+        fail: &[],
+        scripts: &[&[COMMIT_700], &[COMMIT_701]],
+        steps: &[
+            Step {
+                backend: 1,
+                turns: 2000,
+                answered: 1,
+                ..STEP
+            },
+            Step {
+                backend: 1,
+                told: Some(Turn::Done),
+                answered: 1,
+                ..STEP
+            },
+            Step {
+                turns: 2000,
+                answered: 1,
+                ..STEP
+            },
+        ],
+        // The page is written and synced for each.
+        calls: 5,
+        left: &[(701, 1_048_616, 8), (700, 1_048_656, 8)],
+    },
+    Row {
+        what: "a position that is locked is waited for",
+        cap_segments: 2,
+        fail: &[],
+        scripts: &[&[COMMIT_700], &[COMMIT_701]],
+        steps: &[
+            Step {
+                backend: 1,
+                turns: 3,
+                told: Some(Turn::Moved {
+                    event: Event::LockPosition,
+                }),
+                place: Place::Locked { at: 1_045_488 },
+                ..STEP
+            },
+            Step {
+                turns: 2,
+                told: Some(Turn::Moved {
+                    event: Event::TakeLock { lock: 1 },
+                }),
+                ..STEP
+            },
+            WAITS,
+            WAITS,
+            WAITS,
+            Step {
+                backend: 1,
+                turns: 3,
+                told: Some(Turn::Moved {
+                    event: Event::StorePosition,
+                }),
+                ..STEP
+            },
+            Step {
+                told: Some(Turn::Moved {
+                    event: Event::LockPosition,
+                }),
+                place: Place::Locked { at: 1_045_528 },
+                ..STEP
+            },
+        ],
+        calls: 0,
+        left: &[],
+    },
+    Row {
+        what: "a full log keeps what went before",
+        cap_segments: 1,
+        fail: &[],
+        scripts: &[&[
+            // With a header of 24 bytes and one of 5, all of the segment but 40 bytes.
+            Planned {
+                ask: Ask::Insert,
+                rmid: 10,
+                xid: 1,
+                len: 1_045_419,
+            },
+            Planned {
+                xid: 2,
+                ..COMMIT_700
+            },
+            Planned {
+                ask: Ask::Commit,
+                rmid: 10,
+                xid: 3,
+                len: 0,
+            },
+        ]],
+        steps: &[
+            Step {
+                turns: 2_000_000,
+                answered: 1,
+                ..STEP
+            },
+            Step {
+                turns: 2_000_000,
+                answered: 2,
+                ..STEP
+            },
+            Step {
+                turns: 100,
+                answered: 3,
+                is_full: true,
+                ..STEP
+            },
+            Step {
+                told: Some(Turn::Done),
+                answered: 3,
+                is_full: true,
+                ..STEP
+            },
+        ],
+        // The segment is made, its 128 pages are written, and it is synced.
+        calls: 130,
+        left: &[(1, 1_048_616, 1_045_419), (2, 2_097_112, 8)],
+    },
+];
+
+impl Row {
+    fn machine(&self, alloc: Global) -> Result<Played, Fail> {
+        let setup = Setup {
+            cap_segments: self.cap_segments,
+            ..SETUP
+        };
+        let mut scripts = Vec::new(alloc);
+        for plan in self.scripts {
+            scripts.push(script_of(alloc, plan)?)?;
+        }
+        Played::new(alloc, setup, scripts, Vec::from_slice(alloc, self.fail)?)
     }
-    Ok(Played::new(alloc, setup, empty, Vec::new(alloc)).err())
-}
 
-// A machine on a disk that fails at these calls.
-fn machine(alloc: Global, scripts: Vec<Script>, fail: Vec<u64>) -> Result<Played, Fail> {
-    match Played::new(alloc, SETUP, scripts, fail) {
-        Ok(core) => Ok(core),
-        Err(_) => Err(Fail::from("a setup and memory")),
+    // The number of the first step behind which something else is seen; that behind the last where
+    // it is at the end.
+    fn wrong_step(&self, alloc: Global) -> Result<Option<usize>, Fail> {
+        let mut core = self.machine(alloc)?;
+        let mut calls = 0;
+        for (number, step) in self.steps.iter().enumerate() {
+            let told = step.play(&mut core, &mut calls);
+            if !step.is_seen(&core, told) {
+                return Ok(Some(number));
+            }
+        }
+        let left = records_left(alloc, &core, Pick::Old)?;
+        if calls != self.calls || left.as_slice() != self.left {
+            return Ok(Some(self.steps.len()));
+        }
+        Ok(None)
     }
 }
 
-fn moved(event: Event) -> Turn {
-    Turn::Moved { event }
+impl Step {
+    // What the last turn tells. The calls of the disk are counted.
+    fn play(&self, core: &mut Played, calls: &mut u64) -> Turn {
+        let answered = core.answered(self.backend);
+        let mut told = Turn::Done;
+        for _ in 0..self.turns {
+            told = core.turn(self.backend);
+            let called = called(told);
+            *calls = calls.wrapping_add(u64::from(called.is_some()));
+            if called == Some(false) || core.answered(self.backend) != answered {
+                return told;
+            }
+        }
+        told
+    }
+
+    fn is_seen(&self, core: &Played, told: Turn) -> bool {
+        (self.told.is_none() || self.told == Some(told))
+            && core.answered(self.backend) == self.answered
+            && core.place(self.backend) == Some(self.place)
+            && core.full() == self.is_full
+            && have(&core.words_outside_the_ring(), self.words)
+    }
 }
 
-// Whether a turn was a call of the device; None where it was none, else whether it succeeded.
+// Whether a turn was a call of the disk; None where it was none, else whether it succeeded.
 fn called(turn: Turn) -> Option<bool> {
     let Turn::Moved { event } = turn else {
         return None;
     };
     match event {
-        Event::Create { done, .. } | Event::Write { done, .. } | Event::Sync { done, .. } => {
-            Some(done)
-        }
+        Event::Create { done, .. } => Some(done),
+        Event::Write { done, .. } => Some(done),
+        Event::Sync { done, .. } => Some(done),
         _ => None,
     }
 }
 
-// One more of what is counted.
-fn next(count: u64) -> u64 {
-    count.wrapping_add(1)
-}
-
-// How many calls of the device a backend made up to its first that failed, if within so many turns.
-fn calls_until_failed(core: &mut Played, backend: u32, turns: u32) -> Option<u64> {
-    let mut calls = 0u64;
-    for _ in 0..turns {
-        if let Some(done) = called(core.turn(backend)) {
-            calls = next(calls);
-            if !done {
-                return Some(calls);
-            }
+// Whether words hold what is wanted.
+fn have(words: &[u64], wanted: &[(usize, u64)]) -> bool {
+    for (number, word) in wanted {
+        if words.get(*number) != Some(word) {
+            return false;
         }
     }
-    None
+    true
 }
 
-// Whether a backend has answered so many lines, behind so many turns at most.
-fn answers(core: &mut Played, backend: u32, lines: u64, turns: u32) -> bool {
-    for _ in 0..turns {
-        if core.answered(backend) == lines {
-            return true;
-        }
-        core.turn(backend);
-    }
-    core.answered(backend) == lines
-}
-
-// How many calls of the device so many turns of each of two backends make, one after the other.
-fn calls_of_both(core: &mut Played, turns: u32) -> u64 {
-    let mut calls = 0u64;
-    for _ in 0..turns {
-        for backend in 0..2 {
-            if called(core.turn(backend)).is_some() {
-                calls = next(calls);
-            }
+// The first row that goes otherwise, and the number of its step.
+fn first_wrong(alloc: Global) -> Result<Option<(&'static str, usize)>, Fail> {
+    for row in ROWS {
+        if let Some(step) = row.wrong_step(alloc)? {
+            return Ok(Some((row.what, step)));
         }
     }
-    calls
+    Ok(None)
 }
 
 #[test]
-fn bad_setups_and_as_many_scripts_as_passes_are_refused(rt: HostRuntime) -> Result<(), Fail> {
-    let alloc = rt.alloc();
-    let ring_of_3 = Setup {
-        ring_pages: 3,
-        ..SETUP
-    };
-    assert_eq!(rt; refusal(alloc, ring_of_3, 1)?, Some(CoreErr::BadSetup));
-    assert_eq!(rt; refusal(alloc, SETUP, 9)?, Some(CoreErr::BadSetup));
-    assert_eq!(rt; refusal(alloc, SETUP, 8)?, None);
-    Ok(())
-}
-
-#[test]
-fn one_commit_on_an_empty_log_takes_1064_turns(rt: HostRuntime) -> Result<(), Fail> {
-    let alloc = rt.alloc();
-    let line = commit(alloc, 700)?;
-    assert_eq!(rt; line.room(), 40);
-    let script = Script::of(vec![in alloc; line]?);
-    let mut core = machine(alloc, vec![in alloc; script]?, Vec::new(alloc))?;
-    assert_eq!(rt; core.word(Word::Position), 1_045_488);
-    // The insert, under the lock of the pass with the number 1.
-    assert_eq!(rt; core.turns(0, 18), moved(Event::ReleaseLock { lock: 1 }));
-    assert_eq!(rt; core.word(Word::Position), 1_045_528);
-    assert_eq!(rt; core.word(Word::LastStart), 1_048_576 + 40);
-    // The flush.
-    assert_eq!(rt; core.turn(0), moved(Event::LoadDown));
-    assert_eq!(rt; core.turn(0), moved(Event::LoadPosition));
-    core.turns(0, 1063 - 20);
-    assert_eq!(rt; core.answered(0), 0);
-    assert_eq!(rt; core.turn(0), moved(Event::ReleaseWriteTurn));
-    assert_eq!(rt; core.answered(0), 1);
-    assert_eq!(rt; core.turn(0), Turn::Done);
-    assert_eq!(rt; core.word(Word::Flushed), 1_048_576 + 80);
-    Ok(())
-}
-
-#[test]
-fn a_call_that_fails_is_the_last_call_of_all(rt: HostRuntime) -> Result<(), Fail> {
-    let alloc = rt.alloc();
-    // The create, the write and the sync of the first commit.
-    for number in 1..4 {
-        let mut lines = Vec::new(alloc);
-        lines.push(commit(alloc, 700)?)?;
-        lines.push(Line::Flush)?;
-        let mut scripts = two_commits(alloc)?;
-        scripts.insert(0, Script::of(lines))?;
-        let mut core = machine(alloc, scripts, vec![in alloc; number]?)?;
-        assert_eq!(rt; calls_until_failed(&mut core, 0, 1100), Some(number));
-        assert!(rt; answers(&mut core, 0, 1, 3), "call {number}");
-        assert_eq!(rt; core.turn(0), Turn::Down { faults: 1 });
-        assert_eq!(rt; core.turn(0), Turn::Done);
-        assert_eq!(rt; core.turn(1), Turn::Down { faults: 1 });
-        assert_eq!(rt; calls_of_both(&mut core, 2000), 0, "call {number}");
-    }
-    Ok(())
-}
-
-#[test]
-fn a_backend_under_way_makes_no_call_behind_one_that_fails(rt: HostRuntime) -> Result<(), Fail> {
-    let alloc = rt.alloc();
-    for number in 1..4 {
-        let mut core = machine(alloc, two_commits(alloc)?, vec![in alloc; number]?)?;
-        // Backend 1 has reserved and copied, and is about to flush.
-        core.turns(1, 18);
-        assert_eq!(rt; calls_until_failed(&mut core, 0, 1100), Some(number));
-        assert_eq!(rt; calls_of_both(&mut core, 2000), 0, "call {number}");
-        assert_eq!(rt; core.answered(0), 1);
-        assert_eq!(rt; core.answered(1), 1);
-    }
-    Ok(())
-}
-
-#[test]
-fn records_stand_in_the_order_of_their_turns(rt: HostRuntime) -> Result<(), Fail> {
-    let alloc = rt.alloc();
-    let mut core = machine(alloc, two_commits(alloc)?, Vec::new(alloc))?;
-    assert!(rt; answers(&mut core, 1, 1, 2000));
-    assert_eq!(rt; core.turn(1), Turn::Done);
-    assert!(rt; answers(&mut core, 0, 1, 2000));
-    let found = records_left(alloc, &core, Pick::Old)?;
-    let start = 1_048_576 + 40;
-    let wanted = [
-        Found {
-            xid: 701,
-            start,
-            len: 8,
-        },
-        Found {
-            xid: 700,
-            start: start + 40,
-            len: 8,
-        },
-    ];
-    assert_eq!(rt; found.as_slice(), wanted.as_slice());
-    Ok(())
-}
-
-#[test]
-fn a_position_that_is_locked_is_waited_for(rt: HostRuntime) -> Result<(), Fail> {
-    let alloc = rt.alloc();
-    let mut core = machine(alloc, two_commits(alloc)?, Vec::new(alloc))?;
-    assert_eq!(rt; core.turns(1, 3), moved(Event::LockPosition));
-    assert_eq!(rt; core.turns(0, 2), moved(Event::TakeLock { lock: 1 }));
-    let waits = Turn::Waits {
-        on: 0,
-        value: 1_045_489,
-    };
-    for _ in 0..3 {
-        assert_eq!(rt; core.turn(0), waits);
-        assert_eq!(rt; core.word(Word::Position), 1_045_489);
-        assert_eq!(rt; core.word(Word::Lock(1)), 1);
-        assert!(rt; core.view(0).is_some_and(|view| view.place == Place::Free));
-        assert_eq!(rt; core.answered(0), 0);
-    }
-    assert_eq!(rt; core.turns(1, 3), moved(Event::StorePosition));
-    assert_eq!(rt; core.turn(0), moved(Event::LockPosition));
-    Ok(())
-}
-
-#[test]
-fn a_full_log_keeps_what_went_before(rt: HostRuntime) -> Result<(), Fail> {
-    let alloc = rt.alloc();
-    let setup = Setup {
-        cap_segments: 1,
-        ..SETUP
-    };
-    let mut lines = Vec::new(alloc);
-    // With a header of 24 bytes and one of 5, all of the segment but 40 bytes.
-    lines.push(insert(alloc, 1, 1_045_419)?)?;
-    lines.push(commit(alloc, 2)?)?;
-    lines.push(Line::Commit(body(alloc, 3, 10, 0)?))?;
-    let scripts = vec![in alloc; Script::of(lines)]?;
-    let Ok(mut core) = Played::new(alloc, setup, scripts, Vec::new(alloc)) else {
-        panic!(rt; "a setup and memory");
-    };
-    assert!(rt; answers(&mut core, 0, 2, 2_000_000));
-    assert!(rt; !core.full());
-    assert!(rt; answers(&mut core, 0, 3, 100));
-    assert!(rt; core.full());
-    assert_eq!(rt; core.turn(0), Turn::Done);
-    let found = records_left(alloc, &core, Pick::Old)?;
-    let wanted = [
-        Found {
-            xid: 1,
-            start: 1_048_576 + 40,
-            len: 1_045_419,
-        },
-        Found {
-            xid: 2,
-            start: 2 * 1_048_576 - 40,
-            len: 8,
-        },
-    ];
-    assert_eq!(rt; found.as_slice(), wanted.as_slice());
+fn turns_tell_and_leave_what_is_listed(rt: HostRuntime) -> Result<(), Fail> {
+    assert_eq!(rt; first_wrong(rt.alloc())?, None);
     Ok(())
 }

@@ -16,7 +16,7 @@ use Rattle.segment_disk.specs.declared.memory.disk.MemDisk.{MemDisk}
 use Rattle.segment_disk.proofs.Presence.{is_some-kept}
 use Rattle.segment_disk.proofs.Reading.{after_calls-push}
 use Rattle.wal_core.specs.Views.{Plain}
-use Rattle.wal_core.specs.Moves.{Done, Failed as HasFailed, Outcome, after_write}
+use Rattle.wal_core.specs.Moves.{Done, Failed as HasFailed, CallOutcome, after_write}
 use Rattle.wal_turns.specs.Turned.{call_outcome}
 use Rattle.machine_turns.specs.Writer.{IsGoing, IsWriterKept, WriterState, is_waiting, segment_at, state_of}
 use Rattle.machine_turns.specs.declared.writer.MachineWriter.{MachineWriter}
@@ -231,7 +231,7 @@ same_writer : (size end : ℕ) (page failing failing_now : List ℕ) (p now : Pl
 same_writer size end page failing failing_now p now f e = cc
 
 -- the writer behind a call that failed, which made no segment
-pub writer_failed : (w : MachineWriter) (new : MemDisk) (call : Call) (after : Outcome → Plain) (kind : Bool) (waiting : mathlib.Core.Option.Option ℕ) (fault : ℕ)
+pub writer_failed : (w : MachineWriter) (new : MemDisk) (call : Call) (after : CallOutcome → Plain) (kind : Bool) (waiting : mathlib.Core.Option.Option ℕ) (fault : ℕ)
     → IsMade (tape_of w.disk) (tape_of new) (moment_of w.disk) (moment_of new) (failed_call kind call) → fault ≡ 1
     → limits_of new ≡ limits_of w.disk → is_listed (limits_of w.disk).failing (moment_of w.disk + 1) ≡ true
     → after (HasFailed 1 (some false)) ≡ plain_with (with_call (tape_of w.disk) (failed_call kind call)) (moment_of w.disk + 1) w.written w.made waiting 1
@@ -256,7 +256,7 @@ err_fact (Ok u) P bad holds = absurd (true≢false bad)
 err_fact (Err e) P bad holds = holds
 
 -- a write named by its numbers
-pub same_write : (w : WriterState) (outcome : Outcome) (upto segment page segment_now page_now : ℕ) → segment_now ≡ segment → page_now ≡ page
+pub same_write : (w : WriterState) (outcome : CallOutcome) (upto segment page segment_now page_now : ℕ) → segment_now ≡ segment → page_now ≡ page
     → writer_with w.size w.end w.page w.failing (after_write segment_now upto (write_call w.size segment_now page_now w.page) outcome w.plain)
     ≡ writer_with w.size w.end w.page w.failing (after_write segment upto (write_call w.size segment page w.page) outcome w.plain)
 same_write w outcome upto segment page segment_now page_now same_segment same_page =

@@ -223,7 +223,7 @@ finds_full (GoesOn doing) = false
 finds_full (Answers full) = full
 
 -- what a turn tells and leaves, and whether its line was answered that the log is full
-pub record Played : Type 0 where
+pub record PlayedTurn : Type 0 where
   pub turn : Turn
   pub lane : Lane
   pub words : List ℕ
@@ -231,7 +231,7 @@ pub record Played : Type 0 where
   pub full : Bool
 
 module _ (setup : Setup) (words : List ℕ) (writer : WriterState) (lane : Lane) where
-  abbrev pub unmoved : Turn → Lane → Played
+  abbrev pub unmoved : Turn → Lane → PlayedTurn
   unmoved turn lane_now = record {
     turn = turn;
     lane = lane_now;
@@ -240,7 +240,7 @@ module _ (setup : Setup) (words : List ℕ) (writer : WriterState) (lane : Lane)
     full = false;
   }
 
-  abbrev pub moved_to : Stepped → Played
+  abbrev pub moved_to : Stepped → PlayedTurn
   moved_to s = record {
     turn = Moved ((s.left).made).event;
     lane = lane_behind ((s.left).made).next
@@ -250,12 +250,12 @@ module _ (setup : Setup) (words : List ℕ) (writer : WriterState) (lane : Lane)
     full = finds_full ((s.left).made).next;
   }
 
-  abbrev pub by_wait : ScriptLine → Option ℕ → Played
+  abbrev pub by_wait : ScriptLine → Option ℕ → PlayedTurn
   by_wait line None = moved_to
       (stepped setup words writer lane.view line (slice_get lane.script lane.copied) lane.doing)
   by_wait line (Some on) = unmoved (Waits on (slice_index words on)) lane
 
-  abbrev pub by_line : Option ScriptLine → Played
+  abbrev pub by_line : Option ScriptLine → PlayedTurn
   by_line None = unmoved Done lane
   by_line (Some line) =
       let awaited = word_awaited words lane.view lane.doing in
@@ -263,7 +263,7 @@ module _ (setup : Setup) (words : List ℕ) (writer : WriterState) (lane : Lane)
       then unmoved (Down (down_word words)) (lane_answered lane)
       else by_wait line awaited
 
-  abbrev pub played : Played
+  abbrev pub played : PlayedTurn
   played = by_line (slice_get lane.script lane.answered)
 
 -- ---- when it may be played

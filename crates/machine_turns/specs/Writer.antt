@@ -9,7 +9,7 @@ use Rattle.segment_disk.specs.Tape.{create_call, empty_state, sync_call, write_c
 use Rattle.segment_disk.specs.declared.memory.disk.MemDisk.{MemDisk}
 use Rattle.machine_turns.specs.declared.writer.MachineWriter.{MachineWriter}
 use Rattle.wal_core.specs.Views.{Plain}
-use Rattle.wal_core.specs.Moves.{Outcome, after_create, after_sync, after_write}
+use Rattle.wal_core.specs.Moves.{CallOutcome, after_create, after_sync, after_write}
 use Rattle.wal_turns.specs.Turned.{call_outcome}
 
 -- a writer: the segments' size, what the machine knows of it, the counted calls that fail, the
@@ -30,7 +30,7 @@ maybe (Some n) = some n
 
 module _ (w : WriterState) where
   -- how the next call ends
-  abbrev pub next_outcome : Outcome
+  abbrev pub next_outcome : CallOutcome
   next_outcome = call_outcome w.failing 0 (w.plain).moment
 
   abbrev pub succeeds : Bool

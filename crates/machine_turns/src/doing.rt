@@ -1,4 +1,7 @@
-//! Where a backend stands in the order of its steps.
+//! Where a backend stands in the order of its steps. A place says what the backend holds: from
+//! `Reserves` to `Releases` the lock that the place or its purpose names; at `GivesTurn`, and at
+//! `Maps` once it is taken, the turn to map; from `LoadsDown` to `GivesWriteTurn` the turn to
+//! write, and behind `TakesOut` up to `PutsBack` the writer.
 
 ghost use Rattle.std.specs.Prelude.{◌≡◌};
 

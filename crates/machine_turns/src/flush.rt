@@ -1,5 +1,9 @@
 //! The turns of a flush but for those with the writer in hand (PostgreSQL's xlog.c, XLogFlush,
-//! WaitXLogInsertionsToFinish).
+//! WaitXLogInsertionsToFinish). In order: down, the position, the flushed address; where that
+//! suffices the moment, and the line is answered. Else the eight locks are visited, the turn to
+//! write (word 11) is taken, and down is loaded again, since nobody else sets it while the turn is
+//! had. Behind the writing the writer is put back, and then the turn. The end has to be seen before
+//! the locks: a record that is reserved between would be missed otherwise.
 
 ghost use Rattle.std.specs.Prelude.{◌≡◌, ◌<◌, ◌^◌};
 ghost use Rattle.machine_turns.specs.Left.{Leaves};
@@ -7,8 +11,8 @@ ghost use Rattle.machine_turns.specs.Flushing.{at_flush_begins, at_gives_write_t
 
 use crate::doing::{Doing, Made, Next, Purpose};
 use crate::event::Event;
-use crate::insert::LOCKS;
 use crate::view::{Hold, PlainView};
+use machine_words::layout::LOCKS;
 use machine_words::{LogShape, MachineWords, Word};
 use wal_types::Lsn;
 
@@ -20,6 +24,7 @@ impl PlainView {
         self.seen = self.seen.max(position);
     }
 
+    /// Loads the down word.
     pub(crate) fn flush_begins(&self, shape: &LogShape, words: &MachineWords) -> Made
         ensures { Leaves result self.now words.now words.now
             (at_flush_begins shape.now words.now.words self.now) }
@@ -27,6 +32,7 @@ impl PlainView {
         Made::then(Event::LoadDown, Doing::LoadsPosition)
     }
 
+    /// Loads the position, and has seen reserved what is below it.
     pub(crate) fn loads_position(&mut self, shape: &LogShape, words: &MachineWords) -> Made
         ensures { Leaves result self.new words.now words.now
             (at_loads_position shape.now words.now.words self.old) }
@@ -37,6 +43,8 @@ impl PlainView {
         Made::then(Event::LoadPosition, Doing::LoadsFlushed)
     }
 
+    /// Loads the flushed address: where the backend's last record ends at or below it, only the
+    /// moment is left to load.
     pub(crate) fn loads_flushed(&mut self, shape: &LogShape, words: &MachineWords) -> Made
         ensures { Leaves result self.new words.now words.now
             (at_loads_flushed shape.now words.now.words self.old) }
@@ -54,6 +62,7 @@ impl PlainView {
         Made::then(Event::LoadFlushed, next)
     }
 
+    /// Loads the moment, from which on all below the flushed address that was loaded is durable.
     pub(crate) fn loads_moment(&self, shape: &LogShape, words: &MachineWords) -> Made
         ensures { Leaves result self.now words.now words.now
             (at_loads_moment shape.now words.now.words self.now) }
@@ -64,6 +73,8 @@ impl PlainView {
         }
     }
 
+    /// Loads the next lock, which tells enough now; with the first one a watch begins, for the end
+    /// that was seen.
     pub(crate) fn visits(
         &mut self,
         shape: &LogShape,
@@ -90,6 +101,7 @@ impl PlainView {
         Made::then(Event::LoadLock { lock }, next)
     }
 
+    /// Takes the turn to write, which is free now.
     pub(crate) fn takes_turn(
         &mut self,
         shape: &LogShape,
@@ -105,6 +117,7 @@ impl PlainView {
         Made::then(Event::TakeWriteTurn, Doing::LoadsDown { purpose })
     }
 
+    /// Loads the down word, with the turn to write had.
     pub(crate) fn loads_down(
         &self,
         shape: &LogShape,
@@ -117,6 +130,7 @@ impl PlainView {
         Made::then(Event::LoadDown, Doing::TakesOut { purpose })
     }
 
+    /// Puts the writer back: what it has written is stored, or down is set.
     pub(crate) fn puts_back(
         &mut self,
         shape: &LogShape,
@@ -134,6 +148,7 @@ impl PlainView {
         )
     }
 
+    /// Gives the turn to write back, with the writer at home.
     pub(crate) fn gives_write_turn(
         &mut self,
         shape: &LogShape,

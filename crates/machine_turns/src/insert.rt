@@ -1,5 +1,11 @@
 //! The turns of an insert but for those that map a page (PostgreSQL's xlog.c, XLogInsertRecord,
-//! ReserveXLogInsertLocation, CopyXLogRecordToWAL).
+//! WALInsertLockAcquire, ReserveXLogInsertLocation, CopyXLogRecordToWAL, WALInsertLockRelease).
+//! Each function named for a place makes the step of that place on words and view, and tells it
+//! with the place behind it (`Leaves`). `Lane::turn` calls it only where the step can be made now.
+//! In order: down, a lock that is free, the position and the last start, the position behind the
+//! record; then under that lock word by word, each page looked up before its first word; then the
+//! lock is given back. Nobody else stores into the lock, nor into words 0 and 1 while this backend
+//! has word 0 locked.
 
 ghost use Rattle.std.specs.Prelude.{◌≡◌, ◌+◌, ◌*◌, ◌%◌, ◌<◌, ◌≤◌, ◌^◌, ◌==◌, false, if◌then◌else◌};
 ghost use Rattle.wal_page.specs.Placed.{placed_end, placed_word};
@@ -13,17 +19,12 @@ use crate::doing::{Doing, Made, Next};
 use crate::event::Event;
 use crate::script::Line;
 use crate::view::{Flight, Place, PlainView, Watching};
-use byte_position::PAGE_SIZE;
+use byte_position::{PAGE_SIZE, PAGE_WORDS, WORD};
+use machine_words::layout::LOCKS;
 use machine_words::{LogShape, MachineWords, Word};
 use record_spelling::Body;
 use wal_page::Placed;
 use wal_types::Lsn;
-
-const WORD: u64 = 8;
-
-const PAGE_WORDS: u64 = PAGE_SIZE / WORD;
-
-pub(crate) const LOCKS: u32 = 8;
 
 impl Flight {
     /// The address of the next word to copy, 0 where nothing is copied.
@@ -77,6 +78,7 @@ impl PlainView {
         }
     }
 
+    /// Loads the down word, before anything is taken.
     pub(crate) fn begins(&self, shape: &LogShape, words: &MachineWords) -> Made
         ensures { Leaves result self.now words.now words.now
             (at_begins shape.now words.now.words self.now) }
@@ -84,6 +86,8 @@ impl PlainView {
         Made::then(Event::LoadDown, Doing::Tries { taken: 0 })
     }
 
+    /// Takes the next lock where it is free: the first one tried is that of the pass's number. Else
+    /// loads it, and passes to the next one; behind the eighth it begins again.
     pub(crate) fn tries(&mut self, shape: &LogShape, words: &mut MachineWords, taken: u32) -> Made
         requires number { self.old.number < 65536 }
         requires few { taken < 8 }
@@ -100,6 +104,10 @@ impl PlainView {
         Made::then(Event::LoadLock { lock }, behind_taken(taken))
     }
 
+    /// The next step of the reservation, by how far the view is: the position is locked, which is
+    /// not locked now; the last start is loaded, or the position given back where the record does
+    /// not fit; the record's start is stored; the position behind it is stored, and the record is
+    /// in flight.
     pub(crate) fn reserves(
         &mut self,
         shape: &LogShape,
@@ -182,6 +190,8 @@ impl PlainView {
         };
     }
 
+    /// Loads the end of the buffer in which the next word's page lies, if that is there: then words
+    /// are copied to it, and else a page is mapped.
     pub(crate) fn looks(&self, shape: &LogShape, words: &MachineWords, lock: u32) -> Made
         requires pages { words.now.pages ≡ shape.now.ring_pages }
         requires low { next_in self.now.flight < 2 ^ 60 }
@@ -198,6 +208,8 @@ impl PlainView {
         }
     }
 
+    /// Stores the record's next word, on a page whose end was met. `copied` is the line whose
+    /// record it is.
     pub(crate) fn copies(
         &mut self,
         shape: &LogShape,
@@ -205,6 +217,7 @@ impl PlainView {
         lock: u32,
         copied: Option<&Line>,
     ) -> Made
+        // The record in flight has a next word.
         requires pages { words.old.pages ≡ shape.now.ring_pages }
         requires next { HasNextWord shape.now (line_behind copied) self.old.flight }
         requires low { next_in self.old.flight < 2 ^ 60 }
@@ -219,6 +232,8 @@ impl PlainView {
         Made::then(Event::StoreRingWord, self.flight.behind_word(lock))
     }
 
+    /// Gives the lock back, under which nothing is left to copy. The line is answered by it, but
+    /// for a commit's that was reserved, which flushes then.
     pub(crate) fn releases(
         &mut self,
         shape: &LogShape,

@@ -1,4 +1,8 @@
-//! One backend's lines, and its turns.
+//! One backend's lines, and its turns. A turn names the step by the backend's place and makes it,
+//! if the word that it needs allows that now: the position where it is to be locked, a turn to map
+//! or to write, a lock that is visited. Else it waits, and nothing is changed; it is asked again
+//! with the backend's next turn. Once the down word is not 0, a line is answered where its step
+//! looks at that word or would wait: what the backend holds then stays with it.
 
 ghost use Rattle.std.specs.Prelude.{◌≡◌, ◌+◌, ◌%◌, ◌<◌, ◌^◌, ◌&&◌, ◌||◌, ◌==◌, not, length, slice_get, is_some, option_map, Some, IfSome};
 ghost use Rattle.wal_core.specs.Words.{lock_word, mapping_turn, position_word};
@@ -35,10 +39,13 @@ impl Lane {
         writer: &mut MachineWriter,
         full: &mut bool,
     ) -> Turn
+        // The words are the log's, its writer's disk has room for each call that it can still need,
+        // and the place is ready: its numbers are low, a copy has a next word, a call is due.
         requires pages { words.old.pages ≡ shape.now.ring_pages }
         requires kept { HasCallRoom writer.old }
         requires may { MayPlay shape.now words.old.words (state_of writer.old) self.old }
         ensures kept { HasCallRoom writer.new }
+        // Answer, lane, words, writer and flag are what the definition of a turn says.
         ensures turn { result
             ≡ (played shape.now words.old.words (state_of writer.old) self.old).turn }
         ensures lane { self.new
@@ -80,10 +87,13 @@ impl Lane {
         words: &mut MachineWords,
         writer: &mut MachineWriter,
     ) -> Made
+        // As for a turn, with a line left.
         requires pages { words.old.pages ≡ shape.now.ring_pages }
         requires line { self.old.answered < length self.old.script }
         requires kept { HasCallRoom writer.old }
         requires may { MayPlay shape.now words.old.words (state_of writer.old) self.old }
+        // The step of the place is made: view, words and writer are as its definition says. Lines
+        // and place are as before; what comes behind is told (`follow`).
         ensures kept { HasCallRoom writer.new }
         ensures script { self.new.script ≡ self.old.script }
         ensures answered { self.new.answered ≡ self.old.answered }
@@ -121,6 +131,7 @@ impl Lane {
         words: &mut MachineWords,
         writer: &mut MachineWriter,
     ) -> Made
+        // The same at a place of a flush, or of the writing for an insert.
         requires pages { words.old.pages ≡ shape.now.ring_pages }
         requires place { IsOfFlush self.old.doing }
         requires kept { HasCallRoom writer.old }

@@ -1,5 +1,10 @@
 //! The turns that map a page, and those before pages are written for it (PostgreSQL's xlog.c,
-//! AdvanceXLInsertBuffer).
+//! AdvanceXLInsertBuffer). A backend that needs a page maps the one at the initialised end, with
+//! the turn to map (word 10): it loads that end and the written address, clears the buffer's end
+//! word, zeroes the words, stores the new end, and then the initialised end (12). Where its own
+//! page is mapped already, or the page that the buffer holds is not written, it gives the turn back
+//! before anything is changed. In the latter case it tells its progress under its lock, which would
+//! hold its own watch back else, and writes pages first.
 
 ghost use Rattle.std.specs.Prelude.{◌≡◌, ◌+◌, ◌*◌, ◌/◌, ◌%◌, ◌<◌, ◌≤◌, ◌^◌, slice_index};
 ghost use Rattle.machine_turns.specs.Left.{Leaves, next_in};
@@ -12,10 +17,12 @@ use crate::view::{PlainView, Stage};
 use byte_position::PAGE_SIZE;
 use machine_words::{LogShape, MachineWords, Word};
 
-const PAGE_WORDS: u32 = 1024;
+const PAGE_WORDS: u32 = byte_position::PAGE_WORDS as u32;
 
 impl PlainView {
+    /// The next step of mapping, by how far the view is. The turn to map is free where it is taken.
     pub(crate) fn maps(&mut self, shape: &LogShape, words: &mut MachineWords, lock: u32) -> Made
+        // The pass has a number that fits, and what the view and the written word say is low.
         requires pages { words.old.pages ≡ shape.now.ring_pages }
         requires number { self.old.number < 65536 }
         requires stage { IsLowStage self.old.stage }
@@ -67,6 +74,7 @@ impl PlainView {
         at: u64,
         count: u32,
     ) -> Made
+        // The buffer's end word is cleared, and so many of its words are zeroed.
         requires pages { words.old.pages ≡ shape.now.ring_pages }
         requires stage { self.old.stage ≡ Stage.Zeroing at count }
         requires low { at < 2 ^ 60 }
@@ -108,6 +116,8 @@ impl PlainView {
         }
     }
 
+    /// Gives the turn to map back: no page is half replaced. Then the page is looked up again, or
+    /// pages are written up to `end` first.
     pub(crate) fn gives_turn(
         &mut self,
         shape: &LogShape,
@@ -123,7 +133,8 @@ impl PlainView {
         Made::then(Event::ReleaseMappingTurn, behind_turn(lock, end))
     }
 
-    // All below the next word to copy is copied.
+    // Tells under the lock that all below the next word to copy is copied, and visits the locks
+    // then.
     pub(crate) fn tells(
         &self,
         shape: &LogShape,

@@ -1,4 +1,5 @@
-//! What backends are to do.
+//! What backends are to do. All records are assembled before the first turn, so that no turn takes
+//! memory or finds a record that cannot be written.
 
 ghost use Rattle.std.specs.Prelude.{◌≡◌, ◌≤◌, IfSome, option_map};
 ghost use Rattle.record_spelling.specs.Spelling.{RecordOf};

@@ -1,4 +1,9 @@
-//! The machine's writer: what is written of the log, on a disk in memory.
+//! The machine's writer: what is written of the log, on a disk in memory. Who has it in hand makes
+//! its calls when they are due: a segment while none waits for a sync, a page in a segment that is
+//! made, a sync where writes wait; and none behind one that failed. A call fails just where its
+//! number is listed, and is counted then: a create that failed has made nothing, a page that was
+//! not written is not counted as written, though its segment waits for a sync. The disk has room
+//! for every call that the log can still need (`HasCallRoom`), which each call keeps.
 
 ghost use Rattle.std.specs.Prelude.{◌≡◌, ◌+◌, ◌-◌, ◌*◌, ◌/◌, ◌<◌, ◌≤◌, ◌^◌, [], IfOk, IfSome, Some};
 ghost use Rattle.segment_disk.specs.First.{first_state};
@@ -14,7 +19,7 @@ use machine_words::LogShape;
 use segment_disk::{Disk, MemDisk, Memory, Pick};
 use std::alloc::Global;
 
-const WORD: usize = 8;
+const WORD: usize = byte_position::WORD as usize;
 
 /// What is written of a log, on a disk in memory that has room for all calls which the log can
 /// need, and the page that is loaded for a write (PostgreSQL's xlog.c, XLogWrite).
@@ -132,6 +137,7 @@ impl MachineWriter {
 
     /// Makes the next segment. Answers whether the call succeeded.
     pub fn create(&mut self) -> bool
+        // It is due, and the disk has room; the answer is the listed outcome.
         requires due { IsCreateDue (state_of self.old) }
         requires kept { HasCallRoom self.old }
         ensures done { result ≡ succeeds (state_of self.old) }
@@ -151,6 +157,7 @@ impl MachineWriter {
     /// Writes the page that is loaded, which is whole up to an address. Answers whether the call
     /// succeeded.
     pub fn write_page(&mut self, upto: u64) -> bool
+        // It is due, and the disk has room; the answer is the listed outcome.
         requires due { IsWriteDue (state_of self.old) upto }
         requires kept { HasCallRoom self.old }
         ensures done { result ≡ succeeds (state_of self.old) }
@@ -174,6 +181,7 @@ impl MachineWriter {
 
     /// Syncs the segment of which writes wait for it. Answers whether the call succeeded.
     pub fn sync(&mut self, segment: u64) -> bool
+        // It is due, and the disk has room; the answer is the listed outcome.
         requires due { IsSyncDue (state_of self.old) segment }
         requires kept { HasCallRoom self.old }
         ensures done { result ≡ succeeds (state_of self.old) }

@@ -1,6 +1,10 @@
 //! The turns with the writer in hand: page by page the words are loaded, the segment is made where
 //! it is new, the page is written, and a segment that is full is synced (PostgreSQL's xlog.c,
-//! XLogWrite).
+//! XLogWrite, XLogFileInit, issue_xlog_fsync). All of it goes up to the address below which all is
+//! known to be copied. A flush then syncs the segment under way, and stores what is written (word
+//! 13), the moment (15) and the flushed address (14), in this order; an insert that needs a buffer
+//! stores 13 alone. Behind a call that failed, down (16) is set and no further call made. Nobody
+//! else calls the device, or stores into these words, while the writer is in hand.
 
 ghost use Rattle.std.specs.Prelude.{◌≡◌, ◌<◌, if◌then◌else◌};
 ghost use Rattle.machine_turns.specs.Left.{Leaves};
@@ -9,14 +13,13 @@ ghost use Rattle.machine_turns.specs.Writing.{at_creates, at_loads_page, at_sets
 
 use crate::doing::{Doing, Made, Purpose};
 use crate::event::Event;
-use crate::insert::{LOCKS, ring_place};
+use crate::insert::ring_place;
 use crate::view::{Hold, PlainView};
 use crate::writer::MachineWriter;
-use byte_position::PAGE_SIZE;
+use byte_position::{PAGE_SIZE, PAGE_WORDS};
+use machine_words::layout::LOCKS;
 use machine_words::{LogShape, MachineWords, Word};
 use wal_types::Lsn;
-
-const PAGE_WORDS: u64 = 1024;
 
 impl Hold {
     // Below this address all is known to be copied.
@@ -31,6 +34,8 @@ impl Hold {
 }
 
 impl PlainView {
+    /// Takes the writer out of its slot. What is known to be copied is what the watch has found
+    /// that visited all eight locks.
     pub(crate) fn takes_out(
         &mut self,
         shape: &LogShape,
@@ -50,6 +55,8 @@ impl PlainView {
         Made::then(Event::TakeWriterOut, page_or_end(purpose, known, writer))
     }
 
+    /// Loads the next word of the page under way into the writer's page. Behind the last one the
+    /// page is written, or its segment made first.
     pub(crate) fn loads_page(
         &self,
         shape: &LogShape,
@@ -84,6 +91,7 @@ impl PlainView {
         Made::then(Event::LoadRingWord { number }, next)
     }
 
+    /// Makes the segment of the page that is loaded, the one behind the last that was made.
     pub(crate) fn creates(
         &self,
         shape: &LogShape,
@@ -104,6 +112,7 @@ impl PlainView {
         Made::then(Event::Create { segment, done }, next)
     }
 
+    /// Writes the page that is loaded, up to its end or to where all is known to be copied.
     pub(crate) fn writes(
         &self,
         shape: &LogShape,
@@ -111,10 +120,13 @@ impl PlainView {
         writer: &mut MachineWriter,
         purpose: Purpose,
     ) -> Made
+        // The written address is to rise, in a segment that is made, and no call has failed.
         requires size { (state_of writer.old).size ≡ shape.now.segment_size }
         requires due { IsWriteDue (state_of writer.old)
             (upto_next shape.now words.now.words self.now (state_of writer.old)) }
         requires kept { HasCallRoom writer.old }
+        // The page is written as far as it is known to be copied, or the call failed; the room is
+        // kept.
         ensures left { Leaves result self.now words.now words.now
             (at_writes shape.now words.now.words self.now (state_of writer.old) purpose) }
         ensures writer { state_of writer.new ≡ page_written (state_of writer.old)
@@ -140,6 +152,7 @@ impl PlainView {
         Made::then(event, behind_call(done, purpose, next))
     }
 
+    /// Syncs a segment whose last page was written, before the next one is made.
     pub(crate) fn syncs_full(
         &self,
         shape: &LogShape,
@@ -147,6 +160,7 @@ impl PlainView {
         writer: &mut MachineWriter,
         purpose: Purpose,
     ) -> Made
+        // Writes to that segment wait for it, and no call has failed.
         requires due { IsSyncDue (state_of writer.old)
             (segment_waiting (state_of writer.old).plain.waiting) }
         requires kept { HasCallRoom writer.old }
@@ -165,12 +179,14 @@ impl PlainView {
         )
     }
 
+    /// Syncs the segment under way, for a flush.
     pub(crate) fn syncs_last(
         &self,
         shape: &LogShape,
         words: &MachineWords,
         writer: &mut MachineWriter,
     ) -> Made
+        // Writes to that segment wait for it, and no call has failed.
         requires due { IsSyncDue (state_of writer.old)
             (segment_waiting (state_of writer.old).plain.waiting) }
         requires kept { HasCallRoom writer.old }
@@ -187,6 +203,7 @@ impl PlainView {
         Made::then(Event::Sync { segment, done }, next)
     }
 
+    /// Stores how far the log is written; an insert puts the writer back then.
     pub(crate) fn stores_written(
         &self,
         shape: &LogShape,
@@ -208,6 +225,7 @@ impl PlainView {
         Made::then(Event::StoreWritten, next)
     }
 
+    /// Stores the disk's moment, at which all that is written is synced.
     pub(crate) fn stores_moment(
         &self,
         shape: &LogShape,
@@ -221,6 +239,7 @@ impl PlainView {
         Made::then(Event::StoreMoment, Doing::StoresFlushed)
     }
 
+    /// Stores as flushed what is written, behind the moment from which on it is durable.
     pub(crate) fn stores_flushed(
         &mut self,
         shape: &LogShape,
@@ -240,6 +259,7 @@ impl PlainView {
         Made::then(Event::StoreFlushed, next)
     }
 
+    /// Stores the disk's count of faults, behind a call that failed.
     pub(crate) fn sets_down(
         &self,
         shape: &LogShape,

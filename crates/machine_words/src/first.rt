@@ -5,10 +5,8 @@ ghost use Rattle.byte_position.specs.Geometry.{IsSegmentSize};
 ghost use Rattle.byte_position.specs.Position.{first_position};
 ghost use Rattle.wal_core.specs.Paged.{HoldsPage};
 
+use crate::layout::{BUFFER_ENDS, FLUSHED, INITIALISED_END, MOMENT, POSITION, WRITTEN};
 use byte_position::{LONG_HEADER_LEN, PAGE_SIZE, SHORT_HEADER_LEN};
-
-/// The number of the first buffer's end.
-pub(crate) const FIRST_END: usize = 17;
 
 /// Stores in words that are all 0 what is another number in a log that holds nothing: its records
 /// begin with segment 1, and its ring holds the segment's first pages.
@@ -30,11 +28,11 @@ pub(crate) fn set_first_words(words: &mut [u64], pages: usize, segment_size: u64
     ensures ring { (n : ℕ) → 17 + pages ≤ n → slice_index words.new n ≡ 0 }
 {
     hold_pages(words, pages, segment_size / PAGE_SIZE);
-    words[0] = usable_bytes(segment_size);
-    words[12] = segment_size + pages as u64 * PAGE_SIZE;
-    words[13] = segment_size;
-    words[14] = segment_size;
-    words[15] = moment;
+    words[POSITION] = usable_bytes(segment_size);
+    words[INITIALISED_END] = segment_size + pages as u64 * PAGE_SIZE;
+    words[WRITTEN] = segment_size;
+    words[FLUSHED] = segment_size;
+    words[MOMENT] = moment;
 }
 
 // How many bytes of a segment are in no header: the byte position at which segment 1 begins.
@@ -59,7 +57,7 @@ fn hold_pages(words: &mut [u64], pages: usize, first: u64)
         → slice_index words.new n ≡ slice_index words.old n }
 {
     for buffer in 0..pages {
-        words[FIRST_END + buffer] = (first_page(first, pages as u64, buffer as u64) + 1)
+        words[BUFFER_ENDS + buffer] = (first_page(first, pages as u64, buffer as u64) + 1)
             * PAGE_SIZE;
     }
 }

@@ -4,6 +4,7 @@
 
 mod first;
 pub mod laws;
+pub mod layout;
 mod setup;
 mod shape;
 mod word;

@@ -4,14 +4,17 @@ ghost use Rattle.wal_core.specs.Sound.{IsSetup};
 ghost use Rattle.wal_core.specs.Opened.{AreFirstWords};
 ghost use Rattle.machine_words.specs.Numbers.{IsWord, number_of_word, word_named};
 
-use crate::first::{FIRST_END, set_first_words};
+use crate::first::set_first_words;
+use crate::layout::{
+    BUFFER_ENDS, DOWN, FIRST_LOCK, FLUSHED, INITIALISED_END, LAST_START, MAPPING_TURN, MOMENT,
+    POSITION, WRITE_TURN, WRITTEN,
+};
 use crate::word::Word;
-use byte_position::PAGE_SIZE;
 use std::alloc::{AllocError, Global};
 use std::marker::Model;
 use wal_core::Setup;
 
-const PAGE_WORDS: usize = (PAGE_SIZE / 8) as usize;
+const PAGE_WORDS: usize = byte_position::PAGE_WORDS as usize;
 
 /// The words that all backends share, as plain numbers; contracts see the list of them, and how
 /// many pages the ring has.
@@ -43,7 +46,7 @@ impl MachineWords {
             → IfOk result (λ words. AreFirstWords opening words.words) }
     {
         let pages = setup.ring_pages as usize;
-        let mut words = vec![in alloc; 0; FIRST_END + pages + pages * PAGE_WORDS]?;
+        let mut words = vec![in alloc; 0; BUFFER_ENDS + pages + pages * PAGE_WORDS]?;
         set_first_words(&mut words, pages, setup.segment_size, moment);
         Ok(MachineWords {
             pages: setup.ring_pages,
@@ -84,19 +87,19 @@ impl MachineWords {
         ensures within { result < length self.now.words }
         ensures low { result < 2 ^ 17 }
     {
-        let first_of_ring = FIRST_END + self.pages as usize;
+        let first_of_ring = BUFFER_ENDS + self.pages as usize;
         match word {
-            Word::Position => 0,
-            Word::LastStart => 1,
-            Word::Lock(lock) => 2 + lock as usize,
-            Word::MappingTurn => 10,
-            Word::WriteTurn => 11,
-            Word::InitialisedEnd => 12,
-            Word::Written => 13,
-            Word::Flushed => 14,
-            Word::Moment => 15,
-            Word::Down => 16,
-            Word::BufferEnd(buffer) => FIRST_END + buffer as usize,
+            Word::Position => POSITION,
+            Word::LastStart => LAST_START,
+            Word::Lock(lock) => FIRST_LOCK + lock as usize,
+            Word::MappingTurn => MAPPING_TURN,
+            Word::WriteTurn => WRITE_TURN,
+            Word::InitialisedEnd => INITIALISED_END,
+            Word::Written => WRITTEN,
+            Word::Flushed => FLUSHED,
+            Word::Moment => MOMENT,
+            Word::Down => DOWN,
+            Word::BufferEnd(buffer) => BUFFER_ENDS + buffer as usize,
             Word::Ring(place) => first_of_ring + place as usize,
         }
     }

@@ -6,7 +6,7 @@ use Rattle.segment_disk.specs.Tape.{empty_state}
 use Rattle.byte_position.specs.Geometry.{pages_of}
 use Rattle.flush_core.specs.declared.writer.DiskFault.{DiskFault}
 use Rattle.wal_core.specs.Words.{Opening}
-use Rattle.wal_core.specs.Moves.{Done, Outcome}
+use Rattle.wal_core.specs.Moves.{Done, CallOutcome}
 use Rattle.wal_core.specs.Steps.{IsPageLoaded, create, sync, write}
 use Rattle.wal_rule.specs.Called.{creates, step_of_call, syncs, writes}
 use Rattle.wal_rule.specs.Seats.{SeatView, behind, lent_on}
@@ -88,7 +88,7 @@ module _ (v : SeatView) (has : HasLent v) (opening : Opening) (own : v.opening �
     tt,
   )
 
-  module _ (w : SeatView) (outcome : Outcome) (result : Result Unit DiskFault)
+  module _ (w : SeatView) (outcome : CallOutcome) (result : Result Unit DiskFault)
       (ends : EndsAs result outcome) where
     pub created : (segment : ℕ) → w ≡ behind (step_of_call (creates segment) outcome) 0 none v
         → EndsInHand (IsSegmentMade segment) result v w

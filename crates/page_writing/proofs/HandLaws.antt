@@ -9,7 +9,7 @@ use Rattle.atomic_table.specs.declared.shared.Seat.{Seat}
 use Rattle.segment_disk.specs.Tape.{Tape, empty_state}
 use Rattle.flush_core.specs.declared.writer.DiskFault.{DiskFault}
 use Rattle.wal_core.specs.Views.{Out}
-use Rattle.wal_core.specs.Moves.{Done, Failed, Outcome}
+use Rattle.wal_core.specs.Moves.{Done, Failed, CallOutcome}
 use Rattle.wal_core.specs.Steps.{create, load_ring_word, sync, write}
 use Rattle.wal_rule.specs.declared.table.LogTable.{LogTable}
 use Rattle.wal_rule.specs.declared.writer.LogWriter.{LogWriter}
@@ -82,7 +82,7 @@ behind_load v has k met =
 
 -- ---- calls of the device
 
-pub behind_call : (v : SeatView) → HasLent v → (call : DeviceCall) (outcome : Outcome)
+pub behind_call : (v : SeatView) → HasLent v → (call : DeviceCall) (outcome : CallOutcome)
     → behind (step_of_call call outcome) 0 none v
     ≡ hand_view (writer_told (writer_behind ((v.opening).setup).segment_size call outcome
     (plain_on empty_state (writer_in v)))) (lent_in v.hold).staged v
@@ -107,12 +107,12 @@ faults_kept size faults none (syncs segment) w = refl
 faults_kept size faults (some made) (syncs segment) w = refl
 
 -- a call ended: what it leaves where it succeeds is what its kind says
-module _ (v w : SeatView) (has : HasLent v) (call : DeviceCall) (outcome : Outcome)
+module _ (v w : SeatView) (has : HasLent v) (call : DeviceCall) (outcome : CallOutcome)
     (view_is : w ≡ behind (step_of_call call outcome) 0 none v)
     (Stands : SeatWriter → SeatWriter → Type 0)
     (done : Stands (writer_in v) (writer_told (writer_behind ((v.opening).setup).segment_size call
     Done (plain_on empty_state (writer_in v))))) where
-  abbrev left : Outcome → SeatWriter
+  abbrev left : CallOutcome → SeatWriter
   left o = writer_told (writer_behind ((v.opening).setup).segment_size call o
       (plain_on empty_state (writer_in v)))
 
@@ -126,9 +126,9 @@ module _ (v w : SeatView) (has : HasLent v) (call : DeviceCall) (outcome : Outco
       → MatchResult result (λ _. Stands (writer_in v) (writer_in w))
       (λ e. (writer_in w).fault ≡ some e.faults)
   told_so (Ok _) is = subst (λ (x : SeatWriter). Stands (writer_in v) x)
-      (sym (writer_is ∙ ap (λ (o : Outcome). left o) is)) done
+      (sym (writer_is ∙ ap (λ (o : CallOutcome). left o) is)) done
   told_so (Err e) failed = ap (λ (x : SeatWriter). x.fault)
-      (writer_is ∙ ap (λ (o : Outcome). left o) failed.1)
+      (writer_is ∙ ap (λ (o : CallOutcome). left o) failed.1)
       ∙ faults_kept ((v.opening).setup).segment_size e.faults failed.0 call (writer_in v)
 
   pub ended : (result : Result Unit DiskFault) → EndsAs result outcome

@@ -1,5 +1,10 @@
 // The words of a page are loaded from the ring, and made into its bytes (PostgreSQL's xlog.c,
-// XLogWrite, which writes from the buffers themselves).
+// XLogWrite, which writes from the buffers themselves). The writer is in hand, the page is not
+// written whole, and it begins below what is known to be copied. So it lies in its buffer, and it
+// is not replaced before the writer goes on: nobody else raises the written address. Its words
+// below what is known are the log's. One above may be under way, and is loaded as 0 or as the
+// log's; either may go to the disk, since the word does not count as written. The view keeps what
+// was loaded, so that the write can show whose words its bytes are.
 ghost use Rattle.std.specs.Prelude.{◌≡◌, ℕ, List, ◌∷◌, ◌+◌, ◌*◌, ◌/◌, ◌<◌, ◌^◌};
 ghost use Rattle.std.specs.Int.{w64, to_le_bytes};
 ghost use Rattle.page_writing.specs.InHand.{HasHand, Loads, known_copied, lent_in, writer_in};
@@ -7,17 +12,13 @@ ghost use Rattle.segment_disk.specs.DiskImage.{word_of};
 ghost use Rattle.wal_core.specs.Steps.{IsPageLoaded, ring_number, ring_place};
 ghost use Rattle.wal_rule.specs.Tables.{opening_of_table};
 
-use byte_position::PAGE_SIZE;
+use byte_position::{PAGE_SIZE, PAGE_WORDS};
 use machine_words::LogShape;
+use machine_words::layout::BUFFER_ENDS;
 use segment_disk::Disk;
 use wal_rule::{LogSeat, LogTable};
 
-const PAGE_WORDS: u64 = 1024;
-
-const WORD: usize = 8;
-
-// The number of the first buffer's end word.
-const BUFFER_ENDS: usize = 17;
+const WORD: usize = byte_position::WORD as usize;
 
 /// Loads the words of a page, which is counted from the log's address 0, begins below what is known
 /// to be copied, and is not written whole.
@@ -32,6 +33,7 @@ pub fn load_page<D: Disk>(
     requires shape { shape.now ≡ (opening_of_table table.now).setup }
     requires unwritten { (writer_in seat.old.me.0).written < (page + 1) * 8192 }
     requires copied { page * 8192 < known_copied seat.old.me.0 }
+    // Of the view only what is loaded has changed, and the bytes are those words'.
     ensures loads { (staged : List (ℕ × ℕ)) × Loads seat.old.me.0 seat.new.me.0 staged
         × IsPageLoaded page bytes.new staged }
     ensures hand { HasHand D.tape D.moment D.faults table.now seat.new }
@@ -44,7 +46,7 @@ pub fn load_page<D: Disk>(
     }
 }
 
-// The number of the first word of a page.
+// The number of the first word of a page. It is low, since all that is copied is within the log.
 fn first_word<D: Disk>(_table: &LogTable<D>, seat: &LogSeat<D>, page: u64) -> u64
     requires hand { HasHand D.tape D.moment D.faults _table.now seat.now }
     requires copied { page * 8192 < known_copied seat.now.me.0 }
@@ -54,7 +56,8 @@ fn first_word<D: Disk>(_table: &LogTable<D>, seat: &LogSeat<D>, page: u64) -> u6
     page * PAGE_WORDS
 }
 
-// Loads the log's k-th word, from its place in the ring.
+// Loads the log's k-th word, from its place in the ring. It lies on a page that is not written
+// whole and begins below what is known to be copied. Of the view only what is loaded has changed.
 fn load_word<D: Disk>(
     table: &LogTable<D>,
     seat: &mut LogSeat<D>,

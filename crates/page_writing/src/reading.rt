@@ -1,4 +1,6 @@
-// The numbers of the writer in hand (PostgreSQL's xlog.c, XLogCtl->LogwrtResult).
+// The numbers of the writer in hand (PostgreSQL's xlog.c, XLogCtl->LogwrtResult). They are not
+// shared words: who has the writer in hand has them alone. The words that all may load (13 to 15)
+// are stored from them by wal_log, behind the calls.
 ghost use Rattle.std.specs.Prelude.{◌≡◌};
 ghost use Rattle.page_writing.specs.InHand.{HasHand, IsReadOff, writer_in};
 

@@ -1,4 +1,9 @@
-// What is known to be copied is written out, page by page (PostgreSQL's xlog.c, XLogWrite).
+// What is known to be copied is written out, page by page (PostgreSQL's xlog.c, XLogWrite), with a
+// writer in hand that has not failed. Pages are written in rising order, from the one that holds
+// the next byte to be written on, the last one as it stands; so one address tells all that is
+// written. For each page in this order: writes to another segment are synced, its own segment is
+// made unless it is there, its words are loaded, it is written, and behind a segment's last page
+// that segment is synced. So at most one segment waits for a sync. A call that fails is the last.
 ghost use Rattle.std.specs.Prelude.{◌≡◌, ◌+◌, ◌*◌, ◌/◌, ◌<◌, ◌≤◌};
 ghost use mathlib.Core.Option.{none};
 ghost use Rattle.page_writing.specs.InHand.{EndsInHand, HasHand, IsReady, known_copied, writer_in};
@@ -27,6 +32,9 @@ pub fn write_out<D: Disk>(
     requires ready { IsReady D.tape D.moment D.faults table.now seat.old }
     requires shape { shape.now ≡ (opening_of_table table.now).setup }
     requires known { known ≡ known_copied seat.old.me.0 }
+    // The writer has written up to what is known, or as far as before if that is more. At a fault
+    // nothing is said of how far it came. In both cases it stays in hand, and nothing else of the
+    // view has changed but what is loaded.
     ensures ends { EndsInHand (IsWrittenOut shape.now.segment_size known) result seat.old.me.0
         seat.new.me.0 }
     ensures hand { HasHand D.tape D.moment D.faults table.now seat.new }
@@ -38,7 +46,8 @@ pub fn write_out<D: Disk>(
     write_pages(table, seat, shape, known, written / PAGE_SIZE, bytes)
 }
 
-// Writes the pages from the one under way on.
+// Writes the pages from the one under way on, `first`, which holds the next byte to be written: a
+// byte that is known to be copied.
 fn write_pages<D: Disk>(
     table: &LogTable<D>,
     seat: &mut LogSeat<D>,
@@ -62,7 +71,8 @@ fn write_pages<D: Disk>(
     Ok(())
 }
 
-// Writes the page under way, up to its end or to what is known to be copied.
+// Writes the page under way, up to its end or to what is known to be copied. It holds the next byte
+// to be written, which is known to be copied.
 fn write_next<D: Disk>(
     table: &LogTable<D>,
     seat: &mut LogSeat<D>,
@@ -93,7 +103,8 @@ fn write_next<D: Disk>(
     Ok(())
 }
 
-// Syncs what waits, unless it is this segment, which is there.
+// Syncs what waits, unless it is this segment, which is there. Behind it no write to another one
+// waits.
 fn settle<D: Disk>(
     table: &LogTable<D>,
     seat: &mut LogSeat<D>,
@@ -110,7 +121,8 @@ fn settle<D: Disk>(
     sync_written(table, seat)
 }
 
-// Makes the segment where the next byte is to be written, unless it is there.
+// Makes the segment where the next byte is to be written, unless it is there. It is at most the one
+// behind the last that was made, and no write to another one waits for a sync.
 fn make_segment<D: Disk>(
     table: &LogTable<D>,
     seat: &mut LogSeat<D>,
@@ -132,7 +144,7 @@ fn make_segment<D: Disk>(
     create_segment(table, seat, segment)
 }
 
-/// Makes the writes that wait for it durable.
+/// Makes the writes that wait for it durable, by one call or none: they are all of one segment.
 pub fn sync_written<D: Disk>(table: &LogTable<D>, seat: &mut LogSeat<D>) -> Result<(), DiskFault>
     requires ready { IsReady D.tape D.moment D.faults table.now seat.old }
     ensures ends { EndsInHand IsSegmentSynced result seat.old.me.0 seat.new.me.0 }

@@ -1,7 +1,7 @@
 //! pgwal: writes a write-ahead log from a script, and lists it.
 #![tactic(auto)]
 
-use backend_cli::{Gate, pgwal};
+use backend_cli::{OpenGate, pgwal};
 use segment_disk::Memory;
 use segment_files::{FileDisk, StandardSink, StandardSource};
 use std::alloc::AllocError;
@@ -12,13 +12,6 @@ use std::process::ExitCode;
 use std::sync::Wait;
 use std::thread::Threads;
 use std::{env, fs, io, process};
-
-/// Lets every line pass.
-struct Open;
-
-impl Gate for Open {
-    fn pass(&self, _backend: u32, _line: u32) {}
-}
 
 // The folder of segment files, in the working directory.
 const FOLDER: &str = "pg_wal";
@@ -71,7 +64,7 @@ fn run<R: Threads + Wait + Sync>(threads: &R, rt: HostRuntime) -> Result<u8, Mem
         disk,
         &mut out,
         &mut err,
-        &Open,
+        &OpenGate,
     );
     let mut status = ended.status;
     // What is kept back is written now: where that fails, the sink failed.

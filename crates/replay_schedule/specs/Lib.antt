@@ -1,5 +1,4 @@
 pub mod Items
 pub mod Meaning
-pub mod Parts
 pub mod Reading
 pub mod Turns

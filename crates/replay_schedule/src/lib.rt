@@ -4,10 +4,8 @@
 mod item;
 pub mod laws;
 mod parser;
-mod parts;
 mod schedule;
 
 pub use item::Item;
 pub use parser::parse;
-pub use parts::{Parts, cut};
 pub use schedule::{Schedule, ScheduleError};

@@ -2,9 +2,9 @@ ghost use Rattle.std.specs.Prelude.{◌+◌, ◌<◌, ◌^◌, ◌==◌, length}
 ghost use Rattle.replay_schedule.specs.Meaning.{schedule_of};
 ghost use Rattle.replay_schedule.specs.Reading.{GivesItems};
 
-use crate::parts::Parts;
 use crate::schedule::{Schedule, ScheduleError};
 use std::alloc::Global;
+use text_parts::Parts;
 
 /// Reads the schedule of a replay for so many backends: its items in order, or the first that is
 /// refused.

@@ -5,9 +5,9 @@ ghost use Rattle.replay_schedule.specs.Reading.{GivesItems};
 ghost use Rattle.replay_schedule.specs.Turns.{most_turns, turns_of};
 
 use crate::item::Item;
-use crate::parts::Parts;
 use std::alloc::{AllocFailed, Global};
 use std::marker::Model;
+use text_parts::Parts;
 
 // How many turns a schedule may have.
 const MOST_TURNS: u32 = 10_000_000;

@@ -1,4 +1,10 @@
-// With the position locked: a record's place is reserved, or the position is given back.
+// With the position locked: a record's place is reserved, or the position is given back
+// (PostgreSQL's xlog.c, ReserveXLogInsertLocation, between its SpinLockAcquire and
+// SpinLockRelease). To reserve, the last start (word 1) is loaded, which the record names as its
+// prev; the record's own start is stored there; then the position is stored behind the record. That
+// store ends the lock, and from it on the record stands in the order, in flight under the pass's
+// insertion lock. So who locks the position next finds in word 1 the start of the record that ends
+// at it. A step's kind `K` names the record, which no code has at hand: one that the body spells.
 ghost use Rattle.std.specs.Prelude.{◌≡◌, ◌+◌, ◌<◌, ◌≤◌, ◌^◌, [], ◌∷◌};
 ghost use Rattle.wal_types.specs.declared.record.Record.{Record};
 ghost use Rattle.record_spelling.specs.Spelling.{IsWritable, assembled};
@@ -24,11 +30,13 @@ pub(crate) fn give_back<D: Disk, K: OfKind>(
 )
     requires seat { IsSeatOn table.now seat.old }
     requires shape { shape.now ≡ (opening_of_table table.now).setup }
+    // The position is locked, and the record would end behind the log's end.
     requires kind { (value : Record) × (assembled value ≡ body.now)
         × (K.kind ≡ give_position_back value) }
     requires place { seat.old.me.0.reserving.place ≡ Locked at }
     requires short { log_limit shape.now
         < at + assembled_room_at shape.now.segment_size at body.now }
+    // The pass notes that the log was full there, and has the position locked no longer.
     ensures view { seat.new.me ≡ (full_view at seat.old.me.0, seat.old.me.1) }
     ensures seat { IsSeatOn table.now seat.new }
 {
@@ -46,6 +54,8 @@ pub(crate) fn reserve_at<D: Disk, K: OfKind>(
 ) -> u64
     requires seat { IsSeatOn table.now seat.old }
     requires shape { shape.now ≡ (opening_of_table table.now).setup }
+    // The position is locked, the record ends within the log, and the pass holds this one insertion
+    // lock with nothing in flight.
     requires kind { (value : Record) × IsWritable value × (assembled value ≡ body.now)
         × (K.kind ≡ store_position (lock ∷ []) value) }
     requires place { seat.old.me.0.reserving.place ≡ Locked at }
@@ -53,6 +63,8 @@ pub(crate) fn reserve_at<D: Disk, K: OfKind>(
     requires fits { at + assembled_room_at shape.now.segment_size at body.now
         ≤ log_limit shape.now }
     requires low { at < 2 ^ 60 }
+    // The entry is the last of the pass's log and in flight under the lock, with no word copied;
+    // the position is locked no longer.
     ensures entry { IsEntryReserved shape.now body.now at result lock
         seat.old.me.0 seat.new.me.0 }
     ensures slots { seat.new.me.1 ≡ seat.old.me.1 }

@@ -1,4 +1,9 @@
-// One try of a reservation.
+// One try of a reservation (PostgreSQL's xlog.c, ReserveXLogInsertLocation). The pass took its
+// insertion lock before: a watch that sees the record reserved looks at the locks afterwards, and
+// must find what is still to copy. Here the position is locked (locking.rt), and stored again
+// behind the record or as it was (places.rt). Once it is stored behind it, the record has its place
+// for good, whatever fails later: its words are the pass's to copy, and the next record names its
+// start as prev. Nobody else reserves those bytes.
 ghost use Rattle.std.specs.Prelude.{◌≡◌, [], ◌∷◌, IfErr, IfOk};
 ghost use Rattle.wal_core.specs.Views.{Free, Landed};
 ghost use Rattle.wal_page.specs.Placed.{placed_end};
@@ -45,11 +50,15 @@ pub fn try_reserve<'a, D: Disk>(
 ) -> Result<Reserved<'a>, ReserveErr>
     requires seat { IsSeatOn table.now seat.old }
     requires shape { shape.now ≡ (opening_of_table table.now).setup }
+    // The pass holds this one insertion lock, copies nothing, and has not locked the position.
     requires holds { seat.old.me.0.working ≡ record { locks = lock ∷ []; flight = Landed } }
     requires place { seat.old.me.0.reserving.place ≡ Free }
+    // The entry stands behind all that the pass had seen and ends within the log; it is in flight
+    // under the lock, and all its words are left to copy.
     ensures reserved { IfOk result (λ r. IsPlaceReserved shape.now body.now lock seat.old.me.0
         seat.new.me.0 r.start.0 r.placed) }
     ensures end { IfOk result (λ r. r.end.0 ≡ placed_end r.placed) }
+    // Nothing was reserved, and the pass has the position locked no longer.
     ensures why { IfErr result (λ e. TellsWhy shape.now body.now seat.old.me.0 seat.new.me.0 e) }
     ensures slots { seat.new.me.1 ≡ seat.old.me.1 }
     ensures seat { IsSeatOn table.now seat.new }

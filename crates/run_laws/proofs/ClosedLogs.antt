@@ -8,7 +8,7 @@ use Rattle.wal_page.specs.Order.{Entry, rooms_of}
 use Rattle.told_lines.proofs.Capacities.{capacity_of-le}
 use Rattle.wal_core.specs.Durable.{IsPromised, IsToldRightly}
 use Rattle.wal_core.specs.Suited.{BeganSuited}
-use Rattle.wal_core.specs.Views.{FlushPromise, Joined, View, told_of}
+use Rattle.wal_core.specs.Views.{FlushPromise, Joined, View, receipts_of}
 use Rattle.wal_core.specs.Words.{Opening, down_word, flushed_word, moment_word}
 use Rattle.closed_log.specs.Closed.{IsClosedOn}
 use Rattle.closed_log.proofs.Promises.{told_rightly}
@@ -29,7 +29,7 @@ rose_by begun (suc d) faults fault is up met =
 module _ (opening : Opening) (order : List Entry) (v : View)
     (c : IsClosedLog opening order v) where
   right : IsToldRightly opening (c.sound).order (flushed_word c.words) (moment_word c.words)
-      (down_word c.words) (c.sound).writer (told_of v)
+      (down_word c.words) (c.sound).writer (receipts_of v)
   right = told_rightly opening c.words (some c.writer) c.views c.sound c.id v c.here
 
   -- no promise names a later moment than the writer's

@@ -1,5 +1,5 @@
--- What may be asked of a disk: of each segment whether it is there, and of each word what it may be;
--- and that each image that a crash leaves from a moment on, and each call since, answers it.
+-- What may be asked of a disk: of each segment whether it is there, and of each word what it may
+-- be; and that each image that a crash leaves from a moment on, and each call since, answers it.
 use Rattle.std.specs.Prelude.{◌≡◌, ℕ, ◌+◌, ◌-◌, ◌*◌, ◌/◌, ◌<◌, ◌≤◌, ◌⊎◌, All, List, drop, Option, Some, None}
 use Rattle.byte_position.specs.Geometry.{pages_of}
 use Rattle.segment_disk.specs.declared.disk.Call.{Call}

@@ -1,3 +1,9 @@
+// The disk of segments, as whoever writes or reads a log sees it. The trait's comment tells the
+// protocol of its calls (PostgreSQL's xlog.c, XLogFileInit, XLogWrite, issue_xlog_fsync). A caller
+// has the disk for itself while it calls (`&mut`). Each counted call tells by its answer what it
+// left (`answers`): at Ok it was made as asked; at Err it was counted as failed and may have had
+// its effect or not, or it was not made. An Err comes only where the count of faults rises
+// (`cause`).
 ghost use Rattle.std.specs.Prelude.{◌≡◌, ℕ, ◌/◌, ◌<◌, ◌^◌, Option, length, IfOk, IfSome};
 ghost use Rattle.byte_position.specs.Geometry.{pages_of};
 ghost use Rattle.segment_disk.specs.Cause.{HasCause};
@@ -57,14 +63,15 @@ pub trait Disk {
     /// How often the disk has failed.
     ghost faults: { Self → ℕ };
 
-    /// Makes a segment of zeros, which is durable at Ok.
+    /// Makes a segment of zeros, which is durable at Ok. At Err it may be there or not.
     fn create(&mut self, geometry: Geometry, segment: u64) -> Result<(), Failed>
         requires { segment < 2 ^ 64 / geometry }
         ensures answers { Answers tape moment self.old self.new
             (create_call geometry segment) result }
         ensures cause { HasCause (faults self.old) (faults self.new) result };
 
-    /// Writes a page in place. It is durable only after a sync of the segment.
+    /// Writes a page in place. It is durable only after a sync of the segment; until then, and at
+    /// Err too, a crash leaves of each word what was durable or what was written since.
     fn write_page(
         &mut self,
         geometry: Geometry,
@@ -78,7 +85,7 @@ pub trait Disk {
             (write_call geometry segment page bytes.now) result }
         ensures cause { HasCause (faults self.old) (faults self.new) result };
 
-    /// Makes the last writes of a segment durable.
+    /// Makes the last writes of a segment durable. At Err they still wait for it.
     fn sync(&mut self, geometry: Geometry, segment: u64) -> Result<(), Failed>
         requires { segment < 2 ^ 64 / geometry }
         ensures answers { Answers tape moment self.old self.new
@@ -96,6 +103,8 @@ pub trait Disk {
     ) -> Result<bool, Failed>
         requires segment { segment < 2 ^ 64 / geometry }
         requires page { page < pages_of geometry }
+        // What is read is as of the last write, durable or not, and tape and moment stay: so a read
+        // is no proof that a crash would leave the same.
         ensures reads { IfOk result (λ there. IfSome (tape self.old)
             (λ t. IsPageRead (page_of_segment (state_now t segment) page) there bytes.new)) }
         ensures length { length bytes.new ≡ 8192 }

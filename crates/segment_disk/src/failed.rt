@@ -1,3 +1,5 @@
+// How an outside says that a call failed. Whoever has it keeps a count of faults, which rises with
+// each failed call and at nothing else: so callers tell by it a fault that was met.
 ghost use Rattle.std.specs.Prelude.{◌≡◌, ℕ, ◌+◌, ◌-◌, ◌^◌, ◌⊎◌};
 
 /// A call of the outside that failed. Its object's count of faults tells it from an answer made up.

@@ -1,5 +1,6 @@
 //! Bodies in memory of the source, the sink and the disk, for tests and as models of what the real
-//! ones do.
+//! ones do. Each takes its memory when it is made, and fails at just the calls that it was told to,
+//! or where its room is full; so what a run over them does is settled by what they were made with.
 
 mod crash;
 mod disk;

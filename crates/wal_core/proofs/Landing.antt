@@ -48,15 +48,15 @@ landed_was i (Copying d) c is = (
   refl,
   among_cases
       (λ (b : Bool).
-      cond b (standing d (without_lock i d.locks)) (Copying d) ≡ Copying c → Outcome) d.locks i
+      cond b (standing d (without_lock i d.locks)) (Copying d) ≡ Copying c → CallOutcome) d.locks i
       (λ has is. let was = standing_was d c (without_lock i d.locks) is in
       inr (has, was.0, was.1))
       (λ other is. inl (other, cc))
       is,
 )
   where
-    Outcome : Type 0
-    Outcome = ((Contains d.locks i → ⊥) × (d ≡ c))
+    CallOutcome : Type 0
+    CallOutcome = ((Contains d.locks i → ⊥) × (d ≡ c))
         ⊎ (Contains d.locks i × (record d { locks = without_lock i d.locks } ≡ c)
         × (1 ≤ length (without_lock i d.locks)))
 

@@ -8,7 +8,7 @@ use Rattle.segment_disk.proofs.Reading.{after_calls-push}
 use Rattle.segment_disk.proofs.Fronts.{take-before}
 use Rattle.wal_core.specs.Words.{Opening}
 use Rattle.wal_core.specs.Views.{Plain}
-use Rattle.wal_core.specs.Moves.{Outcome, Done, Failed, with_outcome}
+use Rattle.wal_core.specs.Moves.{CallOutcome, Done, Failed, with_outcome}
 use Rattle.wal_core.specs.Suited.{BeganSuited, IfSuited, IsSuited}
 
 -- ---- tapes that are told
@@ -23,7 +23,7 @@ at_told P o t is holds = subst (λ (o : Option Tape). IfSome o P) is holds
 
 -- ---- the tape behind a call
 
-abbrev pub tape_behind : Outcome → Call → Tape → Tape
+abbrev pub tape_behind : CallOutcome → Call → Tape → Tape
 tape_behind Done call t = record t { calls = t.calls ++ call ∷ [] }
 tape_behind (Failed faults none) call t = t
 tape_behind (Failed faults (some made)) call t =
@@ -36,7 +36,7 @@ called Q None call f = tt
 called Q (Some t) call f = f t refl
 
 -- what holds of the tape behind a call holds of the writer's
-pub on_tape : (Q : Tape → Type 0) (call : Call) (outcome : Outcome) (w : Plain)
+pub on_tape : (Q : Tape → Type 0) (call : Call) (outcome : CallOutcome) (w : Plain)
     → ((t : Tape) → w.tape ≡ Some t → Q (tape_behind outcome call t))
     → IfSome (with_outcome call outcome w).tape Q
 on_tape Q call Done w f = called Q w.tape call f
@@ -68,7 +68,7 @@ module _ (opening : Opening) where
       subst (λ (calls : List Call). IsSuited (after_calls t.at_first calls))
       (take-before t.calls (call ∷ []) opening.moment within) suited
 
-  pub began_behind : (call : Call) (outcome : Outcome) (t : Tape)
+  pub began_behind : (call : Call) (outcome : CallOutcome) (t : Tape)
       → opening.moment ≤ length t.calls → BeganSuited opening (tape_behind outcome call t)
       → BeganSuited opening t
   began_behind call Done t within suited = began_before t call within suited
@@ -83,7 +83,7 @@ module _ (opening : Opening) where
       subst (λ (calls : List Call). IsSuited (after_calls t.at_first calls))
       (sym (take-before t.calls (call ∷ []) opening.moment within)) suited
 
-  pub began_still : (call : Call) (outcome : Outcome) (t : Tape)
+  pub began_still : (call : Call) (outcome : CallOutcome) (t : Tape)
       → opening.moment ≤ length t.calls → BeganSuited opening t
       → BeganSuited opening (tape_behind outcome call t)
   began_still call Done t within suited = began_stays t call within suited

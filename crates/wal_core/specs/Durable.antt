@@ -1,5 +1,11 @@
 -- What a crash leaves at any moment since the opening, and what it leaves from a moment on that a
--- pass was told (PostgreSQL's xlog.c, XLogFlush).
+-- pass was told (PostgreSQL's xlog.c, XLogFlush). On a disk on which a log may begin (`IfSuited`)
+-- it leaves 0 or the log's word at each place, since nothing else is ever written. Who has the
+-- writer in hand syncs, stores the disk's moment (word 15) then, and behind it the flushed address
+-- (14): from that moment on all below that address is there, and a later write of the same page
+-- leaves it so. Who loads 14 and then 15 meets that moment or a later one: so a promise is kept,
+-- whoever else stores meanwhile. No call follows a fault, and no promise that was made is taken
+-- back by one.
 use Rattle.std.specs.Prelude.{◌≡◌, ◌≢◌, ◌⊎◌, ℕ, ◌+◌, ◌*◌, ◌<◌, ◌≤◌, All, List, drop, length, slice_get, take, IfSome, IsSomeAnd, Some}
 use mathlib.Core.Option.{Option, none, some}
 use Rattle.segment_disk.specs.declared.disk.Call.{Call}
@@ -18,7 +24,7 @@ use Rattle.wal_core.specs.declared.setup.Setup.{Setup}
 use Rattle.wal_core.specs.Words.{Opening}
 use Rattle.wal_core.specs.Suited.{IfSuited}
 use Rattle.wal_core.specs.Ringed.{log_word_of}
-use Rattle.wal_core.specs.Views.{HasAt, Joined, FlushPromise, Plain, Lent, Out, Told}
+use Rattle.wal_core.specs.Views.{HasAt, Joined, FlushPromise, Plain, Lent, Out, Receipts}
 
 -- ---- words of the disk, by page and number
 
@@ -88,7 +94,7 @@ pub record IsPromised (flushed moment : ℕ) (p : FlushPromise) : Type 0 where
 
 -- what is said of one view
 pub record IsToldRightly (opening : Opening) (order : List Entry) (flushed moment down : ℕ)
-    (writer : Plain) (x : Told) : Type 0 where
+    (writer : Plain) (x : Receipts) : Type 0 where
   pub own_promised : All (IsPromised flushed moment) (x.writing).promises
   pub joined_promised : All (λ (j : Joined). All (IsPromised flushed moment) j.promises) x.joined
   pub own : IfSuited opening writer (λ t. AreKept opening order t x.entries (x.writing).promises)
@@ -110,19 +116,19 @@ pub record IsOnDisk (setup : Setup) (order : List Entry) (writer : Plain) (tape 
         → IsSomeAnd (state_now tape segment) (λ s. s.pages ≡ pages_of setup.segment_size)
 
 pub record DurabilityHolds (opening : Opening) (order : List Entry)
-    (flushed moment down : ℕ) (home : Option Plain) (writer : Plain) (parts : List Told) : Type 0
-  where
-    pub counted : IfSome writer.tape (λ t. writer.moment ≡ length t.calls)
-    pub moment_low : moment ≤ writer.moment
-    pub begun : opening.moment ≤ moment
-    pub reached : writer.written ≤ writer.made * opening.setup.segment_size
-        + opening.setup.segment_size
-    pub lawful : IfSuited opening writer (TapeAssures opening.setup.segment_size IsNowhere
-        (IsLawfulAt opening.setup order) opening.moment)
-    pub firm : IfSuited opening writer (IsFirm opening.setup order flushed moment)
-    pub on_disk : IfSuited opening writer (IsOnDisk opening.setup order writer)
-    pub down_is : down ≢ 0 → writer.fault ≡ some down
-    pub down_at_home : home ≡ some writer → down ≡ 0 → writer.fault ≡ none
-    pub fault_rose : (f : ℕ) → writer.fault ≡ some f → Rose opening.faults f
-    pub views : (id : ℕ) (x : Told) → HasAt parts id x
-        → IsToldRightly opening order flushed moment down writer x
+    (flushed moment down : ℕ) (home : Option Plain) (writer : Plain) (parts : List Receipts)
+    : Type 0 where
+  pub counted : IfSome writer.tape (λ t. writer.moment ≡ length t.calls)
+  pub moment_low : moment ≤ writer.moment
+  pub begun : opening.moment ≤ moment
+  pub reached : writer.written ≤ writer.made * opening.setup.segment_size
+      + opening.setup.segment_size
+  pub lawful : IfSuited opening writer (TapeAssures opening.setup.segment_size IsNowhere
+      (IsLawfulAt opening.setup order) opening.moment)
+  pub firm : IfSuited opening writer (IsFirm opening.setup order flushed moment)
+  pub on_disk : IfSuited opening writer (IsOnDisk opening.setup order writer)
+  pub down_is : down ≢ 0 → writer.fault ≡ some down
+  pub down_at_home : home ≡ some writer → down ≡ 0 → writer.fault ≡ none
+  pub fault_rose : (f : ℕ) → writer.fault ≡ some f → Rose opening.faults f
+  pub views : (id : ℕ) (x : Receipts) → HasAt parts id x
+      → IsToldRightly opening order flushed moment down writer x

@@ -1,5 +1,9 @@
 -- The insertion locks, the two turns, and what a lock's word tells of its holder's copy
--- (PostgreSQL's xlog.c, WALInsertLockAcquire and WALInsertLockUpdateInsertingAt).
+-- (PostgreSQL's xlog.c, WALInsertLockAcquire, WALInsertLockRelease and
+-- WALInsertLockUpdateInsertingAt; WALBufMappingLock and WALWriteLock). A lock or a turn is taken by
+-- one exchange of a word that is 0, and only its holder stores into the word: so none has two
+-- holders. A lock's word may tell less than is copied, and never more: on that a watcher rests. The
+-- writer is at home, or in the hand of the one that has the turn to write.
 use Rattle.std.specs.Prelude.{◌≡◌, ◌≢◌, ℕ, ◌+◌, ◌<◌, ◌≤◌, List, Contains, if◌then◌else◌}
 use mathlib.Core.Option.{Option, none, some}
 use Rattle.wal_page.specs.EntryWords.{address_of_word}

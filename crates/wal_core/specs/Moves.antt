@@ -1,5 +1,6 @@
 -- What a pass knows behind each kind of step: a function of what it knew before, of the step's
--- operands, and of the number that it met.
+-- operands, and of the number that it met. Nothing of other views or words comes in: so what a pass
+-- knows is what it did and what it met, and stays so while others step.
 use Rattle.std.specs.Prelude.{ℕ, ◌+◌, ◌-◌, ◌%◌, Bool, true, false, ◌&&◌, ◌||◌, not, List, [], ◌∷◌, ◌++◌, length, max, min, ◌==◌, nat_lt, if◌then◌else◌, Some}
 use Rattle.std.specs.List.{filter}
 use Rattle.byte_position.specs.Position.{position_of}
@@ -375,9 +376,9 @@ after_load_initialised met v =
 
 -- how a call ended: done, or with this count of faults; a failed one may be counted, and a failed
 -- create may have made its segment
-pub data Outcome : Type 0 where
-  Done : Outcome
-  Failed : ℕ → Option Bool → Outcome
+pub data CallOutcome : Type 0 where
+  Done : CallOutcome
+  Failed : ℕ → Option Bool → CallOutcome
 
 abbrev pub counted : Call → Plain → Plain
 counted call writer = record writer {
@@ -385,17 +386,17 @@ counted call writer = record writer {
   moment = writer.moment + 1;
 }
 
-abbrev pub with_outcome : Call → Outcome → Plain → Plain
+abbrev pub with_outcome : Call → CallOutcome → Plain → Plain
 with_outcome call Done writer = counted call writer
 with_outcome call (Failed faults none) writer = record writer { fault = some faults }
 with_outcome call (Failed faults (some made)) writer =
     record (counted (failed_call made call) writer) { fault = some faults }
 
-abbrev pub is_done : Outcome → Bool
+abbrev pub is_done : CallOutcome → Bool
 is_done Done = true
 is_done (Failed faults counted) = false
 
-abbrev pub is_counted : Outcome → Bool
+abbrev pub is_counted : CallOutcome → Bool
 is_counted Done = true
 is_counted (Failed faults none) = false
 is_counted (Failed faults (some made)) = true
@@ -405,18 +406,18 @@ with_writer writer v =
     with_hold (with_lent (λ l. record l { writer = writer }) (v.writing).hold) v
 
 -- the writer behind a create of a segment, a write of a page up to an address, a sync of a segment
-abbrev pub after_create : ℕ → Call → Outcome → Plain → Plain
+abbrev pub after_create : ℕ → Call → CallOutcome → Plain → Plain
 after_create segment call outcome writer = record (with_outcome call outcome writer) {
   made = (if is_done outcome then segment else writer.made);
 }
 
-abbrev pub after_write : ℕ → ℕ → Call → Outcome → Plain → Plain
+abbrev pub after_write : ℕ → ℕ → Call → CallOutcome → Plain → Plain
 after_write segment upto call outcome writer = record (with_outcome call outcome writer) {
   written = (if is_done outcome then upto else writer.written);
   waiting = (if is_counted outcome then some segment else writer.waiting);
 }
 
-abbrev pub after_sync : Call → Outcome → Plain → Plain
+abbrev pub after_sync : Call → CallOutcome → Plain → Plain
 after_sync call outcome writer = record (with_outcome call outcome writer) {
   waiting = (if is_done outcome then none else writer.waiting);
 }

@@ -1,4 +1,6 @@
 -- How a log begins that holds nothing: its words, its writer, and the view of its first pass.
+-- Nobody holds anything: the locks and turns are free, the writer is at home, and the first pass
+-- has all numbers, of which it may give all others away.
 use Rattle.std.specs.Prelude.{◌≡◌, ℕ, ◌+◌, ◌*◌, ◌/◌, ◌<◌, ◌≤◌, List, [], length, slice_index, IfSome}
 use mathlib.Core.Option.{none}
 use Rattle.wal_core.specs.Words.{Opening, position_word, initialised_word, written_word, flushed_word, moment_word, down_word, end_word, word_of_ring, word_count, log_start}

@@ -1,5 +1,9 @@
 -- The reserved order: the entries of all passes without a gap, in the position word, the word of
--- the last start, and what each pass has of it (PostgreSQL's xlog.c, ReserveXLogInsertLocation).
+-- the last start, and what each pass has of it (PostgreSQL's xlog.c, ReserveXLogInsertLocation). It
+-- grows at its end alone, by who has the position locked: by the store that unlocks it. So an entry
+-- has its place for good, whatever fails later, and nobody else stores into either word meanwhile.
+-- While the position is locked the word of the last start may be the next entry's already. Whose an
+-- entry is, its pass's number says, which no other pass has, also once its pass was taken in.
 use Rattle.std.specs.Prelude.{◌≡◌, ◌≢◌, ℕ, ◌+◌, ◌<◌, ◌≤◌, Bool, true, false, All, AllPairs, Contains, List, [], ◌∷◌, ◌++◌, take, length, Option, Some, None, IsSome, ◌==◌, if◌then◌else◌}
 use Rattle.byte_position.specs.Position.{address_of}
 use Rattle.wal_page.specs.Order.{Entry, IsChained, end_position, prev_of}

@@ -1,5 +1,10 @@
 -- Which page each buffer of the ring holds, and what the mapper is about (PostgreSQL's xlog.c,
--- AdvanceXLInsertBuffer). A page is counted from the log's address 0.
+-- AdvanceXLInsertBuffer). A page is counted from the log's address 0. The pages in buffers are a
+-- window, from `low` up to `reach`, and what is below it was written. Who has the turn to map gives
+-- the lowest page up, by clearing its buffer's end word, only behind a load of the written address
+-- that reaches that page's end; it zeroes the words, and then stores the end of the page that comes
+-- next. Between, the buffer's end is 0, so that nobody stores a word into it. Last it stores the
+-- initialised end.
 use Rattle.std.specs.Prelude.{◌≡◌, ◌⊎◌, ℕ, ◌+◌, ◌*◌, ◌%◌, ◌<◌, ◌≤◌, List}
 use Rattle.wal_core.specs.Views.{HasAt, Stage, Away, Taken, Looked, Ready, Zeroing, Published}
 

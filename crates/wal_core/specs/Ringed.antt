@@ -1,6 +1,8 @@
 -- The words of the log in memory, whether a buffer holds them yet, still, or no more: each is its
 -- entry's, or is 0 and some view is still to copy it. Which page lies in which buffer is no matter
--- here (PostgreSQL's xlog.c, CopyXLogRecordToWAL).
+-- here (PostgreSQL's xlog.c, CopyXLogRecordToWAL). Each word has one owner, and only the copy of
+-- that entry stores it: so entries are copied side by side, in any order among each other, and a
+-- word is 0 until it is copied, and never another entry's.
 use Rattle.std.specs.Prelude.{◌≡◌, ◌⊎◌, ℕ, ◌*◌, ◌<◌, ◌≤◌, List, ◌∷◌, ◌++◌}
 use Rattle.wal_page.specs.Order.{Entry, end_position, finish_of, prev_of}
 use Rattle.wal_page.specs.EntryWords.{address_of_word, words_owned}

@@ -1,11 +1,14 @@
--- The invariant of the words that all backends share, the writer, and what every pass knows.
+-- The invariant of the words that all backends share, the writer, and what every pass knows. It
+-- holds between any two steps, in whatever order the passes' steps come. Each part reads its own
+-- words and its own part of each view, so that a step keeps without a word each part that it does
+-- not touch. docs/COMMIT.md tells why each part is kept.
 use Rattle.std.specs.Prelude.{◌≡◌, ◌≢◌, ◌≤◌, ◌⊎◌, ℕ, true, false, List, [], length, map}
 use mathlib.Core.Option.{Option}
 use Rattle.byte_position.specs.Geometry.{IsSegmentSize}
 use Rattle.wal_page.specs.Order.{Entry, end_position}
 use Rattle.wal_core.specs.declared.setup.Setup.{Setup}
 use Rattle.wal_core.specs.Words.{Opening, position_word, prev_word, lock_word, mapping_turn, write_turn, initialised_word, written_word, flushed_word, moment_word, down_word, end_word, word_of_ring, word_count, end_form}
-use Rattle.wal_core.specs.Views.{HasAt, Landed, Away, Idle, Plain, View, Stage, reserving_of, working_of, flight_of, watching_of, mapper_of, confirmed_of, writer_of, writing_of, told_of}
+use Rattle.wal_core.specs.Views.{HasAt, Landed, Away, Idle, Plain, View, Stage, reserving_of, working_of, flight_of, watching_of, mapper_of, confirmed_of, writer_of, writing_of, receipts_of}
 use Rattle.wal_core.specs.Ordered.{OrderHolds}
 use Rattle.wal_core.specs.Locked.{LocksHold, ProgressHolds}
 use Rattle.wal_core.specs.Ringed.{RingHolds}
@@ -50,20 +53,28 @@ pub record IsSound (opening : Opening) (words : List ℕ) (home : Option Plain) 
   pub wide : length words ≡ word_count opening.setup
   pub grounded : (id : ℕ) (v : View) → HasAt views id v
       → IsGrounded opening (down_word words) v
+  -- the order without a gap, up to the position, and each pass's log its entries of it
   pub reserved : OrderHolds opening.setup opening.found order (position_word words)
       (prev_word words) (map reserving_of views)
+  -- no lock and no turn has two holders, and the writer is at home or with who has its turn
   pub locks : LocksHold (lock_word words) (map working_of views)
       (mapping_turn words) stage (map mapper_of views)
       (write_turn words) home writer (map writer_of views)
+  -- no lock tells more than is copied under it
   pub progress : ProgressHolds opening.setup.segment_size (lock_word words) (map working_of views)
+  -- each word in memory is the log's, or 0 and still to be copied
   pub ring : RingHolds opening.setup order reach memory (map flight_of views)
+  -- the buffers hold a window of pages with these words; what was given up is written
   pub pages : PagesHold opening.setup.ring_pages reach stage (initialised_word words)
       (written_word words) (end_word words) (word_of_ring opening.setup words) memory
       (map confirmed_of views)
+  -- flushed, written, copied, reserved: each is at most the next one
   pub positions : PositionsHold opening order (written_word words) (flushed_word words)
       (down_word words) home writer (map flight_of views) (map writing_of views)
+  -- what crashes leave, and what was promised of it
   pub durable : DurabilityHolds opening order (flushed_word words) (moment_word words)
-      (down_word words) home writer (map told_of views)
+      (down_word words) home writer (map receipts_of views)
+  -- what watchers have found to be copied is so
   pub watching : WatchHolds opening.setup.segment_size
       (end_form opening.setup (end_position opening.setup.segment_size order))
       (map working_of views) (map watching_of views)

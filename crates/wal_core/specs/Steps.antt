@@ -1,6 +1,8 @@
 -- The atomic steps: each is one load, store or exchange of one shared word by one pass, or one call
 -- of the device by the pass that has the writer in hand. What a step may do rests on what its pass
--- knows, and on nothing else.
+-- knows, and on nothing else; so it may come between any two steps of others. A step that has to
+-- come behind another one of its pass asks for what only that one leaves in the view (`Place`,
+-- `Stage`, `Hold` of Views).
 use Rattle.std.specs.Prelude.{◌≡◌, ◌≢◌, ◌⊎◌, ℕ, ◌+◌, ◌*◌, ◌/◌, ◌%◌, ◌<◌, ◌≤◌, true, Contains, List, [], ◌∷◌, ◌++◌, length, set, slice_index, ◌==◌, if◌then◌else◌}
 use Rattle.std.specs.Int.{w64, to_le_bytes}
 use Rattle.byte_position.specs.Position.{address_of}
@@ -18,7 +20,7 @@ use Rattle.wal_core.specs.declared.setup.Setup.{Setup}
 use Rattle.wal_core.specs.Words.{log_limit}
 use Rattle.wal_core.specs.Views.{HasAt, Place, Free, Locked, Loaded, Stored, Copy, Flight, Landed, Copying, AreSomeOf, Stage, Taken, Looked, Ready, Zeroing, Published, Plain, Lent, Hold, Idle, Turned, Out, Away, View}
 use Rattle.wal_core.specs.Paged.{IsOpen}
-use Rattle.wal_core.specs.Moves.{Outcome, Done, Failed, after_split, split_off, after_join, spent, without_work, orphan_of, with_stage, with_hold, with_confirmed, with_writer, after_load_position, after_take_write_turn, after_slot_out, after_lock_position, after_load_prev, after_store_prev, after_store_position, after_give_back, after_load_lock, after_take_lock, after_release, after_store_word, after_load_word, after_load_written, after_load_flushed, after_load_moment, after_load_down, after_store_written, after_store_moment, after_store_flushed, after_set_down, after_take_mapping_turn, after_load_initialised, after_create, after_write, after_sync}
+use Rattle.wal_core.specs.Moves.{CallOutcome, Done, Failed, after_split, split_off, after_join, spent, without_work, orphan_of, with_stage, with_hold, with_confirmed, with_writer, after_load_position, after_take_write_turn, after_slot_out, after_lock_position, after_load_prev, after_store_prev, after_store_position, after_give_back, after_load_lock, after_take_lock, after_release, after_store_word, after_load_word, after_load_written, after_load_flushed, after_load_moment, after_load_down, after_store_written, after_store_moment, after_store_flushed, after_set_down, after_take_mapping_turn, after_load_initialised, after_create, after_write, after_sync}
 
 -- ---- what a step may rest on
 
@@ -79,30 +81,30 @@ pub record IsNextSync (segment : ℕ) (l : Lent) : Type 0 where
 -- ---- the kinds
 
 pub data StepKind : Type 0 where
-  -- seats and turns
+  -- how far records are reserved; the turn to write (WALWriteLock), and the writer in its slot
   load_position : StepKind
   take_write_turn : StepKind
   slot_out : StepKind
   slot_in : StepKind
   release_write_turn : StepKind
-  -- reservation
+  -- reservation, in this order; given back where it was just locked (ReserveXLogInsertLocation)
   lock_position : ℕ → StepKind
   load_prev : StepKind
   store_prev : StepKind
   -- the entry is to stand under these locks
   store_position : List ℕ → Record → StepKind
   give_position_back : Record → StepKind
-  -- insertion locks
-  -- a watcher's visit, which learns up to the limit at most; an insert's vain try has the limit 0
+  -- insertion locks (WALInsertLockAcquire, WALInsertLockUpdateInsertingAt, WALInsertLockRelease); a
+  -- watcher's visit, which learns up to the limit at most; an insert's vain try has the limit 0
   load_lock : (lock limit : ℕ) → StepKind
   take_lock : ℕ → StepKind
   advance : ℕ → ℕ → StepKind
   release : ℕ → StepKind
-  -- words of the ring
+  -- words of the ring (GetXLogBuffer, CopyXLogRecordToWAL, XLogWrite)
   load_buffer_end : ℕ → StepKind
   store_ring_word : StepKind
   load_ring_word : ℕ → StepKind
-  -- positions and down
+  -- positions and down (LogwrtResult)
   load_written : StepKind
   load_flushed : StepKind
   load_moment : StepKind
@@ -111,7 +113,7 @@ pub data StepKind : Type 0 where
   store_moment : StepKind
   store_flushed : StepKind
   set_down : StepKind
-  -- mapping
+  -- mapping, in this order, with `load_written` behind the load (AdvanceXLInsertBuffer)
   take_mapping_turn : StepKind
   load_initialised_end : StepKind
   clear_end : StepKind
@@ -119,10 +121,10 @@ pub data StepKind : Type 0 where
   publish_end : StepKind
   publish_initialised_end : StepKind
   release_mapping_turn : StepKind
-  -- calls of the device
-  create : ℕ → Outcome → StepKind
-  write : ℕ → ℕ → ℕ → List ℕ → Outcome → StepKind
-  sync : ℕ → Outcome → StepKind
+  -- calls of the device (XLogFileInit, XLogWrite, issue_xlog_fsync)
+  create : ℕ → CallOutcome → StepKind
+  write : ℕ → ℕ → ℕ → List ℕ → CallOutcome → StepKind
+  sync : ℕ → CallOutcome → StepKind
 
 -- ---- the word that a step loads, stores or exchanges, by its number
 
@@ -270,7 +272,17 @@ module _ (v : View) where
   value_behind (write segment page upto bytes outcome) met = met
   value_behind (sync segment outcome) met = met
 
-  -- ---- what the pass must know for the step
+  -- ---- what the pass must know for the step (`MayStep`)
+  -- Reserving: each step needs the one before it; the entry can be written and fits, nothing is in
+  -- flight, and it is to stand under locks that are held. Locks: only a holder tells or releases;
+  -- it tells at most up to its next word, and releases what is copied whole. Words of the ring: a
+  -- copy's next one, below an end that was met; for a write, those of a page that is not written
+  -- whole and begins where all is copied. With the writer in hand alone: the calls of the device,
+  -- and the stores of what it did. The moment is stored where no fault was met and nothing waits
+  -- for a sync; the flushed address where that moment is stored, and written too; down behind a
+  -- fault. The writer goes back with what it has written stored, or with down set. Mapping: stage
+  -- by stage; a page is given up that is written, and from then on the turn is kept until the new
+  -- one is there.
 
   abbrev pub HasOut : (Lent → Type 0) → Type 0
   HasOut P = (l : Lent) × ((v.writing).hold ≡ Out l) × P l
@@ -279,7 +291,7 @@ module _ (v : View) where
   IsCopying P = (c : Copy) × ((v.working).flight ≡ Copying c) × P c
 
   -- a fault that a call tells is above the count at the opening
-  abbrev pub IsCallFault : Outcome → Type 0
+  abbrev pub IsCallFault : CallOutcome → Type 0
   IsCallFault Done = Unit {0}
   IsCallFault (Failed faults counted) = Rose (v.opening).faults faults
 

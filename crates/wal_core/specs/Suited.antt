@@ -1,4 +1,6 @@
--- The disks on which a log may begin; of what any other one holds nothing is said.
+-- The disks on which a log may begin; of what any other one holds nothing is said. Steps and words
+-- are the same on each disk: only what the invariant says of the disk's words stands under this
+-- premise.
 use Rattle.std.specs.Prelude.{◌≡◌, ℕ, IfSome, None}
 use Rattle.segment_disk.specs.Tape.{DiskState, Tape, state_at}
 use Rattle.wal_core.specs.Words.{Opening}

@@ -1,4 +1,8 @@
--- What a pass knows and is about, in parts, one for each concern.
+-- What a pass knows and is about, in parts, one for each concern. A view changes by its own pass's
+-- steps alone, but where its pass is taken in. It has what the pass holds (locks, a turn, the
+-- writer), how far the pass is with a reservation, a copy, a watch, a page or a write, and what it
+-- has met. What a step may do rests on the view alone (`MayStep` of Steps): so no step of others
+-- takes from a pass what its view lets it do. What the words hold now is said by the invariant.
 use Rattle.std.specs.Prelude.{◌≡◌, ℕ, ◌+◌, ◌≤◌, Bool, List, [], length, Contains, ◌==◌}
 use Rattle.std.specs.List.{list_any}
 use mathlib.Core.Option.{Option, some}
@@ -185,13 +189,13 @@ abbrev pub writing_of : View → Writing
 writing_of v = v.writing
 
 -- a pass's entries and those that it took in, with what was promised to it and to them
-pub record Told : Type 0 where
+pub record Receipts : Type 0 where
   pub entries : List Entry
   pub joined : List Joined
   pub writing : Writing
 
-abbrev pub told_of : View → Told
-told_of v = record {
+abbrev pub receipts_of : View → Receipts
+receipts_of v = record {
   entries = v.reserving.entries;
   joined = v.reserving.joined;
   writing = v.writing;

@@ -1,5 +1,9 @@
 -- What a watcher knows of the copies under the insertion locks that it has visited (PostgreSQL's
--- xlog.c, WaitXLogInsertionsToFinish).
+-- xlog.c, WaitXLogInsertionsToFinish). It sees a reserved end first, and then visits the eight
+-- locks in turn. An entry that is reserved later lies behind that end. One that was reserved before
+-- is copied, or stands under a lock that is held and tells no more than is copied of it. So once
+-- all eight are visited no word below the bound is still to copy. With the locks visited first an
+-- entry that is reserved between would be missed.
 use Rattle.std.specs.Prelude.{◌≡◌, ℕ, ◌<◌, ◌≤◌, List, Contains}
 use Rattle.wal_page.specs.EntryWords.{address_of_word}
 use Rattle.wal_core.specs.Views.{HasAt, Copy, Copying, Working, Watching}

@@ -1,4 +1,10 @@
--- The words that all backends share, by their numbers, and what is fixed when they are made.
+-- The words that all backends share, by their numbers, and what is fixed when they are made
+-- (PostgreSQL's xlog.c, XLogCtlInsert and XLogCtlData). Each changes in one atomic step. Who may
+-- change it: the position (0) who finds it unlocked, by locking it, and then its locker alone, who
+-- alone stores the last start (1) too; an insertion lock (2 to 9) or a turn (10, 11) who finds it
+-- 0, and then its holder alone; the initialised end (12), the buffers' ends and, to make it 0, a
+-- word of the ring who has the turn to map; 13 to 16 who has the writer in hand; else a word of the
+-- ring the copy whose word it is.
 use Rattle.std.specs.Prelude.{ℕ, ◌+◌, ◌*◌, List, slice_index}
 use Rattle.byte_position.specs.Position.{end_address_of, first_position, usable_bytes_in_segment}
 use Rattle.wal_page.specs.Order.{Entry}

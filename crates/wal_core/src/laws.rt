@@ -1,4 +1,6 @@
-//! Laws of the views of all passes, each proved by a function that does nothing.
+//! Laws of the views of all passes and of the words, each proved by a function that does nothing. A
+//! step changes one word and one view: these say that all else is as before, which is what each
+//! part of the invariant needs that reads other words or another part of the view.
 
 ghost use Rattle.std.specs.Prelude.{◌≡◌, ◌≢◌, ◌⊎◌, ℕ, ◌+◌, ◌*◌, ◌<◌, ◌≤◌, List, [], ◌∷◌, ◌++◌, length, map, set, slice_index};
 ghost use Rattle.wal_core.specs.declared.setup.Setup.{Setup};

@@ -12,7 +12,7 @@ use Rattle.wal_types.specs.declared.answers.Hard.{Hard}
 use Rattle.wal_core.specs.Durable.{IsPromised, IsToldRightly}
 use Rattle.wal_core.specs.Moves.{copied_below, is_own, visited_on}
 use Rattle.wal_core.specs.Steps.{load_flushed, load_moment, store_flushed, store_moment}
-use Rattle.wal_core.specs.Views.{FlushPromise, Plain, Watching, told_of}
+use Rattle.wal_core.specs.Views.{FlushPromise, Plain, Watching, receipts_of}
 use Rattle.wal_core.specs.Words.{Opening, down_word, end_form, flushed_word, moment_word}
 use Rattle.wal_rule.specs.Seats.{HasWriter, IsAtRest, SeatHold, SeatLent, SeatView, behind, hold_on, lent_on, view_on}
 use Rattle.wal_rule.specs.Stepping.{MaySeat, Meets, Stands, value_left}
@@ -40,9 +40,9 @@ use Rattle.wal_log.proofs.Plain.{flushed_loaded, moment_loaded}
 module _ (v : SeatView) (stands : Stands v) where
   told_rightly : IsToldRightly v.opening (stands.sound).order (flushed_word stands.words)
       (moment_word stands.words) (down_word stands.words) (stands.sound).writer
-      (told_of (view_on stands.first v))
-  told_rightly = ((stands.sound).durable).views stands.id (told_of (view_on stands.first v))
-      (at_map told_of stands.views stands.id (view_on stands.first v) stands.here)
+      (receipts_of (view_on stands.first v))
+  told_rightly = ((stands.sound).durable).views stands.id (receipts_of (view_on stands.first v))
+      (at_map receipts_of stands.views stands.id (view_on stands.first v) stands.here)
 
   pub promises_are_low : HasLent v
       → IsLatestPromise (writer_in v).written (writer_in v).moment v

@@ -1,5 +1,10 @@
 // A record's place is reserved under an insertion lock, by one try (PostgreSQL's xlog.c,
-// XLogInsertRecord, ReserveXLogInsertLocation).
+// XLogInsertRecord, WALInsertLockAcquire, ReserveXLogInsertLocation). The pass comes with nothing
+// held. In this order: down (word 16) is loaded, a lock (2 to 9) is taken, the position (0) is
+// locked, and stored behind the record. The lock is taken before the position moves, so that a
+// watch that sees the record reserved finds it held until all is copied. It stays held with the
+// record in flight under it. A try that reserves nothing releases it: the caller waits with
+// nothing held.
 ghost use Rattle.std.specs.Prelude.{◌≡◌, ◌<◌, [], IfErr, IfOk, IsErrOf};
 ghost use Rattle.wal_page.specs.Placed.{placed_end};
 ghost use Rattle.wal_rule.specs.Seats.{IsAtRest};
@@ -52,12 +57,18 @@ impl<D: Disk> Wal<D> {
         body: &'a Body,
     ) -> Result<Begun<'a>, TryErr>
         requires seat { IsSeatOn self.now.table seat.old }
+        // The pass is about nothing, and has no writer in hand.
         requires rests { IsAtRest seat.old.me.0 × (seat.old.me.1 ≡ []) }
+        // Reserved: the entry is the last of the pass's log, and in flight under one lock that it
+        // holds, with all its words left to copy.
         ensures begun { IfOk result (λ b. IsPlaceBegun self.now.shape body.now seat.old.me.0
             seat.new.me.0 b.lock b.start.0 b.placed) }
         ensures end { IfOk result (λ b. b.end.0 ≡ placed_end b.placed) }
+        // Not reserved: the pass is about nothing again, and its log is as it was, but for a note
+        // if the log was full.
         ensures why { IfErr result (λ e. TellsBeginTry self.now.shape body.now seat.old.me.0
             seat.new.me.0 e × IsAtRest seat.new.me.0) }
+        // A failed disk that the pass knows of is told again, and a try sets no down value.
         ensures down_again { (faults : _) → KnowsDown faults seat.old.me.0
             → IsErrOf result (try_err_known_down faults) }
         ensures sets_none { seat.new.me.0.down_set ≡ seat.old.me.0.down_set }
@@ -73,7 +84,9 @@ impl<D: Disk> Wal<D> {
         self.reserve_under(seat, lock, body)
     }
 
-    // Reserves the record's place under a lock that the pass holds, or releases the lock.
+    // Reserves the record's place under a lock that the pass holds, or releases the lock. The pass
+    // holds this one lock and nothing else, and knows of no failed disk. It leaves what `try_begin`
+    // leaves: the record in flight under the lock, or a pass that is about nothing.
     fn reserve_under<'a>(
         &self,
         seat: &mut LogSeat<D>,

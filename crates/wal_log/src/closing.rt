@@ -1,4 +1,7 @@
-// A log is closed, and its disk comes back (PostgreSQL's xlog.c, ShutdownXLOG).
+// A log is closed, and its disk comes back (PostgreSQL's xlog.c, ShutdownXLOG, which writes a
+// checkpoint first). The pass holds nothing and has all numbers, so no other pass is left and no
+// copy is under way, unless one was given up behind a failed disk. What no flush has made durable
+// is left as it is: who wants it flushes before.
 ghost use Rattle.machine_laws.specs.ClosedLogs.{HasAllNumbers};
 ghost use Rattle.wal_rule.specs.Passes.{view_of_pass};
 ghost use Rattle.wal_log.specs.Closing.{ClosesLog};
@@ -23,6 +26,7 @@ impl<D: Disk> Wal<D> {
     /// call.
     pub fn close(self, pass: Pass) -> Closed<D>
         requires pass { IsPassOfLog self pass }
+        // Each pass that was split off was taken in, so the log comes back whole.
         requires numbers { HasAllNumbers (setup_of_log self).passes
             (view_of_pass pass).reserving }
         ensures { ClosesLog D.tape D.moment D.faults self pass result }

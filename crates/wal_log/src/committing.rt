@@ -1,4 +1,7 @@
-// A record is inserted and made durable (PostgreSQL's xact.c, RecordTransactionCommit).
+// A record is inserted and made durable (PostgreSQL's xact.c, RecordTransactionCommit, which calls
+// XLogFlush): an insert, then a flush to the record's end. Nothing is held between the two. Others
+// may flush in between, and make this record durable too: then the flush tells what it finds as
+// flushed. If the flush is refused the record keeps its place, and nothing is promised of it.
 ghost use Rattle.std.specs.Prelude.{◌≡◌, [], Err, None};
 ghost use Rattle.wal_rule.specs.Passes.{view_of_pass};
 ghost use Rattle.wal_rule.specs.Seats.{IsAtRest};
@@ -43,10 +46,14 @@ impl<D: Disk> Wal<D> {
     /// the record's end. Where the flush is refused, the record's start is told.
     pub fn commit<R: Wait>(&self, rt: &R, pass: &mut Pass, body: &Body) -> Result<Sealed, Refused>
         requires pass { IsPassOfLog self.now pass.old }
+        // The pass's log has the record's entry and then a promise that reaches its end, with the
+        // places and the moment that are told. Or it tells why not.
         ensures commits { AnswersCommit (setup_of_log self.now) body.now
             (view_of_pass pass.old) result (view_of_pass pass.new) }
+        // A pass that knows of a failed disk is told of it, and reserves nothing.
         ensures down_again { (faults : _) → KnowsDown faults (view_of_pass pass.old)
             → result ≡ commit_known_down faults }
+        // However it ends, the pass is about nothing, with its numbers and all that it had seen.
         ensures keeps { KeepsPass (view_of_pass pass.old) (view_of_pass pass.new) }
         ensures pass { IsPassOfLog self.now pass.new }
     {
@@ -57,6 +64,8 @@ impl<D: Disk> Wal<D> {
         answer
     }
 
+    // The commit of a seat, which is about nothing before it and behind it. It leaves of the seat's
+    // view what `commit` says of a pass.
     fn commit_on<R: Wait>(
         &self,
         rt: &R,

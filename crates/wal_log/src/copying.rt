@@ -1,5 +1,10 @@
 // A reserved record's words are copied, page by page (PostgreSQL's xlog.c, CopyXLogRecordToWAL,
-// GetXLogBuffer).
+// GetXLogBuffer). The record is in flight under one insertion lock, which stays held. Of the page
+// of its next word the buffer's end is loaded: if it is the page's own, the words are stored, else
+// one page is mapped and the end loaded again. If somebody else has the turn to map, or the page to
+// be replaced is not written, the pass tells its progress under its lock, which PostgreSQL does
+// before it maps any page (WALInsertLockUpdateInsertingAt): a lock that tells nothing holds every
+// watcher back, also one that would write that page. Then it loads down (word 16) before it pauses.
 ghost use Rattle.std.specs.Prelude.{◌≡◌, ◌<◌, [], IfErr, OnOk};
 ghost use Rattle.wal_page.specs.Placed.{placed_end};
 ghost use Rattle.wal_rule.specs.Tables.{IsSeatOn};
@@ -58,14 +63,19 @@ impl<D: Disk> Wal<D> {
         requires seat { IsSeatOn self.now.table seat.old }
         requires number { number ≡ seat.old.me.0.reserving.number }
         requires lock { lock < 8 }
+        // The pass copies this record under this one lock and is about nothing else. It knows of no
+        // failed disk, and has no writer in hand.
         requires copies { CopiesUnderOneLock self.now.shape lock placed.old seat.old.me.0 }
         requires end { end.0 ≡ placed_end placed.old }
         requires up { KnowsNoFault seat.old.me.0 }
         requires slots { seat.old.me.1 ≡ [] }
+        // However it ends, the record stays in flight under the lock; at Ok no word of it is left.
         ensures copies { CopiesUnderOneLock self.now.shape lock placed.new seat.new.me.0 }
         ensures whole { OnOk result (placed.new.next ≡ placed_end placed.old) }
+        // Else the disk failed in this call or before: the caller may give the copy up.
         ensures up { OnOk result (KnowsNoFault seat.new.me.0) }
         ensures why { IfErr result (λ e. TellsCopyErr seat.old.me.0 seat.new.me.0 e) }
+        // Of the record only its next word has moved, and nothing was added to the pass's log.
         ensures place { IsSamePlace placed.old placed.new }
         ensures keeps { KeepsPass seat.old.me.0 seat.new.me.0 }
         ensures log { log_of_pass seat.new.me.0 ≡ log_of_pass seat.old.me.0 }
@@ -101,13 +111,16 @@ impl<D: Disk> Wal<D> {
     ) -> CopyStep
         requires seat { IsSeatOn self.now.table seat.old }
         requires number { number ≡ seat.old.me.0.reserving.number }
+        // The pass copies this record under one lock, and does so still behind the step.
         requires copies { (lock : _)
             × CopiesUnderOneLock self.now.shape lock placed.old seat.old.me.0 }
         requires end { end.0 ≡ placed_end placed.old }
         ensures copies { (lock : _)
             → CopiesUnderOneLock self.now.shape lock placed.old seat.old.me.0
             → CopiesUnderOneLock self.now.shape lock placed.new seat.new.me.0 }
+        // Whole: no word is left. Taken or unwritten: nothing was copied, and it has to wait.
         ensures tells { TellsStep placed.old placed.new result }
+        // No fault was met on the way, and of the record only its next word has moved.
         ensures up { KnowsNoFault seat.old.me.0 → KnowsNoFault seat.new.me.0 }
         ensures place { IsSamePlace placed.old placed.new }
         ensures keeps { KeepsPass seat.old.me.0 seat.new.me.0 }
@@ -130,7 +143,7 @@ impl<D: Disk> Wal<D> {
         }
     }
 
-    // Pauses, unless the disk has failed.
+    // Pauses, unless the disk has failed. Its lock and its copy the pass has as before.
     fn wait_up(&self, seat: &mut LogSeat<D>, backoff: &Backoff) -> Result<(), CopyErr>
         requires seat { IsSeatOn self.now.table seat.old }
         ensures up { OnOk result (KnowsNoFault seat.new.me.0) }
@@ -163,9 +176,12 @@ impl<D: Disk> Wal<D> {
         requires seat { IsSeatOn self.now.table seat.old }
         requires number { number ≡ seat.old.me.0.reserving.number }
         requires lock { lock < 8 }
+        // The pass copies under this one lock, with no turn and no writer in hand.
         requires copies { CopiesUnderOneLock self.now.shape lock placed.now seat.old.me.0 }
         requires up { KnowsNoFault seat.old.me.0 }
         requires slots { seat.old.me.1 ≡ [] }
+        // It does so behind it: nothing was copied, and the turn to write is had no longer. That
+        // the page is written now is not said; the caller looks again.
         ensures copies { CopiesUnderOneLock self.now.shape lock placed.now seat.new.me.0 }
         ensures up { OnOk result (KnowsNoFault seat.new.me.0) }
         ensures why { IfErr result (λ e. TellsCopyErr seat.old.me.0 seat.new.me.0 e) }

@@ -1,4 +1,11 @@
-// The log is flushed up to an address (PostgreSQL's xlog.c, XLogFlush).
+// The log is flushed up to an address (PostgreSQL's xlog.c, XLogFlush). The pass holds nothing
+// before it and behind it. A try loads down (word 16), the reserved end (0) and the flushed address
+// (14), and if that suffices the moment (15). Else it watches the locks, and with the turn to write
+// it loads down again, writes what the watch told, stores that as written (13), syncs, and stores
+// the moment, then the flushed address. Since the moment is stored before that address and loaded
+// behind it, who finds an address flushed is told no moment that is too early.
+// PostgreSQL waits at locks and turn (WaitXLogInsertionsToFinish, LWLockAcquireOrWait). Here a try
+// ends there, and the next one loads the flushed address again: another flush may have passed it.
 ghost use Rattle.std.specs.Prelude.{◌≡◌, ◌⊎◌, ◌<◌, ◌≤◌, [], IfErr, IfNone, IfOk, IfSome};
 ghost use mathlib.Core.Option.{none};
 ghost use Rattle.page_writing.specs.InHand.{IsReady, lent_in, writer_in};
@@ -76,10 +83,15 @@ impl<D: Disk> Wal<D> {
     /// that it knows to be copied, the last page as it stands, and syncs.
     pub fn flush<R: Wait>(&self, rt: &R, pass: &mut Pass, upto: Lsn) -> Result<Hard, FlushErr>
         requires pass { IsPassOfLog self.now pass.old }
+        // All below the address told is durable from the moment on. The two join the pass's log,
+        // and are no less than those that it was promised before. Or it tells why not, and adds
+        // nothing.
         ensures flushes { AnswersFlush upto.0 (view_of_pass pass.old) result
             (view_of_pass pass.new) }
+        // A pass that knows of a failed disk is told of it, also if the address is durable.
         ensures down_again { (faults : _) → KnowsDown faults (view_of_pass pass.old)
             → result ≡ flush_err_known_down faults }
+        // However it ends, the pass is about nothing, with its numbers and all that it had seen.
         ensures keeps { KeepsPass (view_of_pass pass.old) (view_of_pass pass.new) }
         ensures pass { IsPassOfLog self.now pass.new }
     {
@@ -90,7 +102,8 @@ impl<D: Disk> Wal<D> {
         answer
     }
 
-    // The flush of a seat, by as many tries as it takes.
+    // The flush of a seat, by as many tries as it takes; between two of them nothing is held. It
+    // leaves of the seat's view what `flush` says of a pass.
     pub(crate) fn flush_on<R: Wait>(
         &self,
         rt: &R,
@@ -122,7 +135,8 @@ impl<D: Disk> Wal<D> {
         unreachable!()
     }
 
-    // One try, which does not wait.
+    // One try, which does not wait. At Ok the pass was promised what is told; else its log is as it
+    // was. In both cases it is about nothing behind it.
     fn try_flush(&self, seat: &mut LogSeat<D>, number: u32, upto: Lsn) -> Result<Hard, TryFlushErr>
         requires seat { IsSeatOn self.now.table seat.old }
         requires number { number ≡ seat.old.me.0.reserving.number }
@@ -145,7 +159,8 @@ impl<D: Disk> Wal<D> {
         self.try_up(seat, number, upto)
     }
 
-    // One try, where the disk has not failed.
+    // One try, where the disk has not failed. The reserved end is looked at first, then the flushed
+    // address, then the locks.
     fn try_up(&self, seat: &mut LogSeat<D>, number: u32, upto: Lsn) -> Result<Hard, TryFlushErr>
         requires seat { IsSeatOn self.now.table seat.old }
         requires number { number ≡ seat.old.me.0.reserving.number }
@@ -171,7 +186,8 @@ impl<D: Disk> Wal<D> {
     }
 
     // Writes and syncs what is copied, where that reaches an address below which the pass has seen
-    // all reserved.
+    // all reserved. The locks are visited before the turn to write is taken: what the watch told
+    // stays true, and all of it is written and promised, also above the address.
     fn harden_copied(
         &self,
         seat: &mut LogSeat<D>,
@@ -180,6 +196,7 @@ impl<D: Disk> Wal<D> {
     ) -> Result<Hard, TryFlushErr>
         requires seat { IsSeatOn self.now.table seat.old }
         requires number { number ≡ seat.old.me.0.reserving.number }
+        // The address is reserved, and the flushed address that the pass loaded is below it.
         requires reserved { upto.0 ≤ end_form self.now.shape seat.old.me.0.reserving.seen }
         requires above { seat.old.me.0.flushed < upto.0 }
         requires rests { (seat.old.me.0.hold ≡ Rests) × (seat.old.me.1 ≡ []) }
@@ -202,7 +219,8 @@ impl<D: Disk> Wal<D> {
         Ok(self.harden(seat)?)
     }
 
-    // What was flushed already, where that is as far as an address.
+    // What was flushed already, where that is as far as an address: then the moment is loaded, and
+    // the pass was promised both. Else it has seen that the flushed address is below.
     fn told_already(&self, seat: &mut LogSeat<D>, upto: Lsn) -> Option<Hard>
         requires seat { IsSeatOn self.now.table seat.old }
         requires up { KnowsNoFault seat.old.me.0 }
@@ -227,11 +245,14 @@ impl<D: Disk> Wal<D> {
     }
 
     // Syncs what is written and stored, tells since which moment it is durable, and gives writer
-    // and turn back. Where the disk fails, sets it down.
+    // and turn back. If the disk fails, sets it down and promises nothing: after a failed sync
+    // nobody knows which writes the system still holds.
     fn harden(&self, seat: &mut LogSeat<D>) -> Result<Hard, DiskFault>
+        // The writer is in hand and has not failed, and all that it has written is stored.
         requires ready { IsReady D.tape D.moment D.faults self.now.table seat.old }
         requires stored { (lent_in seat.old.me.0.hold).stored ≡ (writer_in seat.old.me.0).written }
         requires up { KnowsNoFault seat.old.me.0 }
+        // Just that much is promised. Or the down value is set, and nothing is promised.
         ensures told { IfOk result (λ hard. (hard.upto.0 ≡ (writer_in seat.old.me.0).written)
             × IsToldHard hard.upto.0 hard.upto.0 hard.moment seat.old.me.0 seat.new.me.0) }
         ensures failed { IfErr result (λ e. SetsDownItself e.faults seat.new.me.0
@@ -250,7 +271,9 @@ impl<D: Disk> Wal<D> {
         Ok(hard)
     }
 
-    // Stores the moment, and then the address below which all is durable since.
+    // Stores the moment, and then the address below which all is durable since. All that is written
+    // is synced, and stored as written. From the second store on any pass that loads the flushed
+    // address rests on it. The writer stays in hand.
     fn store_hard(&self, seat: &mut LogSeat<D>) -> Hard
         requires ready { IsReady D.tape D.moment D.faults self.now.table seat.old }
         requires stored { (lent_in seat.old.me.0.hold).stored ≡ (writer_in seat.old.me.0).written }

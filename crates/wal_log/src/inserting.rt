@@ -1,4 +1,9 @@
-// A record is inserted (PostgreSQL's xlog.c, XLogInsertRecord).
+// A record is inserted (PostgreSQL's xlog.c, XLogInsertRecord): its place is reserved under an
+// insertion lock (beginning.rt), its words are copied (copying.rt), and the lock is released, which
+// tells each watcher that no word of it is left (WALInsertLockRelease). From the reservation on it
+// has its place, whatever fails: the record behind it names its start. If the disk has failed the
+// copy is given up: record and lock stay with a view with which nobody steps any more, so that no
+// watch ever takes the record for copied. Nothing is said here of what is durable.
 ghost use Rattle.std.specs.Prelude.{◌≡◌, [], Err, IfErr, IfOk, IsErrOf, None};
 ghost use Rattle.wal_page.specs.Placed.{placed_end};
 ghost use Rattle.wal_rule.specs.Passes.{view_of_pass};
@@ -59,10 +64,14 @@ impl<D: Disk> Wal<D> {
         body: &Body,
     ) -> Result<Receipt, InsertErr>
         requires pass { IsPassOfLog self.now pass.old }
+        // The pass's log has the record's entry last, with the places that are told. Or it tells
+        // why not, and the start of the entry if that stands in the order all the same.
         ensures inserts { AnswersInsert (setup_of_log self.now) body.now
             (view_of_pass pass.old) result (view_of_pass pass.new) }
+        // A pass that knows of a failed disk is told of it, and reserves nothing.
         ensures down_again { (faults : _) → KnowsDown faults (view_of_pass pass.old)
             → result ≡ Err (Down faults None) }
+        // However it ends, the pass is about nothing, with its numbers and all that it had seen.
         ensures keeps { KeepsPass (view_of_pass pass.old) (view_of_pass pass.new) }
         ensures pass { IsPassOfLog self.now pass.new }
     {
@@ -73,6 +82,8 @@ impl<D: Disk> Wal<D> {
         answer
     }
 
+    // The insert of a seat, which is about nothing before it and behind it. It leaves of the seat's
+    // view what `insert` says of a pass.
     pub(crate) fn insert_on<R: Wait>(
         &self,
         rt: &R,
@@ -106,7 +117,8 @@ impl<D: Disk> Wal<D> {
         }
     }
 
-    // Reserves the record's place, by as many tries as it takes.
+    // Reserves the record's place, by as many tries as it takes. At Ok one lock is held, with the
+    // record in flight under it; else nothing is, as between two tries.
     fn begin<'a, R: Wait>(
         &self,
         rt: &R,

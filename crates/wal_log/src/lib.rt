@@ -1,6 +1,10 @@
 //! A write-ahead log that several passes fill side by side: it is opened on a disk, its passes
 //! insert, flush and commit as threads, and it is closed (PostgreSQL's xlog.c, XLogInsertRecord,
 //! XLogFlush).
+//!
+//! `wal` says what a pass may hold at once. An insert is `inserting`: its place is reserved in
+//! `beginning`, its words are copied in `copying`. A flush is `flushing`. `writing` and `turns`
+//! serve it, and an insert that needs a buffer.
 #![tactic(auto)]
 
 mod beginning;

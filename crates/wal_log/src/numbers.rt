@@ -1,4 +1,5 @@
-//! Which numbers a pass has behind a call, so that its caller knows when it has all of them.
+//! Which numbers a pass has behind a call, so that its caller knows when it has all of them: with
+//! these no other pass is left, and the log may be closed.
 
 ghost use Rattle.wal_rule.specs.Closing.{KeepsNumbers};
 ghost use Rattle.wal_rule.specs.Seats.{SeatView};

@@ -1,4 +1,8 @@
 // A log is opened on a disk without segment 1 (PostgreSQL's xlog.c, BootStrapXLOG, StartupXLOG).
+// Memory comes first, so that want of it is told with the very disk that was handed in. Then page 0
+// of segment 1 is read, while nobody has a pass. If it is not there the writer goes into its slot
+// and the first pass is handed out: from then on the words are shared, and change by the table's
+// steps alone. No counted call is made, so the log begins at the disk's own moment.
 ghost use Rattle.std.specs.Prelude.{◌≡◌, IfErr, IfOk};
 ghost use Rattle.wal_core.specs.Opened.{AreFirstWords};
 ghost use Rattle.wal_core.specs.Sound.{IsSetup};
@@ -59,7 +63,8 @@ impl<D: Disk> Wal<D> {
         Wal::open_with(alloc, disk, setup, shape, words)
     }
 
-    // Opens it with its first words, where the disk has no segment 1.
+    // Opens it with its first words, those of a log that holds nothing, where the disk has no
+    // segment 1. The first pass has number 0 and may give all others away.
     fn open_with(
         alloc: Global,
         disk: D,

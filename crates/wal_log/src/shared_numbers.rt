@@ -1,4 +1,7 @@
-//! How several passes share the numbers of a log.
+//! How several passes share the numbers of a log. Each number is given to one pass at most; a log
+//! is closed by the pass that has all of them, its own, its spare ones and those of the passes that
+//! it took in. Callers split passes off the first one and take them in again: this law follows the
+//! numbers through it, whatever the passes do in between.
 
 ghost use Rattle.std.specs.Prelude.{◌≡◌, ℕ, ◌++◌, [], ◌∷◌, List, length};
 ghost use Rattle.machine_laws.specs.ClosedLogs.{HasAllNumbers};

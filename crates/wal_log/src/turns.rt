@@ -1,5 +1,10 @@
 // The turn to write, with the writer: taken, given back, and given back with the disk failed
-// (PostgreSQL's xlog.c, WALWriteLock).
+// (PostgreSQL's xlog.c, WALWriteLock). The turn (word 11) is taken by one exchange, down (16) is
+// loaded, and only then the writer is taken out of its slot. Until it is put back nobody else calls
+// the device, or stores the written (13) or flushed address (14), the moment (15) or down: so a
+// down of 0 that is loaded with the turn had stays 0 unless this pass sets it. The writer goes back
+// first, then the turn's word becomes 0. Before that all that it has written is stored as written,
+// or its fault as down: so who takes the turn next finds no fault that was not told.
 ghost use Rattle.std.specs.Prelude.{◌≡◌, ◌≢◌, [], OnOk, IfErr};
 ghost use mathlib.Core.Option.{some};
 ghost use Rattle.page_writing.specs.InHand.{HasHand, IsReady, known_copied, writer_in};
@@ -37,11 +42,14 @@ impl<D: Disk> Wal<D> {
     pub(crate) fn take_ready(&self, seat: &mut LogSeat<D>, number: u32) -> Result<(), TurnErr>
         requires seat { IsSeatOn self.now.table seat.old }
         requires number { number ≡ seat.old.me.0.reserving.number }
+        // The pass has no turn to write; it may hold a lock and copy, and goes on to do so.
         requires rests { (seat.old.me.0.hold ≡ Rests) × (seat.old.me.1 ≡ []) }
         requires up { KnowsNoFault seat.old.me.0 }
+        // The writer is in hand and has not failed. It may write up to what the pass's watch told.
         ensures ready { OnOk result (IsReady D.tape D.moment D.faults self.now.table seat.new
             × (known_copied seat.new.me.0 ≡ copied_below seat.old.me.0.watching)
             × KnowsNoFault seat.new.me.0) }
+        // Else the pass has neither, as before.
         ensures why { IfErr result (λ e. TellsTurnErr seat.old.me.0 seat.new.me.0 e
             × (seat.new.me.0.hold ≡ Rests) × (seat.new.me.1 ≡ [])) }
         ensures flushed { seat.new.me.0.flushed ≡ seat.old.me.0.flushed }
@@ -68,7 +76,8 @@ impl<D: Disk> Wal<D> {
         }
     }
 
-    // Puts the writer back, and gives the turn back.
+    // Puts the writer back, and gives the turn back. All that it has written is stored as written,
+    // or the down value is set: `slot_in` asks for that. Nothing else of the view changes.
     pub(crate) fn give_back(&self, seat: &mut LogSeat<D>)
         requires hand { HasHand D.tape D.moment D.faults self.now.table seat.old }
         requires may { MaySeat seat.old.me.0 slot_in }

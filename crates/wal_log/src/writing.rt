@@ -1,5 +1,10 @@
 // What is known to be copied is written out, with the writer in hand (PostgreSQL's xlog.c,
-// XLogWrite).
+// XLogWrite), and stored as written (word 13), so that its pages may be replaced. This is not
+// durable yet and nobody is told so: a sync and two stores come behind it, in a flush alone.
+// An insert that needs the buffer of a page not written (AdvanceXLInsertBuffer) comes here with its
+// insertion lock held and its record in flight. In this order: it tells its progress under its
+// lock, which would hold its own watch back else; it watches; it takes the turn to write and the
+// writer; it writes, stores what is written, and gives writer and turn back.
 ghost use Rattle.std.specs.Prelude.{◌≡◌, ◌<◌, [], OnOk, IfErr};
 ghost use Rattle.page_writing.specs.InHand.{IsReady, known_copied};
 ghost use Rattle.wal_rule.specs.Seats.{Rests};
@@ -58,13 +63,18 @@ impl<D: Disk> Wal<D> {
     // Writes out what is known to be copied, and stores how far the log is written. Where the disk
     // fails, sets it down and gives writer and turn back.
     pub(crate) fn write_known(&self, seat: &mut LogSeat<D>, known: u64) -> Result<(), DiskFault>
+        // The writer is in hand and has not failed, and `known` is what the watch told before it
+        // was taken.
         requires ready { IsReady D.tape D.moment D.faults self.now.table seat.old }
         requires known { known ≡ known_copied seat.old.me.0 }
         requires up { KnowsNoFault seat.old.me.0 }
+        // It is still in hand, and has written up to there at least, which is stored.
         ensures written { OnOk result (IsReady D.tape D.moment D.faults self.now.table seat.new
             × IsWrittenStored known seat.new.me.0 × KnowsNoFault seat.new.me.0) }
+        // The disk has failed: the down value is set, and neither writer nor turn is had any more.
         ensures failed { IfErr result (λ e. SetsDownItself e.faults seat.new.me.0
             × (seat.new.me.0.hold ≡ Rests) × (seat.new.me.1 ≡ [])) }
+        // Locks, copy and log are as they were, and nothing is promised.
         ensures flushed { seat.new.me.0.flushed ≡ seat.old.me.0.flushed }
         ensures work { KeepsWork seat.old.me.0 seat.new.me.0 }
         ensures log { log_of_pass seat.new.me.0 ≡ log_of_pass seat.old.me.0 }
@@ -89,7 +99,8 @@ impl<D: Disk> Wal<D> {
         self.table.store_written(seat, written);
     }
 
-    // Tells how far a record's copy has come under its lock: up to the address of its next word.
+    // Tells how far a record's copy has come under its lock: up to the address of its next word. No
+    // word of it is left below, so a watch may pass the lock up to there. The view keeps no trace.
     pub(crate) fn tell_progress<'a>(&self, seat: &mut LogSeat<D>, lock: u32, placed: &Placed<'a>)
         requires seat { IsSeatOn self.now.table seat.old }
         requires lock { lock < 8 }
@@ -115,12 +126,15 @@ impl<D: Disk> Wal<D> {
         requires seat { IsSeatOn self.now.table seat.old }
         requires number { number ≡ seat.old.me.0.reserving.number }
         requires lock { lock < 8 }
+        // The pass copies under this one lock, with no turn and no writer in hand, and so it does
+        // behind it, however it ends.
         requires copies { CopiesUnderOneLock self.now.shape lock placed.now seat.old.me.0 }
         requires up { KnowsNoFault seat.old.me.0 }
         requires slots { seat.old.me.1 ≡ [] }
         ensures copies { CopiesUnderOneLock self.now.shape lock placed.now seat.new.me.0 }
         ensures pass { KeepsPass seat.old.me.0 seat.new.me.0 }
         ensures log { log_of_pass seat.new.me.0 ≡ log_of_pass seat.old.me.0 }
+        // It was not written: the disk has failed, or a lock or the turn to write was in the way.
         ensures up { OnOk result (KnowsNoFault seat.new.me.0) }
         ensures why { IfErr result (λ e. TellsWriteErr seat.old.me.0 seat.new.me.0 e) }
         ensures slots { seat.new.me.1 ≡ [] }

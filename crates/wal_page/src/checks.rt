@@ -1,4 +1,6 @@
-//! The checks of a page that is read (PostgreSQL's XLogReaderValidatePageHeader of xlogreader.c).
+//! The checks of a page that is read (PostgreSQL's XLogReaderValidatePageHeader of xlogreader.c). A
+//! page is believed only behind them: a reader takes no record's byte from one that failed. They
+//! are made in one order, and the first that fails is told, so a damage has one name.
 
 ghost use Rattle.std.specs.Prelude.{◌≡◌, ℕ, ◌+◌, ◌*◌, ◌/◌, ◌%◌, ◌^◌, ◌<◌, ◌≤◌, ◌==◌, IfOk, MatchResult, Some, None};
 ghost use Rattle.std.specs.Int.{w16, w32, w64};

@@ -1,4 +1,7 @@
-//! The header that a page is given.
+//! The header that a page is given (PostgreSQL's xlog.c writes it in AdvanceXLInsertBuffer, before
+//! any record is copied to the page, and what is still to come in CopyXLogRecordToWAL). Here all of
+//! it is the words of the record that has the page's first other byte: so each header is written by
+//! one copy, and is 0 until then.
 
 ghost use Rattle.std.specs.Prelude.{◌≡◌, ◌+◌, ◌*◌, ◌^◌, ◌<◌, nat_lt, if◌then◌else◌};
 ghost use Rattle.record_spelling.specs.Spelling.{word_at};

@@ -1,4 +1,6 @@
-//! Laws of the definitions, each proved by a function that does nothing.
+//! Laws of the definitions, each proved by a function that does nothing. Who reserves or copies a
+//! record knows by them that its words are nobody else's, and stay what they are while the order
+//! grows behind it.
 
 ghost use Rattle.std.specs.Prelude.{◌≡◌, ℕ, ◌+◌, ◌*◌, ◌%◌, ◌<◌, ◌≤◌, ◌↔◌, List, [], ◌∷◌, ◌++◌, length, take, drop, slice_index, slice_index_or, All, Some, None, IsSome};
 ghost use Rattle.std.specs.Int.{w64, to_le_bytes};

@@ -1,4 +1,5 @@
-//! Where a page's header has its fields, and its flags (PostgreSQL's xlog_internal.h).
+//! Where a page's header has its fields, and its flags (PostgreSQL's xlog_internal.h,
+//! XLogPageHeaderData and XLogLongPageHeaderData). The numbers are those of PostgreSQL 16.
 
 /// XLOG_PAGE_MAGIC
 pub(crate) const MAGIC: u16 = 0xD113;

@@ -1,4 +1,6 @@
-//! The order of a log's records, and its pages.
+//! The order of a log's records, and its pages: which record owns which word of the log, what that
+//! word is, and how a page that is read is checked. Nothing is shared or written here: who copies a
+//! record asks `Placed` for its words one after another, and who reads a page `check_page`.
 #![tactic(auto)]
 
 mod checks;

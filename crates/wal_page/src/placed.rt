@@ -5,6 +5,8 @@
 //! that byte writes the header too: that record alone knows how many of its bytes are still to
 //! come, which the header tells. So a record's words are one stretch of addresses, no two records
 //! give the same word, and a page is whole once each record that touches it has given its words.
+//! Once its place is reserved, a record's words are the log's at their addresses, whatever records
+//! come behind it: so copies of different records need no order between them.
 
 ghost use Rattle.std.specs.Prelude.{◌≡◌, ◌+◌, ◌-◌, ◌*◌, ◌%◌, ◌^◌, ◌<◌, ◌≤◌, ◌==◌, IfSome, IfNone, length, if◌then◌else◌};
 ghost use Rattle.byte_position.specs.Position.{end_address_of};
@@ -14,12 +16,10 @@ ghost use Rattle.wal_page.specs.Page.{header_size};
 ghost use Rattle.wal_page.specs.Placed.{HasWordsFrom, IsWordOfLog, LieTogether, Owns, header_word, placed_end, placed_word};
 
 use crate::header::page_header_word;
-use byte_position::{Geometry, PAGE_SIZE};
+use byte_position::{Geometry, PAGE_SIZE, WORD};
 use record_spelling::Body;
 use std::marker::Model;
 use wal_types::Lsn;
-
-const WORD: u64 = 8;
 
 /// SizeOfXLogRecord: the length of a record's own header.
 const RECORD_HEADER_LEN: u32 = 24;
@@ -94,6 +94,8 @@ impl<'a> Placed<'a> {
         prev: Lsn,
         next: Lsn,
     ) -> Placed<'a>
+        // The place is one that a record can have, and `next` is one of its words, or where it
+        // ends.
         requires whole { start % 8 ≡ 0 }
         requires within { start + assembled_room_at geometry start body.now < 2 ^ 60 }
         requires at_word { next.0 % 8 ≡ 0 }
@@ -125,11 +127,14 @@ impl<'a> Placed<'a> {
     /// The next word and where it lies. Each call answers the word behind the last one's, so that
     /// each word that the record owns comes once, in rising order.
     pub fn next_word(&mut self) -> Option<(Lsn, u64)>
+        // The word lies where the last one ended, is the record's own, and is the log's word there
+        // in every order that has the record at this place.
         ensures place { IfSome result (λ given. (given.0.0 ≡ self.old.next)
             × (self.old.next % 8 ≡ 0)
             × Owns self.old.size self.old.body self.old.start self.old.next) }
         ensures word { IfSome result (λ given. given.1 ≡ placed_word self.old self.old.next) }
         ensures gives { IfSome result (λ given. IsWordOfLog self.old given.0.0 given.1) }
+        // It goes on by one word; `None` says that the record's last word was given.
         ensures passed { IfSome result (λ given. self.new
             ≡ record self.old { next = self.old.next + 8 }) }
         ensures whole { IfNone result (self.old.next ≡ placed_end self.old) }
@@ -172,6 +177,7 @@ impl<'a> Placed<'a> {
     fn put_some(&mut self, words: &mut [u64]) -> usize
         requires some { 0 < length words.old }
         requires owned { self.old.next + 8 * length words.old ≤ placed_end self.old }
+        // As many words as it answers are put at the front, and it goes on behind them.
         ensures count { (0 < result) × (result ≤ length words.old) }
         ensures placed { self.new ≡ record self.old { next = self.old.next + 8 * result } }
         ensures words { HasWordsFrom self.old result words.new }

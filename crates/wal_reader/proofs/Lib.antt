@@ -14,3 +14,4 @@ pub mod FailureLaws
 pub mod RunLaws
 pub mod ReachLaws
 pub mod ReadAtLaws
+pub mod FindsLaws

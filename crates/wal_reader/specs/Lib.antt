@@ -15,4 +15,5 @@ pub mod Standings
 pub mod Buffers
 pub mod LogReader
 pub mod Settled
+pub mod Finds
 pub mod Runs

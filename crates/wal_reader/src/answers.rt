@@ -1,4 +1,5 @@
-//! What is told where no record stands.
+//! What is told where no record stands: the log's end, or the first check that fails, with the
+//! address at which it was met.
 
 ghost use Rattle.std.specs.Prelude.{◌≡◌, ◌↔◌, ◌^◌, ◌<◌, IsTrue, option_map};
 ghost use Rattle.byte_position.specs.Position.{address_of};

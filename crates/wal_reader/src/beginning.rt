@@ -1,4 +1,7 @@
-//! Where reading begins (PostgreSQL's XLogFindNextRecord of xlogreader.c).
+//! Where reading begins (PostgreSQL's XLogFindNextRecord of xlogreader.c). A record that continues
+//! into the page is passed over, by as many bytes as the page says are still to come; each page on
+//! the way has passed its own checks. The first record behind it is read without knowing the start
+//! of the one before.
 
 ghost use Rattle.std.specs.Prelude.{◌≡◌, ℕ, ◌+◌, ◌-◌, ◌*◌, ◌/◌, ◌%◌, ◌<◌, ◌≤◌, ◌^◌, ◌==◌, if◌then◌else◌, Some, IfOk, IfSome, OnOk, Result};
 ghost use Rattle.byte_position.specs.Position.{position_of};
@@ -39,6 +42,7 @@ pub(crate) fn find_beginning<D: Disk>(
     disk: &mut D,
     start: Lsn,
 ) -> Result<RecordPlace, ReadFailure>
+    // At Ok a record may start at the place, which is the one that these pages give for this start.
     ensures geometry { cache.new.geometry ≡ cache.old.geometry }
     ensures reachable { IfOk result IsReachable }
     ensures unread { 2 ^ 60 ≤ start.0 → (disk.new ≡ disk.old) × OnOk result ⊥ }

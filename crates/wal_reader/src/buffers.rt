@@ -1,4 +1,6 @@
-//! What a reader works with.
+//! What a reader works with: taken once, at its first step, and used again at each further one. The
+//! page that is held is the disk's as of its read; so it is forgotten where it may be written
+//! again.
 
 ghost use Rattle.std.specs.Prelude.{◌≡◌, [], None, IfOk, IsTrue, OnOk, is_some};
 ghost use Rattle.wal_reader.specs.Buffers.{AreFor, HoldsPageOf, page_in, room_in};
@@ -21,6 +23,7 @@ pub(crate) fn set_up(
     alloc: Global,
     geometry: Geometry,
 ) -> Result<(), AllocError>
+    // At Ok there are buffers; what the reader held before it holds still.
     ensures ready { OnOk result (IsTrue (is_some buffers.new)) }
     ensures fit { AreFor geometry buffers.old → AreFor geometry buffers.new }
     ensures room { room_in buffers.new ≡ room_in buffers.old }

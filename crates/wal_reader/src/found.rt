@@ -1,3 +1,6 @@
+// What is read and told, as values: a record with its place, the kinds of damage by name, and where
+// and why a log stops. Each kind names one check; which check comes before which is said by the
+// table of checks (specs/Decodes).
 ghost use Rattle.std.specs.Prelude.{◌≡◌};
 ghost use Rattle.wal_reader.specs.Names.{page_name};
 

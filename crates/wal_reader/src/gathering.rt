@@ -1,5 +1,7 @@
 //! The bytes of a record, gathered page by page (PostgreSQL's XLogDecodeNextRecord of
-//! xlogreader.c).
+//! xlogreader.c). A call goes on where the last one stopped: the room has the record's first bytes,
+//! and the cursor stands behind them in the page that is held. Room grows by what a page has, after
+//! that page has passed; so a size that is only claimed takes no memory.
 
 ghost use Rattle.std.specs.Prelude.{◌≡◌, ℕ, ◌+◌, ◌-◌, ◌*◌, ◌/◌, ◌<◌, ◌≤◌, ◌^◌, ◌++◌, length, take, drop, min, vec_len, Some, None, IfOk, OnErr, OnOk, MatchResult};
 ghost use Rattle.wal_page.specs.Page.{first_fault};
@@ -30,19 +32,24 @@ pub(crate) fn gather<D: Disk>(
     cursor: PageCursor,
     upto: u32,
 ) -> Result<PageCursor, ReadFailure>
+    // The room has the record's first bytes, at most those asked for, and the cursor stands behind
+    // them.
     requires reachable { IsReachable extent.at }
     requires upto { upto ≤ extent.total }
     requires len { vec_len room.old ≤ upto }
     requires on { IsOn cache.old cursor }
     requires gathered { HasGathered cache.old.geometry extent.at.position
         (vec_len room.old) cursor }
+    // At Ok the room has all bytes asked for, and the cursor stands behind them.
     ensures geometry { cache.new.geometry ≡ cache.old.geometry }
     ensures len { OnOk result (vec_len room.new ≡ upto) }
     ensures cursor { IfOk result (λ now. IsOn cache.new now
         × HasGathered cache.old.geometry extent.at.position upto now) }
+    // Beyond the last address that is read no page is looked at.
     ensures beyond { 2 ^ 47 ≤ cursor.page + 1 → StaysOnPage disk.old disk.new
         cache.old cache.new cursor result }
     ensures sees { SeesStill (D.tape disk.old) (D.tape disk.new) cache.old cache.new }
+    // Bytes that were the record's are followed by the record's; all are of pages that passed.
     ensures bytes { (pages : Pages) → Sees (D.tape disk.old) cache.old pages → room.old.items
         ≡ bytes_from cache.old.geometry pages (vec_len room.old) extent.at.position
         → OnOk result (room.new.items
@@ -50,6 +57,7 @@ pub(crate) fn gather<D: Disk>(
     ensures room { (pages : Pages) → Sees (D.tape disk.old) cache.old pages → room.old.items
         ≡ bytes_from cache.old.geometry pages (vec_len room.old) extent.at.position
         → HoldsPassed cache.old.geometry pages extent.at extent.total cursor.page room.new.items }
+    // It goes on where all checks of the pages between hold, and tells the first that fails else.
     ensures checks { (pages : Pages) → Sees (D.tape disk.old) cache.old pages
         → PassesPages cache.old.geometry pages extent.at extent.total cursor.page upto result }
 
@@ -73,10 +81,12 @@ fn pass_border<D: Disk>(
     cursor: PageCursor,
     gathered: u32,
 ) -> Result<PageCursor, ReadFailure>
+    // A byte of the record is still to come, and the cursor stands before it, or at the page's end.
     requires reachable { IsReachable extent.at }
     requires more { gathered < extent.total }
     requires on { IsOn cache.old cursor }
     requires stands { StandsIn cache.old.geometry (extent.at.position + gathered) cursor }
+    // At Ok the cursor stands at that byte, on the page that is held then.
     ensures geometry { cache.new.geometry ≡ cache.old.geometry }
     ensures cursor { IfOk result (λ now. IsOn cache.new now × StandsIn cache.old.geometry
         (extent.at.position + gathered) now × (now.offset < 8192)) }
@@ -109,10 +119,12 @@ fn take_bytes(
     cursor: PageCursor,
     upto: u32,
 ) -> Result<PageCursor, AllocError>
+    // A byte is wanted, and the cursor stands at it, in the page that is held.
     requires more { vec_len room.old < upto }
     requires on { IsOn cache.now cursor }
     requires stands { StandsIn cache.now.geometry (extent.at.position + vec_len room.old) cursor }
     requires within { cursor.offset < 8192 }
+    // At Ok at least one byte is appended, and the cursor stands behind the last; at Err none is.
     ensures kept { OnErr result (room.new.items ≡ room.old.items) }
     ensures len { OnOk result ((vec_len room.old < vec_len room.new) × (vec_len room.new ≤ upto)) }
     ensures page { IfOk result (λ now. now.page ≡ cursor.page) }

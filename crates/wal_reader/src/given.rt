@@ -1,4 +1,8 @@
-//! The next record that a reader gives.
+//! The next record that a reader gives (PostgreSQL's XLogReadRecord, behind XLogFindNextRecord, of
+//! xlogreader.c). The first time it looks for where reading begins, on the page that holds the
+//! start; from then on it reads at the place behind the last record. Records that start before the
+//! address asked for are read and checked as any other, and passed over: so each record that is
+//! given has a right one before it, but the first that was read.
 
 ghost use Rattle.std.specs.Prelude.{◌≡◌, ◌<◌, ◌≤◌, ◌^◌, option_map, Some, None, IfOk, IfSome};
 ghost use Rattle.segment_disk.specs.Tape.{IsUncalled};
@@ -33,6 +37,8 @@ pub(crate) fn next_given<D: Disk>(
     from: Option<RecordPlace>,
 ) -> Result<(FoundRecord, RecordPlace), ReadFailure>
     requires { IfSome from IsReachable }
+    // What is answered is the next record of these pages, at or behind `start`, spelled by its
+    // bytes; the place behind it lies further on.
     ensures geometry { buffers.new.cache.geometry ≡ buffers.old.cache.geometry }
     ensures further { IfOk result (λ r. IsFurther from r.1) }
     ensures next { (pages : Pages) → Sees (D.tape disk.old) buffers.old.cache pages
@@ -44,6 +50,7 @@ pub(crate) fn next_given<D: Disk>(
     ensures room { (pages : Pages) → Sees (D.tape disk.old) buffers.old.cache pages
         → IsRoomAfterStep buffers.old.cache.geometry pages
         buffers.old.room.items buffers.new.room.items }
+    // Where nothing is to be read, or all that may be is held already, the disk is untouched.
     ensures unread { IfSome from (λ at. IsOutOfReach buffers.old.cache.geometry
         (option_map (λ e. e.0) end) at.position → disk.new ≡ disk.old) }
     ensures last_page { IfSome from (λ at. HoldsLastPage buffers.old.cache.number
@@ -72,6 +79,7 @@ fn read_given<D: Disk>(
     from: RecordPlace,
 ) -> Result<(FoundRecord, RecordPlace), ReadFailure>
     requires { IsReachable from }
+    // As of `next_given`, from a place on.
     ensures geometry { buffers.new.cache.geometry ≡ buffers.old.cache.geometry }
     ensures further { IfOk result (λ r. GoesOn from r.1) }
     ensures next { (pages : Pages) → Sees (D.tape disk.old) buffers.old.cache pages

@@ -1,4 +1,6 @@
-//! Reading a log's pages back into records.
+//! Reading a log's pages back into records (PostgreSQL's xlogreader.c). A caller has a `Reader` and
+//! the disk for itself and asks for one record after another; each step reads and checks pages, and
+//! makes no counted call. Nothing of a page or a record is believed before its checks.
 #![tactic(auto)]
 
 mod answers;
@@ -23,6 +25,6 @@ mod record_start;
 mod standing;
 
 pub use found::{Answer, DamageKind, FoundRecord, Stopped};
-pub use laws::{decoding_is_settled, reading_is_computed, runs_give_fronts};
+pub use laws::{decoding_is_settled, finding_is_decoding, reading_is_computed, runs_give_fronts};
 pub use log_reader::Reader;
 pub use standing::{ReadErr, Step};

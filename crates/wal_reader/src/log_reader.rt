@@ -1,4 +1,8 @@
-//! Reading a log record by record (PostgreSQL's XLogReadRecord of xlogreader.c).
+//! Reading a log record by record (PostgreSQL's XLogReadRecord of xlogreader.c). The caller lends
+//! the same disk at each step. Between two steps the reader keeps where it stands, one page and
+//! room for one record's bytes. At an end, and behind a fault or want of memory, it stands where it
+//! was, and goes on there when it is asked again. Whatever else stands in a record's place it tells
+//! for good, and reads nothing more.
 
 ghost use Rattle.std.specs.Prelude.{◌≡◌};
 ghost use Rattle.wal_reader.specs.Buffers.{AreFor, AreFor-prop};
@@ -63,15 +67,21 @@ impl Reader {
     /// it are read and checked as any other. Damage is told again from then on. At an end, on want
     /// of memory or where the disk failed the reader stays where it is.
     pub fn next<D: Disk>(&mut self, alloc: Global, disk: &mut D) -> Result<Step, ReadErr>
+        // It gives what the pages decode to, as long as the disk holds these pages; it stands
+        // behind a record that it gave, and where it was else.
         ensures gives { (pages : Pages) → IsLogOf (D.tape disk.old)
             (reader_state self.old).size pages → Knows self.old pages → Knows self.new pages
             × IsNext pages (reader_state self.old) (reader_state self.new) result }
         ensures leaves { LeavesReader (reader_state self.old) (reader_state self.new) result }
         ensures behind { StandsAfter (reader_state self.old).size
             (reader_state self.new).standing result }
+        // At an end it holds no page, since what is written later stands on that page too. Where
+        // nothing is to be read the disk is untouched.
         ensures forgets { OnEnd result (HoldsNoPage self.new) }
         ensures unread { NeedsNoPage (reader_state self.old) (reader_page self.old)
             self.old.standing → disk.new ≡ disk.old }
+        // A record that is given is one that some bytes spell, those at its addresses. The room has
+        // nothing but first bytes of one record, of pages that passed.
         ensures spelled { IfOk result GivesSpelled }
         ensures spelled_there { (pages : Pages) → IsLogOf (D.tape disk.old)
             (reader_state self.old).size pages → Knows self.old pages
@@ -80,6 +90,7 @@ impl Reader {
             (reader_state self.old).size pages → Knows self.old pages
             → IsRoomAfterStep (reader_state self.old).size pages
             (reader_room self.old) (reader_room self.new) }
+        // What has stopped it is told again, without a read.
         ensures stopped { IsToldAgain (reader_state self.old).standing result disk.old disk.new }
 
         ensures uncalled { IsUncalled D.tape D.moment disk.old disk.new }

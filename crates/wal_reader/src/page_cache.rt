@@ -1,4 +1,7 @@
-//! The page of the log that a reader holds.
+//! The page of the log that a reader holds (PostgreSQL's ReadPageInternal of xlogreader.c, which
+//! keeps one page as well). A caller asks for the page that it needs before it looks at `bytes`;
+//! what these say is the log's only where the answer was true. It is as of the read: `forget_page`
+//! has the next `load` read it anew.
 
 ghost use Rattle.std.specs.Prelude.{◌≡◌, ◌+◌, ◌*◌, ◌/◌, ◌%◌, ◌<◌, ◌≤◌, ◌^◌, Some, None, Ok, false, IfOk, OnErr, IfSome, IsTrue};
 ghost use Rattle.segment_disk.specs.Cause.{HasCause};
@@ -39,14 +42,19 @@ impl PageCache {
     /// again, and one that ends above address 2^60 counts as not there. Once a read has failed
     /// nothing is held.
     pub(crate) fn load<D: Disk>(&mut self, disk: &mut D, page: u64) -> Result<bool, Failed>
+        // At true the page asked for is held, as the disk has it.
         ensures geometry { self.new.geometry ≡ self.old.geometry }
         ensures held { IfOk result (λ there. IsTrue there → self.new.number ≡ Some page) }
         ensures reach { IfOk result (λ there. IsTrue there → page < 2 ^ 47) }
+        // Nothing is read from address 2^60 on, nor of a page that is held. Behind a failed read
+        // none is.
         ensures beyond { 2 ^ 47 ≤ page → (result ≡ Ok false) × (disk.new ≡ disk.old)
             × (self.new ≡ self.old) }
         ensures unread { self.old.number ≡ Some page → (disk.new ≡ disk.old)
             × (self.new ≡ self.old) }
         ensures nothing_held { OnErr result (self.new.number ≡ None) }
+        // What is held is a page of these pages, before and behind: of those that the disk tells,
+        // or of any that the caller knows it to hold.
         ensures caches { IfSome (D.tape disk.old)
             (λ t. let pages = log_of t self.old.geometry in Caches self.old pages
             → Caches self.new pages) }

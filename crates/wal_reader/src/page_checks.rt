@@ -1,4 +1,7 @@
-//! The checks of the pages that a record stands on.
+//! The checks of the pages that a record stands on (PostgreSQL's XLogReaderValidatePageHeader and
+//! XLogDecodeNextRecord of xlogreader.c). A page's own checks come first, told at its address;
+//! then, of a page into which a record continues, that it says so and owes the same number of
+//! bytes, told at the record's start. Until a page has passed no byte of it is taken.
 
 ghost use Rattle.std.specs.Prelude.{◌≡◌, ◌+◌, ◌-◌, ◌*◌, ◌/◌, ◌%◌, ◌<◌, ◌≤◌, ◌^◌, ◌==◌, Some, None, IfOk, MatchResult, OnOk};
 ghost use Rattle.byte_position.specs.Geometry.{IsSegmentSize};
@@ -59,13 +62,17 @@ pub(crate) fn turn_page<D: Disk>(
     owed: u32,
 ) -> Result<PageCursor, ReadFailure>
     requires { cursor.page < 2 ^ 47 }
+    // At Ok the next page is held, and the cursor stands behind its header.
     ensures geometry { cache.new.geometry ≡ cache.old.geometry }
     ensures next { IfOk result (λ next. (next.page ≡ cursor.page + 1) × (next.offset
         ≡ header_size cache.old.geometry (cursor.page + 1)) × (next.page < 2 ^ 47)
         × IsOn cache.new next) }
+    // A page beyond the last address that is read is not looked at. Pages that were seen are seen
+    // still.
     ensures beyond { 2 ^ 47 ≤ cursor.page + 1 → (disk.new ≡ disk.old)
         × (cache.new ≡ cache.old) × OnOk result ⊥ }
     ensures sees { SeesStill (D.tape disk.old) (D.tape disk.new) cache.old cache.new }
+    // It goes on where all checks of that page hold, and tells the first that fails else.
     ensures checks { (pages : Pages) → Sees (D.tape disk.old) cache.old pages
         → Settles (first_fault (continuation_rows_of cache.old.geometry
         (cursor.page + 1) cursor.timeline start.0 owed (pages (cursor.page + 1)))) result }

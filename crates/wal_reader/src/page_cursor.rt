@@ -1,4 +1,5 @@
-//! Where the bytes of a record stand in the page that is held.
+//! Where the bytes of a record stand in the page that is held. A cursor is good for the page that
+//! was held when it was made; the page behind it has one of its own (`turn_page`).
 
 /// Where the next byte of a record stands in the page that is held.
 #[derive(Clone, Copy, Debug)]

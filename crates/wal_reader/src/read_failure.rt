@@ -1,4 +1,5 @@
-//! Why reading a record does not go on.
+//! Why reading a record does not go on. What is told is of the log; want of memory and a fault of
+//! the disk are of this step alone, and the next one tries again.
 
 use crate::found::Answer;
 use segment_disk::Failed;

@@ -1,4 +1,6 @@
-//! The checks of a record's bytes, and what they say.
+//! The checks of a record's bytes, and what they say (PostgreSQL's ValidXLogRecordHeader and
+//! ValidXLogRecord of xlogreader.c, then DecodeXLogRecord). A header is checked as soon as it is
+//! gathered; the CRC comes over all bytes, before any item is looked at.
 
 ghost use Rattle.std.specs.Prelude.{◌≡◌, ◌+◌, ◌*◌, ◌/◌, ◌^◌, ◌<◌, ◌≤◌, ◌++◌, length, take, drop, option_map, IfOk};
 ghost use Rattle.std.specs.Int.{w64};
@@ -65,9 +67,12 @@ pub(crate) fn found(
     extent: RecordExtent,
     bytes: &[u8],
 ) -> Result<Result<FoundRecord, Answer>, AllocError>
+    // The bytes are as many as the record claims, and what it takes up ends low enough to have an
+    // address.
     requires start { start.0 ≡ address_of geometry extent.at.position }
     requires len { (24 ≤ length bytes.now) × (length bytes.now ≡ extent.total) }
     requires end { extent.at.position + (extent.total + 7) / 8 * 8 < 2 ^ 60 }
+    // What the bytes spell, or why they spell nothing; with the record's place.
     ensures read { IfOk result (λ found. found ≡ found_or geometry extent.at extent.total
         (number_at w64 bytes.now 8) (reading_of bytes.now)) }
     ensures spelled { IfOk result (λ found. IfOk found IsSpelled) }

@@ -51,21 +51,26 @@ pub(crate) fn read_record<D: Disk>(
     at: RecordPlace,
 ) -> Result<(FoundRecord, RecordPlace), ReadFailure>
     requires { IsReachable at }
+    // At Ok the place behind is where the next record would start.
     ensures geometry { cache.new.geometry ≡ cache.old.geometry }
     ensures goes_on { IfOk result (λ r. GoesOn at r.1) }
     ensures behind { IfOk result (λ r. IsBehind cache.old.geometry r.0 r.1) }
+    // Where nothing is to be read, or all that may be is held already, the disk is untouched.
     ensures unread { IsOutOfReach cache.old.geometry (option_map (λ end. end.0) end) at.position
         → (disk.new ≡ disk.old) × OnOk result ⊥ }
     ensures last_page { HoldsLastPage cache.old.number (address_of cache.old.geometry at.position)
         → (disk.new ≡ disk.old) × (cache.new ≡ cache.old) }
     ensures rises { IfOk result (λ r. address_of cache.old.geometry at.position
         ≤ address_of cache.old.geometry r.1.position) }
+    // A record that is answered is spelled by the bytes at its addresses; the room has nothing but
+    // first bytes of one record, of pages that passed.
     ensures spelled { IfOk result (λ r. IsSpelled r.0) }
     ensures spelled_there { (pages : Pages) → Sees (D.tape disk.old) cache.old pages
         → IfOk result (λ r. IsSpelledIn cache.old.geometry pages r.0) }
     ensures sees { SeesStill (D.tape disk.old) (D.tape disk.new) cache.old cache.new }
     ensures room { (pages : Pages) → Sees (D.tape disk.old) cache.old pages
         → IsRoomAfter cache.old.geometry pages at room.old.items room.new.items }
+    // It answers what is computed of these pages at this place.
     ensures reads { (pages : Pages) → Sees (D.tape disk.old) cache.old pages
         → IsRead cache.old.geometry pages at
         (read_at cache.old.geometry pages (option_map (λ end. end.0) end) at) result }
@@ -92,6 +97,7 @@ fn read_in_page(
     extent: RecordExtent,
     cursor: PageCursor,
 ) -> Result<(FoundRecord, RecordPlace), ReadFailure>
+    // The page that is held has all bytes of the record, the first one at the cursor.
     requires reachable { IsReachable extent.at }
     requires large { 24 ≤ extent.total }
     requires on { IsOn cache.now cursor }
@@ -134,11 +140,13 @@ fn read_over_pages<D: Disk>(
     extent: RecordExtent,
     cursor: PageCursor,
 ) -> Result<(FoundRecord, RecordPlace), ReadFailure>
+    // The record's first byte is at the cursor, in the page that is held.
     requires reachable { IsReachable extent.at }
     requires large { 24 ≤ extent.total }
     requires on { IsOn cache.old cursor }
     requires gathered { HasGathered cache.old.geometry extent.at.position 0 cursor }
     requires page { cursor.page ≡ address_of cache.old.geometry extent.at.position / 8192 }
+    // As of `read_record`, for a record that goes on on further pages.
     ensures geometry { cache.new.geometry ≡ cache.old.geometry }
     ensures beyond { 2 ^ 47 ≤ cursor.page + 1 → (disk.new ≡ disk.old) × (cache.new ≡ cache.old) }
     ensures goes_on { IfOk result (λ r. GoesOn extent.at r.1) }

@@ -1,5 +1,6 @@
 //! Where a record starts, and how long it claims to be (PostgreSQL's XLogDecodeNextRecord of
-//! xlogreader.c).
+//! xlogreader.c). A zero first word is told as the log's clean end. The size is only a claim: it is
+//! compared with the header's and with a given end, and believed no further than pages have passed.
 
 ghost use Rattle.std.specs.Prelude.{◌≡◌, ℕ, ◌+◌, ◌*◌, ◌/◌, ◌%◌, ◌^◌, ◌<◌, ◌≤◌, ◌==◌, length, option_map, Some, IfOk};
 ghost use Rattle.std.specs.Int.{w32, w64};
@@ -35,14 +36,18 @@ pub(crate) fn open_page<D: Disk>(
     at: RecordPlace,
 ) -> Result<PageCursor, ReadFailure>
     requires reachable { IsReachable at }
+    // At Ok the page is held that has the record's first byte, and the cursor stands at that byte.
     ensures geometry { cache.new.geometry ≡ cache.old.geometry }
     ensures cursor { IfOk result (λ cursor. IsOn cache.new cursor
         × HasGathered cache.old.geometry at.position 0 cursor) }
     ensures place { IfOk result (λ cursor. (cursor.page
         ≡ address_of cache.old.geometry at.position / 8192) × (cursor.offset + 8 ≤ 8192)) }
+    // A page that is held is not read again. Pages that were seen are seen still.
     ensures unread { cache.old.number ≡ Some (address_of cache.old.geometry at.position / 8192)
         → (disk.new ≡ disk.old) × (cache.new ≡ cache.old) }
     ensures sees { SeesStill (D.tape disk.old) (D.tape disk.new) cache.old cache.new }
+    // It goes on where all checks before the record's first word hold, and tells the first that
+    // fails else.
     ensures checks { (pages : Pages) → Sees (D.tape disk.old) cache.old pages
         → Settles (opening_of cache.old.geometry at
         (pages (address_of cache.old.geometry at.position / 8192))) result }

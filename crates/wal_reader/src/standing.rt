@@ -1,4 +1,5 @@
-//! Where a log's reader stands, and what a step of it tells.
+//! Where a log's reader stands, and what a step of it tells. A clean end is told and forgotten: the
+//! log may go on there later. Damage is no end of the log, and is told from then on.
 
 ghost use Rattle.std.specs.Prelude.{◌≡◌};
 ghost use Rattle.wal_reader.specs.Standings.{standing_after, told};

@@ -6,7 +6,7 @@ use Rattle.segment_disk.specs.Cause.{Rose, RoseByOne}
 use Rattle.segment_disk.specs.Tape.{Fails, Tape}
 use Rattle.flush_core.specs.declared.writer.DiskFault.{DiskFault}
 use Rattle.wal_core.specs.Views.{Plain}
-use Rattle.wal_core.specs.Moves.{Failed, Outcome, with_outcome}
+use Rattle.wal_core.specs.Moves.{Failed, CallOutcome, with_outcome}
 use Rattle.wal_rule.specs.declared.writer.LogWriter.{LogWriter}
 use Rattle.wal_rule.specs.Slotted.{CallEnds, as_machine_has, slot_plain}
 
@@ -25,12 +25,12 @@ module _ {D : Type 0} (tape : D → Rattle.std.specs.Prelude.Option Tape) (momen
   down waiting told = record old { disk = disk; waiting = waiting; fault = Some told }
 
   -- a call that a failed one of which leaves no more than `with_outcome` says, but for what waits
-  abbrev LeavesWaiting : (Outcome → Plain → Plain) → Option ℕ → ℕ → Option Bool → Type 0
+  abbrev LeavesWaiting : (CallOutcome → Plain → Plain) → Option ℕ → ℕ → Option Bool → Type 0
   LeavesWaiting f waiting told counted = f (Failed told counted) (slot_plain tape moment old)
       ≡ record (with_outcome call (Failed told counted) (slot_plain tape moment old))
       { waiting = waiting }
 
-  pub call_failed : (f : Outcome → Plain → Plain) (waiting : Rattle.std.specs.Prelude.Option ℕ)
+  pub call_failed : (f : CallOutcome → Plain → Plain) (waiting : Rattle.std.specs.Prelude.Option ℕ)
       → (told : DiskFault)
       → ((made : Bool) → moment disk ≡ moment old.disk + 1
       → LeavesWaiting f (as_machine_has waiting) told.faults (some made))

@@ -11,7 +11,7 @@ use Rattle.segment_disk.specs.Tape.{DiskState, Tape, create_call, empty_state, f
 use Rattle.flush_core.specs.declared.writer.DiskFault.{DiskFault}
 use Rattle.wal_core.specs.Words.{Opening}
 use Rattle.wal_core.specs.Views.{Hold, Idle, Lent, Out, Plain, Turned, View}
-use Rattle.wal_core.specs.Moves.{Done, Failed, Outcome, is_counted, is_done, with_hold, with_outcome}
+use Rattle.wal_core.specs.Moves.{Done, Failed, CallOutcome, is_counted, is_done, with_hold, with_outcome}
 use Rattle.wal_core.specs.Steps.{IsCallFault, MayStep, StepKind, create, sync, write, home_behind, value_behind, view_behind, with_call_on, word_of_step}
 use Rattle.wal_rule.specs.declared.writer.LogWriter.{LogWriter}
 use Rattle.wal_rule.specs.Called.{DeviceCall, DeviceCallEnds, IsCalled, IsWriteLow, creates, step_of_call, syncs, writer_behind, writes}
@@ -34,7 +34,7 @@ module _ (first : DiskState) where
   with_call_on_tape other None call = refl
   with_call_on_tape other (Some calls) call = refl
 
-  outcome_on : (other : DiskState) (call : Call) (outcome : Outcome) (w : SeatWriter)
+  outcome_on : (other : DiskState) (call : Call) (outcome : CallOutcome) (w : SeatWriter)
       → plain_on first (writer_told (with_outcome call outcome (plain_on other w)))
       ≡ with_outcome call outcome (plain_on first w)
   outcome_on other call Done w =
@@ -50,7 +50,7 @@ module _ (first : DiskState) where
       record (with_outcome call (Failed faults (some made)) (plain_on first w)) { tape = t })
       (with_call_on_tape other w.calls (failed_call made call))
 
-  pub writer_on : (other : DiskState) (size : ℕ) (call : DeviceCall) (outcome : Outcome)
+  pub writer_on : (other : DiskState) (size : ℕ) (call : DeviceCall) (outcome : CallOutcome)
       (w : SeatWriter)
       → plain_on first (writer_told (writer_behind size call outcome (plain_on other w)))
       ≡ writer_behind size call outcome (plain_on first w)
@@ -77,7 +77,7 @@ module _ (first : DiskState) where
       (told_calls w.calls)
 
   -- a seat tells the same of the writer behind a call, whatever it takes the disk to have held
-  told_behind : (other : DiskState) (size : ℕ) (call : DeviceCall) (outcome : Outcome) (p : Plain)
+  told_behind : (other : DiskState) (size : ℕ) (call : DeviceCall) (outcome : CallOutcome) (p : Plain)
       → IfSome p.tape (λ (x : Tape). x.at_first ≡ first)
       → writer_told (writer_behind size call outcome (plain_on other (writer_told p)))
       ≡ writer_told (writer_behind size call outcome p)
@@ -95,14 +95,14 @@ module _ (P : Tape → Type 0)
   kept_call None call is = tt
   kept_call (Some t) call is = more t call is
 
-  outcome_keeps : (call : Call) (outcome : Outcome) (p : Plain) → IfSome p.tape P
+  outcome_keeps : (call : Call) (outcome : CallOutcome) (p : Plain) → IfSome p.tape P
       → IfSome (with_outcome call outcome p).tape P
   outcome_keeps call Done p is = kept_call p.tape call is
   outcome_keeps call (Failed faults none) p is = is
   outcome_keeps call (Failed faults (some made)) p is =
       kept_call p.tape (failed_call made call) is
 
-  pub writer_keeps : (size : ℕ) (call : DeviceCall) (outcome : Outcome) (p : Plain)
+  pub writer_keeps : (size : ℕ) (call : DeviceCall) (outcome : CallOutcome) (p : Plain)
       → IfSome p.tape P → IfSome (writer_behind size call outcome p).tape P
   writer_keeps size (creates segment) outcome p is =
       outcome_keeps (create_call size segment) outcome p is
@@ -126,13 +126,13 @@ told_call : (t : Rattle.std.specs.Prelude.Option Tape) (call : Call) → IsSome 
 told_call None call is = is
 told_call (Some t) call is = is
 
-told_outcome : (call : Call) (outcome : Outcome) (p : Plain) → IsSome p.tape
+told_outcome : (call : Call) (outcome : CallOutcome) (p : Plain) → IsSome p.tape
     → IsSome (with_outcome call outcome p).tape
 told_outcome call Done p is = told_call p.tape call is
 told_outcome call (Failed faults none) p is = is
 told_outcome call (Failed faults (some made)) p is = told_call p.tape (failed_call made call) is
 
-told_on : (size : ℕ) (call : DeviceCall) (outcome : Outcome) (p : Plain) → IsSome p.tape
+told_on : (size : ℕ) (call : DeviceCall) (outcome : CallOutcome) (p : Plain) → IsSome p.tape
     → IsSome (writer_behind size call outcome p).tape
 told_on size (creates segment) outcome p is =
     told_outcome (create_call size segment) outcome p is
@@ -141,7 +141,7 @@ told_on size (writes segment page upto bytes) outcome p is =
 told_on size (syncs segment) outcome p is = told_outcome (sync_call size segment) outcome p is
 
 -- the segment that waits behind a call waited before, or is the one written to
-outcome_waits : (call : Call) (outcome : Outcome) (p : Plain)
+outcome_waits : (call : Call) (outcome : CallOutcome) (p : Plain)
     → (with_outcome call outcome p).waiting ≡ p.waiting
 outcome_waits call Done p = refl
 outcome_waits call (Failed faults none) p = refl
@@ -153,7 +153,7 @@ either_waits : (P : ℕ → Type 0) (b : Bool) (x y : Option ℕ)
 either_waits P true x y left right = left
 either_waits P false x y left right = right
 
-writer_waits : (size : ℕ) (call : DeviceCall) (outcome : Outcome) (p : Plain)
+writer_waits : (size : ℕ) (call : DeviceCall) (outcome : CallOutcome) (p : Plain)
     → IsWriteLow size call
     → ((segment : ℕ) → p.waiting ≡ some segment → segment < 2 ^ 64 / size)
     → (segment : ℕ) → (writer_behind size call outcome p).waiting ≡ some segment
@@ -195,33 +195,33 @@ CountsOn result old new =
     MatchResult result (λ _. new ≡ old) (λ (e : DiskFault). e.faults ≡ new)
 
 module _ (size : ℕ) (call : DeviceCall) (p : Plain) (old new : ℕ) (kept : Option ℕ) where
-  up_behind : (result : Result Unit DiskFault) (outcome : Outcome) → EndsAs result outcome
+  up_behind : (result : Result Unit DiskFault) (outcome : CallOutcome) → EndsAs result outcome
       → CountsOn result old new → (writer_behind size call outcome p).fault ≡ kept
       → kept ≡ none → new ≡ old
   up_behind (Ok done) outcome ends counts is none_kept = counts
   up_behind (Err e) outcome ends counts is none_kept = absurd (some-ne-none e.faults
       (sym (fault_failed size call e.faults ends.0 p)
-      ∙ ap (λ (o : Outcome). (writer_behind size call o p).fault) (sym ends.1)
+      ∙ ap (λ (o : CallOutcome). (writer_behind size call o p).fault) (sym ends.1)
       ∙ is ∙ none_kept))
 
-  down_behind : p.fault ≡ none → (result : Result Unit DiskFault) (outcome : Outcome)
+  down_behind : p.fault ≡ none → (result : Result Unit DiskFault) (outcome : CallOutcome)
       → EndsAs result outcome → CountsOn result old new
       → (writer_behind size call outcome p).fault ≡ kept
       → (f : ℕ) → kept ≡ some f → f ≡ new
   down_behind up (Ok done) outcome ends counts is f fault_kept = absurd (some-ne-none f
       (sym fault_kept ∙ sym is
-      ∙ ap (λ (o : Outcome). (writer_behind size call o p).fault) ends
+      ∙ ap (λ (o : CallOutcome). (writer_behind size call o p).fault) ends
       ∙ fault_done size call p ∙ up))
   down_behind up (Err e) outcome ends counts is f fault_kept = some-injective f e.faults
       (sym fault_kept ∙ sym is
-      ∙ ap (λ (o : Outcome). (writer_behind size call o p).fault) ends.1
+      ∙ ap (λ (o : CallOutcome). (writer_behind size call o p).fault) ends.1
       ∙ fault_failed size call e.faults ends.0 p)
       ∙ counts
 
 -- ---- the view behind a call
 
 -- with this of the writer in hand
-abbrev lent_behind : ℕ → DeviceCall → Outcome → SeatLent → SeatLent
+abbrev lent_behind : ℕ → DeviceCall → CallOutcome → SeatLent → SeatLent
 lent_behind size call outcome l = record l {
   writer = writer_told (writer_behind size call outcome (plain_on empty_state l.writer));
 }
@@ -232,14 +232,14 @@ holding hold v = record v { hold = hold }
 abbrev size_of : SeatView → ℕ
 size_of v = ((v.opening).setup).segment_size
 
-held_behind : (call : DeviceCall) (outcome : Outcome) (v : SeatView) (l : SeatLent)
+held_behind : (call : DeviceCall) (outcome : CallOutcome) (v : SeatView) (l : SeatLent)
     → behind (step_of_call call outcome) 0 none (holding (HasWriter l) v)
     ≡ holding (HasWriter (lent_behind (size_of v) call outcome l)) v
 held_behind (creates segment) outcome v l = refl
 held_behind (writes segment page upto bytes) outcome v l = refl
 held_behind (syncs segment) outcome v l = refl
 
-machine_behind : (first : DiskState) (call : DeviceCall) (outcome : Outcome) (v : SeatView)
+machine_behind : (first : DiskState) (call : DeviceCall) (outcome : CallOutcome) (v : SeatView)
     (l : SeatLent) (met : ℕ) (home : Option Plain)
     → view_behind (view_on first (holding (HasWriter l) v)) (step_of_call call outcome) met home
     ≡ with_hold (Out (record (lent_on first l) {
@@ -249,7 +249,7 @@ machine_behind first (creates segment) outcome v l met home = refl
 machine_behind first (writes segment page upto bytes) outcome v l met home = refl
 machine_behind first (syncs segment) outcome v l met home = refl
 
-call_view : (first : DiskState) (call : DeviceCall) (outcome : Outcome) (v : SeatView)
+call_view : (first : DiskState) (call : DeviceCall) (outcome : CallOutcome) (v : SeatView)
     (l : SeatLent) (met : ℕ) (home : Option Plain)
     → view_on first (behind (step_of_call call outcome) 0 none (holding (HasWriter l) v))
     ≡ view_behind (view_on first (holding (HasWriter l) v)) (step_of_call call outcome) met home
@@ -268,7 +268,7 @@ steady_called v f Idle = (refl, refl)
 steady_called v f Turned = (refl, refl)
 steady_called v f (Out l) = (refl, refl)
 
-pub call_steady : (call : DeviceCall) (outcome : Outcome) (v : SeatView)
+pub call_steady : (call : DeviceCall) (outcome : CallOutcome) (v : SeatView)
     → ((behind (step_of_call call outcome) 0 none v).opening ≡ v.opening)
     × (((behind (step_of_call call outcome) 0 none v).reserving).live ≡ (v.reserving).live)
 call_steady (creates segment) outcome v =
@@ -284,7 +284,7 @@ rose_since : (low old new : ℕ) → low ≤ old → Rose old new → Rose low n
 rose_since low old new below (inl more) = inl (omega (arith, below, more))
 rose_since low old new below (inr top) = inr top
 
-call_fault : (v : View) (old : ℕ) (result : Result Unit DiskFault) (outcome : Outcome)
+call_fault : (v : View) (old : ℕ) (result : Result Unit DiskFault) (outcome : CallOutcome)
     → (v.opening).faults ≤ old → EndsAs result outcome
     → IfErr result (λ (e : DiskFault). Rose old e.faults) → IsCallFault v outcome
 call_fault v old (Ok done) outcome below ends rose =
@@ -292,7 +292,7 @@ call_fault v old (Ok done) outcome below ends rose =
 call_fault v old (Err e) outcome below ends rose =
     subst (IsCallFault v) (sym ends.1) (rose_since (v.opening).faults old e.faults below rose)
 
-may_call : (first : DiskState) (v : SeatView) (call : DeviceCall) (outcome : Outcome)
+may_call : (first : DiskState) (v : SeatView) (call : DeviceCall) (outcome : CallOutcome)
     → MaySeat v (step_of_call call Done) → IsCallFault (view_on first v) outcome
     → MayStep (view_on first v) (step_of_call call outcome)
 may_call first v (creates segment) outcome may fault = (
@@ -326,19 +326,19 @@ may_call first v (syncs segment) outcome may fault =
 
 -- ---- the step
 
-word_called : (v : View) (call : DeviceCall) (outcome : Outcome)
+word_called : (v : View) (call : DeviceCall) (outcome : CallOutcome)
     → word_of_step v (step_of_call call outcome) ≡ 11
 word_called v (creates segment) outcome = refl
 word_called v (writes segment page upto bytes) outcome = refl
 word_called v (syncs segment) outcome = refl
 
-value_called : (v : View) (call : DeviceCall) (outcome : Outcome) (met : ℕ)
+value_called : (v : View) (call : DeviceCall) (outcome : CallOutcome) (met : ℕ)
     → value_behind v (step_of_call call outcome) met ≡ met
 value_called v (creates segment) outcome met = refl
 value_called v (writes segment page upto bytes) outcome met = refl
 value_called v (syncs segment) outcome met = refl
 
-home_called : (v : View) (call : DeviceCall) (outcome : Outcome) (home : Option Plain)
+home_called : (v : View) (call : DeviceCall) (outcome : CallOutcome) (home : Option Plain)
     → home ≡ home_behind v (step_of_call call outcome) home
 home_called v (creates segment) outcome home = refl
 home_called v (writes segment page upto bytes) outcome home = refl
@@ -452,7 +452,7 @@ module _ {D : Type 0} (tape : D → Rattle.std.specs.Prelude.Option Tape) (momen
         → DeviceCallEnds tape moment faults began opening call result me.0 (told, me.1)
     call_ended may =
         let size : ℕ = (opening.setup).segment_size in
-        let outcome : Outcome = (called.ends).outcome in
+        let outcome : CallOutcome = (called.ends).outcome in
         let was : Plain = slot_plain tape moment called.before in
         record {
           outcome = outcome;

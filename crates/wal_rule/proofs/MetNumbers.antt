@@ -5,7 +5,7 @@ use Rattle.atomic_table.proofs.Lists.{at_map}
 use Rattle.segment_disk.specs.Cause.{Rose}
 use Rattle.machine_words.proofs.Bounds.{limit_low}
 use Rattle.wal_core.specs.Words.{down_word, flushed_word, moment_word, position_word, prev_word}
-use Rattle.wal_core.specs.Views.{FlushPromise, reserving_of, told_of}
+use Rattle.wal_core.specs.Views.{FlushPromise, reserving_of, receipts_of}
 use Rattle.wal_core.specs.Durable.{IsPromised, IsToldRightly}
 use Rattle.wal_core.specs.Moves.{unlocked}
 use Rattle.wal_core.specs.Steps.{StepKind, load_down, load_flushed, load_moment, load_position}
@@ -21,9 +21,9 @@ module _ (v : SeatView) (s : Stands v) where
   down = down_word s.words
 
   told_rightly : IsToldRightly v.opening (s.sound).order (flushed_word s.words)
-      (moment_word s.words) down (s.sound).writer (told_of (view_on s.first v))
-  told_rightly = ((s.sound).durable).views s.id (told_of (view_on s.first v))
-      (at_map told_of s.views s.id (view_on s.first v) s.here)
+      (moment_word s.words) down (s.sound).writer (receipts_of (view_on s.first v))
+  told_rightly = ((s.sound).durable).views s.id (receipts_of (view_on s.first v))
+      (at_map receipts_of s.views s.id (view_on s.first v) s.here)
 
   -- the word has the down value that it knows
   known_is : (faults : ℕ) → KnowsDown faults v → faults ≡ down

@@ -1,11 +1,13 @@
--- One call of the device by a seat that has the writer in hand.
+-- One call of the device by a seat that has the writer in hand. The call comes first, and then a
+-- step of the table that tells the view of it; between (`IsCalled`) the view still keeps the writer
+-- as it was before the call, and nobody else can reach that.
 use Rattle.std.specs.Prelude.{◌≡◌, ℕ, ◌/◌, ◌^◌, ◌<◌, List, [], ◌∷◌, Result}
 use mathlib.Core.Option.{none}
 use Rattle.segment_disk.specs.Tape.{Tape, create_call, sync_call, write_call}
 use Rattle.flush_core.specs.declared.writer.DiskFault.{DiskFault}
 use Rattle.wal_core.specs.Words.{Opening}
 use Rattle.wal_core.specs.Views.{Plain}
-use Rattle.wal_core.specs.Moves.{Outcome, after_create, after_sync, after_write}
+use Rattle.wal_core.specs.Moves.{CallOutcome, after_create, after_sync, after_write}
 use Rattle.wal_core.specs.Steps.{StepKind, create, sync, write}
 use Rattle.wal_rule.specs.declared.writer.LogWriter.{LogWriter}
 use Rattle.wal_rule.specs.Seats.{SeatLent, SeatView, behind}
@@ -20,13 +22,13 @@ pub data DeviceCall : Type 0 where
   syncs : ℕ → DeviceCall
 
 -- the machine's step
-abbrev pub step_of_call : DeviceCall → Outcome → StepKind
+abbrev pub step_of_call : DeviceCall → CallOutcome → StepKind
 step_of_call (creates segment) outcome = create segment outcome
 step_of_call (writes segment page upto bytes) outcome = write segment page upto bytes outcome
 step_of_call (syncs segment) outcome = sync segment outcome
 
 -- the writer behind it, where segments have this size
-abbrev pub writer_behind : ℕ → DeviceCall → Outcome → Plain → Plain
+abbrev pub writer_behind : ℕ → DeviceCall → CallOutcome → Plain → Plain
 writer_behind size (creates segment) outcome =
     after_create segment (create_call size segment) outcome
 writer_behind size (writes segment page upto bytes) outcome =
@@ -57,7 +59,7 @@ module _ {D : Type 0} (tape : D → Rattle.std.specs.Prelude.Option Tape) (momen
     -- a call ended: the seat has the writer in hand, and knows of the call what the machine says
     pub record DeviceCallEnds (old : SeatView) (new : SeatView × List (ℕ × LogWriter D)) : Type 0
       where
-        pub outcome : Outcome
+        pub outcome : CallOutcome
         pub ends : EndsAs result outcome
         pub view_is : new.0 ≡ behind (step_of_call call outcome) 0 none old
         pub lent : SeatLent

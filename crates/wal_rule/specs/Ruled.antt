@@ -1,5 +1,7 @@
 -- The rule of the table: the machine's invariant of the words, the home slot and the views, and
--- that moments rise.
+-- that moments rise. It holds between any two steps of any seats. While a seat has the writer in
+-- hand the slot is empty, and its view keeps the writer as plain data: so the rule speaks of the
+-- writer wherever it is, also while the seat calls the device.
 use Rattle.std.specs.Prelude.{◌≡◌, ℕ, List, [], ◌∷◌, length, map}
 use mathlib.Core.Option.{Option, none, some}
 use lib.ListN.{get_elem?}

@@ -7,7 +7,7 @@ use Rattle.segment_disk.specs.Tape.{DiskState, Tape, empty_state}
 use Rattle.flush_core.specs.declared.writer.DiskFault.{DiskFault}
 use Rattle.wal_core.specs.Words.{Opening}
 use Rattle.wal_core.specs.Views.{Plain}
-use Rattle.wal_core.specs.Moves.{Outcome, Done, Failed}
+use Rattle.wal_core.specs.Moves.{CallOutcome, Done, Failed}
 use Rattle.wal_rule.specs.declared.writer.LogWriter.{LogWriter}
 
 -- a number that may be missing, as the machine has it
@@ -45,7 +45,7 @@ GoesOnFrom None t = ⊥
 GoesOnFrom (Some b) t = (later : List Call) × (t.calls ≡ b.calls ++ later)
 
 -- a call ended so
-abbrev pub EndsAs : Result Unit DiskFault → Outcome → Type 0
+abbrev pub EndsAs : Result Unit DiskFault → CallOutcome → Type 0
 EndsAs result outcome = MatchResult result (λ _. outcome ≡ Done)
     (λ e. (counted : Option Bool) × (outcome ≡ Failed e.faults counted))
 
@@ -53,8 +53,8 @@ EndsAs result outcome = MatchResult result (λ _. outcome ≡ Done)
 -- disk's count of faults is as before, or the one told
 pub record CallEnds {D : Type 0} (tape : D → Rattle.std.specs.Prelude.Option Tape)
     (moment faults : D → ℕ) (old new : LogWriter D) (result : Result Unit DiskFault)
-    (behind_call : Outcome → Plain → Plain) : Type 0 where
-  pub outcome : Outcome
+    (behind_call : CallOutcome → Plain → Plain) : Type 0 where
+  pub outcome : CallOutcome
   pub ends : EndsAs result outcome
   pub plain_is : slot_plain tape moment new ≡ behind_call outcome (slot_plain tape moment old)
   pub same_size : slot_segment_size new ≡ slot_segment_size old

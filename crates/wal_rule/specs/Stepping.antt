@@ -1,4 +1,8 @@
--- A seat that may step, and what a step leaves of it.
+-- A seat that may step, and what a step leaves of it. A caller has a live seat of its table
+-- (`IsSeatOf`) and shows that the seat's view lets it make a step (`MaySeat`). Behind the step it
+-- has the view that the machine leaves (`SeatSteps`) and, where the step loads or exchanges, that
+-- the word held the number met (`Meets`). No step of another seat changes a view, so what a view
+-- lets its seat do stays so while others step.
 use Rattle.std.specs.Prelude.{◌≡◌, ℕ, List, slice_index, true}
 use mathlib.Core.Option.{Option, none}
 use Rattle.atomic_table.specs.Seated.{TableId}

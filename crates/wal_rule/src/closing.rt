@@ -1,4 +1,9 @@
-// A table is closed, and its writer comes back with the position.
+// A table is closed, and its writer comes back with the position. Who closes has all numbers that a
+// pass may have: its own, its spare ones, and those of the passes that it took in; and it is about
+// nothing. So no other seat is live, nobody has a turn or the position locked, and the writer is at
+// home. Table and seat are gone behind it, and no device call is made. From writer, position and
+// view follow the log's order, how far it is written and durable, and what a crash leaves of it
+// (`ClosesWith`).
 ghost use Rattle.machine_laws.specs.ClosedLogs.{HasAllNumbers};
 ghost use Rattle.wal_rule.specs.Closing.{ClosesWith};
 ghost use Rattle.wal_rule.specs.Passes.{view_of_pass};
@@ -8,9 +13,8 @@ ghost use Rattle.wal_rule.specs.Tables.{IsPassOn, IsSeatOn, began_of_table, open
 use crate::pass::Pass;
 use crate::table::{LogSeat, LogTable};
 use crate::writer::LogWriter;
+use machine_words::layout::POSITION;
 use segment_disk::Disk;
-
-const POSITION: usize = 0;
 
 impl<D: Disk> LogTable<D> {
     /// Ends the table by the seat that has all numbers and is about nothing, so that every other

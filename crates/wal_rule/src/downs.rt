@@ -1,4 +1,5 @@
-//! What passes know of a disk that has failed.
+//! What passes know of a disk that has failed: one count of faults, which who met the fault stored
+//! in the down word (16) for all others.
 
 ghost use Rattle.std.specs.Prelude.{◌≡◌, ℕ};
 ghost use Rattle.segment_disk.specs.Cause.{Rose};

@@ -1,4 +1,9 @@
-// Seats are split off and taken in.
+// Seats are split off and taken in; no word changes by it. A split gives the least of the seat's
+// spare numbers to a new seat, which is about nothing and has seen reserved what the seat has. A
+// join takes a seat in that is about nothing: its log, what it has seen reserved, the down values
+// that it knows, and its spare numbers where the other has none. The seat that was taken in is
+// gone, and nobody reserves under its number again. Both tell views alone, so a load that changes
+// nothing (`look`) follows: by it the view stands in the state that the load finds.
 ghost use Rattle.std.specs.Prelude.{◌≡◌, ◌<◌, [], true};
 ghost use Rattle.wal_rule.specs.Seats.{IsAtRest, seat_after_join, seat_after_split, seat_spent, seat_split_off};
 ghost use Rattle.wal_rule.specs.Stepping.{Stands};
@@ -36,6 +41,7 @@ impl<D: Disk> LogTable<D> {
         self.join_leaving::<Brand>(seat, other);
     }
 
+    // The same, with what is left of the other seat picked for the proof.
     fn join_leaving<B: Leaves>(&self, seat: &mut LogSeat<D>, other: LogSeat<D>)
         requires seat { IsSeatOn self.now seat.old }
         requires other { IsSeatOn self.now other }

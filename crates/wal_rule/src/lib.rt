@@ -1,5 +1,11 @@
 //! The table of the words that several backends share, with the writer in its slot; its rule is the
 //! machine's invariant.
+//!
+//! Each kind of step of the machine is one call: one load, store or exchange of one word, or one
+//! call of the device with the load by which the view is told of it. Its caller has a live seat of
+//! the table (`seat`) whose view lets it make that step (`may`). The step may come between any two
+//! steps of others; behind it the seat's view is the machine's (`steps`). What a word held when it
+//! was met is told (`met`); what it holds later only the view can say, since others step meanwhile.
 #![tactic(auto)]
 
 pub mod beginnings;

@@ -1,5 +1,11 @@
-// The turn to map a page, and its steps: the page is cleared, zeroed and published (PostgreSQL's
-// xlog.c, AdvanceXLInsertBuffer).
+// The turn to map a page, and its steps (PostgreSQL's xlog.c, AdvanceXLInsertBuffer, which holds
+// WALBufMappingLock). Who has the turn (word 10) loads the initialised end (word 12), which is
+// where the new page begins, and then the written address (word 13, `load_written`). Only where the
+// page that the buffer holds ends at or below it, that page's end word is cleared; then the
+// buffer's words are zeroed, the new page's end word is stored, and behind it the initialised end.
+// So no word is lost that is not written, and nobody stores into the buffer while its end word is
+// 0. Before the end word is cleared the turn may be given back, and behind the last store, but not
+// between. As each step of the table (quiet.rt) these ask for a live seat whose view lets it step.
 ghost use Rattle.std.specs.Prelude.{◌≡◌, ◌<◌};
 ghost use Rattle.wal_core.specs.Steps.{clear_end, load_initialised_end, publish_end, publish_initialised_end, release_mapping_turn, take_mapping_turn, zero_ring_word};
 ghost use Rattle.wal_rule.specs.Stepping.{MaySeat, Meets, SeatSteps, value_left, word_at_step};
@@ -8,11 +14,8 @@ ghost use Rattle.wal_rule.specs.Tables.{IsSeatOn};
 use crate::plays::OfKind;
 use crate::quiet::NO_OPERANDS;
 use crate::table::{LogSeat, LogTable};
+use machine_words::layout::{INITIALISED_END, MAPPING_TURN};
 use segment_disk::Disk;
-
-const MAPPING_TURN: usize = 10;
-
-const INITIALISED_END: usize = 12;
 
 pub struct TakesMappingTurn;
 
@@ -57,7 +60,8 @@ impl OfKind for ReleasesMappingTurn {
 }
 
 impl<D: Disk> LogTable<D> {
-    /// Takes the turn to map a page where it is free, which is where the word found is 0.
+    /// Takes the turn to map a page where it is free, which is where the word found is 0. The seat
+    /// does not have it, and stores one more than its pass's number.
     pub fn take_mapping_turn(&self, seat: &mut LogSeat<D>, number: u32) -> u64
         requires seat { IsSeatOn self.now seat.old }
         requires may { MaySeat seat.old.me.0 take_mapping_turn }
@@ -75,7 +79,8 @@ impl<D: Disk> LogTable<D> {
         )
     }
 
-    /// The address below which each page has been mapped.
+    /// The address below which each page has been mapped. Anybody may load it; to who has just
+    /// taken the turn it says where the page begins that is to be mapped.
     pub fn load_initialised_end(&self, seat: &mut LogSeat<D>) -> u64
         requires seat { IsSeatOn self.now seat.old }
         ensures steps { SeatSteps load_initialised_end result seat.old seat.new }
@@ -85,7 +90,8 @@ impl<D: Disk> LogTable<D> {
     }
 
     /// Clears the end word of the page's buffer, by its number among all words: the page that it
-    /// held is given up.
+    /// held is given up. What the seat has loaded as written reaches that page's end. From now on
+    /// the turn is not given back until the new page is there.
     pub fn clear_end(&self, seat: &mut LogSeat<D>, end: usize)
         requires seat { IsSeatOn self.now seat.old }
         requires end { end ≡ word_at_step seat.old.me.0 clear_end }
@@ -108,7 +114,7 @@ impl<D: Disk> LogTable<D> {
     }
 
     /// Stores the page's end, by the number of its buffer's end word: from now on the page is
-    /// there.
+    /// there, and copies that meet its end may store their words on it. All its words are zeroed.
     pub fn publish_end(&self, seat: &mut LogSeat<D>, end: usize, page_end: u64)
         requires seat { IsSeatOn self.now seat.old }
         requires end { end ≡ word_at_step seat.old.me.0 publish_end }
@@ -120,7 +126,8 @@ impl<D: Disk> LogTable<D> {
         self.stores::<PublishesEnd>(seat, end, page_end, NO_OPERANDS);
     }
 
-    /// Stores that all below the page's end has been mapped.
+    /// Stores that all below the page's end has been mapped, behind its end word: so who loads the
+    /// initialised end finds the pages below it, as far as they are not given up.
     pub fn publish_initialised_end(&self, seat: &mut LogSeat<D>, page_end: u64)
         requires seat { IsSeatOn self.now seat.old }
         requires may { MaySeat seat.old.me.0 publish_initialised_end }
@@ -131,7 +138,7 @@ impl<D: Disk> LogTable<D> {
         self.stores::<PublishesInitialisedEnd>(seat, INITIALISED_END, page_end, NO_OPERANDS);
     }
 
-    /// Gives the turn to map back.
+    /// Gives the turn to map back, before anything was changed or once the page is there.
     pub fn release_mapping_turn(&self, seat: &mut LogSeat<D>)
         requires seat { IsSeatOn self.now seat.old }
         requires may { MaySeat seat.old.me.0 release_mapping_turn }

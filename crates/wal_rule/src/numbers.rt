@@ -1,4 +1,5 @@
-//! Which numbers a seat has, so that its caller knows when it has all of them.
+//! Which numbers a seat has, so that its caller knows when it has all of them: what `close` asks
+//! for. Numbers are passed on by splits and joins alone, and are never made or lost.
 
 ghost use Rattle.std.specs.Prelude.{◌⊎◌, ℕ};
 ghost use mathlib.Core.Option.{Option};

@@ -1,4 +1,10 @@
-// A table is made, of a log that holds nothing. All its memory is taken before its disk is read.
+// A table is made, of a log that holds nothing. All its memory is taken before its disk is read: so
+// nothing is read of a disk for which there was no memory. Until the first page was read the table
+// is not begun: its only seat is not live and has the turn to write (`waiting_view`) or the writer
+// (`reading_view`), so no step of the machine can be made with it. Where page 0 of segment 1 is not
+// there the writer goes home and the seat becomes the first pass's, with all numbers: from then on
+// the table's rule is the machine's invariant. Where it is there, or the read failed, the table is
+// ended and the disk comes back, of which no call was counted.
 ghost use Rattle.std.specs.Prelude.{◌≡◌, [], ◌∷◌, IfErr, IfOk, IfSome, None};
 ghost use Rattle.segment_disk.specs.Tape.{page_of_segment, state_now};
 ghost use Rattle.wal_core.specs.Opened.{AreFirstWords, IsFirstWriter, IsNew};
@@ -14,11 +20,10 @@ use crate::seats::Founding;
 use crate::table::{LogSeat, LogTable};
 use crate::writer::LogWriter;
 use atomic_table::{Refused, Table};
+use machine_words::layout::WRITE_TURN;
 use segment_disk::Disk;
 use std::alloc::{AllocFailed, Global};
 use std::marker::Brand;
-
-const WRITE_TURN: usize = 11;
 
 /// Why a table was not opened. The disk comes back.
 #[derive(Drop)]
@@ -40,6 +45,8 @@ impl<D: Disk> LogTable<D> {
         writer: LogWriter<D>,
         founding: &Founding<D>,
     ) -> Result<(LogTable<D>, LogSeat<D>), OpenErr<D>>
+        // The words and the writer are those of a new log, and what is fixed of the table is what
+        // the writer's disk tells now: its content, its moment (by `writer`), its count of faults.
         requires new { IsNew (founded_opening founding.now) }
         requires words { AreFirstWords (founded_opening founding.now) words.now }
         requires writer { IsFirstWriter (founded_opening founding.now)
@@ -47,6 +54,7 @@ impl<D: Disk> LogTable<D> {
         requires disk { disk_of_founding founding.now ≡ slot_disk writer }
         requires size { slot_segment_size writer ≡ founding.now.setup.segment_size }
         requires failed { founding.now.faults ≡ D.faults (slot_disk writer) }
+        // At Ok the seat is the first pass's, and the disk had no page 0 of segment 1.
         ensures key { IfOk result (λ t. t.0.table.shared.key ≡ founding.now) }
         ensures seat { IfOk result (λ t. (t.1.me
             ≡ (first_seat_view (founded_opening founding.now), [])) × IsSeatOn t.0 t.1) }
@@ -73,6 +81,8 @@ impl<D: Disk> LogTable<D> {
         mut seat: LogSeat<D>,
     ) -> Result<(LogTable<D>, LogSeat<D>), OpenErr<D>>
         requires new { IsNew (opening_of_table self) }
+        // The seat waits: the table is not begun, and nothing was called since what is fixed was
+        // told.
         requires table { seat.table_id ≡ table_number self }
         requires waits { seat.me
             ≡ (waiting_view (opening_of_table self) (opening_of_table self).faults, []) }
@@ -81,6 +91,8 @@ impl<D: Disk> LogTable<D> {
             ≡ (opening_of_table self).moment }
         requires failed { D.faults (disk_of_founding self.table.shared.key)
             ≡ (opening_of_table self).faults }
+        // At Ok the table is begun, with the first pass's seat; else table and seat are gone, and
+        // the disk comes back.
         ensures same { IfOk result (λ t. t.0 ≡ self) }
         ensures seat { IfOk result (λ t. (t.1.me
             ≡ (first_seat_view (opening_of_table self), [])) × IsSeatOn self t.1) }
@@ -101,7 +113,7 @@ impl<D: Disk> LogTable<D> {
         }
     }
 
-    // Takes the writer, so that its disk is read.
+    // Takes the writer, so that its disk is read: the seat that waits is one that reads.
     fn lend_to_read<B: BeganOn>(&self, seat: &mut LogSeat<D>)
         requires table { seat.old.table_id ≡ table_number self.now }
         requires waits { seat.old.me ≡ (
@@ -119,7 +131,8 @@ impl<D: Disk> LogTable<D> {
         self.table.shared.load::<GoesToRead<D, B>>(seat, WRITE_TURN);
     }
 
-    // Gives the writer back, and makes the seat the first pass's.
+    // Gives the writer back, and makes the seat the first pass's. Nothing but a read was called
+    // with the writer, and the disk's count of faults is the opening's: so the log begins sound.
     fn start(&self, seat: &mut LogSeat<D>)
         requires new { IsNew (opening_of_table self.now) }
         requires table { seat.old.table_id ≡ table_number self.now }
@@ -152,7 +165,8 @@ impl<D: Disk> LogTable<D> {
         writer.into_disk()
     }
 
-    // Gives the writer back, with the table not begun.
+    // Gives the writer back, with the table not begun: the seat waits again, and tells the disk's
+    // count of faults, which a read may have raised.
     fn wait_again(&self, seat: &mut LogSeat<D>)
         requires table { seat.old.table_id ≡ table_number self.now }
         requires reads { (w : _) × IsUncalledWriter D.tape D.moment (opening_of_table self.now)

@@ -1,4 +1,8 @@
-// A pass: a seat between two calls, with its numbers.
+// A pass: a seat between two calls, with its numbers. A call takes the seat out (`seat`), steps
+// with it, and puts it back (`put_back`); between, the pass is none, and its numbers stay. The
+// numbers are those of the seat's view (`HasNumbers`). No two passes of a table share one, so a
+// split gives a number away that nobody else has or can give. A pass holds no slot, since its seat
+// has the writer in hand at most within a call.
 ghost use Rattle.std.specs.Prelude.{◌≡◌, ◌-◌, ◌<◌, ◌≤◌, []};
 ghost use Rattle.atomic_table.specs.Seated.{TableId};
 ghost use Rattle.wal_core.specs.Words.{Opening};
@@ -57,6 +61,7 @@ impl Pass {
     /// The seat, for the steps of a call; the pass is none until it is put back.
     pub fn seat<D>(&mut self) -> LogSeat<D>
         requires { (table : TableId) × (opening : Opening) × IsPassOf table opening self.old }
+        // The seat has the pass's view and nothing in its slots; the pass keeps its numbers.
         ensures view { result.me ≡ (view_of_pass self.old, []) }
         ensures seat { (table : TableId) (opening : Opening) → IsPassOf table opening self.old
             → IsSeatOf table opening result }
@@ -67,6 +72,7 @@ impl Pass {
 
     /// The seat goes back into its pass, with the same numbers.
     pub fn put_back<D>(&mut self, seat: LogSeat<D>)
+        // The seat has put the writer back, and its view has the numbers that the pass kept.
         requires none_held { seat.me.1 ≡ [] }
         requires numbers { HasNumbers self.old.number self.old.spare self.old.spare_end seat.me.0 }
         ensures pass { (table : TableId) (opening : Opening) → IsSeatOf table opening seat
@@ -81,6 +87,8 @@ impl Pass {
     pub fn split<D: Disk>(&mut self, table: &LogTable<D>) -> Pass
         requires pass { IsPassOn table.now self.old }
         requires spare { self.old.spare < self.old.spare_end }
+        // The pass keeps its number, and has one spare number less; the new one has that, and none
+        // to give.
         ensures left { IsPassOn table.now self.new
             × (view_of_pass self.new ≡ seat_after_split (view_of_pass self.old)) }
         ensures right { IsPassOn table.now result
@@ -98,6 +106,8 @@ impl Pass {
     /// spare numbers where this one has none.
     pub fn join<D: Disk>(&mut self, table: &LogTable<D>, mut other: Pass)
         requires pass { IsPassOn table.now self.old }
+        // The other pass is of the same table, and about nothing: it holds no lock, turn or record
+        // in flight.
         requires other { IsPassOn table.now other }
         requires rests { IsAtRest (view_of_pass other) }
         ensures pass { IsPassOn table.now self.new }

@@ -1,4 +1,7 @@
-// What each step tells its pass: the view behind it.
+// What each step tells its pass: the view behind it. Each type here is a kind of call of
+// atomic_table, and `then` says of it what a seat with the view and slots `m`, which met the number
+// `r`, has behind the step as `n`. That the rule of the table allows the step, and that this is so
+// behind it, is proved where the step is made; nothing here runs.
 ghost use Rattle.std.specs.Prelude.{◌≡◌, [], ◌∷◌, None, Ok, Option, Result};
 ghost use mathlib.Core.Option.{none};
 ghost use Rattle.segment_disk.specs.Tape.{Tape};
@@ -72,6 +75,7 @@ impl Leaves for Brand {
     ghost left = { no_view };
 }
 
+/// A pass takes another one in; `left` is what is left of that one.
 pub struct TakesIn<B: Leaves> {
     leaves: PhantomData<B>,
 }
@@ -91,6 +95,7 @@ impl BeganOn for Brand {
     ghost began = { None };
 }
 
+/// The writer goes out of its slot: it is the log's, on a disk whose tape goes on from `began`.
 pub struct SlotOut<D, B: BeganOn> {
     disk: PhantomData<D>,
     began: PhantomData<B>,
@@ -101,6 +106,7 @@ impl<D: Disk, B: BeganOn> Play<LogWriter<D>, PassView> for SlotOut<D, B> {
         × IsOutOf D.tape D.moment D.faults B.began (m.0).opening r w m n × Stands n.0 };
 }
 
+/// The writer goes back into its slot, and the seat keeps the turn.
 pub struct SlotIn;
 
 impl<D> Play<LogWriter<D>, PassView> for SlotIn {
@@ -161,6 +167,7 @@ impl OfCall for Brand {
     ghost began = { None };
 }
 
+/// The writer in hand has made a call of the device; by this load the view is told how it ended.
 pub struct CatchesUp<D, B: OfCall> {
     disk: PhantomData<D>,
     call: PhantomData<B>,

@@ -1,5 +1,11 @@
 // How far the log is reserved, written and durable, and whether its disk has failed (PostgreSQL's
-// xlog.c, LogwrtResult).
+// xlog.c, LogwrtResult): words 0 and 13 to 16. Each live seat may load them. Only who has the
+// writer in hand stores 13 to 16: what is written (13); behind a sync the disk's moment (15);
+// behind both the flushed address (14). Who loads 14 and then 15 is promised that all below the one
+// is durable from the other on: its moment was stored before it, and one that is stored meanwhile
+// is later, so nothing is promised too early. Down (16) is set by who met the fault, to the disk's
+// count, and stays. As each step of the table (quiet.rt) these ask for a live seat whose view lets
+// it step.
 ghost use Rattle.std.specs.Prelude.{◌≡◌, ◌≢◌, ℕ, ◌<◌, ◌≤◌, ◌^◌, All};
 ghost use Rattle.segment_disk.specs.Cause.{Rose};
 ghost use Rattle.wal_core.specs.Moves.{unlocked};
@@ -12,17 +18,8 @@ ghost use Rattle.wal_rule.specs.Tables.{IsSeatOn, opening_of_table};
 use crate::plays::OfKind;
 use crate::quiet::NO_OPERANDS;
 use crate::table::{LogSeat, LogTable};
+use machine_words::layout::{DOWN, FLUSHED, MOMENT, POSITION, WRITTEN};
 use segment_disk::Disk;
-
-const POSITION: usize = 0;
-
-const WRITTEN: usize = 13;
-
-const FLUSHED: usize = 14;
-
-const MOMENT: usize = 15;
-
-const DOWN: usize = 16;
 
 pub struct LoadsPosition;
 
@@ -83,6 +80,7 @@ impl<D: Disk> LogTable<D> {
     /// more.
     pub fn load_position(&self, seat: &mut LogSeat<D>) -> u64
         requires seat { IsSeatOn self.now seat.old }
+        // What is met is no less than what the seat has seen, and is seen then.
         ensures steps { SeatSteps load_position result seat.old seat.new }
         ensures met { Meets seat.old.me.0 load_position result }
         ensures rises { seat.old.me.0.reserving.seen ≤ unlocked result }
@@ -105,6 +103,7 @@ impl<D: Disk> LogTable<D> {
     /// The flushed address. The pass was promised nothing beyond it.
     pub fn load_flushed(&self, seat: &mut LogSeat<D>) -> u64
         requires seat { IsSeatOn self.now seat.old }
+        // The view keeps the address: `load_moment` promises what is below it.
         ensures steps { SeatSteps load_flushed result seat.old seat.new }
         ensures met { Meets seat.old.me.0 load_flushed result }
         ensures furthest { All (λ (p : FlushPromise). p.upto ≤ result) seat.old.me.0.promises }
@@ -117,6 +116,8 @@ impl<D: Disk> LogTable<D> {
     /// one.
     pub fn load_moment(&self, seat: &mut LogSeat<D>) -> u64
         requires seat { IsSeatOn self.now seat.old }
+        // The view is promised that all below the flushed address that it loaded last is durable
+        // from this moment on.
         ensures steps { SeatSteps load_moment result seat.old seat.new }
         ensures met { Meets seat.old.me.0 load_moment result }
         ensures latest { All (λ (p : FlushPromise). p.moment ≤ result) seat.old.me.0.promises }
@@ -126,7 +127,7 @@ impl<D: Disk> LogTable<D> {
     }
 
     /// The disk's count of faults where it has failed, else 0. It is the count that the pass knows,
-    /// where it knows one.
+    /// where it knows one, and is above that at the opening, or the last that there is.
     pub fn load_down(&self, seat: &mut LogSeat<D>) -> u64
         requires seat { IsSeatOn self.now seat.old }
         ensures steps { SeatSteps load_down result seat.old seat.new }
@@ -138,7 +139,8 @@ impl<D: Disk> LogTable<D> {
         self.loads::<LoadsDown>(seat, DOWN, NO_OPERANDS)
     }
 
-    /// Stores as written what the writer in hand has written.
+    /// Stores as written what the writer in hand has written: from now on pages below that address
+    /// may be given up, and the writer may go back, unless it met a fault.
     pub fn store_written(&self, seat: &mut LogSeat<D>, written: u64)
         requires seat { IsSeatOn self.now seat.old }
         requires may { MaySeat seat.old.me.0 store_written }
@@ -149,7 +151,8 @@ impl<D: Disk> LogTable<D> {
         self.stores::<StoresWritten>(seat, WRITTEN, written, NO_OPERANDS);
     }
 
-    /// Stores the disk's moment, behind which all that is written is durable.
+    /// Stores the disk's moment, behind which all that is written is durable: the writer has met no
+    /// fault, and no segment waits for a sync.
     pub fn store_moment(&self, seat: &mut LogSeat<D>, moment: u64)
         requires seat { IsSeatOn self.now seat.old }
         requires may { MaySeat seat.old.me.0 store_moment }
@@ -160,7 +163,8 @@ impl<D: Disk> LogTable<D> {
         self.stores::<StoresMoment>(seat, MOMENT, moment, NO_OPERANDS);
     }
 
-    /// Stores as flushed what is durable from the moment on that was stored.
+    /// Stores as flushed what is durable from the moment on that was stored, which is all that is
+    /// written; that is stored as written too. The seat is promised it.
     pub fn store_flushed(&self, seat: &mut LogSeat<D>, flushed: u64)
         requires seat { IsSeatOn self.now seat.old }
         requires may { MaySeat seat.old.me.0 store_flushed }
@@ -171,7 +175,8 @@ impl<D: Disk> LogTable<D> {
         self.stores::<StoresFlushed>(seat, FLUSHED, flushed, NO_OPERANDS);
     }
 
-    /// Stores the disk's count of faults: from now on no call of the log goes to the device.
+    /// Stores the disk's count of faults, which the writer in hand has met: from now on no call of
+    /// the log goes to the device.
     pub fn set_down(&self, seat: &mut LogSeat<D>, faults: u64)
         requires seat { IsSeatOn self.now seat.old }
         requires may { MaySeat seat.old.me.0 set_down }

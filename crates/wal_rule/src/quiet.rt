@@ -1,4 +1,10 @@
-// Steps that move no writer and call no device: one load, store or exchange each.
+// Steps that move no writer and call no device: one load, store or exchange each. Each kind is a
+// call in one of the files beside this one, by one of these three functions. Such a call picks the
+// kind (`K`) and shows what holds of it: the seat's view lets it make the step (`may`); the word
+// and the value are the machine's own for this kind (`word`, `loads`, `stores`, `exchanges`); the
+// table has that word (`there`). Then the step keeps the rule, whatever others do between, and the
+// view behind it is the machine's (`steps`). A store meets nothing: the view behind it is the same
+// whatever the word held (`meets_none`).
 ghost use Rattle.std.specs.Prelude.{◌≡◌, ℕ, ◌<◌, ◌==◌, if◌then◌else◌};
 ghost use mathlib.Core.Option.{none};
 ghost use Rattle.wal_rule.specs.Seats.{behind};
@@ -23,7 +29,7 @@ pub const NO_OPERANDS: Operands = Operands {
 };
 
 impl<D: Disk> LogTable<D> {
-    // A step of a kind that loads a word.
+    // A step of a kind that loads a word, and leaves it as it was.
     pub(crate) fn loads<K: OfKind>(
         &self,
         seat: &mut LogSeat<D>,
@@ -43,7 +49,7 @@ impl<D: Disk> LogTable<D> {
         self.table.shared.load::<Finds<K>>(seat, word)
     }
 
-    // A step of a kind that stores a word.
+    // A step of a kind that stores a word, whatever it held.
     pub(crate) fn stores<K: OfKind>(
         &self,
         seat: &mut LogSeat<D>,
@@ -65,7 +71,8 @@ impl<D: Disk> LogTable<D> {
         self.table.shared.store::<Quietly<K>>(seat, word, value)
     }
 
-    // A step of a kind that exchanges a word where it meets what it expects.
+    // A step of a kind that exchanges a word where it meets what it expects, and else leaves it. It
+    // answers what it met, so that the caller knows which it was.
     pub(crate) fn exchanges<K: OfKind>(
         &self,
         seat: &mut LogSeat<D>,

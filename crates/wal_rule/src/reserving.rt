@@ -1,4 +1,11 @@
-// The steps of a reservation (PostgreSQL's xlog.c, ReserveXLogInsertLocation).
+// The steps of a reservation (PostgreSQL's xlog.c, ReserveXLogInsertLocation; its insertpos_lck is
+// the lowest bit of the position's word here). In this order: the position (word 0) is locked where
+// it is still the one met; the last start (word 1) is loaded, and the record's own start stored for
+// the next one; the position behind the record is stored, which unlocks it. Nobody else stores into
+// words 0 and 1 between. From the last store on the record stands in the order, in flight under
+// insertion locks that the seat held before: who sees it reserved, and then visits the locks, finds
+// it. Where it does not fit, the position is stored as it was, before word 1 is loaded. As each
+// step of the table (quiet.rt) these ask for a live seat whose view lets it step.
 ghost use Rattle.std.specs.Prelude.{◌≡◌, ℕ, List};
 ghost use Rattle.wal_types.specs.declared.record.Record.{Record};
 ghost use Rattle.wal_core.specs.Steps.{give_position_back, load_prev, lock_position, store_position, store_prev};
@@ -8,12 +15,9 @@ ghost use Rattle.wal_rule.specs.Tables.{IsSeatOn};
 use crate::plays::OfKind;
 use crate::quiet::NO_OPERANDS;
 use crate::table::{LogSeat, LogTable};
+use machine_words::layout::{LAST_START, POSITION};
 use segment_disk::Disk;
 use std::marker::Brand;
-
-const POSITION: usize = 0;
-
-const PREV: usize = 1;
 
 pub struct LoadsPrev;
 
@@ -28,7 +32,8 @@ impl OfKind for StoresPrev {
 }
 
 impl<D: Disk> LogTable<D> {
-    /// Locks the position where it is still the expected one, which is a byte position.
+    /// Locks the position where it is still the expected one, which is a byte position. The seat
+    /// has none locked; it has this one, and nobody else, where the word found is the expected one.
     pub fn lock_position(&self, seat: &mut LogSeat<D>, expected: u64) -> u64
         requires seat { IsSeatOn self.now seat.old }
         requires may { MaySeat seat.old.me.0 (lock_position expected) }
@@ -39,17 +44,19 @@ impl<D: Disk> LogTable<D> {
         self.exchanges::<Brand>(seat, POSITION, expected, expected + 1, NO_OPERANDS)
     }
 
-    /// The address at which the last reserved record starts, 0 where there is none.
+    /// The address at which the last reserved record starts, 0 where there is none. The seat has
+    /// the position locked, so that no other record is reserved meanwhile.
     pub fn load_prev(&self, seat: &mut LogSeat<D>) -> u64
         requires seat { IsSeatOn self.now seat.old }
         requires may { MaySeat seat.old.me.0 load_prev }
         ensures steps { SeatSteps load_prev result seat.old seat.new }
         ensures seat { IsSeatOn self.now seat.new }
     {
-        self.loads::<LoadsPrev>(seat, PREV, NO_OPERANDS)
+        self.loads::<LoadsPrev>(seat, LAST_START, NO_OPERANDS)
     }
 
-    /// Stores, for the next record, the address at which this one starts.
+    /// Stores, for the next record, the address at which this one starts: that of the position that
+    /// the seat has locked. The start before it was loaded.
     pub fn store_prev(&self, seat: &mut LogSeat<D>, start: u64)
         requires seat { IsSeatOn self.now seat.old }
         requires may { MaySeat seat.old.me.0 store_prev }
@@ -57,7 +64,7 @@ impl<D: Disk> LogTable<D> {
         ensures steps { SeatSteps store_prev 0 seat.old seat.new }
         ensures seat { IsSeatOn self.now seat.new }
     {
-        self.stores::<StoresPrev>(seat, PREV, start, NO_OPERANDS);
+        self.stores::<StoresPrev>(seat, LAST_START, start, NO_OPERANDS);
     }
 
     /// Stores the byte position behind the record, and so reserves its place. The locks under which
@@ -66,6 +73,8 @@ impl<D: Disk> LogTable<D> {
         requires seat { IsSeatOn self.now seat.old }
         requires kind { (locks : List ℕ) × (value : Record)
             × (K.kind ≡ store_position locks value) }
+        // The next start is stored, the record can be written and fits, and nothing is in flight;
+        // the locks are some that the seat holds.
         requires may { MaySeat seat.old.me.0 K.kind }
         requires value { position ≡ value_left seat.old.me.0 K.kind 0 }
         ensures steps { SeatSteps K.kind 0 seat.old seat.new }
@@ -79,6 +88,7 @@ impl<D: Disk> LogTable<D> {
     pub fn give_position_back<K: OfKind>(&self, seat: &mut LogSeat<D>, position: u64)
         requires seat { IsSeatOn self.now seat.old }
         requires kind { (value : Record) × (K.kind ≡ give_position_back value) }
+        // The position is locked, and nothing was loaded or stored since: so no trace is left.
         requires may { MaySeat seat.old.me.0 K.kind }
         requires value { position ≡ value_left seat.old.me.0 K.kind 0 }
         ensures steps { SeatSteps K.kind 0 seat.old seat.new }

@@ -1,5 +1,11 @@
 // Words of the ring: 1024 for each buffer, behind the buffers' end words (PostgreSQL's xlog.c,
-// CopyXLogRecordToWAL).
+// GetXLogBuffer, CopyXLogRecordToWAL, XLogWrite). A buffer's end word says which page it holds. A
+// seat whose record is in flight stores the record's words one by one, in rising order, each below
+// an end that it has met; no two records own a word, so copies go side by side and need no lock
+// between them. Who has the writer in hand loads words of a page that is not written whole and
+// begins where all is copied: each is 0 or the log's, and the log's below the address up to which
+// all is known to be copied. As each step of the table (quiet.rt) these ask for a live seat whose
+// view lets it step.
 ghost use Rattle.std.specs.Prelude.{◌≡◌, ◌<◌};
 ghost use Rattle.wal_core.specs.Steps.{load_buffer_end, load_ring_word, store_ring_word};
 ghost use Rattle.wal_rule.specs.Stepping.{MaySeat, Meets, SeatSteps, value_left, word_at_step};
@@ -8,11 +14,9 @@ ghost use Rattle.wal_rule.specs.Tables.{IsSeatOn};
 use crate::plays::OfKind;
 use crate::quiet::{NO_OPERANDS, Operands};
 use crate::table::{LogSeat, LogTable};
+use machine_words::layout::BUFFER_ENDS;
 use segment_disk::Disk;
 use std::marker::Brand;
-
-// The number of the first buffer's end word.
-const BUFFER_ENDS: usize = 17;
 
 pub struct StoresRingWord;
 
@@ -21,7 +25,8 @@ impl OfKind for StoresRingWord {
 }
 
 impl<D: Disk> LogTable<D> {
-    /// The address behind the page that a buffer holds, 0 where it holds none.
+    /// The address behind the page that a buffer holds, 0 where it holds none. The seat has met
+    /// this end then: the page stays there while a word on it is still to be copied.
     pub fn load_buffer_end(&self, seat: &mut LogSeat<D>, buffer: u32) -> u64
         requires seat { IsSeatOn self.now seat.old }
         requires buffer { MaySeat seat.old.me.0 (load_buffer_end buffer) }
@@ -33,7 +38,8 @@ impl<D: Disk> LogTable<D> {
     }
 
     /// Stores the next word of the record that is copied, at its place in the ring, by the number
-    /// of that place among all words.
+    /// of that place among all words. The word lies on a page whose end the seat has met, or on one
+    /// before it.
     pub fn store_ring_word(&self, seat: &mut LogSeat<D>, place: usize, word: u64)
         requires seat { IsSeatOn self.now seat.old }
         requires place { place ≡ word_at_step seat.old.me.0 store_ring_word }
@@ -45,7 +51,8 @@ impl<D: Disk> LogTable<D> {
         self.stores::<StoresRingWord>(seat, place, word, NO_OPERANDS);
     }
 
-    /// Loads the log's k-th word for a write, from its place in the ring.
+    /// Loads the log's k-th word for a write, from its place in the ring. The seat has the writer
+    /// in hand; the word's page is not written whole, and begins where all is known to be copied.
     pub fn load_ring_word(&self, seat: &mut LogSeat<D>, k: u64, place: usize) -> u64
         requires seat { IsSeatOn self.now seat.old }
         requires place { place ≡ word_at_step seat.old.me.0 (load_ring_word k) }

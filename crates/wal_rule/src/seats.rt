@@ -1,4 +1,8 @@
-// What a pass knows, which is nothing at run time, and what the table is told once.
+// What a pass knows, which is nothing at run time, and what the table is told once. A seat's view
+// changes by the seat's own steps, and by no other seat's: it has what the seat holds (locks,
+// turns, the writer), how far it is with what it is about, and what it has met. What the words hold
+// now follows from it by the table's rule alone. What is told once (`Founding`) is the table's key:
+// it never changes, so each seat's steps speak of the same log and of the same opening.
 ghost use Rattle.std.specs.Prelude.{◌≡◌};
 ghost use Rattle.wal_rule.specs.Founded.{disk_of_founding, empty_log_opening, founded_opening};
 ghost use Rattle.wal_rule.specs.Seats.{SeatView};

@@ -1,4 +1,10 @@
-// The turn to write, and the writer in its slot.
+// The turn to write, and the writer in its slot (PostgreSQL's xlog.c, WALWriteLock). Who meets 0 in
+// the turn's word (11) has the turn, and nobody else; it may take the writer out of its slot. Only
+// with the writer in hand the device is called, and written, moment, flushed and down are stored:
+// so the device's calls come one after another. The writer goes back once its written address is
+// stored, or, behind a fault, once down is set: so whoever takes it next finds in the words how far
+// it came. Then the turn is given back. As each step of the table (quiet.rt) these ask for a live
+// seat whose view lets it step.
 ghost use Rattle.std.specs.Prelude.{◌≡◌, ◌≢◌, ℕ, true, false, []};
 ghost use mathlib.Core.Option.{none};
 ghost use Rattle.wal_core.specs.Steps.{release_write_turn, slot_in, slot_out, take_write_turn};
@@ -10,10 +16,9 @@ ghost use Rattle.wal_rule.specs.Tables.{IsSeatOn, began_of_table, opening_of_tab
 use crate::plays::{BeganOn, OfKind, SlotIn, SlotOut};
 use crate::quiet::NO_OPERANDS;
 use crate::table::{LogSeat, LogTable};
+use machine_words::layout::WRITE_TURN;
 use segment_disk::Disk;
 use std::marker::Brand;
-
-const WRITE_TURN: usize = 11;
 
 pub struct TakesWriteTurn;
 
@@ -28,7 +33,8 @@ impl OfKind for ReleasesWriteTurn {
 }
 
 impl<D: Disk> LogTable<D> {
-    /// Takes the turn to write where it is free, which is where the word found is 0.
+    /// Takes the turn to write where it is free, which is where the word found is 0. The seat does
+    /// not have it, and stores one more than its pass's number.
     pub fn take_write_turn(&self, seat: &mut LogSeat<D>, number: u32) -> u64
         requires seat { IsSeatOn self.now seat.old }
         requires may { MaySeat seat.old.me.0 take_write_turn }
@@ -40,7 +46,9 @@ impl<D: Disk> LogTable<D> {
         self.exchanges::<TakesWriteTurn>(seat, WRITE_TURN, 0, u64::from(number) + 1, NO_OPERANDS)
     }
 
-    /// Takes the writer out of its slot.
+    /// Takes the writer out of its slot. The seat has the turn to write. It is the log's writer, as
+    /// the last one left it who had it. With it the view keeps as known what the seat's watch has
+    /// found to be copied, where that has visited all eight locks, and else nothing.
     pub fn slot_out(&self, seat: &mut LogSeat<D>)
         requires seat { IsSeatOn self.now seat.old }
         requires may { MaySeat seat.old.me.0 slot_out }
@@ -52,6 +60,7 @@ impl<D: Disk> LogTable<D> {
         self.slot_out_on::<Brand>(seat);
     }
 
+    // The same, with the tape at the opening picked for the proof.
     fn slot_out_on<B: BeganOn>(&self, seat: &mut LogSeat<D>)
         requires seat { IsSeatOn self.now seat.old }
         requires may { MaySeat seat.old.me.0 slot_out }
@@ -63,7 +72,8 @@ impl<D: Disk> LogTable<D> {
         self.table.shared.load::<SlotOut<D, B>>(seat, WRITE_TURN);
     }
 
-    /// Puts the writer back into its slot.
+    /// Puts the writer back into its slot, as the seat's view keeps it. Its written address is
+    /// stored as written and it met no fault, or the seat has set down.
     pub fn slot_in(&self, seat: &mut LogSeat<D>)
         requires seat { IsSeatOn self.now seat.old }
         requires may { MaySeat seat.old.me.0 slot_in }
@@ -92,6 +102,8 @@ impl<D: Disk> LogTable<D> {
         requires may { MaySeat seat.old.me.0 take_write_turn }
         requires none_out { seat.old.me.1 ≡ [] }
         requires number { number ≡ seat.old.me.0.reserving.number }
+        // At true the seat has the turn and the writer, and nothing else has changed for it; at
+        // false the turn was somebody's, and nothing has.
         ensures taken { result ≡ true → HasTaken D.tape D.moment D.faults
             (began_of_table D.tape self.now) (opening_of_table self.now) seat.old.me seat.new.me }
         ensures same { result ≡ false → seat.new.me ≡ seat.old.me }

@@ -1,4 +1,10 @@
-// The writer in the table's slot.
+// The writer in the table's slot (PostgreSQL's xlog.c, XLogWrite, with its openLogSegNo and
+// LogwrtResult). Who has it in hand makes one call of the device at a time; each leaves the fields
+// as the machine's call with that outcome leaves its writer (`CallEnds`). A write that is done
+// raises `written`; one that failed does not, but where it was counted its segment waits for a
+// sync, since the disk may have any word of it. A sync that failed leaves the segment waiting.
+// Behind a fault nothing more may be called: this is not checked here but asked by the table's
+// calls (`may`).
 ghost use Rattle.std.specs.Prelude.{◌≡◌, ◌↔◌, ◌*◌, ◌/◌, ◌<◌, ◌≤◌, ◌^◌, IfOk, IfSome, IsSome, IsTrue, Some};
 ghost use Rattle.byte_position.specs.Geometry.{pages_of};
 ghost use Rattle.segment_disk.specs.Cause.{HasCause};
@@ -160,6 +166,8 @@ impl<D: Disk> LogWriter<D> {
 
     /// Whether page 0 of segment 1 is there.
     pub(crate) fn has_first_page(&mut self) -> Result<bool, Failed>
+        // Only the disk has changed, by a read: how far the log is written, the tape and the moment
+        // are as before.
         ensures there { IfOk result (λ there. IfSome (D.tape (slot_disk self.old)) (λ t.
             IsTrue there ↔ IsSome (page_of_segment (state_now t 1) 0))) }
         ensures same { slot_plain D.tape D.moment self.new ≡ slot_plain D.tape D.moment self.old }

@@ -5,11 +5,11 @@ use Rattle.std.specs.Global.{Vec}
 use Rattle.replay_schedule.specs.declared.item.Item.{Item}
 use Rattle.replay_schedule.specs.declared.schedule.ScheduleError.{ScheduleError}
 use Rattle.replay_schedule.specs.declared.schedule.ScheduleError.TheVariants as schedule_errors
-use Rattle.replay_schedule.specs.Parts.{bytes_left, parts_left}
+use Rattle.text_parts.specs.Parts.{bytes_left, parts_left}
 use Rattle.wal_script.specs.declared.backends.Backends.{Backends}
 use Rattle.wal_script.specs.declared.backends.ScheduleText.{ScheduleText}
-use Rattle.wal_script.specs.declared.backends.Step.{Step}
-use Rattle.wal_script.specs.declared.backends.Step.TheVariants as steps
+use Rattle.wal_script.specs.declared.backends.LineRead.{LineRead}
+use Rattle.wal_script.specs.declared.backends.LineRead.TheVariants as steps
 use Rattle.wal_script.specs.declared.line.Line.{Line}
 use Rattle.wal_script.specs.declared.line.Refusal.{Refusal}
 use Rattle.wal_script.specs.declared.line.ScriptFault.TheVariants as faults
@@ -44,7 +44,7 @@ GivesReplay (Ok replay) meaning = DoesReplay replay meaning
 GivesReplay (Err error) meaning = RefusesScript error meaning
 
 -- a step does what a line means
-abbrev pub DoesStep : Step → ScriptLine → Type 0
+abbrev pub DoesStep : LineRead → ScriptLine → Type 0
 DoesStep steps.Pass meaning = meaning ≡ of_backend passes
 DoesStep (steps.Ask action) meaning =
     (asked : Asked) × (meaning ≡ of_backend (asks asked)) × IsActionOf asked action
@@ -57,7 +57,7 @@ RefusesStep causes.Memory meaning = Unit {0}
 RefusesStep (causes.Fault fault) meaning = meaning ≡ of_backend (refuses fault)
 
 -- what was read of a line does what it means, and its fault is what it means
-abbrev pub StepGives : Result Step LineError → ScriptLine → Type 0
+abbrev pub StepGives : Result LineRead LineError → ScriptLine → Type 0
 StepGives (Ok step) meaning = DoesStep step meaning
 StepGives (Err error) meaning = RefusesStep error meaning
 

@@ -10,8 +10,8 @@ use crate::fields::no_more;
 use crate::line::{Action, Line, ScriptFault};
 use crate::line_error::LineError;
 use crate::parser::{ParseError, SCRIPT_LIMIT, action_by};
-use replay_schedule::{Parts, cut};
 use std::alloc::Global;
+use text_parts::{Parts, cut};
 
 // How many backends a script may have.
 const MOST_BACKENDS: usize = 64;
@@ -35,7 +35,7 @@ pub(crate) struct Backends<'a> {
 
 /// What one line does.
 #[derive(Drop)]
-enum Step {
+enum LineRead {
     /// Nothing: it is empty or a comment.
     Pass,
     /// It asks this of its backend.
@@ -67,16 +67,16 @@ pub(crate) fn read_backends(
         rest = behind;
         number += 1;
         match read_line(alloc, line, takes_schedule).map_err(|cause| cause.at(number))? {
-            Step::Pass => {}
-            Step::Ask(action) => lines.push(Line { number, action })?,
-            Step::Begin { is_alone } => {
+            LineRead::Pass => {}
+            LineRead::Ask(action) => lines.push(Line { number, action })?,
+            LineRead::Begin { is_alone } => {
                 if let Some(fault) = begin_fault(before.len() + 1, is_alone) {
                     return Err(LineError::Fault(fault).at(number));
                 }
                 before.push(lines)?;
                 lines = Vec::new(alloc);
             }
-            Step::End => {
+            LineRead::End => {
                 before.push(lines)?;
                 let schedule = Some(ScheduleText { number, text: rest });
                 return Ok(Backends {
@@ -107,29 +107,33 @@ fn begin_fault(backends: usize, is_alone: bool) -> Option<ScriptFault>
 }
 
 // What a line does.
-fn read_line(alloc: Global, line: &[u8], takes_schedule: bool) -> Result<Step, LineError>
+fn read_line(alloc: Global, line: &[u8], takes_schedule: bool) -> Result<LineRead, LineError>
     ensures { StepGives result (script_line_of takes_schedule line.now) }
 {
     match line {
-        [] | [b'#', ..] => Ok(Step::Pass),
+        [] | [b'#', ..] => Ok(LineRead::Pass),
         _ => read_fields(alloc, Parts::of(line, b' '), takes_schedule),
     }
 }
 
 // What a line does by its fields.
-fn read_fields(alloc: Global, mut fields: Parts, takes_schedule: bool) -> Result<Step, LineError>
+fn read_fields(
+    alloc: Global,
+    mut fields: Parts,
+    takes_schedule: bool,
+) -> Result<LineRead, LineError>
     ensures { StepGives result (script_line_with takes_schedule fields.entry) }
 {
     match fields.next() {
         Some(b"B") => {
             let is_alone = fields.next().is_none();
-            Ok(Step::Begin { is_alone })
+            Ok(LineRead::Begin { is_alone })
         }
         Some(b"S") if takes_schedule => {
             no_more(fields)?;
-            Ok(Step::End)
+            Ok(LineRead::End)
         }
-        Some(word) => Ok(Step::Ask(action_by(alloc, word, fields)?)),
+        Some(word) => Ok(LineRead::Ask(action_by(alloc, word, fields)?)),
         None => Err(LineError::Fault(ScriptFault::Word)),
     }
 }

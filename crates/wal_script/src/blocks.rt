@@ -9,8 +9,8 @@ use crate::images::image;
 use crate::line::ScriptFault;
 use crate::line_error::LineError;
 use decimal_numbers::number;
-use replay_schedule::Parts;
 use std::alloc::Global;
+use text_parts::Parts;
 use wal_types::{Block, BlockList, Rel};
 
 // The largest number of a block (PostgreSQL's MaxBlockNumber of block.h).

@@ -11,8 +11,8 @@ use crate::hexadecimal::{byte, data};
 use crate::line::ScriptFault;
 use crate::line_error::LineError;
 use decimal_numbers::{number, time};
-use replay_schedule::Parts;
 use std::alloc::Global;
+use text_parts::Parts;
 use wal_types::Bytes;
 
 // The next field as a number of at most `most`.

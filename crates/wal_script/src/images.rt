@@ -9,8 +9,8 @@ use crate::line::ScriptFault;
 use crate::line_error::LineError;
 use crate::text::is_dash;
 use decimal_numbers::number;
-use replay_schedule::Parts;
 use std::alloc::Global;
+use text_parts::Parts;
 use wal_types::{Bytes, Image};
 
 const PAGE_LEN: u16 = 8192;

@@ -8,8 +8,8 @@ use crate::fields::no_more;
 use crate::line::{Action, Line, Refusal, ScriptFault};
 use crate::line_error::LineError;
 use crate::records::{commit, insert};
-use replay_schedule::Parts;
 use std::alloc::{AllocError, AllocFailed, Global};
+use text_parts::Parts;
 
 /// How many bytes a script may have.
 pub const SCRIPT_LIMIT: usize = 67_108_864;

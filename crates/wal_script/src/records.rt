@@ -8,8 +8,8 @@ use crate::blocks::blocks;
 use crate::fields::{next_byte, next_data, next_time, next_u8, next_u32, no_more};
 use crate::line_error::LineError;
 use record_spelling::Body;
-use replay_schedule::Parts;
 use std::alloc::{AllocError, Global};
+use text_parts::Parts;
 use wal_types::{BlockList, Bytes, Record, Xid};
 
 // The resource manager of transactions (PostgreSQL's rmgrlist.h).

@@ -1,7 +1,7 @@
 //! The script of a replay: several backends, and a schedule.
 
 ghost use Rattle.std.specs.Prelude.{◌+◌, ◌≤◌, IfSome, length};
-ghost use Rattle.replay_schedule.specs.Parts.{bytes_left};
+ghost use Rattle.text_parts.specs.Parts.{bytes_left};
 ghost use Rattle.wal_script.specs.Replay.{replay_meaning, schedule_with};
 ghost use Rattle.wal_script.specs.ReplayReading.{GivesReplay, GivesSchedule, schedule_lines};
 

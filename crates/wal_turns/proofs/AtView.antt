@@ -8,7 +8,7 @@ use Rattle.wal_page.specs.Order.{end_position}
 use Rattle.wal_page.proofs.OwnerLaws.{rooms_of-whole}
 use Rattle.wal_page.proofs.WordPositions.{first_position-whole}
 use Rattle.wal_core.specs.Words.{Opening, down_word, lock_word, write_turn}
-use Rattle.wal_core.specs.Views.{Place, Free, Locked, Loaded, Stored, Stage, Away, Taken, Looked, Ready, Zeroing, Published, Plain, Lent, Hold, Turned as HasTurned, Out, View, reserving_of, writer_of, told_of}
+use Rattle.wal_core.specs.Views.{Place, Free, Locked, Loaded, Stored, Stage, Away, Taken, Looked, Ready, Zeroing, Published, Plain, Lent, Hold, Turned as HasTurned, Out, View, reserving_of, writer_of, receipts_of}
 use Rattle.wal_core.specs.Ordered.{AtPlace}
 use Rattle.wal_core.specs.Locked.{StandsTo}
 use Rattle.wal_core.specs.Steps.{StepKind, load_prev, give_position_back, take_lock, load_lock, zero_ring_word, publish_end, slot_in, IsLive, returned, home_behind}
@@ -136,7 +136,7 @@ module _ (m : Machine) (run : IsRunning m) (number : ℕ) (v : View)
 
   knows_no_down : down_word words ≡ 0 → KnowsDown v → ⊥
   knows_no_down up knows =
-      let told_here = (sound.durable).views id (told_of v) (part_at told_of views id v live.0) in
+      let told_here = (sound.durable).views id (receipts_of v) (part_at receipts_of views id v live.0) in
       ⊎_elim (λ (met : (v.writing).down_met ≢ 0). met (told_here.down_met met ∙ up))
       (λ (put : (v.writing).down_set ≢ 0). put (told_here.down_set put ∙ up)) knows
 

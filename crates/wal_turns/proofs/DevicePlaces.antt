@@ -8,7 +8,7 @@ use Rattle.byte_position.specs.Geometry.{IsSegmentSize, pages_of}
 use Rattle.byte_position.proofs.SegmentSizes.{segment_size_in_pages}
 use Rattle.segment_disk.specs.Tape.{create_call, sync_call, write_call}
 use Rattle.wal_core.specs.Views.{Lent, Out, View}
-use Rattle.wal_core.specs.Moves.{Outcome, Done, Failed, after_create, after_write, after_sync, is_done}
+use Rattle.wal_core.specs.Moves.{CallOutcome, Done, Failed, after_create, after_write, after_sync, is_done}
 use Rattle.wal_core.specs.Steps.{StepKind, MayStep, IsNextCreate, IsNextWrite, create, write, sync, word_of_step, view_behind}
 use Rattle.wal_turns.specs.Doing.{Ask, Purpose, ForLine, Doing, Creates, Writes, SyncsFull, SyncsLast, StoresWritten, SetsDown, Machine}
 use Rattle.wal_turns.specs.Turned.{outcome, behind_call, page_or_end, segment_or, page_staged, of_lent}
@@ -19,10 +19,10 @@ use Rattle.wal_turns.proofs.Loads.{bytes-length, bytes-words}
 use Rattle.wal_turns.proofs.SegmentSteps.{next-begins, segment-still}
 
 module _ (m : Machine) (ask : Ask) where
-  abbrev fails : Outcome
+  abbrev fails : CallOutcome
   fails = Failed ((m.opening).faults + 1) (some false)
 
-  by_outcome : (P : Outcome → Type 0) (v : View) → P fails → P Done → P (outcome m v ask)
+  by_outcome : (P : CallOutcome → Type 0) (v : View) → P fails → P Done → P (outcome m v ask)
   by_outcome P v failed done = bool_cases (λ (b : Bool). P (cond b fails Done))
       _ (λ listed. failed) (λ other. done)
 
@@ -36,7 +36,7 @@ module _ (m : Machine) (ask : Ask) where
     size = ((v.opening).setup).segment_size
 
     -- behind the call, as it ended
-    abbrev GoesBy : (Outcome → StepKind) → Doing → Outcome → Type 0
+    abbrev GoesBy : (CallOutcome → StepKind) → Doing → CallOutcome → Type 0
     GoesBy event next o =
         let e = event o in
         let met = slice_index (m.state).words (word_of_step here e) in
@@ -90,7 +90,7 @@ module _ (m : Machine) (ask : Ask) where
     creates_at valid on fresh near =
         let segment = (l.writer).made + 1 in
         let call = create_call size segment in
-        let behind : Outcome → Lent = λ (o : Outcome).
+        let behind : CallOutcome → Lent = λ (o : CallOutcome).
         record l { writer = after_create segment call o l.writer } in
         let up = (on.writer_up).up in
         let may = next_create valid on fresh in
@@ -151,13 +151,13 @@ module _ (m : Machine) (ask : Ask) where
         let segment = segment_next size l.writer in
         let upto = min l.known (page * 8192 + 8192) in
         let call = write_call size segment (page % pages_of size) (page_staged here) in
-        let behind : Outcome → Lent = λ (o : Outcome).
+        let behind : CallOutcome → Lent = λ (o : CallOutcome).
         record l { writer = after_write segment upto call o l.writer } in
         let may = next_write valid on made in
-        let event : Outcome → StepKind = λ (o : Outcome).
+        let event : CallOutcome → StepKind = λ (o : CallOutcome).
         write segment (page % pages_of size) upto (page_staged here) o in
         let met = slice_index (m.state).words 11 in
-        by_outcome (λ (o : Outcome).
+        by_outcome (λ (o : CallOutcome).
         let e = event o in
         let w = view_behind here e met (m.state).home in
         MayStep here e × StandsNext (behind_call here w ask met (is_done o) purpose
@@ -191,11 +191,11 @@ module _ (m : Machine) (ask : Ask) where
     syncs_full_at waits =
         let segment = segment_or here 0 (l.writer).waiting in
         let call = sync_call size segment in
-        let behind : Outcome → Lent = λ (o : Outcome).
+        let behind : CallOutcome → Lent = λ (o : CallOutcome).
         record l { writer = after_sync call o l.writer } in
         let may = next_sync waits.1.0 waits.1.1 in
         let met = slice_index (m.state).words 11 in
-        by_outcome (λ (o : Outcome).
+        by_outcome (λ (o : CallOutcome).
         let w = view_behind here (sync segment o) met (m.state).home in
         MayStep here (sync segment o) × StandsNext (behind_call here w ask met
         (is_done o) purpose
@@ -216,7 +216,7 @@ module _ (m : Machine) (ask : Ask) where
       let u = in_hand m ask l v in
       let segment = segment_or u 0 (l.writer).waiting in
       let call = sync_call ((v.opening).setup).segment_size segment in
-      let behind : Outcome → Lent = λ (o : Outcome).
+      let behind : CallOutcome → Lent = λ (o : CallOutcome).
       record l { writer = after_sync call o l.writer } in
       let may = next_sync ForLine l v base told waits.1.0 waits.1.1 in
       by_outcome (GoesBy ForLine l v base told (sync segment) (StoresWritten ForLine)) u (

@@ -1,4 +1,9 @@
--- What a backend of the machine is about: its lines, and its place in the order of its steps.
+-- What a backend of the machine is about: its lines, and its place in the order of its steps
+-- (PostgreSQL's xlog.c, XLogInsertRecord and XLogFlush). An insert holds its lock from `Reserves`
+-- to `Releases`, and its record is in flight from the last of its reservation on. It has the turn
+-- to map only from `Maps` to `GivesTurn`, and gives it back before it writes pages itself. Who
+-- writes has the turn to write from `LoadsDown` to `GivesWriteTurn`, and between the writer. So a
+-- backend that waits has at most its lock and its record.
 use Rattle.std.specs.Prelude.{ℕ, Bool, List}
 use mathlib.Core.Option.{Option}
 use Rattle.wal_types.specs.declared.record.Record.{Record}

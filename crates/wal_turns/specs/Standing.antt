@@ -1,4 +1,7 @@
--- How a backend's view stands at its place in the order of steps, and a machine that runs.
+-- How a backend's view stands at its place in the order of steps, and a machine that runs. What
+-- `StandsToDo` says of a view at a place gives what the step of that place rests on (`MayStep` of
+-- wal_core), and each step leaves it for the place behind: so in a machine that runs the order
+-- never names a step that a view does not let its pass make.
 use Rattle.std.specs.Prelude.{◌≡◌, ◌≢◌, ◌⊎◌, ℕ, zero, suc, ◌+◌, ◌*◌, ◌/◌, ◌%◌, ◌<◌, ◌≤◌, Bool, true, false, All, List, [], ◌∷◌, length, slice_get, slice_index, Some}
 use mathlib.Core.Option.{none, some}
 use Rattle.byte_position.specs.Geometry.{pages_of}

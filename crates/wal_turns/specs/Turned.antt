@@ -1,4 +1,9 @@
--- A backend's turn: the step that the order names, or what the backend waits for.
+-- A backend's turn: the step that the order names, or what the backend waits for. The order is that
+-- of docs/COMMIT.md: down, a lock, the place, the copy with its pages, the release; down, the end,
+-- the locks, the turn, the pages, the sync, written, moment, flushed. A turn makes one step where
+-- its word allows that now (the position not locked, a turn free, a lock that tells enough), and
+-- else changes nothing. Once the down word is not 0, a line ends where it looks at that word or
+-- would wait.
 use Rattle.std.specs.Prelude.{ℕ, ◌+◌, ◌-◌, ◌*◌, ◌/◌, ◌%◌, Bool, true, false, ◌&&◌, ◌||◌, not, List, [], ◌∷◌, ◌++◌, set, take, slice_index, Option, Some, None, slice_get, min, ◌==◌, nat_lt, nat_le, if◌then◌else◌}
 use Rattle.std.specs.Int.{w64, to_le_bytes}
 use mathlib.Core.Option.{none, some}
@@ -10,7 +15,7 @@ use Rattle.wal_page.specs.EntryWords.{address_of_word, words_owned}
 use Rattle.wal_core.specs.declared.setup.Setup.{Setup}
 use Rattle.wal_core.specs.Words.{position_word, lock_word, mapping_turn, write_turn, down_word, log_limit, end_form}
 use Rattle.wal_core.specs.Views.{Place, Free, Locked, Loaded, Stored, Flight, Landed, Copying, Stage, Away, Taken, Looked, Ready, Zeroing, Published, Lent, Hold, Idle, Turned as HasTurned, Out, View}
-use Rattle.wal_core.specs.Moves.{Outcome, Done as CallDone, Failed, is_done}
+use Rattle.wal_core.specs.Moves.{CallOutcome, Done as CallDone, Failed, is_done}
 use Rattle.wal_core.specs.Steps.{StepKind, State, load_position, take_write_turn, slot_out, slot_in, release_write_turn, lock_position, load_prev, store_prev, store_position, give_position_back, load_lock, take_lock, advance, release, load_buffer_end, store_ring_word, load_ring_word, load_written, load_flushed, load_moment, load_down, store_written, store_moment, store_flushed, set_down, take_mapping_turn, load_initialised_end, clear_end, zero_ring_word, publish_end, publish_initialised_end, release_mapping_turn, create, write, sync, buffer_of, number_lent, word_of_step, value_behind, view_behind, home_behind}
 use Rattle.wal_turns.specs.Doing.{Ask, Inserts, Commits, Flushes, Purpose, ForLine, ForPage, Doing, Begins, Tries, Reserves, Looks, Copies, Maps, GivesTurn, Tells, Releases, FlushBegins, LoadsPosition, LoadsFlushed, LoadsMoment, Visits, TakesTurn, LoadsDown, TakesOut, LoadsPage, Creates, Writes, SyncsFull, SyncsLast, StoresWritten, StoresMoment, StoresFlushed, SetsDown, PutsBack, GivesWriteTurn, Backend, Machine}
 
@@ -142,7 +147,7 @@ module _ (v : View) where
 
 -- how a call of the device ends: it fails where its number, counted from 1, is listed; a create
 -- that fails makes nothing
-abbrev pub call_outcome : List ℕ → ℕ → ℕ → Outcome
+abbrev pub call_outcome : List ℕ → ℕ → ℕ → CallOutcome
 call_outcome failing faults moment =
     if is_listed failing (moment + 1) then Failed (faults + 1) (some false) else CallDone
 
@@ -152,7 +157,7 @@ module _ (m : Machine) (v : View) (ask : Ask) where
   abbrev words : List ℕ
   words = (m.state).words
 
-  abbrev pub outcome : Outcome
+  abbrev pub outcome : CallOutcome
   outcome = call_outcome m.failing (m.opening).faults (of_lent v (λ l. (l.writer).moment))
 
   abbrev pub event_named : Doing → StepKind

@@ -1,4 +1,8 @@
-// Whether a page is in its buffer (PostgreSQL's xlog.c, GetXLogBuffer).
+// Whether a page is in its buffer (PostgreSQL's xlog.c, GetXLogBuffer, which compares xlblocks with
+// the page's end). The end word of the page's buffer is loaded; nothing is stored, and the pass
+// need hold no lock or turn. If it meets the page's own end, its view keeps that, and the pass may
+// store there the words that its record owns on the page, without a further look: while one of them
+// is to be copied, the log is not written up to the page's end, so the page is not replaced.
 ghost use Rattle.std.specs.Prelude.{◌≡◌, ℕ, ◌%◌, ◌<◌, ◌^◌};
 ghost use Rattle.wal_core.specs.Steps.{load_buffer_end};
 ghost use Rattle.wal_rule.specs.Stepping.{Meets};
@@ -28,6 +32,7 @@ pub fn confirm<D: Disk>(
     requires seat { IsSeatOn table.now seat.old }
     requires shape { shape.now ≡ (opening_of_table table.now).setup }
     requires low { page < 2 ^ 40 }
+    // The view has met the end that was loaded, which is told unless it is the page's own.
     ensures met { (end : ℕ) × Confirms page end result
         × (seat.new.me ≡ (confirmed_view end seat.old.me.0, seat.old.me.1))
         × Meets seat.old.me.0 (load_buffer_end (page % shape.now.ring_pages)) end }

@@ -1,4 +1,11 @@
-// The next page is mapped (PostgreSQL's xlog.c, AdvanceXLInsertBuffer).
+// The next page is mapped, by one try (PostgreSQL's xlog.c, AdvanceXLInsertBuffer), with the turn
+// to map (word 10, WALBufMappingLock), which is given back at each exit. The page begins at the
+// initialised end (12). The page in its buffer must end at or below the written address (13). Both
+// are loaded. Then the buffer's end word is cleared, its words are zeroed, the page's end is
+// stored, and the initialised end behind it: so pages are mapped one at a time, in rising order.
+// From the clearing on, until the page's end is stored, nobody else stores into the buffer.
+// PostgreSQL also makes the page's header here, and writes the old page. In this log a header's
+// words are those of the record that reaches the page first, and to write is the caller's matter.
 ghost use Rattle.std.specs.Prelude.{◌≡◌, ◌≢◌, ℕ, ◌+◌, ◌*◌, ◌<◌, ◌≤◌, ◌^◌};
 ghost use Rattle.wal_core.specs.Paged.{IsOpen};
 ghost use Rattle.wal_core.specs.Steps.{buffer_of, take_mapping_turn};
@@ -10,13 +17,11 @@ ghost use Rattle.word_ring.specs.Ring.{confirmed_view};
 
 use byte_position::PAGE_SIZE;
 use machine_words::LogShape;
+use machine_words::layout::BUFFER_ENDS;
 use segment_disk::Disk;
 use wal_rule::{LogSeat, LogTable};
 
-const PAGE_WORDS: usize = 1024;
-
-// The number of the first buffer's end word.
-const BUFFER_ENDS: usize = 17;
+const PAGE_WORDS: usize = byte_position::PAGE_WORDS as usize;
 
 /// How a try to map the next page ended.
 #[derive(Clone, Copy, Debug, PartialEq, Eq)]
@@ -42,6 +47,9 @@ pub fn try_map<D: Disk>(
 ) -> MapTry
     requires seat { IsSeatOn table.now seat.old }
     requires shape { shape.now ≡ (opening_of_table table.now).setup }
+    // The pass has not the turn to map, and has it no more behind the try. Of its view only the
+    // highest end met and the written address loaded have changed, and neither if the turn was
+    // somebody else's.
     requires number { number ≡ seat.old.me.0.reserving.number }
     requires away { seat.old.me.0.mapping.stage ≡ Away }
     requires low { page < 2 ^ 40 }
@@ -67,7 +75,8 @@ pub fn try_map<D: Disk>(
     }
 }
 
-// Takes the turn to map where it is free.
+// Takes the turn to map where it is free, which is where the word met is 0. Else the pass has what
+// it had, and no turn.
 fn take_turn<D: Disk>(table: &LogTable<D>, seat: &mut LogSeat<D>, number: u32) -> u64
     requires seat { IsSeatOn table.now seat.old }
     requires number { number ≡ seat.old.me.0.reserving.number }
@@ -81,7 +90,9 @@ fn take_turn<D: Disk>(table: &LogTable<D>, seat: &mut LogSeat<D>, number: u32) -
     table.take_mapping_turn(seat, number)
 }
 
-// The initialised end, and the written address.
+// The initialised end, and the written address, loaded with the turn had. Until it is given back
+// nobody else maps a page, and what is written never falls; so a page that may be replaced by these
+// two may be so later.
 fn look<D: Disk>(table: &LogTable<D>, seat: &mut LogSeat<D>) -> (u64, u64)
     requires seat { IsSeatOn table.now seat.old }
     requires taken { seat.old.me.0.mapping.stage ≡ Taken }
@@ -96,7 +107,7 @@ fn look<D: Disk>(table: &LogTable<D>, seat: &mut LogSeat<D>) -> (u64, u64)
     (at, table.load_written(seat))
 }
 
-// Gives the turn back, with nothing changed.
+// Gives the turn back, with no page under way.
 fn give_turn_back<D: Disk>(table: &LogTable<D>, seat: &mut LogSeat<D>)
     requires seat { IsSeatOn table.now seat.old }
     requires open { IsOpen seat.old.me.0.mapping.stage }
@@ -107,7 +118,7 @@ fn give_turn_back<D: Disk>(table: &LogTable<D>, seat: &mut LogSeat<D>)
 }
 
 // Maps the page at an address in place of the one in its buffer, which is written, and gives the
-// turn back.
+// turn back. The pass has the turn, and behind it has met the new page's end.
 fn replace<D: Disk>(table: &LogTable<D>, seat: &mut LogSeat<D>, shape: &LogShape, at: u64)
     requires seat { IsSeatOn table.now seat.old }
     requires shape { shape.now ≡ (opening_of_table table.now).setup }
@@ -126,7 +137,8 @@ fn replace<D: Disk>(table: &LogTable<D>, seat: &mut LogSeat<D>, shape: &LogShape
     give_turn_back(table, seat);
 }
 
-// Zeroes the words of the buffer of the page at an address.
+// Zeroes the words of the buffer of the page at an address, whose end word is cleared: a word that
+// no record owns yet is 0 in every write of the page.
 fn zero_page<D: Disk>(table: &LogTable<D>, seat: &mut LogSeat<D>, shape: &LogShape, at: u64)
     requires seat { IsSeatOn table.now seat.old }
     requires shape { shape.now ≡ (opening_of_table table.now).setup }

@@ -38,7 +38,7 @@ pub enum Stream {
 #[derive(Drop)]
 pub enum Change {
     /// A new one that holds nothing goes on.
-    New(Room),
+    New(NewDisk),
     /// Bytes are put in place of those at an address.
     Poke { at: u64, bytes: Vec<u8> },
     /// The CRC of the record at an address is made right.
@@ -55,7 +55,7 @@ pub enum Change {
 
 /// What a disk has room for, and which of its calls fail.
 #[derive(Drop)]
-pub struct Room {
+pub struct NewDisk {
     pub segments: u32,
     pub fail: Vec<u64>,
     pub fail_reads: Vec<u64>,
@@ -63,19 +63,19 @@ pub struct Room {
 
 // What numbers of a new disk's row tell.
 #[derive(Clone, Copy)]
-enum RoomOption {
+enum NewDiskOption {
     Segments,
     Fail,
     FailReads,
 }
 
-impl Room {
+impl NewDisk {
     // Takes a number of an option.
-    fn take(&mut self, option: RoomOption, word: &str) -> Result<(), Stop> {
+    fn take(&mut self, option: NewDiskOption, word: &str) -> Result<(), Stop> {
         match option {
-            RoomOption::Segments => self.segments = small_number(word)?,
-            RoomOption::Fail => self.fail.push(number(word)?)?,
-            RoomOption::FailReads => self.fail_reads.push(number(word)?)?,
+            NewDiskOption::Segments => self.segments = small_number(word)?,
+            NewDiskOption::Fail => self.fail.push(number(word)?)?,
+            NewDiskOption::FailReads => self.fail_reads.push(number(word)?)?,
         }
         Ok(())
     }
@@ -170,8 +170,8 @@ fn change_by(alloc: Global, word: &str, rest: &str) -> Result<Change, Stop> {
 }
 
 // Four segments where nothing else is said, and no call that fails.
-fn room_of(alloc: Global, rest: &str) -> Result<Room, Stop> {
-    let mut room = Room {
+fn room_of(alloc: Global, rest: &str) -> Result<NewDisk, Stop> {
+    let mut room = NewDisk {
         segments: 4,
         fail: Vec::new(alloc),
         fail_reads: Vec::new(alloc),
@@ -186,11 +186,11 @@ fn room_of(alloc: Global, rest: &str) -> Result<Room, Stop> {
     Ok(room)
 }
 
-fn option_named(word: &str) -> Option<RoomOption> {
+fn option_named(word: &str) -> Option<NewDiskOption> {
     match word {
-        "segments" => Some(RoomOption::Segments),
-        "fail" => Some(RoomOption::Fail),
-        "fail-reads" => Some(RoomOption::FailReads),
+        "segments" => Some(NewDiskOption::Segments),
+        "fail" => Some(NewDiskOption::Fail),
+        "fail-reads" => Some(NewDiskOption::FailReads),
         _ => None,
     }
 }

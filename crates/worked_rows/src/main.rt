@@ -8,7 +8,7 @@ mod stop;
 mod words;
 
 use directive::asked_by;
-use player::Player;
+use player::RowPlayer;
 use std::io::{self, Write};
 use std::process::ExitCode;
 use std::sync::Wait;
@@ -16,7 +16,7 @@ use std::thread::Threads;
 use stop::Stop;
 
 // Plays each row, up to one that cannot be played.
-fn play<R: Threads + Wait + Sync>(rt: &R, rows: &str, player: &mut Player) -> Result<(), Stop> {
+fn play<R: Threads + Wait + Sync>(rt: &R, rows: &str, player: &mut RowPlayer) -> Result<(), Stop> {
     for row in rows.lines() {
         let played = match asked_by(player.alloc(), row) {
             Ok(asked) => player.play(rt, row, asked),
@@ -35,7 +35,7 @@ fn main(rt: HostRuntime) -> ExitCode {
     let Ok(rows) = io::read_to_string(alloc, rt.reader()) else {
         return ExitCode::FAILURE;
     };
-    let mut player = Player::new(alloc);
+    let mut player = RowPlayer::new(alloc);
     let played = play(&rt, rows.as_str(), &mut player);
     let printed = io::writer(&rt).write_all(player.transcript());
     if played.is_ok() && printed.is_ok() {

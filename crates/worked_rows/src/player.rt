@@ -1,10 +1,10 @@
 //! Rows played one after another.
 
-use crate::directive::{Change, Directive, Room, Stream};
+use crate::directive::{Change, Directive, NewDisk, Stream};
 use crate::pages::{CALLS, copy_of, peek, poke, seal, without};
 use crate::stop::Stop;
 use crate::words::digits_of;
-use backend_cli::{Ended, Gate, pgwal};
+use backend_cli::{Ended, OpenGate, pgwal};
 use segment_disk::{Disk, MemDisk, MemSink, MemSource, Pick};
 use std::alloc::{AllocError, Global};
 use std::mem;
@@ -14,13 +14,6 @@ use wal_crc32c::Crc;
 
 // How many bytes a command may print: a record of a segment has two megabytes of digits.
 const MOST_PRINTED: usize = 8 << 20;
-
-// The gate that lets every line pass.
-struct Open;
-
-impl Gate for Open {
-    fn pass(&self, _backend: u32, _line: u32) {}
-}
 
 // What is said of the next command's source and sinks: the calls that fail, and how many bytes are
 // taken.
@@ -53,7 +46,7 @@ impl Streams {
 
 /// The disk, what the next command is played over, and the transcript.
 #[derive(Drop)]
-pub struct Player {
+pub struct RowPlayer {
     alloc: Global,
     // None at first, and where the kept disk goes on.
     disk: Option<MemDisk>,
@@ -63,9 +56,9 @@ pub struct Player {
     transcript: Vec<u8>,
 }
 
-impl Player {
-    pub fn new(alloc: Global) -> Player {
-        Player {
+impl RowPlayer {
+    pub fn new(alloc: Global) -> RowPlayer {
+        RowPlayer {
             alloc,
             disk: None,
             kept: None,
@@ -184,7 +177,7 @@ impl Player {
             self.take_disk()?,
             &mut out,
             &mut err,
-            &Open,
+            &OpenGate,
         );
         self.print_out(out.taken(), is_long)?;
         self.print_err(err.taken())?;
@@ -245,7 +238,7 @@ impl Player {
     }
 }
 
-fn new_disk(alloc: Global, room: Room) -> Result<MemDisk, Stop> {
+fn new_disk(alloc: Global, room: NewDisk) -> Result<MemDisk, Stop> {
     Ok(MemDisk::new(alloc, room.segments, CALLS, room.fail, room.fail_reads)?)
 }
 

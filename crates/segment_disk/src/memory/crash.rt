@@ -1,3 +1,7 @@
+// The image that a crash leaves behind a list of calls, as a pick says. Segment by segment in
+// rising order and page by page: first the page as of the segment's last sync, then over it, word
+// by word, what the pick takes of the writes since. The numbers that a pick lists are used up in
+// that order, 1,024 for each page that is undecided.
 ghost use Rattle.std.specs.Prelude.{◌≡◌, ℕ, ◌*◌, IsTrue, is_some, IfOk, length, drop};
 ghost use Rattle.segment_disk.specs.Failing.{is_listed};
 ghost use Rattle.segment_disk.specs.First.{first_state, page_at};
@@ -42,6 +46,8 @@ fn segment_left<'a>(
     pick: &Pick,
     numbers: &'a [u32],
 ) -> Result<SegmentLeft, Memory>
+    // The segment is there, and `span` says how many pages it has and which calls lead to its last
+    // sync.
     requires pages { HasPages (after_calls (first_state first.now) calls.now segment)
         span.now.pages }
     requires since { IsSyncedUpto (first_state first.now) calls.now segment span.now.since }

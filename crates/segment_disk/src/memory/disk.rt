@@ -1,3 +1,9 @@
+// The disk in memory: a record of its counted calls, and what was there at first. What it holds is
+// computed from these at each read (`read_back`), as the definitions say it of a tape; a list of
+// the segments that are there is kept beside, for the room that they take up. A call within its
+// room is counted, and fails where its number is listed, a create also where there is no room for
+// its segment, a write or a sync where its segment is not there; one beyond the room is not
+// counted. A read is not counted, and fails at its own list.
 ghost use Rattle.std.specs.Prelude.{◌≡◌, ℕ, ◌<◌, ◌≤◌, ◌/◌, ◌^◌, ◌&&◌, true, [], Some, IfOk, IfSome, OnErr, is_ok, is_err, length};
 ghost use Rattle.byte_position.specs.Geometry.{pages_of};
 ghost use Rattle.segment_disk.specs.Cause.{HasCause};
@@ -14,7 +20,7 @@ use crate::memory::first::FirstSegment;
 use crate::memory::pick::Pick;
 use crate::memory::reading::read_back;
 use crate::memory::record::CallRecord;
-use crate::memory::schedule::Schedule;
+use crate::memory::schedule::FailingCalls;
 use crate::memory::segments::SegmentList;
 use byte_position::Geometry;
 use std::alloc::Global;
@@ -24,7 +30,7 @@ use std::alloc::Global;
 pub struct MemDisk {
     calls: CallRecord,
     segments: SegmentList,
-    reads: Schedule,
+    reads: FailingCalls,
     first: Vec<FirstSegment>,
     ghost present: { ListsPresent segments.numbers.items (first_state first.items)
         calls.made.items },
@@ -55,7 +61,7 @@ impl MemDisk {
         Ok(MemDisk {
             calls: CallRecord::new(alloc, calls as usize, fail)?,
             segments: SegmentList::new(alloc, segments as usize)?,
-            reads: Schedule::new(fail_reads),
+            reads: FailingCalls::new(fail_reads),
             first: Vec::new(alloc),
         })
     }
@@ -79,10 +85,13 @@ impl MemDisk {
     /// The disk that a crash leaves behind this many counted calls (behind all where there are
     /// fewer), with the words that the pick says. It has the same room, and nothing on it fails.
     pub fn crash(&self, alloc: Global, moment: u64, pick: Pick) -> Result<MemDisk, Memory>
+        // What was there at first on the new disk is the one image that the pick names, and one
+        // that a crash may leave then.
         ensures picked { IfOk result (λ disk. IsPicked (choice_of pick)
             (state_behind self.now (min moment (moment_of self.now))) (first_image disk)) }
         ensures left { IfOk result (λ disk. IfSome (tape_of self.now) (λ tape.
             LeftAt tape (min moment (moment_of self.now)) (first_image disk))) }
+        // No call was counted on it, none is to fail, and it has just the segments that were there.
         ensures tape { IfOk result (λ disk. tape_of disk
             ≡ Some (record { at_first = first_state disk.first.items; calls = [] })) }
         ensures moment { IfOk result (λ disk. moment_of disk ≡ 0) }
@@ -99,7 +108,7 @@ impl MemDisk {
         Ok(MemDisk {
             calls: self.calls.emptied(alloc)?,
             segments: self.segments.list_of(alloc, &first)?,
-            reads: Schedule::new(Vec::new(alloc)),
+            reads: FailingCalls::new(Vec::new(alloc)),
             first,
         })
     }
@@ -119,6 +128,7 @@ impl MemDisk {
         ensures answers { Answers tape_of moment_of self.old self.new
             (record { geometry = geometry; segment = segment; kind = kind; done = true }) result }
         ensures cause { HasCause (faults_of self.old) (faults_of self.new) result }
+        // It succeeds where the call is counted, is not to fail, and the segment is there.
         ensures exact { is_ok result ≡ (is_next_sound self.old && has_segment self.old segment) }
         ensures counted { IsCounted self.old self.new }
         ensures segments { segment_count self.new ≡ segment_count self.old }
@@ -192,6 +202,7 @@ impl Disk for MemDisk {
             (write_call geometry segment page bytes.now) result }
         ensures cause { HasCause (faults_of self.old) (faults_of self.new) result }
 
+        // It succeeds where the call is counted, is not to fail, and the segment is there.
         ensures exact { is_ok result ≡ (is_next_sound self.old && has_segment self.old segment) }
         ensures counted { IsCounted self.old self.new }
         ensures segments { segment_count self.new ≡ segment_count self.old }
@@ -205,6 +216,7 @@ impl Disk for MemDisk {
             (sync_call geometry segment) result }
         ensures cause { HasCause (faults_of self.old) (faults_of self.new) result }
 
+        // It succeeds where the call is counted, is not to fail, and the segment is there.
         ensures exact { is_ok result ≡ (is_next_sound self.old && has_segment self.old segment) }
         ensures counted { IsCounted self.old self.new }
         ensures segments { segment_count self.new ≡ segment_count self.old }

@@ -1,3 +1,5 @@
+// What was there at first: segments whose pages are all durable, as a crash of another disk left
+// them. They never change; calls since are in the record of calls alone.
 ghost use Rattle.std.specs.Prelude.{◌≡◌, length, slice_get};
 ghost use Rattle.std.specs.Option.{option_copied};
 ghost use Rattle.segment_disk.specs.First.{first_at};

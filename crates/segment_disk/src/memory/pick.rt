@@ -1,3 +1,6 @@
+// Which image of those that a crash may leave is made. A disk writes each word of eight bytes
+// whole, and each on its own: so a pick may choose for each word, and for every image that a crash
+// between two calls may leave there is a list that names it.
 ghost use Rattle.std.specs.Prelude.{◌≡◌};
 ghost use Rattle.segment_disk.specs.Crash.{numbers_of, takes_write};
 

@@ -1,3 +1,5 @@
+// What a page holds, computed from what was there at first and the calls since: the last write to
+// it behind the last create of its segment, a failed write too, or zeros. Nothing is changed by it.
 ghost use Rattle.std.specs.Prelude.{◌≡◌, length};
 ghost use Rattle.segment_disk.specs.Tape.{IsPageRead, page_of_segment, after_calls};
 ghost use Rattle.segment_disk.specs.First.{first_state};

@@ -1,3 +1,6 @@
+// The record of a disk's counted calls, from which all that it holds is computed. All room is taken
+// when it is made; a caller asks `is_full` first, and then counts the call (`count`) or refuses it
+// uncounted (`refuse`). A counted call is never taken back.
 ghost use Rattle.std.specs.Prelude.{◌≡◌, ◌<◌, ◌≤◌, ◌+◌, [], ◌∷◌, ◌++◌, IfOk, IsErr, is_ok, nat_le, min, take, vec_capacity, length};
 ghost use Rattle.segment_disk.specs.Cause.{HasCause};
 ghost use Rattle.segment_disk.specs.Failing.{is_listed as listed};

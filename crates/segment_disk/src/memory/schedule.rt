@@ -1,3 +1,5 @@
+// Which calls of a body in memory are to fail, by their numbers: so a test plays each fault it
+// wants.
 ghost use Rattle.std.specs.Prelude.{◌≡◌};
 ghost use Rattle.segment_disk.specs.Failing.{is_listed as listed, fails_next, after_next};
 
@@ -5,12 +7,12 @@ use std::marker::Model;
 
 /// Which calls fail, by their numbers from 1, and how many were made.
 #[derive(Debug, Drop)]
-pub struct Schedule {
+pub struct FailingCalls {
     failing: Vec<u64>,
     made: u64,
 }
 
-impl Model for Schedule {
+impl Model for FailingCalls {
     ghost use Rattle.segment_disk.specs.Failing.{Failing};
 
     ghost Value = { Failing };
@@ -18,11 +20,11 @@ impl Model for Schedule {
     ghost view = { λ s. record { numbers = s.failing.items; made = s.made } };
 }
 
-impl Schedule {
-    pub fn new(failing: Vec<u64>) -> Schedule
+impl FailingCalls {
+    pub fn new(failing: Vec<u64>) -> FailingCalls
         ensures { result ≡ record { numbers = failing.items; made = 0 } }
     {
-        Schedule { failing, made: 0 }
+        FailingCalls { failing, made: 0 }
     }
 
     /// Counts a call, and answers whether it is to fail. The count stops at the last number that it

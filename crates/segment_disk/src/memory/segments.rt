@@ -1,3 +1,5 @@
+// Which segments are there, so that a disk knows whether it has room for another one. A segment
+// that is made stays: there is no call that removes one.
 ghost use Rattle.std.specs.Prelude.{◌≡◌, ℕ, ◌≤◌, ◌<◌, ◌||◌, false, [], map, IsTrue, IfOk, MatchOption, nat_le, nat_lt, min, is_some, unwrap_or, if◌then◌else◌, vec_capacity, length};
 ghost use Rattle.segment_disk.specs.Crash.{first_behind};
 ghost use Rattle.segment_disk.specs.Failing.{is_listed as listed};

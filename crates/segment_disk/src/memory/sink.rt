@@ -1,3 +1,5 @@
+// The sink in memory: it keeps what it takes, as far as its room goes, which is taken when it is
+// made. It takes as much as there is room for, and fails at the listed calls and where it is full.
 ghost use Rattle.std.specs.Prelude.{◌≡◌, ◌≤◌, ◌<◌, [], Some, length, take, min, is_err, IfOk, OnErr, vec_capacity};
 ghost use Rattle.segment_disk.specs.Cause.{HasCause};
 ghost use Rattle.segment_disk.specs.Failing.{after_next};
@@ -5,7 +7,7 @@ ghost use Rattle.segment_disk.specs.Stream.{with_behind};
 
 use crate::failed::{Failed, count_fault};
 use crate::memory::Memory;
-use crate::memory::schedule::Schedule;
+use crate::memory::schedule::FailingCalls;
 use crate::stream::Sink;
 use std::alloc::Global;
 
@@ -14,7 +16,7 @@ use std::alloc::Global;
 pub struct MemSink {
     bytes: Vec<u8>,
     size: usize,
-    schedule: Schedule,
+    schedule: FailingCalls,
     faults: u64,
     ghost within: { length bytes.items ≤ size },
     ghost roomy: { size ≤ vec_capacity bytes },
@@ -35,7 +37,7 @@ impl MemSink {
         Ok(MemSink {
             bytes: Vec::with_capacity(alloc, size)?,
             size,
-            schedule: Schedule::new(fail),
+            schedule: FailingCalls::new(fail),
             faults: 0,
         })
     }

@@ -1,3 +1,5 @@
+// The source in memory: a list of bytes, and how many of them were handed out. It reads as much as
+// there is room for, and fails at the listed calls alone.
 ghost use Rattle.std.specs.Prelude.{◌≡◌, ◌≤◌, ◌<◌, [], ◌++◌, Some, take, drop, length, min, is_err, IfOk, OnErr, IfSome};
 ghost use Rattle.segment_disk.specs.Cause.{HasCause};
 ghost use Rattle.segment_disk.specs.Failing.{fails_next, after_next};
@@ -5,7 +7,7 @@ ghost use Rattle.segment_disk.specs.Stream.{Takes, ends_after};
 
 use crate::ends_told::EndsTold;
 use crate::failed::{Failed, count_fault};
-use crate::memory::schedule::Schedule;
+use crate::memory::schedule::FailingCalls;
 use crate::stream::Source;
 
 /// A source of bytes in memory.
@@ -14,7 +16,7 @@ pub struct MemSource {
     bytes: Vec<u8>,
     taken: usize,
     ends_told: EndsTold,
-    schedule: Schedule,
+    schedule: FailingCalls,
     faults: u64,
     ghost within: { taken ≤ length bytes.items },
 }
@@ -35,7 +37,7 @@ impl MemSource {
             bytes,
             taken: 0,
             ends_told: EndsTold::new(),
-            schedule: Schedule::new(fail),
+            schedule: FailingCalls::new(fail),
             faults: 0,
         }
     }

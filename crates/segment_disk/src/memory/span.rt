@@ -1,3 +1,6 @@
+// Where a segment's last sync stands among the calls, so that a crash knows which of its writes are
+// durable: those before it. A create that made the segment counts as one, since its zeros are
+// durable; a sync that failed does not.
 ghost use Rattle.std.specs.Prelude.{◌≡◌, MatchOption};
 ghost use Rattle.segment_disk.specs.Crash.{HasPages, IsSyncedUpto};
 ghost use Rattle.segment_disk.specs.First.{first_state};

@@ -1,3 +1,5 @@
+// Words of the writes since a sync are put into the durable page, as a pick takes them: write by
+// write, so that a later one overwrites what an earlier one put.
 ghost use Rattle.std.specs.Prelude.{◌≡◌, [], ◌∷◌, MatchOption, length};
 ghost use Rattle.segment_disk.specs.Crash.{AreTaken, HoldTaken, takes_write, writes_of};
 ghost use Rattle.segment_disk.specs.Picks.{writes_to};

@@ -4,7 +4,7 @@ use Rattle.segment_disk.specs.First.{first_state}
 use Rattle.replay_schedule.specs.declared.item.Item.{Item}
 use Rattle.replay_schedule.specs.Turns.{backends_in_turn}
 use Rattle.wal_turns.specs.Turned.{machine_behind}
-use Rattle.backend_cli.specs.Begun.{PlaysBackends}
+use Rattle.backend_cli.specs.ReplayBegun.{PlaysBackends}
 use Rattle.backend_cli.specs.Replaying.{outcome_with}
 use Rattle.backend_cli.proofs.MachineWriter.{crashed_as}
 use Rattle.backend_cli.proofs.ReplayLaws.{counted_behind}

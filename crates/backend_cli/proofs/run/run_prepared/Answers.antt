@@ -1,5 +1,7 @@
 -- The lines are played from the log's opening on, and what was told is printed.
 use Rattle.std.proofs.Common.{◌≡◌, List, [], arith, subst, sym}
+use Rattle.byte_position.specs.Geometry.{IsSegmentSize}
+use Rattle.wal_core.specs.declared.setup.Setup.{Setup}
 use Rattle.told_lines.specs.Rooms.{capacity_of}
 use Rattle.told_lines.specs.declared.told.Told.{Told}
 use Rattle.backend_lanes.specs.Backends.{lists_of}
@@ -79,11 +81,13 @@ returns-in-Ok-clause-holds g c = λ before after script ready.
     let counts = c.calls_are_counted.ensures in
     let concluded = c.conclude.ensures.concluded _
     (end_told _ _ _ _ options _ _ setup_is _ _ opened counts _ _ _ played) in
+    let valid = subst (λ (s : Setup). IsSegmentSize s.segment_size) setup_is
+    c.setup_of-setup.ensures.can_be.size in
     let holds = told_holds
     (outside_of before after tape moment faults disk closed.disk sunk sink_faults out out_now)
     size capacity options.list outcome script backends ready.some played.each
     (opened_holds _ _ _ _ options _ _ setup_is _ _ opened counts _ _ _ played
-    sunk sink_faults out out_now before after outcome concluded) in
+    sunk sink_faults out out_now before after outcome concluded valid) in
     subst (λ (lists : List (List Told)). PlayHolds
     (outside_of before after tape moment faults disk c.conclude.result.disk sunk sink_faults
     out out_now) size capacity options.list outcome script lists) (sym c.conclude.ensures.told)

@@ -1,13 +1,13 @@
 -- Each line is played behind those before it.
 use Rattle.std.proofs.Common.{arith, refl}
-use Rattle.backend_lanes.specs.Players.{view_of_player}
+use Rattle.backend_lanes.specs.Sessions.{view_of_session}
 use Rattle.backend_lanes.proofs.PlayingLines.{all_played, none_played, one_more_played}
 use Rattle.backend_lanes.proofs.lane.play_lines.Goals as goal
 
 pub loop-line-init : goal.loop-line-init
 loop-line-init g c = record {
-  played = none_played _ c.args.log.now (view_of_player c.args.player.now) c.args.lines.now
-      c.args.told.now.items c.args.player.now c.requires.none c.requires.player
+  played = none_played _ c.args.log.now (view_of_session c.args.session.now) c.args.lines.now
+      c.args.told.now.items c.args.session.now c.requires.none c.requires.session
       c.requires.unplayed refl;
   room = c.requires.room;
 }
@@ -16,9 +16,9 @@ pub loop-line-preserved : goal.loop-line-preserved
 loop-line-preserved g c =
     let now = c.loop-line in
     record {
-      played = one_more_played _ c.args.log.now (view_of_player c.args.player.now) c.args.lines.now
+      played = one_more_played _ c.args.log.now (view_of_session c.args.session.now) c.args.lines.now
           c.lines_are_played_one_by_one.ensures.more now.line-index now.told.items
-          c.push_reserved.new.self.items now.player c.answer-answer.new.self c.line-item.result
+          c.push_reserved.new.self.items now.session c.answer-answer.new.self c.line-item.result
           c.answer-answer.result now.invariant.played (omega arith) c.line-item.is
           c.push_reserved.ensures.items c.answer-answer.ensures.plays
           c.answer-answer.ensures.leaves;
@@ -27,6 +27,6 @@ loop-line-preserved g c =
 
 pub returns-clause-plays : goal.returns-clause-plays
 returns-clause-plays g c =
-    all_played _ c.args.log.now (view_of_player c.args.player.now) c.args.lines.now
-    c.loop-line.line-index c.loop-line.told.items c.loop-line.player c.loop-line.invariant.played
+    all_played _ c.args.log.now (view_of_session c.args.session.now) c.args.lines.now
+    c.loop-line.line-index c.loop-line.told.items c.loop-line.session c.loop-line.invariant.played
     (omega arith)

@@ -1,12 +1,12 @@
 use Rattle.std.proofs.Common.{◌≤◌, length, vec_capacity}
-use Rattle.backend_lanes.specs.Players.{view_of_player}
+use Rattle.backend_lanes.specs.Sessions.{view_of_session}
 use Rattle.backend_lanes.proofs.PlayingLines.{HasPlayedUpto}
 use Rattle.backend_lanes.proofs.lane.play_lines.Given as goal
 
 -- the lines so far are played, and there is room for the others' answers
 abbrev pub invariant-loop-line : goal.invariant-loop-line
 invariant-loop-line g l = record {
-  played : HasPlayedUpto l.log (view_of_player l.fn.player) l.lines l.line-index l.told.items
-      l.player;
+  played : HasPlayedUpto l.log (view_of_session l.fn.session) l.lines l.line-index l.told.items
+      l.session;
   room : length l.lines ≤ vec_capacity l.told;
 }

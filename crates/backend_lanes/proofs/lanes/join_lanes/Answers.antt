@@ -16,7 +16,7 @@ loop-lane-init g c =
 
 pub join-requires-clause-other : goal.join-requires-clause-other
 join-requires-clause-other g c = ((next_may_be_taken_in c.args.log.now _ _ _ _ _ _ _ _
-    c.loop-lane.invariant c.in-Some.ensures.steps.0).player).player.pass
+    c.loop-lane.invariant c.in-Some.ensures.steps.0).session).session.pass
 
 pub loop-lane-preserved : goal.loop-lane-preserved
 loop-lane-preserved g c = one_more_joined c.args.log.now _ _ _ _ _ _ _ _

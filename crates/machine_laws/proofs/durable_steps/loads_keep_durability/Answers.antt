@@ -1,12 +1,12 @@
 use Rattle.std.proofs.Common.{sym, subst, set}
-use Rattle.wal_core.specs.Views.{Told}
+use Rattle.wal_core.specs.Views.{Receipts}
 use Rattle.wal_core.specs.Durable.{DurabilityHolds}
 use Rattle.machine_laws.proofs.DurableViewSteps.{load_down_keeps, load_flushed_keeps, load_moment_keeps, load_word_keeps, load_written_keeps, same}
 use Rattle.machine_laws.proofs.durable_steps.loads_keep_durability.Goals as goal
 
 pub returns-clause-same : goal.returns-clause-same
 returns-clause-same c = λ o order flushed moment down home writer parts id v w h here is.
-    subst (λ (x : Told). DurabilityHolds o order flushed moment down home writer (set parts id x))
+    subst (λ (x : Receipts). DurabilityHolds o order flushed moment down home writer (set parts id x))
     (sym is) (same o order flushed moment down home writer parts h id v here)
 
 pub returns-clause-load_written : goal.returns-clause-load_written

@@ -2,9 +2,9 @@ use Rattle.std.proofs.Common.{◌≡◌, ℕ, ◌+◌, ◌≤◌, List, [], ◌�
 use Rattle.std.proofs.lemmas.Grind.{common_steps}
 use Rattle.std.specs.Borrow.{Bor}
 use Rattle.std.specs.Global.{Vec}
-use Rattle.replay_schedule.specs.Parts.{bytes_left, parts_left}
-use Rattle.wal_script.specs.declared.backends.Step.{Step}
-use Rattle.wal_script.specs.declared.backends.Step.TheVariants as steps
+use Rattle.text_parts.specs.Parts.{bytes_left, parts_left}
+use Rattle.wal_script.specs.declared.backends.LineRead.{LineRead}
+use Rattle.wal_script.specs.declared.backends.LineRead.TheVariants as steps
 use Rattle.wal_script.specs.declared.line.Line.{Line}
 use Rattle.wal_script.specs.declared.line_error.LineError.{LineError}
 use Rattle.wal_script.specs.declared.parser.ParseError.{ParseError}
@@ -25,7 +25,7 @@ loop-rest-preserved-in-Continue-branch-3 c =
     let whole = backends_from c.args.takes_schedule 1 [] [] (lines_of c.args.script.now) in
     let left : parts_left 10 c.loop-rest.rest ≡ text ∷ rest = ap (parts_left 10) c.in-Some.is ∙ c.cut.ensures.parts in
     let read : c.read_line.result ≡ Ok (steps.Ask action) = grind (arith, common_steps) in
-    let does : DoesStep (steps.Ask action) (script_line_of c.args.takes_schedule text) = subst (λ (result : Result Step LineError). StepGives result (script_line_of c.args.takes_schedule text)) read c.read_line.ensures in
+    let does : DoesStep (steps.Ask action) (script_line_of c.args.takes_schedule text) = subst (λ (result : Result LineRead LineError). StepGives result (script_line_of c.args.takes_schedule text)) read c.read_line.ensures in
     let before : AreReadUpto c.args.takes_schedule c.loop-rest.before.items lines number (text ∷ rest) whole = subst (λ (texts : List (List ℕ)). AreReadUpto c.args.takes_schedule c.loop-rest.before.items lines number texts whole) left c.loop-rest.invariant.meaning in
     let bytes : c.loop-rest.number + (length c.in-Some.text.now + 1) ≤ length c.args.script.now + 1 = subst (λ (left_over : Option (Bor (List ℕ))). c.loop-rest.number + bytes_left left_over ≤ length c.args.script.now + 1) c.in-Some.is c.loop-rest.invariant.left in
     record {
@@ -43,7 +43,7 @@ returns-in-Some-begin_fault-clause-read c =
     let whole = backends_from c.args.takes_schedule 1 [] [] (lines_of c.args.script.now) in
     let left : parts_left 10 c.loop-rest.rest ≡ text ∷ rest = ap (parts_left 10) c.in-Some.is ∙ c.cut.ensures.parts in
     let read : c.read_line.result ≡ Ok (steps.Begin c.in-Begin.is_alone) = grind (arith, common_steps) in
-    let is : script_line_of c.args.takes_schedule text ≡ begins c.in-Begin.is_alone = subst (λ (result : Result Step LineError). StepGives result (script_line_of c.args.takes_schedule text)) read c.read_line.ensures in
+    let is : script_line_of c.args.takes_schedule text ≡ begins c.in-Begin.is_alone = subst (λ (result : Result LineRead LineError). StepGives result (script_line_of c.args.takes_schedule text)) read c.read_line.ensures in
     let before : AreReadUpto c.args.takes_schedule c.loop-rest.before.items lines.items number (text ∷ rest) whole = subst (λ (texts : List (List ℕ)). AreReadUpto c.args.takes_schedule c.loop-rest.before.items lines.items number texts whole) left c.loop-rest.invariant.meaning in
     let fault : begin_fault (ltb (length c.loop-rest.before.items + 1) most_backends) c.in-Begin.is_alone ≡ Some c.in-Some-begin_fault.fault = grind (arith, common_steps) in
     let refusal = refused_begin c.args.takes_schedule c.loop-rest.before.items lines number text rest whole before c.in-Begin.is_alone c.in-Some-begin_fault.fault is fault in
@@ -58,7 +58,7 @@ loop-rest-preserved c =
     let whole = backends_from c.args.takes_schedule 1 [] [] (lines_of c.args.script.now) in
     let left : parts_left 10 c.loop-rest.rest ≡ text ∷ rest = ap (parts_left 10) c.in-Some.is ∙ c.cut.ensures.parts in
     let read : c.read_line.result ≡ Ok (steps.Begin c.in-Begin.is_alone) = grind (arith, common_steps) in
-    let is : script_line_of c.args.takes_schedule text ≡ begins c.in-Begin.is_alone = subst (λ (result : Result Step LineError). StepGives result (script_line_of c.args.takes_schedule text)) read c.read_line.ensures in
+    let is : script_line_of c.args.takes_schedule text ≡ begins c.in-Begin.is_alone = subst (λ (result : Result LineRead LineError). StepGives result (script_line_of c.args.takes_schedule text)) read c.read_line.ensures in
     let before : AreReadUpto c.args.takes_schedule c.loop-rest.before.items lines.items number (text ∷ rest) whole = subst (λ (texts : List (List ℕ)). AreReadUpto c.args.takes_schedule c.loop-rest.before.items lines.items number texts whole) left c.loop-rest.invariant.meaning in
     let bytes : c.loop-rest.number + (length c.in-Some.text.now + 1) ≤ length c.args.script.now + 1 = subst (λ (left_over : Option (Bor (List ℕ))). c.loop-rest.number + bytes_left left_over ≤ length c.args.script.now + 1) c.in-Some.is c.loop-rest.invariant.left in
     let may : begin_fault (ltb (length c.loop-rest.before.items + 1) most_backends) c.in-Begin.is_alone ≡ None = grind (arith, common_steps) in
@@ -77,7 +77,7 @@ returns-in-End-clause-read c =
     let whole = backends_from c.args.takes_schedule 1 [] [] (lines_of c.args.script.now) in
     let left : parts_left 10 c.loop-rest.rest ≡ text ∷ rest = ap (parts_left 10) c.in-Some.is ∙ c.cut.ensures.parts in
     let read : c.read_line.result ≡ Ok steps.End = grind (arith, common_steps) in
-    let is : script_line_of c.args.takes_schedule text ≡ ends = subst (λ (result : Result Step LineError). StepGives result (script_line_of c.args.takes_schedule text)) read c.read_line.ensures in
+    let is : script_line_of c.args.takes_schedule text ≡ ends = subst (λ (result : Result LineRead LineError). StepGives result (script_line_of c.args.takes_schedule text)) read c.read_line.ensures in
     let before : AreReadUpto c.args.takes_schedule c.loop-rest.before.items lines.items number (text ∷ rest) whole = subst (λ (texts : List (List ℕ)). AreReadUpto c.args.takes_schedule c.loop-rest.before.items lines.items number texts whole) left c.loop-rest.invariant.meaning in
     at_end c.args.takes_schedule c.loop-rest.before.items lines number text rest whole before c.push-in-End.new.self.items is c.in_ok-push-in-End.ensures.items
 

@@ -1,5 +1,5 @@
 use Rattle.std.proofs.Common.{[], ◌+◌, ◌<◌, ◌≤◌, length}
-use Rattle.replay_schedule.specs.Parts.{bytes_left, parts_left}
+use Rattle.text_parts.specs.Parts.{bytes_left, parts_left}
 use Rattle.wal_script.specs.Replay.{backends_from, most_backends}
 use Rattle.wal_script.specs.Text.{lines_of}
 use Rattle.wal_script.proofs.SeveralBackends.{AreReadUpto}

@@ -1,0 +1,168 @@
+-- The headline, of the disk of a run and of the call.
+use Rattle.std.proofs.Common.{◌≡◌, ℕ, ◌+◌, ◌≤◌, List, [], ◌∷◌, Option, Some, Ok, Result, inl, inr, refl, sym, ap, subst, ◌∙◌}
+use Rattle.std.specs.Prelude.{IfSome}
+use Rattle.std.proofs.lemmas.List.{append_cancel_left}
+use Rattle.segment_disk.specs.Tape.{Tape}
+use Rattle.flush_core.specs.Pages.{HoldsNothing}
+use Rattle.byte_position.specs.Geometry.{IsSegmentSize}
+use Rattle.byte_position.specs.Position.{first_position}
+use Rattle.wal_page.specs.Order.{IsChained}
+use Rattle.wal_reader.specs.declared.found.FoundRecord.{FoundRecord}
+use Rattle.wal_reader.proofs.FindsLaws.{finding_is_decoding}
+use Rattle.wal_script.specs.Asked.{Asked, AskedLine, Commit, Flush, Insert}
+use Rattle.wal_script.specs.Run.{backends_meaning}
+use Rattle.wal_script.specs.declared.line.Refusal.{Refusal}
+use Rattle.generated_lines.specs.Generated.{generated_script}
+use Rattle.told_lines.specs.declared.told.Told.{Told}
+use Rattle.told_lines.specs.declared.told.Told.TheVariants.{Wrote, Hard, Flushed, Refused}
+use Rattle.told_lines.specs.Crash.{IsFrontWithTold, SurvivesCrashes}
+use Rattle.told_lines.specs.Rooms.{capacity_of}
+use Rattle.told_lines.specs.Told.{FitsLine, Logged, RiseInLineOrder, TellsAll, TellsFrom, behind_or, entry_of, order_from}
+use Rattle.command_words.specs.declared.commands.GenOptions.{GenOptions}
+use Rattle.command_words.specs.declared.commands.RunOptions.{RunOptions}
+use Rattle.command_words.specs.declared.commands.Command.TheVariants.{Run, Gen, Replay, Dump}
+use Rattle.command_line.specs.declared.asking.Request.{Request}
+use Rattle.command_line.specs.declared.asking.Request.TheVariants.{Command, Help, Version, Nothing}
+use Rattle.backend_cli.specs.Asked.{AsksBackends}
+use Rattle.backend_cli.specs.Headline.{AllNameOwnPlaces, FoundAfterCrash, Headline, NameOwnPlaces, NamesOwnPlace}
+use Rattle.backend_cli.specs.Obeying.{Obeys, ObeysInMemory}
+use Rattle.backend_cli.specs.Outside.{Outside, SourceView}
+use Rattle.backend_cli.specs.Reading.{ScriptMeans}
+use Rattle.backend_cli.specs.Run.{GenHolds, HoldsOpened, PlayHolds, RunHolds}
+use Rattle.backend_cli.specs.declared.outcome.Outcome.{Outcome}
+
+-- ---- receipts
+
+-- what a line may be told names its own record's place, where it is a receipt
+own_place : (logged : Logged) (behind : ℕ) (asked : Asked) (told : Told)
+    → FitsLine logged behind asked told → NamesOwnPlace logged.size asked told
+own_place logged behind asked (Wrote start end) fits = tt
+own_place logged behind asked (Flushed upto moment) fits = tt
+own_place logged behind asked (Refused cause reserved) fits = tt
+own_place logged behind (Insert value) (Hard start end moment) fits = fits
+own_place logged behind (Commit value) (Hard start end moment) fits = fits
+own_place logged behind Flush (Hard start end moment) fits = fits
+
+own_places : (logged : Logged) (pass behind : ℕ) (lines : List AskedLine) (told : List Told)
+    → TellsFrom logged pass behind lines told → NameOwnPlaces logged.size lines told
+own_places logged pass behind [] told tells = tt
+own_places logged pass behind (line ∷ lines) [] tells = tt
+own_places logged pass behind (line ∷ lines) (told ∷ others) tells = (
+  own_place logged behind line.asked told tells.0,
+  own_places logged pass
+      (behind_or logged.size behind (entry_of logged.size pass line.asked told)) lines others
+      tells.1,
+)
+
+pub all_own_places : (logged : Logged) (pass : ℕ) (script : List (List AskedLine))
+    (lists : List (List Told)) → TellsAll logged pass script lists
+    → AllNameOwnPlaces logged.size script lists
+all_own_places logged pass [] lists tells = tt
+all_own_places logged pass (lines ∷ script) [] tells = tt
+all_own_places logged pass (lines ∷ script) (told ∷ others) tells = (
+  own_places logged pass (first_position logged.size) lines told tells.0,
+  all_own_places logged (pass + 1) script others tells.1,
+)
+
+-- ---- of the disk of a run
+
+module _ (size opening : ℕ) (valid : IsSegmentSize size) (script : List (List AskedLine))
+    (told : List (List Told)) (before after : Option Tape) where
+  -- what survives crashes for each answer of the reader survives them for what it finds
+  found_after_crash : (HoldsNothing before → IfSome after
+      (SurvivesCrashes size opening (order_from size 1 script told) told))
+      → (moment : ℕ) (found : List FoundRecord)
+      → FoundAfterCrash size opening (order_from size 1 script told) before after moment found
+      → IsFrontWithTold size moment (order_from size 1 script told) told found
+  found_after_crash survives moment found c =
+      let here : SurvivesCrashes size opening (order_from size 1 script told) told c.tape =
+      subst (λ (tape : Option Tape). IfSome tape
+      (SurvivesCrashes size opening (order_from size 1 script told) told)) c.disk_tells
+      (survives c.starts_empty) in
+      let decodes = (finding_is_decoding size c.image size valid found).0 c.finds in
+      here moment c.image c.since_opening c.left c.no_torn_pass found decodes.0 decodes.1
+
+  pub headline_of_run : AllNameOwnPlaces size script told
+      → IsChained size (order_from size 1 script told)
+      → RiseInLineOrder size 1 script told
+      → (HoldsNothing before → IfSome after
+      (SurvivesCrashes size opening (order_from size 1 script told) told))
+      → Headline size opening script told before after
+  headline_of_run receipts gapless in_line_order survives = record {
+    sized = valid;
+    receipts = receipts;
+    order = order_from size 1 script told;
+    reserved = refl;
+    gapless = gapless;
+    in_line_order = in_line_order;
+    crash = found_after_crash survives;
+  }
+
+-- ---- of the call
+
+-- a source hands out one script
+same_lines : (one other : List (List AskedLine))
+    → (let read : Result (List (List AskedLine)) Refusal = Ok one in read ≡ Ok other)
+    → one ≡ other
+same_lines one other e = cc
+
+same_script : (before after : SourceView) (one other : List (List AskedLine))
+    → ScriptMeans before after (Ok one) → ScriptMeans before after (Ok other) → one ≡ other
+same_script before after one other first second =
+    let bytes = append_cancel_left before.handed first.0 second.0
+    (sym (first.1).handed_out ∙ (second.1).handed_out) in
+    same_lines one other (sym first.2 ∙ (ap backends_meaning bytes ∙ second.2))
+
+module _ (outside : Outside) (outcome : Outcome) where
+  abbrev Leaves : ℕ → List (List AskedLine) → List (List Told) → Type 0
+  Leaves size script told =
+      Headline size outside.moment_before script told outside.tape_before outside.tape_after
+
+  of_run : (options : RunOptions) (told : List (List Told)) → (told ≡ [] → ⊥)
+      → RunHolds outside options.geometry (capacity_of options.geometry options.cap_segments)
+      options.list outcome told
+      → (size : ℕ) (script : List (List AskedLine)) → size ≡ options.geometry
+      → ScriptMeans outside.source_before outside.source_after (Ok script)
+      → Leaves size script told
+  of_run options [] opened holds size script size_is means = absurd (opened refl)
+  of_run options (t ∷ ts) opened holds size script size_is means =
+      let same = same_script outside.source_before outside.source_after holds.0 script holds.1
+      means in
+      subst (λ (s : ℕ). Leaves s script (t ∷ ts)) (sym size_is)
+      (subst (λ (lines : List (List AskedLine)). Leaves options.geometry lines (t ∷ ts)) same
+      (holds.2).headline)
+
+  of_play : (options : GenOptions) (told : List (List Told)) → (told ≡ [] → ⊥)
+      → PlayHolds outside options.run.geometry
+      (capacity_of options.run.geometry options.run.cap_segments) options.run.list outcome
+      (generated_script options.lines) told
+      → Leaves options.run.geometry (generated_script options.lines) told
+  of_play options [] opened holds = absurd (opened refl)
+  of_play options (t ∷ ts) opened holds = holds.headline
+
+  of_request : (request : Request) (told : List (List Told)) → (told ≡ [] → ⊥)
+      → Obeys request outside outcome told → (size : ℕ) (script : List (List AskedLine))
+      → AsksBackends request outside.source_before outside.source_after size script
+      → Leaves size script told
+  of_request Nothing told opened obeys size script asks = absurd asks
+  of_request Help told opened obeys size script asks = absurd asks
+  of_request Version told opened obeys size script asks = absurd asks
+  of_request (Command (Run options)) told opened obeys size script asks =
+      of_run options told opened obeys size script asks.0 asks.1
+  of_request (Command (Gen options)) told opened obeys size script asks =
+      subst (λ (s : ℕ). Leaves s script told) (sym asks.0)
+      (subst (λ (lines : List (List AskedLine)). Leaves options.run.geometry lines told)
+      (sym asks.1) (of_play options told opened obeys.plays))
+  of_request (Command (Replay options)) told opened obeys size script asks = absurd asks
+  of_request (Command (Dump options)) told opened obeys size script asks = absurd asks
+
+  -- words that ask for a run, and a log that was opened
+  pub headline_of_call : {D : Type 0} (request : Request) (disk disk_now : D)
+      (told : List (List Told)) → ObeysInMemory request disk disk_now outside outcome told
+      → (size : ℕ) (script : List (List AskedLine))
+      → AsksBackends request outside.source_before outside.source_after size script
+      → (told ≡ [] → ⊥) → Leaves size script told
+  headline_of_call request disk disk_now told (inl cut) size script asks opened =
+      absurd (opened (cut.0).nothing_told)
+  headline_of_call request disk disk_now told (inr obeys) size script asks opened =
+      of_request request told opened obeys size script asks

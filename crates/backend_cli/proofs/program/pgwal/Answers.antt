@@ -1,0 +1,6 @@
+use Rattle.backend_cli.proofs.HeadlineLaws.{headline_of_call}
+use Rattle.backend_cli.proofs.program.pgwal.Goals as goal
+
+pub returns-clause-headline : goal.returns-clause-headline
+returns-clause-headline g c = λ size lines asks opened.
+    headline_of_call _ _ _ _ _ _ c.obey_words-outcome.ensures.obeys size lines asks opened

@@ -1,0 +1,22 @@
+-- What the words of a command line ask the backends of a run to do.
+use Rattle.std.specs.Prelude.{◌≡◌, ℕ, List, Ok}
+use Rattle.wal_script.specs.Asked.{AskedLine}
+use Rattle.generated_lines.specs.Generated.{generated_script}
+use Rattle.command_words.specs.declared.commands.Command.TheVariants.{Run, Gen, Replay, Dump}
+use Rattle.command_line.specs.declared.asking.Request.{Request}
+use Rattle.command_line.specs.declared.asking.Request.TheVariants.{Command, Help, Version, Nothing}
+use Rattle.backend_cli.specs.Outside.{SourceView}
+use Rattle.backend_cli.specs.Reading.{ScriptMeans}
+
+-- a log in segments of this size, and these lines of each backend: those that the script means that
+-- the source handed out, or those that are made
+abbrev pub AsksBackends : Request → SourceView → SourceView → ℕ → List (List AskedLine) → Type 0
+AsksBackends Nothing before after size script = ⊥
+AsksBackends Help before after size script = ⊥
+AsksBackends Version before after size script = ⊥
+AsksBackends (Command (Run options)) before after size script =
+    (size ≡ options.geometry) × ScriptMeans before after (Ok script)
+AsksBackends (Command (Gen options)) before after size script =
+    (size ≡ options.run.geometry) × (script ≡ generated_script options.lines)
+AsksBackends (Command (Replay options)) before after size script = ⊥
+AsksBackends (Command (Dump options)) before after size script = ⊥

@@ -1,0 +1,114 @@
+// A backend's pass, and what it does of a line: one call of the log. Beside the pass the greatest
+// end that a line was told is kept (as PostgreSQL's XactLastRecEnd), since the pass's own log is
+// there for the proofs alone. A flush goes up to it. It is at or behind the end of the backend's
+// own last record, unless the pass knows of a failed disk, and it is reserved, as the pass has
+// seen: so no flush asks for what nobody reserved.
+ghost use Rattle.std.specs.Prelude.{◌≡◌, ◌-◌, max};
+ghost use Rattle.wal_types.specs.declared.record.Record.{Record};
+ghost use Rattle.wal_script.specs.Asked.{Asked, Commit, Flush, Insert};
+ghost use Rattle.wal_script.specs.Bodies.{IsActionOf, IsBodyOf};
+ghost use Rattle.backend_lanes.specs.Sessions.{IsSessionOf, LeavesSession, PlaysAnswer};
+
+use record_spelling::Body;
+use segment_disk::Disk;
+use std::sync::Wait;
+use told_lines::Told;
+use wal_log::{Cause, CommitErr, FlushErr, Pass, Wal};
+use wal_record::laws::body_knows_its_record;
+use wal_script::Action;
+use wal_types::Lsn;
+
+/// A backend's pass of the log, and the greatest end of a record that its lines were told; the
+/// log's start before they were told any.
+#[derive(Drop)]
+pub(crate) struct Session {
+    pub pass: Pass,
+    pub end: Lsn,
+}
+
+impl Session {
+    // The number of its backend, from 0; pass 0 opened the log.
+    pub(crate) fn backend(&self) -> u32
+        ensures { result ≡ self.now.pass.number - 1 }
+    {
+        self.pass.number().saturating_sub(1)
+    }
+
+    // Does what a line asks for.
+    pub(crate) fn answer<R: Wait, D: Disk>(&mut self, rt: &R, log: &Wal<D>, action: &Action) -> Told
+        requires { IsSessionOf log.now self.old }
+        ensures plays { (asked : Asked) → IsActionOf asked action.now
+            → PlaysAnswer log.now asked result self.old self.new }
+        ensures leaves { LeavesSession log.now result self.old self.new }
+    {
+        match action {
+            Action::Insert(body) => self.insert(rt, log, body),
+            Action::Commit(body) => self.commit(rt, log, body),
+            Action::Flush => self.flush(rt, log),
+        }
+    }
+
+    fn insert<R: Wait, D: Disk>(&mut self, rt: &R, log: &Wal<D>, body: &Body) -> Told
+        requires { IsSessionOf log.now self.old }
+        ensures plays { (value : Record) → IsBodyOf value body.now
+            → PlaysAnswer log.now (Insert value) result self.old self.new }
+        ensures leaves { LeavesSession log.now result self.old self.new }
+    {
+        body_knows_its_record();
+        match log.insert(rt, &mut self.pass, body) {
+            Ok(receipt) => {
+                self.note(receipt.end);
+                Told::of_insert(Ok(receipt))
+            }
+            Err(e) => Told::of_insert(Err(e.into())),
+        }
+    }
+
+    fn commit<R: Wait, D: Disk>(&mut self, rt: &R, log: &Wal<D>, body: &Body) -> Told
+        requires { IsSessionOf log.now self.old }
+        ensures plays { (value : Record) → IsBodyOf value body.now
+            → PlaysAnswer log.now (Commit value) result self.old self.new }
+        ensures leaves { LeavesSession log.now result self.old self.new }
+    {
+        body_knows_its_record();
+        match log.commit(rt, &mut self.pass, body) {
+            Ok(sealed) => {
+                self.note(sealed.end);
+                Told::of_commit(Ok(sealed))
+            }
+            Err(refused) => Told::of_commit(Err(refused)),
+        }
+    }
+
+    // Flushes up to the end of the backend's own last record.
+    fn flush<R: Wait, D: Disk>(&mut self, rt: &R, log: &Wal<D>) -> Told
+        requires { IsSessionOf log.now self.old }
+        ensures plays { PlaysAnswer log.now Flush result self.old self.new }
+        ensures leaves { LeavesSession log.now result self.old self.new }
+    {
+        match log.flush(rt, &mut self.pass, self.end) {
+            Ok(hard) => Told::of_flush(Ok(hard)),
+            Err(FlushErr::Disk { faults }) => refused_flush(Cause::Disk { faults }),
+            Err(FlushErr::Down { faults }) => refused_flush(Cause::Down { faults }),
+            // The pass has seen its own records reserved.
+            Err(FlushErr::Unreserved { .. }) => unreachable!(),
+        }
+    }
+
+    // A record's end was told.
+    fn note(&mut self, end: Lsn)
+        ensures pass { self.new.pass ≡ self.old.pass }
+        ensures end { self.new.end.0 ≡ max self.old.end.0 end.0 }
+    {
+        self.end = Lsn(self.end.0.max(end.0));
+    }
+}
+
+fn refused_flush(cause: Cause) -> Told
+    ensures { result ≡ Told.Refused cause None }
+{
+    Told::of_flush(Err(CommitErr {
+        cause,
+        reserved: None,
+    }))
+}

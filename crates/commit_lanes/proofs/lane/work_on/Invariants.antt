@@ -1,9 +1,0 @@
-use Rattle.wal_rule.specs.Passes.{view_of_pass}
-use Rattle.wal_log.specs.Logs.{IsPassOfLog}
-use Rattle.wal_log.specs.Standing.{KeepsPass}
-use Rattle.commit_lanes.proofs.lane.work_on.Given as goal
-
--- the pass is the log's, and kept what it has to keep so far
-abbrev pub invariant-loop-job : goal.invariant-loop-job
-invariant-loop-job g l = IsPassOfLog l.log l.pass
-    × KeepsPass (view_of_pass l.fn.pass) (view_of_pass l.pass)

@@ -1,0 +1,34 @@
+// Transactions' records.
+ghost use Rattle.std.specs.Prelude.{◌≡◌, IfOk, vec_len};
+
+use crate::worker::{Job, LogCall};
+use record_spelling::{Body, BodyErr};
+use std::alloc::Global;
+use wal_types::{BlockList, Bytes, Record, Xid};
+
+/// A transaction's record of 34 bytes, which takes up 40 of the log: a header of 24, one of 2, and
+/// 8 of main data.
+pub fn transaction(alloc: Global, xid: u32) -> Result<Body, BodyErr> {
+    let record = Record {
+        xid: Xid(xid),
+        rmid: 1,
+        info: 0,
+        origin: None,
+        top_xid: None,
+        blocks: BlockList::of(Vec::new(alloc)),
+        main: Bytes::of(vec![in alloc; 0x5a; 8]?),
+    };
+    Body::assemble(alloc, &record)
+}
+
+/// The commits of so many transactions, with the numbers from `first` on.
+pub fn commits(alloc: Global, first: u32, count: u32) -> Result<Vec<Job>, BodyErr>
+    ensures { IfOk result (λ commits. vec_len commits ≡ count) }
+{
+    let mut commits = Vec::with_capacity(alloc, count as usize)?;
+    for number in 0..count {
+        let body = transaction(alloc, first.wrapping_add(number))?;
+        commits.push(Job::of(LogCall::Commit(body)))?;
+    }
+    Ok(commits)
+}

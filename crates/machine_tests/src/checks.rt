@@ -1,0 +1,176 @@
+//! That each check refuses words that are wrong, so that none of them lets all pass.
+
+use crate::played::SETUP;
+use machine_checks::{BackendNow, MachineNow, Part, ReservedSpan, fault_of};
+use machine_core::{Flight, Hold, Place, PlainView, Stage, Watching};
+use machine_words::is_setup;
+use std::alloc::{AllocError, Global};
+use std::test::Fail;
+
+const FIRST_ADDRESS: u64 = 1 << 20;
+
+const BEGINNING: u64 = 1_045_488;
+
+// The only record, of 40 bytes, and the ten words of the log: a page's header and the record.
+static ORDER: [ReservedSpan; 1] = [ReservedSpan {
+    start: BEGINNING,
+    end: BEGINNING + 40,
+    address: FIRST_ADDRESS + 40,
+    prev: 0,
+}];
+
+static LOG: [u64; 10] = [21, 22, 23, 24, 25, 26, 27, 28, 29, 30];
+
+// The words that are not 0, by their numbers. The position is locked, the locks 3 and 4 are held,
+// the pass 3 has both turns, the log is written up to its third word, the ring has the first four
+// pages, and the record's last two words are not copied.
+static WORDS: [(usize, u64); 22] = [
+    (0, BEGINNING + 41),
+    (1, FIRST_ADDRESS + 40),
+    (5, FIRST_ADDRESS + 65),
+    (6, 1),
+    (10, 4),
+    (11, 4),
+    (12, FIRST_ADDRESS + 32_768),
+    (13, FIRST_ADDRESS + 16),
+    (14, FIRST_ADDRESS),
+    (15, 3),
+    (17, FIRST_ADDRESS + 8192),
+    (18, FIRST_ADDRESS + 16_384),
+    (19, FIRST_ADDRESS + 24_576),
+    (20, FIRST_ADDRESS + 32_768),
+    (21, 21),
+    (22, 22),
+    (23, 23),
+    (24, 24),
+    (25, 25),
+    (26, 26),
+    (27, 27),
+    (28, 28),
+];
+
+const IDLE: PlainView = PlainView {
+    number: 0,
+    place: Place::Free,
+    seen: 0,
+    last_end: FIRST_ADDRESS,
+    flight: Flight::Landed,
+    watching: Watching {
+        end: 0,
+        visited: 0,
+        bound: 0,
+    },
+    stage: Stage::Away,
+    hold: Hold::Idle,
+};
+
+// The first one copies the record, the second one has locked the position, the third one has both
+// turns.
+static BACKENDS: [BackendNow; 3] = [
+    BackendNow {
+        view: PlainView {
+            number: 1,
+            flight: Flight::Copying {
+                start: BEGINNING,
+                prev: 0,
+                next: FIRST_ADDRESS + 64,
+                end: FIRST_ADDRESS + 80,
+            },
+            ..IDLE
+        },
+        lock: Some(3),
+    },
+    BackendNow {
+        view: PlainView {
+            number: 2,
+            place: Place::Locked { at: BEGINNING + 40 },
+            ..IDLE
+        },
+        lock: Some(4),
+    },
+    BackendNow {
+        view: PlainView {
+            number: 3,
+            stage: Stage::Taken,
+            hold: Hold::Turned,
+            ..IDLE
+        },
+        lock: None,
+    },
+];
+
+// A word that is another, and the part that is told to be wrong.
+static FAULTS: &[(usize, u64, Option<Part>)] = &[
+    // The disk's moment is looked at by no check.
+    (15, 4, None),
+    // The position is behind the last record, and one more where it is locked.
+    (0, BEGINNING + 40, Some(Part::Order)),
+    (0, BEGINNING + 49, Some(Part::Order)),
+    (1, 0, Some(Part::Order)),
+    // A lock is taken where one holds it.
+    (2, 1, Some(Part::Locks)),
+    (6, 0, Some(Part::Locks)),
+    // A turn names who has it.
+    (10, 0, Some(Part::Turns)),
+    (10, 3, Some(Part::Turns)),
+    (11, 5, Some(Part::Turns)),
+    // A lock tells no word that is not copied.
+    (5, FIRST_ADDRESS + 73, Some(Part::Progress)),
+    (6, 2, Some(Part::Progress)),
+    // A word of a page is its record's: one that is copied, one that is not, and one behind.
+    (28, 0, Some(Part::Ring)),
+    (29, 28, Some(Part::Ring)),
+    (29, 29, None),
+    (31, 31, Some(Part::Ring)),
+    // A page is in its own buffer.
+    (18, 0, Some(Part::Pages)),
+    (18, FIRST_ADDRESS + 24_576, Some(Part::Pages)),
+    (12, FIRST_ADDRESS + 24_576, Some(Part::Pages)),
+    // Nothing is written that is not copied, or flushed that is not written.
+    (13, FIRST_ADDRESS + 72, Some(Part::Positions)),
+    (14, FIRST_ADDRESS + 24, Some(Part::Positions)),
+    (14, 0, Some(Part::Positions)),
+];
+
+// These words, but for one that is another.
+fn words_with(alloc: Global, number: usize, word: u64) -> Result<Vec<u64>, AllocError> {
+    let mut words = vec![in alloc; 0; 17 + 4 + 4096]?;
+    for (number, word) in &WORDS {
+        put(&mut words, *number, *word);
+    }
+    put(&mut words, number, word);
+    Ok(words)
+}
+
+fn put(words: &mut [u64], number: usize, word: u64) {
+    if let Some(place) = words.get_mut(number) {
+        *place = word;
+    }
+}
+
+// The first row of which something else is told.
+fn first_wrong(alloc: Global) -> Result<Option<(usize, u64)>, Fail> {
+    if !is_setup(SETUP) {
+        return Err(Fail::from("a setup"));
+    }
+    for (number, word, part) in FAULTS {
+        let words = words_with(alloc, *number, *word)?;
+        let told = fault_of(&MachineNow {
+            setup: SETUP,
+            words: &words,
+            order: &ORDER,
+            log: &LOG,
+            backends: &BACKENDS,
+        });
+        if told != *part {
+            return Ok(Some((*number, *word)));
+        }
+    }
+    Ok(None)
+}
+
+#[test]
+fn each_part_is_told_where_it_is_wrong(rt: HostRuntime) -> Result<(), Fail> {
+    assert_eq!(rt; first_wrong(rt.alloc())?, None);
+    Ok(())
+}

@@ -1,0 +1,39 @@
+//! Where the words that all backends share stand: their numbers, in a machine's list as in the
+//! table of the log that threads share. Behind the buffers' ends stand the words of the ring, 1,024
+//! for each buffer.
+
+/// The byte position up to which records are reserved.
+pub const POSITION: usize = 0;
+
+/// The address at which the last reserved record starts.
+pub const LAST_START: usize = 1;
+
+/// The first of the insertion locks.
+pub const FIRST_LOCK: usize = 2;
+
+/// How many insertion locks there are (NUM_XLOGINSERT_LOCKS).
+pub const LOCKS: u32 = 8;
+
+/// Who has the turn to map a page.
+pub const MAPPING_TURN: usize = 10;
+
+/// Who has the turn to write.
+pub const WRITE_TURN: usize = 11;
+
+/// The address below which each page has been mapped.
+pub const INITIALISED_END: usize = 12;
+
+/// The address below which the log is written.
+pub const WRITTEN: usize = 13;
+
+/// The address below which the log is durable.
+pub const FLUSHED: usize = 14;
+
+/// The disk's moment when the last flush had ended.
+pub const MOMENT: usize = 15;
+
+/// The disk's count of faults, where it has failed.
+pub const DOWN: usize = 16;
+
+/// The first buffer's end word.
+pub const BUFFER_ENDS: usize = 17;
