@@ -103,6 +103,16 @@ full_output_fails() {
   equal 'full output: the log is whole' "$(transactions)" '700 701 702'
 }
 
+a_pipe_in_a_segments_place_is_a_fault() {
+  fresh
+  mkdir pg_wal && mkfifo $segment
+  commits 700 3 | timeout 20 "$program" run --seg $size >out 2>err
+  equal 'a pipe for a segment: a run ends with a fault of the disk' $? 4
+  timeout 20 "$program" dump --seg $size >out 2>err
+  equal 'a pipe for a segment: a listing ends with a fault of the disk' $? 4
+  equal 'a pipe for a segment: it prints nothing' "$(cat out)" ''
+}
+
 two_runs_in_one_folder() {
   local trial first second both=0 none=0 torn=0
   for ((trial = 0; trial < 100; trial++)); do
@@ -192,6 +202,7 @@ a_run_tells_its_commits
 a_replay_lists_what_its_crash_leaves
 closed_streams_fail
 full_output_fails
+a_pipe_in_a_segments_place_is_a_fault
 two_runs_in_one_folder
 names_in_the_way
 files_are_the_users_own

@@ -4,7 +4,7 @@ use byte_position::Geometry;
 use std::alloc::{AllocError, Global};
 use std::fs::{DirBuilder, Files, OpenFile, OpenOptions};
 use std::io::{ErrorKind, Write};
-use std::os::unix::fs::{DirBuilderExt, OpenOptionsExt};
+use std::os::unix::fs::{DirBuilderExt, FileTypeExt, OpenOptionsExt};
 use std::{fs, io};
 
 // How many zeros are written at a time.
@@ -106,6 +106,13 @@ impl<R: Files> Folder<R> {
         ensures stays { IsTrue self.old.has_failed → IsTrue self.new.has_failed }
     {
         self.set_path(geometry, segment)?;
+        // To open a pipe waits for its other end, for ever if nobody comes.
+        if fs::metadata(&self.rt, self.path.as_str())?
+            .file_type()
+            .is_fifo()
+        {
+            return Err(ErrorKind::InvalidInput.into());
+        }
         OpenOptions::new()
             .read(true)
             .write(is_written)
