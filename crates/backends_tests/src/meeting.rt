@@ -18,6 +18,8 @@ const SYNC: u64 = 1 << 16;
 pub struct Awaited {
     /// Before each backend's first line.
     pub lines: &'static [u64],
+    /// Before each later line.
+    pub later: u64,
     /// In each sync.
     pub sync: u64,
 }
@@ -25,34 +27,44 @@ pub struct Awaited {
 /// Nobody waits.
 pub const NOBODY: Awaited = Awaited {
     lines: &[],
+    later: 0,
     sync: 0,
 };
 
 /// So many backends wait for each other.
 pub const TWO: Awaited = Awaited {
     lines: &[0x3; 2],
-    sync: 0,
+    ..NOBODY
 };
 
 pub const THREE: Awaited = Awaited {
     lines: &[0x7; 3],
-    sync: 0,
+    ..NOBODY
 };
 
 pub const FOUR: Awaited = Awaited {
     lines: &[0xf; 4],
-    sync: 0,
+    ..NOBODY
 };
 
 pub const EIGHT: Awaited = Awaited {
     lines: &[0xff; 8],
-    sync: 0,
+    ..NOBODY
 };
 
 /// The second backend waits for a sync of the first one's, which waits for its second line.
 pub const HELD_SYNC: Awaited = Awaited {
     lines: &[0, SYNC],
     sync: 0x200,
+    ..NOBODY
+};
+
+/// The same, and the third backend waits for the second one's second line. Second lines wait for
+/// each other, and the sync for both.
+pub const SHARED_SYNC: Awaited = Awaited {
+    lines: &[0, SYNC, 0x200],
+    later: 0x600,
+    sync: 0x600,
 };
 
 /// A gate at which backends meet.
@@ -118,6 +130,7 @@ impl Gate for Meeting {
             self.wait_for(awaited.copied().unwrap_or(0));
         } else {
             self.come.fetch_or(first.wrapping_shl(8), Ordering::SeqCst);
+            self.wait_for(self.awaited.later);
         }
     }
 }

@@ -1,10 +1,11 @@
 //! Runs of several backends, and what each ends with.
 
 use crate::listed::is_listed;
-use crate::meeting::{Awaited, EIGHT, FOUR, HELD_SYNC, TWO};
+use crate::meeting::{Awaited, EIGHT, FOUR, HELD_SYNC, SHARED_SYNC, TWO};
 use crate::played::{Run, disk_of, play};
 use crate::told::count_told;
 use backend_cli::Cause;
+use segment_disk::Disk;
 use std::alloc::Global;
 use std::process::Abort;
 use std::sync::Wait;
@@ -19,6 +20,9 @@ const LONG_INSERTS: Lines = (20, b"I 1 10 00 8115*5a\n");
 
 const ALL_KINDS: Lines = (2, b"I 1 10 00 9000*5a\nC 1 0\nF\n");
 
+/// The number of no call.
+pub const NO_CALL: u64 = 0;
+
 /// A run of several backends, and what it ends with.
 #[derive(Drop)]
 pub struct Row {
@@ -26,12 +30,13 @@ pub struct Row {
     pub words: &'static [&'static str],
     pub backends: &'static [Lines],
     pub awaited: Awaited,
-    // How many segments the disk has room for, and which of its counted calls fail.
+    // How many segments the disk has room for.
     pub segments: u32,
-    pub fail: &'static [u64],
     pub status: u8,
     // All that is printed, where it is the same however the backends work.
     pub out: Option<&'static [u8]>,
+    // How many calls the disk counts, where it is the same however the backends work.
+    pub calls: Option<u64>,
     // How many backends are told answers, and how many answers there are.
     pub told: (u32, usize),
     // Why lines are refused.
@@ -45,9 +50,9 @@ pub const ROW: Row = Row {
     backends: &[],
     awaited: TWO,
     segments: 1,
-    fail: &[],
     status: 0,
     out: None,
+    calls: None,
     told: (0, 0),
     refused: None,
 };
@@ -80,7 +85,31 @@ static ROWS: &[Row] = &[
               1 4 wrote 0/00100070 0/00100090\n\
               records 3 commits 1 bytes 104 end 0/00100090 segments 1\n",
         ),
+        calls: Some(5),
         told: (2, 3),
+        ..ROW
+    },
+    // Both records are copied before either flush begins. So both are told the moment of one sync,
+    // behind the three calls of the first commit and one write.
+    Row {
+        what: "one sync serves two flushes",
+        words: &["run", "--seg", "1048576", "--list"],
+        backends: &[
+            (1, b"C 1 0\n"),
+            (1, b"I 2 10 00 aa\nF\n"),
+            (1, b"I 3 10 00 bb\nF\n"),
+        ],
+        awaited: SHARED_SYNC,
+        out: Some(
+            b"0 1 hard 0/00100028 0/00100050 3\n\
+              1 3 wrote 0/00100050 0/00100070\n\
+              1 4 flushed 0/00100090 5\n\
+              2 6 wrote 0/00100070 0/00100090\n\
+              2 7 flushed 0/00100090 5\n\
+              records 3 commits 1 bytes 104 end 0/00100090 segments 1\n",
+        ),
+        calls: Some(5),
+        told: (3, 5),
         ..ROW
     },
     // There are 160 records, of which the log holds 128. It has 1,045,488 bytes.
@@ -138,7 +167,7 @@ static ROWS: &[Row] = &[
 fn runs_end_as_listed(rt: HostRuntime) -> Result<(), Fail> {
     let alloc = rt.alloc();
     for row in ROWS {
-        let run = ended(&rt, alloc, row)?;
+        let run = ended(&rt, alloc, row, NO_CALL)?;
         let has_met = !run.was_missed;
         let is_sound = row.status == 4 || is_listed(&rt, alloc, run)?;
         assert!(rt; has_met && is_sound, "{}", row.what);
@@ -146,24 +175,36 @@ fn runs_end_as_listed(rt: HostRuntime) -> Result<(), Fail> {
     Ok(())
 }
 
-/// Plays a row, and checks what it ends with.
+/// Plays a row on a disk whose call of this number fails, and checks what it ends with.
 pub fn ended<R: Abort + Threads + Wait + Sync>(
     rt: &R,
     alloc: Global,
     row: &Row,
+    fail: u64,
 ) -> Result<Run, Fail> {
-    let disk = disk_of(alloc, row.segments, row.fail)?;
-    let script = script_of(alloc, row.backends)?;
-    let run = play(rt, alloc, row.words, script, disk, row.awaited)?;
+    let run = played(rt, alloc, row, fail)?;
     let is_printed = row.out.is_none_or(|out| run.out.taken() == out);
+    let is_counted = row.calls.is_none_or(|calls| run.disk.moment() == calls);
     let count = count_told(&run.told, row.refused);
-    let found = (run.status, run.told.len(), count, is_printed);
+    let found = (run.status, run.told.len(), count, is_printed && is_counted);
     assert!(rt;
         found == (row.status, row.told.0, Some(row.told.1), true),
         "{}",
         row.what
     );
     Ok(run)
+}
+
+/// Plays a row on a disk whose call of this number fails.
+pub fn played<R: Threads + Wait + Sync>(
+    rt: &R,
+    alloc: Global,
+    row: &Row,
+    fail: u64,
+) -> Result<Run, Fail> {
+    let disk = disk_of(alloc, row.segments, &[fail])?;
+    let script = script_of(alloc, row.backends)?;
+    play(rt, alloc, row.words, script, disk, row.awaited)
 }
 
 fn script_of(alloc: Global, backends: &'static [Lines]) -> Result<Vec<u8>, Fail> {

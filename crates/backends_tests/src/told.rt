@@ -44,8 +44,8 @@ pub fn starts_told(alloc: Global, told: &ToldLists, latest: Option<u64>) -> Resu
     Ok(starts)
 }
 
-// A fault of the line's own call of the disk.
-const OWN_FAULT: Option<Cause> = Some(Cause::Disk { faults: 1 });
+/// A fault of the line's own call of the disk.
+pub const OWN_FAULT: Option<Cause> = Some(Cause::Disk { faults: 1 });
 
 /// Why a line was refused.
 pub fn cause_of(answer: &Told) -> Option<Cause> {
@@ -82,4 +82,17 @@ pub fn count_told(told: &ToldLists, refused: Option<Cause>) -> Option<usize> {
         count = count.wrapping_add(answers.len());
     }
     Some(count)
+}
+
+/// How many lines of all backends were refused for this cause, or were not refused if it is none.
+pub fn count_for(told: &ToldLists, cause: Option<Cause>) -> usize {
+    let mut count = 0usize;
+    for backend in 0..told.len() {
+        for answer in told.of(backend) {
+            if cause_of(answer) == cause {
+                count = count.wrapping_add(1);
+            }
+        }
+    }
+    count
 }
