@@ -5,7 +5,7 @@ use Rattle.told_lines.specs.declared.told.Told.TheVariants.{Wrote, Hard, Flushed
 use Rattle.told_lines.specs.Counts.{all_commits_of, commits_of, is_hard, is_reserved, reserved_count}
 use Rattle.run_laws.specs.Counted.{all_reserved_count}
 use Rattle.backend_lanes.specs.Backends.{lists_of}
-use Rattle.backend_lanes.specs.declared.backend.Backend.{Backend}
+use Rattle.backend_lanes.specs.declared.backend.AnsweredLines.{AnsweredLines}
 
 is_hard-le : (answer : Told) → is_hard answer ≤ is_reserved answer
 is_hard-le (Wrote start end) = omega arith
@@ -24,23 +24,23 @@ all_commits-le (told ∷ lists) = omega (arith, commits-le told, all_commits-le 
 
 -- a count over lists that adds up those of each
 module _ (all : List (List Told) → ℕ) (one : List Told → ℕ) (none : all [] ≡ 0) (adds : (told : List Told) (lists : List (List Told)) → all (told ∷ lists) ≡ one told + all lists) where
-  take_suc : (backends : List Backend) (i : ℕ) (b : Backend) → i < length backends → get_or backends i b ≡ b → all (lists_of (take (suc i) backends)) ≡ all (lists_of (take i backends)) + one b.told.items
+  take_suc : (backends : List AnsweredLines) (i : ℕ) (b : AnsweredLines) → i < length backends → get_or backends i b ≡ b → all (lists_of (take (suc i) backends)) ≡ all (lists_of (take i backends)) + one b.told.items
   take_suc [] i b within is = absurd (omega arith)
-  take_suc (c ∷ backends) zero b within is = omega (arith, none, adds c.told.items [], ap (λ (x : Backend). one x.told.items) is)
+  take_suc (c ∷ backends) zero b within is = omega (arith, none, adds c.told.items [], ap (λ (x : AnsweredLines). one x.told.items) is)
   take_suc (c ∷ backends) (suc i) b within is = omega (arith, adds c.told.items (lists_of (take (suc i) backends)), adds c.told.items (lists_of (take i backends)), take_suc backends i b (omega arith) is)
 
-  take-le : (backends : List Backend) (i : ℕ) → all (lists_of (take i backends)) ≤ all (lists_of backends)
+  take-le : (backends : List AnsweredLines) (i : ℕ) → all (lists_of (take i backends)) ≤ all (lists_of backends)
   take-le backends zero = omega (arith, none)
   take-le [] (suc i) = omega arith
   take-le (c ∷ backends) (suc i) = omega (arith, adds c.told.items (lists_of (take i backends)), adds c.told.items (lists_of backends), take-le backends i)
 
   -- a loop's step
-  pub count_more : (backends : List Backend) (i count more : ℕ) (b : Backend) → i < length backends → b ≡ get_or backends i b → count ≡ all (lists_of (take i backends)) → more ≡ one b.told.items → count + more ≡ all (lists_of (take (i + 1) backends))
+  pub count_more : (backends : List AnsweredLines) (i count more : ℕ) (b : AnsweredLines) → i < length backends → b ≡ get_or backends i b → count ≡ all (lists_of (take i backends)) → more ≡ one b.told.items → count + more ≡ all (lists_of (take (i + 1) backends))
   count_more backends i count more b within is so_far here =
       let further : suc i ≡ i + 1 = omega arith in
       omega (arith, take_suc backends i b within (sym is), ap (λ (n : ℕ). all (lists_of (take n backends))) further)
 
   -- and what it leaves is no more than the whole
-  pub count_more-le : (backends : List Backend) (i count more : ℕ) (b : Backend) → i < length backends → b ≡ get_or backends i b → count ≡ all (lists_of (take i backends)) → more ≡ one b.told.items → count + more ≤ all (lists_of backends)
+  pub count_more-le : (backends : List AnsweredLines) (i count more : ℕ) (b : AnsweredLines) → i < length backends → b ≡ get_or backends i b → count ≡ all (lists_of (take i backends)) → more ≡ one b.told.items → count + more ≤ all (lists_of backends)
   count_more-le backends i count more b within is so_far here =
       omega (arith, count_more backends i count more b within is so_far here, take-le backends (i + 1))

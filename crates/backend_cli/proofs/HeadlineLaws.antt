@@ -1,7 +1,9 @@
 -- The headline, of the disk of a run and of the call.
-use Rattle.std.proofs.Common.{◌≡◌, ℕ, ◌+◌, ◌≤◌, List, [], ◌∷◌, Option, Some, Ok, Result, inl, inr, refl, sym, ap, subst, ◌∙◌}
+use Rattle.std.proofs.Common.{◌≡◌, ℕ, ◌+◌, ◌≤◌, All, List, [], ◌∷◌, Option, Some, Ok, Result, inl, inr, refl, sym, ap, subst, ◌∙◌}
 use Rattle.std.specs.Prelude.{IfSome}
+use Rattle.std.specs.List.{zip}
 use Rattle.std.proofs.lemmas.List.{append_cancel_left}
+use Rattle.std.proofs.lemmas.List.Elements.{All-cons, All-nil}
 use Rattle.segment_disk.specs.Tape.{Tape}
 use Rattle.flush_core.specs.Pages.{HoldsNothing}
 use Rattle.byte_position.specs.Geometry.{IsSegmentSize}
@@ -17,14 +19,15 @@ use Rattle.told_lines.specs.declared.told.Told.{Told}
 use Rattle.told_lines.specs.declared.told.Told.TheVariants.{Wrote, Hard, Flushed, Refused}
 use Rattle.told_lines.specs.Crash.{IsFrontWithTold, SurvivesCrashes}
 use Rattle.told_lines.specs.Rooms.{capacity_of}
-use Rattle.told_lines.specs.Told.{FitsLine, Logged, RiseInLineOrder, TellsAll, TellsFrom, behind_or, entry_of, order_from}
+use Rattle.told_lines.specs.Told.{FitsLine, Logged, RiseInLineOrder, TellsAll, TellsFrom, behind_or, entries_from, entry_of, order_from}
+use Rattle.told_lines.proofs.Orders.{sorted_permutes}
 use Rattle.command_words.specs.declared.commands.GenOptions.{GenOptions}
 use Rattle.command_words.specs.declared.commands.RunOptions.{RunOptions}
 use Rattle.command_words.specs.declared.commands.Command.TheVariants.{Run, Gen, Replay, Dump}
 use Rattle.command_line.specs.declared.asking.Request.{Request}
 use Rattle.command_line.specs.declared.asking.Request.TheVariants.{Command, Help, Version, Nothing}
 use Rattle.backend_cli.specs.Asked.{AsksBackends}
-use Rattle.backend_cli.specs.Headline.{AllNameOwnPlaces, FoundAfterCrash, Headline, NameOwnPlaces, NamesOwnPlace}
+use Rattle.backend_cli.specs.Headline.{FoundAfterCrash, Headline, NamesOwnPlace}
 use Rattle.backend_cli.specs.Obeying.{Obeys, ObeysInMemory}
 use Rattle.backend_cli.specs.Outside.{Outside, SourceView}
 use Rattle.backend_cli.specs.Reading.{ScriptMeans}
@@ -43,26 +46,33 @@ own_place logged behind (Insert value) (Hard start end moment) fits = fits
 own_place logged behind (Commit value) (Hard start end moment) fits = fits
 own_place logged behind Flush (Hard start end moment) fits = fits
 
+-- of a line and what it was told; of a backend's lines
+abbrev OwnsPlace : ℕ → AskedLine × Told → Type 0
+OwnsPlace size line = NamesOwnPlace size line.0.asked line.1
+
+abbrev OwnPlaces : ℕ → List AskedLine × List Told → Type 0
+OwnPlaces size backend = All (OwnsPlace size) (zip backend.0 backend.1)
+
 own_places : (logged : Logged) (pass behind : ℕ) (lines : List AskedLine) (told : List Told)
-    → TellsFrom logged pass behind lines told → NameOwnPlaces logged.size lines told
-own_places logged pass behind [] told tells = tt
-own_places logged pass behind (line ∷ lines) [] tells = tt
-own_places logged pass behind (line ∷ lines) (told ∷ others) tells = (
-  own_place logged behind line.asked told tells.0,
-  own_places logged pass
-      (behind_or logged.size behind (entry_of logged.size pass line.asked told)) lines others
-      tells.1,
-)
+    → TellsFrom logged pass behind lines told → OwnPlaces logged.size (lines, told)
+own_places logged pass behind [] told tells = All-nil (OwnsPlace logged.size)
+own_places logged pass behind (line ∷ lines) [] tells = All-nil (OwnsPlace logged.size)
+own_places logged pass behind (line ∷ lines) (told ∷ others) tells =
+    All-cons (OwnsPlace logged.size) (line, told) (zip lines others)
+    (own_place logged behind line.asked told tells.0)
+    (own_places logged pass
+    (behind_or logged.size behind (entry_of logged.size pass line.asked told)) lines others
+    tells.1)
 
 pub all_own_places : (logged : Logged) (pass : ℕ) (script : List (List AskedLine))
     (lists : List (List Told)) → TellsAll logged pass script lists
-    → AllNameOwnPlaces logged.size script lists
-all_own_places logged pass [] lists tells = tt
-all_own_places logged pass (lines ∷ script) [] tells = tt
-all_own_places logged pass (lines ∷ script) (told ∷ others) tells = (
-  own_places logged pass (first_position logged.size) lines told tells.0,
-  all_own_places logged (pass + 1) script others tells.1,
-)
+    → All (OwnPlaces logged.size) (zip script lists)
+all_own_places logged pass [] lists tells = All-nil (OwnPlaces logged.size)
+all_own_places logged pass (lines ∷ script) [] tells = All-nil (OwnPlaces logged.size)
+all_own_places logged pass (lines ∷ script) (told ∷ others) tells =
+    All-cons (OwnPlaces logged.size) (lines, told) (zip script others)
+    (own_places logged pass (first_position logged.size) lines told tells.0)
+    (all_own_places logged (pass + 1) script others tells.1)
 
 -- ---- of the disk of a run
 
@@ -82,7 +92,7 @@ module _ (size opening : ℕ) (valid : IsSegmentSize size) (script : List (List 
       let decodes = (finding_is_decoding size c.image size valid found).0 c.finds in
       here moment c.image c.since_opening c.left c.no_torn_pass found decodes.0 decodes.1
 
-  pub headline_of_run : AllNameOwnPlaces size script told
+  pub headline_of_run : All (OwnPlaces size) (zip script told)
       → IsChained size (order_from size 1 script told)
       → RiseInLineOrder size 1 script told
       → (HoldsNothing before → IfSome after
@@ -92,7 +102,7 @@ module _ (size opening : ℕ) (valid : IsSegmentSize size) (script : List (List 
     sized = valid;
     receipts = receipts;
     order = order_from size 1 script told;
-    reserved = refl;
+    reserved = sorted_permutes (entries_from size 1 script told);
     gapless = gapless;
     in_line_order = in_line_order;
     crash = found_after_crash survives;

@@ -4,10 +4,11 @@ use Rattle.segment_disk.specs.DiskImage.{LeftAt}
 use Rattle.segment_disk.specs.First.{first_state}
 use Rattle.segment_disk.specs.MemDisk.{first_image}
 use Rattle.segment_disk.specs.Picks.{IsPicked, choice_of}
-use Rattle.segment_disk.specs.Tape.{Tape, state_now}
+use Rattle.segment_disk.specs.Tape.{DiskState, Tape, state_now}
 use Rattle.segment_disk.specs.declared.memory.disk.MemDisk.{MemDisk}
 use Rattle.segment_disk.specs.declared.memory.pick.Pick.{Pick}
 use Rattle.wal_core.specs.Locked.{HasWriteTurn, IsWriteTurn, StandsTo}
+use Rattle.wal_core.specs.Suited.{tape_from}
 use Rattle.wal_core.specs.Views.{HasAt, Hold, Idle, Turned, Out, Plain, View, writer_of}
 use Rattle.wal_core.specs.Words.{write_turn}
 use Rattle.wal_core.proofs.Lists.{part_at, view_from}
@@ -43,13 +44,13 @@ writer_is_somewhere m run =
 
 -- what the core's crash leaves, a crash of the machine's disk leaves
 pub crashed_as : (core : Core) (m : Machine) (crash : CrashPick) (pick : Pick) (disk : MemDisk) → PlaysMachine (core_of core) m → pick ≡ pick_of crash
-    → ((m : Machine) (w : Plain) → PlaysMachine (core_of core) m → HasWriter m w → IfSome w.tape (λ tape. LeftAt tape (length tape.calls) (first_image disk)))
-    → ((m : Machine) (w : Plain) → PlaysMachine (core_of core) m → HasWriter m w → IfSome w.tape (λ tape. IsPicked (choice_of pick) (state_now tape) (first_image disk)))
+    → ((m : Machine) (w : Plain) → PlaysMachine (core_of core) m → HasWriter m w → IfSome (tape_from m.first w.calls) (λ tape. LeftAt tape (length tape.calls) (first_image disk)))
+    → ((m : Machine) (w : Plain) → PlaysMachine (core_of core) m → HasWriter m w → IfSome (tape_from m.first w.calls) (λ tape. IsPicked (choice_of pick) (state_now tape) (first_image disk)))
     → IsCrashed crash m (first_state disk.first.items)
 crashed_as core m crash pick disk k pick_is left picked =
     let has = writer_is_somewhere m k.running in
     let w = has.0 in
-    let tape_is = ap (λ (p : Plain). p.tape) (writer_is_core's (core_of core) m k w has.1) in
+    let tape_is = ap (λ (x : DiskState × Plain). tape_from x.0 (x.1).calls) (λ i. (k.first_is i, writer_is_core's (core_of core) m k w has.1 i)) in
     record {
       writer = w;
       tape = record { at_first = first_state core.writer.disk.first.items; calls = core.writer.disk.calls.made.items };

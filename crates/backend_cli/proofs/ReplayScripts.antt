@@ -9,7 +9,7 @@ use Rattle.wal_script.specs.Bodies.{AreLinesOf, IsActionOf}
 use Rattle.wal_script.specs.ReplayReading.{AreBackendsOf}
 use Rattle.wal_turns.specs.Begun.{first_backend}
 use Rattle.machine_core.specs.Lines.{AreLinesFor, AreScriptsFor, IsLineFor}
-use Rattle.machine_turns.specs.declared.script.Line.{Line as MachineLine}
+use Rattle.machine_turns.specs.declared.script.PlainLine.{PlainLine as MachineLine}
 use Rattle.backend_cli.specs.ReplayBegun.{machine_line_of, machine_lines_of}
 use Rattle.backend_cli.specs.Replaying.{ask_of, asks_of}
 

@@ -10,7 +10,7 @@ use Rattle.wal_script.specs.declared.line.Line.{Line}
 use Rattle.wal_script.specs.declared.line.Refusal.{Refusal}
 use Rattle.wal_script.proofs.RunLaws.{runs_have_some_backends}
 use Rattle.backend_lanes.specs.Backends.{HaveToldEach, IsRoomFor, lists_of, scripts_of}
-use Rattle.backend_lanes.specs.declared.backend.Backend.{Backend}
+use Rattle.backend_lanes.specs.declared.backend.AnsweredLines.{AnsweredLines}
 use Rattle.backend_lanes.specs.declared.playing.Room.{Room}
 use Rattle.backend_cli.specs.Outside.{Outside, SourceView}
 use Rattle.backend_cli.specs.Prepared.{IsPreparedFor}
@@ -38,7 +38,7 @@ prepared_for before after script backends room means are enough =
       few = some.1;
     }
 
-as_many_scripts : (backends : List Backend) → length (scripts_of backends) ≡ length backends
+as_many_scripts : (backends : List AnsweredLines) → length (scripts_of backends) ≡ length backends
 as_many_scripts [] = refl
 as_many_scripts (backend ∷ backends) = ap suc (as_many_scripts backends)
 
@@ -50,7 +50,7 @@ as_many_prepared script room ready =
 
 -- ---- told an answer to each line
 
-pub as_many_told : (script : List (List AskedLine)) (backends : List Backend)
+pub as_many_told : (script : List (List AskedLine)) (backends : List AnsweredLines)
     → HaveToldEach script backends → length script ≡ length backends
 as_many_told [] [] told = refl
 as_many_told [] (backend ∷ backends) told = absurd told
@@ -58,7 +58,7 @@ as_many_told (asked ∷ script) [] told = absurd told
 as_many_told (asked ∷ script) (backend ∷ backends) told =
     ap suc (as_many_told script backends told.1)
 
-pub all_answered : (script : List (List AskedLine)) (backends : List Backend)
+pub all_answered : (script : List (List AskedLine)) (backends : List AnsweredLines)
     → HaveToldEach script backends → All HasAnswers backends
 all_answered [] [] told = All-nil HasAnswers
 all_answered [] (backend ∷ backends) told = absurd told
@@ -69,7 +69,7 @@ all_answered (asked ∷ script) (backend ∷ backends) told =
 
 -- a run of some backends that opened the log holds what it promises
 pub told_holds : (outside : Outside) (size capacity : ℕ) (list : Bool) (outcome : Outcome)
-    (script : List (List AskedLine)) (backends : List Backend) → 0 < length script
+    (script : List (List AskedLine)) (backends : List AnsweredLines) → 0 < length script
     → HaveToldEach script backends
     → HoldsOpened outside size capacity list outcome script (lists_of backends)
     → PlayHolds outside size capacity list outcome script (lists_of backends)

@@ -14,7 +14,6 @@ use Rattle.wal_core.specs.declared.setup.Setup.{Setup}
 use Rattle.wal_rule.specs.Closing.{ClosesWith}
 use Rattle.wal_rule.specs.Founded.{empty_log_opening}
 use Rattle.wal_rule.specs.Passes.{view_of_pass}
-use Rattle.wal_rule.specs.Seats.{view_on}
 use Rattle.wal_rule.specs.Slotted.{as_machine_has, first_on, slot_disk}
 use Rattle.wal_rule.specs.Tables.{began_of_table}
 use Rattle.wal_rule.specs.declared.pass.Pass.{Pass}
@@ -32,7 +31,7 @@ use Rattle.run_laws.specs.ClosedRuns.{HasFlushedAll, IsRunClosed}
 use Rattle.run_laws.proofs.ClosedRuns.{counted_down, counted_up, flushed_whole, position_told, records_counted, rooms_within, run_assures}
 use Rattle.backend_lanes.specs.Backends.{lists_of}
 use Rattle.backend_lanes.specs.Playing.{HasPlayed}
-use Rattle.backend_lanes.specs.declared.backend.Backend.{Backend}
+use Rattle.backend_lanes.specs.declared.backend.AnsweredLines.{AnsweredLines}
 use Rattle.command_words.specs.declared.commands.RunOptions.{RunOptions}
 use Rattle.backend_cli.specs.Concluding.{IsConcluded}
 use Rattle.backend_cli.specs.Outside.{SourceView, Took, outside_of}
@@ -56,7 +55,7 @@ module _ {D : Type 0} (tape : D → Option Tape) (moment faults : D → ℕ) (di
     (setup_is : setup ≡ run_setup options backend_count) (wal : Wal D) (first : Pass)
     (opened : IsOpened tape moment faults setup disk wal first)
     (counts : IfSome (tape disk) (λ t. moment disk ≡ length t.calls))
-    (script : List (List AskedLine)) (backends : List Backend) (closed : Closed D)
+    (script : List (List AskedLine)) (backends : List AnsweredLines) (closed : Closed D)
     (played : HasPlayed tape moment faults wal script backends closed) where
   abbrev opening : Opening
   opening = empty_log_opening (run_setup options backend_count) (moment disk) (faults disk)
@@ -81,15 +80,15 @@ module _ {D : Type 0} (tape : D → Option Tape) (moment faults : D → ℕ) (di
       (subst (λ (o : Opening). ClosesWith tape moment faults (began_of_table tape (table_of wal)) o
       v writer position) opening_is (played.closes).closes)
 
-  taken : HasTakenIn opening (view_on (first_on (tape disk)) (view_of_pass played.pass)) script
+  taken : HasTakenIn opening (view_of_pass played.pass) script
       (lists_of backends)
   taken =
       let v = view_of_pass played.pass in
       let lists = lists_of backends in
-      subst (λ (began : Option Tape). HasTakenIn opening (view_on (first_on began) v) script lists)
+      subst (λ (began : Option Tape). HasTakenIn opening v script lists)
       opened.began
       (subst (λ (o : Opening). HasTakenIn o
-      (view_on (first_on (began_of_table tape (table_of wal))) v) script lists)
+      v script lists)
       opening_is played.taken)
 
   flushed : HasFlushedAll options.geometry (lists_of backends) (view_of_pass played.pass)

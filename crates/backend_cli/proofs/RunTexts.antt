@@ -15,7 +15,7 @@ use Rattle.told_lines.specs.declared.told.Told.{Told}
 use Rattle.told_lines.specs.Counts.{all_commits_of}
 use Rattle.run_laws.specs.Counted.{all_reserved_count}
 use Rattle.backend_lanes.specs.Backends.{HaveToldEach, lists_of}
-use Rattle.backend_lanes.specs.declared.backend.Backend.{Backend}
+use Rattle.backend_lanes.specs.declared.backend.AnsweredLines.{AnsweredLines}
 use Rattle.backend_cli.specs.declared.printing.Summary.{Summary}
 use Rattle.backend_cli.specs.Printing.{Summarizes, printed_text, summary_line, told_lines, told_lines_upward}
 use Rattle.backend_cli.specs.Texts.{run_text, segments_upto, summary_text, told_line, told_lines_from, told_lines_of}
@@ -28,7 +28,7 @@ lines_are backend (asked_line ∷ asked) (line ∷ lines) [] are = refl
 lines_are backend (asked_line ∷ asked) (line ∷ lines) (answer ∷ told) are =
     ap₂ (λ (text rest : List ℕ). text ++ rest) (ap (λ (n : ℕ). told_line backend n answer) are.0) (lines_are backend asked lines told are.2)
 
-lists_are : (number : ℕ) (script : List (List AskedLine)) (backends : List Backend) → HaveToldEach script backends → told_lines_upward number backends ≡ told_lines_from number script (lists_of backends)
+lists_are : (number : ℕ) (script : List (List AskedLine)) (backends : List AnsweredLines) → HaveToldEach script backends → told_lines_upward number backends ≡ told_lines_from number script (lists_of backends)
 lists_are number [] [] have = refl
 lists_are number [] (backend ∷ backends) have = absurd have
 lists_are number (asked ∷ script) [] have = absurd have
@@ -54,7 +54,7 @@ summary_is size es lists s is count =
     ∙ ap (λ (n : ℕ). line (length es) (all_commits_of lists) (rooms_of size es) n (segments_upto size es n)) is.end
 
 -- what is printed is the run's text
-pub text_is : (size : ℕ) (list : Bool) (script : List (List AskedLine)) (backends : List Backend) (es : List Entry) (s : Summary) → HaveToldEach script backends
+pub text_is : (size : ℕ) (list : Bool) (script : List (List AskedLine)) (backends : List AnsweredLines) (es : List Entry) (s : Summary) → HaveToldEach script backends
     → Summarizes size (rooms_of size es) (lists_of backends) s → length es ≡ all_reserved_count (lists_of backends)
     → printed_text list backends s ≡ run_text size list script (lists_of backends) es
 text_is size list script backends es s have is count =

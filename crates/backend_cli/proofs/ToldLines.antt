@@ -12,7 +12,7 @@ use Rattle.std.specs.declared.slice.Iter.{Iter}
 use Rattle.wal_script.specs.declared.line.Line.{Line}
 use Rattle.told_lines.specs.declared.told.Told.{Told}
 use Rattle.backend_cli.specs.Texts.{told_line}
-use Rattle.backend_lanes.specs.declared.backend.Backend.{Backend}
+use Rattle.backend_lanes.specs.declared.backend.AnsweredLines.{AnsweredLines}
 use Rattle.backend_cli.specs.Printing.{told_lines, told_lines_upward}
 
 -- the line of the first of them stands in front
@@ -32,10 +32,10 @@ told_lines-next backend lines told pairs start now next result first second yiel
     told_lines-drop backend (length pairs) lines told pair.0.now pair.1.now turn.0 turn.1 (turn.2 pair.0.now) (turn.3 pair.1.now)
 
 -- the lines of the next backend stand in front
-pub told_lines_upward-drop : (backends : List Backend) (number : ℕ) (b : Backend) (lines : List Line) (told : List Told) → number < length backends → b ≡ get_or backends number b → lines ≡ b.lines.items → told ≡ b.told.items
+pub told_lines_upward-drop : (backends : List AnsweredLines) (number : ℕ) (b : AnsweredLines) (lines : List Line) (told : List Told) → number < length backends → b ≡ get_or backends number b → lines ≡ b.lines.items → told ≡ b.told.items
     → told_lines_upward number (drop number backends) ≡ told_lines number lines told ++ told_lines_upward (number + 1) (drop (number + 1) backends)
 told_lines_upward-drop backends number b lines told within is lines_are told_are =
     let rest = told_lines_upward (number + 1) (drop (number + 1) backends) in
     at_drop_more (told_lines_upward number) backends number b within
-    ∙ ap (λ (x : Backend). told_lines number x.lines.items x.told.items ++ rest) (sym is)
+    ∙ ap (λ (x : AnsweredLines). told_lines number x.lines.items x.told.items ++ rest) (sym is)
     ∙ ap₂ (λ (l : List Line) (t : List Told). told_lines number l t ++ rest) (sym lines_are) (sym told_are)

@@ -12,7 +12,7 @@ use Rattle.wal_core.specs.Moves.{is_done}
 use Rattle.wal_core.specs.Steps.{view_behind, word_of_step}
 use Rattle.wal_turns.specs.Doing.{Ask, Backend, Machine}
 use Rattle.wal_turns.proofs.Poses.{bool_cases}
-use Rattle.wal_turns.specs.Turned.{Next, goes_on, answers, Turn, Waits, can_step, event_named, fallen, looks_down, moved_on, next_of, outcome, word_waited, turned, turned_for, turned_of, machine_behind, with_answer, with_next}
+use Rattle.wal_turns.specs.Turned.{Next, goes_on, answers, TurnMade, Waits, can_step, event_named, fallen, looks_down, moved_on, next_of, outcome, word_waited, turned, turned_for, turned_of, machine_behind, with_answer, with_next}
 
 pub behind_append : (m : Machine) (xs ys : List ℕ) → machine_behind m (xs ++ ys) ≡ machine_behind (machine_behind m xs) ys
 behind_append m [] ys = refl
@@ -51,7 +51,7 @@ next_keeps (goes_on doing) b = refl
 next_keeps (answers full) b = refl
 
 module _ (m : Machine) (number : ℕ) where
-  abbrev Keeps : Turn × Machine → Type 0
+  abbrev Keeps : TurnMade × Machine → Type 0
   Keeps t = line_counts_of t.1 ≡ line_counts_of m
 
   by_ask : (b : Backend) (v : View) → slice_get m.backends number ≡ Some b → (ask : Option Ask) → Keeps (turned_for m number b v ask)
@@ -60,7 +60,7 @@ module _ (m : Machine) (number : ℕ) where
       let down = down_word (m.state).words in
       let can = can_step m v ask b.doing in
       let looks = looks_down m v ask b.doing in
-      let waits : Turn × Machine = (Waits (word_waited m v ask b.doing) (slice_index (m.state).words (word_waited m v ask b.doing)), m) in
+      let waits : TurnMade × Machine = (Waits (word_waited m v ask b.doing) (slice_index (m.state).words (word_waited m v ask b.doing)), m) in
       let e = event_named m v ask b.doing in
       let moved = moved_on m number b v ask e in
       let next = next_of v (view_behind v e (slice_index (m.state).words (word_of_step v e)) (m.state).home) ask (slice_index (m.state).words (word_of_step v e)) (is_done (outcome m v ask)) b.doing in

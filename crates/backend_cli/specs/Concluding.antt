@@ -5,7 +5,7 @@ use Rattle.waldump_text.specs.declared.putting.SinkFault.{SinkFault}
 use Rattle.told_lines.specs.declared.told.Told.{Told}
 use Rattle.told_lines.specs.Told.{IsFullAnswer, SomeTold}
 use Rattle.backend_lanes.specs.Backends.{lists_of}
-use Rattle.backend_lanes.specs.declared.backend.Backend.{Backend}
+use Rattle.backend_lanes.specs.declared.backend.AnsweredLines.{AnsweredLines}
 use Rattle.backend_cli.specs.declared.outcome.Outcome.{Outcome}
 use Rattle.backend_cli.specs.declared.outcome.Outcome.TheVariants.{Done, DiskFault, LogFull, SinkFault as SinkFailed}
 use Rattle.backend_cli.specs.declared.printing.Summary.{Summary}
@@ -21,7 +21,7 @@ Concludes None lists failed outcome =
 
 -- a run of these backends, whose log had so many bytes for records taken up and was left by this
 -- fault of its disk, was printed and ended so
-pub record IsConcluded (size : ℕ) (list : Bool) (used : ℕ) (backends : List Backend)
+pub record IsConcluded (size : ℕ) (list : Bool) (used : ℕ) (backends : List AnsweredLines)
     (down : Option ℕ) (taken_before taken_after : Option (List ℕ)) (sink_before sink_after : ℕ)
     (outcome : Outcome) : Type 0 where
   pub summary : Summary

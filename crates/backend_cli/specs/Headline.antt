@@ -4,12 +4,14 @@
 -- `size` is the size of a segment in bytes. `script` has each backend's lines, `told` what each
 -- line was told. `opening` is the disk's moment at the call; `before` and `after` are what the
 -- disk tells before the call and after it.
-use Rattle.std.specs.Prelude.{◌≡◌, ℕ, ◌≤◌, List, [], ◌∷◌, Option, Some}
-use Rattle.byte_position.specs.Geometry.{IsSegmentSize}
+use Rattle.std.specs.Prelude.{◌≡◌, ℕ, ◌≤◌, All, IfSome, IsTrue, List, Option, Some, None}
+use Rattle.std.specs.List.{zip}
+use Rattle.std.specs.List.Sorted.{IsPermutation}
+use Rattle.byte_position.specs.Geometry.{is_segment_size}
+use Rattle.byte_position.specs.Position.{first_position}
 use Rattle.segment_disk.specs.DiskImage.{DiskImage, LeftAt}
-use Rattle.segment_disk.specs.Tape.{Tape}
-use Rattle.flush_core.specs.Pages.{HoldsNothing}
-use Rattle.wal_page.specs.Order.{Entry, IsChained}
+use Rattle.segment_disk.specs.Tape.{Tape, after_calls}
+use Rattle.wal_page.specs.Order.{Entry, FollowsFrom}
 use Rattle.wal_reader.specs.declared.found.FoundRecord.{FoundRecord}
 use Rattle.wal_reader.specs.Finds.{FindsRecords}
 use Rattle.wal_reader.specs.Pages.{pages_in}
@@ -18,7 +20,7 @@ use Rattle.wal_script.specs.Asked.{Asked, AskedLine, Commit, Flush, Insert}
 use Rattle.told_lines.specs.declared.told.Told.{Told}
 use Rattle.told_lines.specs.declared.told.Told.TheVariants.{Wrote, Hard, Flushed, Refused}
 use Rattle.told_lines.specs.Crash.{IsFrontWithTold}
-use Rattle.told_lines.specs.Told.{IsPlaced, RiseInLineOrder, order_from}
+use Rattle.told_lines.specs.Told.{IsPlaced, RiseInLineOrder, entries_from}
 
 -- a commit that is told to be durable is told where its own record starts and ends
 abbrev pub NamesOwnPlace : ℕ → Asked → Told → Type 0
@@ -29,26 +31,14 @@ NamesOwnPlace size (Insert value) (Hard start end moment) = ⊥
 NamesOwnPlace size (Commit value) (Hard start end moment) = IsPlaced size value start.0 end.0
 NamesOwnPlace size Flush (Hard start end moment) = ⊥
 
--- so are all commits of a backend, and of all backends
-abbrev pub NameOwnPlaces : ℕ → List AskedLine → List Told → Type 0
-NameOwnPlaces size [] told = Unit {0}
-NameOwnPlaces size (line ∷ lines) [] = Unit {0}
-NameOwnPlaces size (line ∷ lines) (told ∷ others) =
-    NamesOwnPlace size line.asked told × NameOwnPlaces size lines others
-
-abbrev pub AllNameOwnPlaces : ℕ → List (List AskedLine) → List (List Told) → Type 0
-AllNameOwnPlaces size [] told = Unit {0}
-AllNameOwnPlaces size (lines ∷ script) [] = Unit {0}
-AllNameOwnPlaces size (lines ∷ script) (told ∷ others) =
-    NameOwnPlaces size lines told × AllNameOwnPlaces size script others
-
 -- a crash at a moment, and the records that the reader finds behind it
 pub record FoundAfterCrash (size opening : ℕ) (order : List Entry) (before after : Option Tape)
     (moment : ℕ) (found : List FoundRecord) : Type 0 where
   -- the disk tells what it holds, and held no segment at first
   pub tape : Tape
   pub disk_tells : after ≡ Some tape
-  pub starts_empty : HoldsNothing before
+  pub starts_empty :
+      IfSome before (λ t. (segment : ℕ) → after_calls t.at_first t.calls segment ≡ None)
   -- a crash at this moment, which is not before the call, may leave this image of the disk
   pub image : DiskImage
   pub since_opening : opening ≤ moment
@@ -60,15 +50,18 @@ pub record FoundAfterCrash (size opening : ℕ) (order : List Entry) (before aft
 
 pub record Headline (size opening : ℕ) (script : List (List AskedLine)) (told : List (List Told))
     (before after : Option Tape) : Type 0 where
-  -- segments have a size that they can have, and each receipt names its own record's place
-  pub sized : IsSegmentSize size
-  pub receipts : AllNameOwnPlaces size script told
-  -- the records that the run reserved, by their starts
+  -- segments have a size that they can have, and each receipt of each backend's lines names its own
+  -- record's place
+  pub sized : IsTrue (is_segment_size size)
+  pub receipts :
+      All (λ backend. All (λ line. NamesOwnPlace size line.0.asked line.1)
+      (zip backend.0 backend.1)) (zip script told)
+  -- the records that the run reserved, all of them and no other, in an order in which they
   pub order : List Entry
-  pub reserved : order ≡ order_from size 1 script told
-  -- follow each other without a gap,
-  pub gapless : IsChained size order
-  -- each backend's in script order;
+  pub reserved : IsPermutation (entries_from size 1 script told) order
+  -- follow each other without a gap, from the log's first position on;
+  pub gapless : FollowsFrom size (first_position size) order
+  -- each backend's stand in script order;
   pub in_line_order : RiseInLineOrder size 1 script told
   -- and a crash at any moment leaves segments that the reader decodes to a prefix of them, each
   -- record whole, holding every commit whose receipt names that moment or an earlier one

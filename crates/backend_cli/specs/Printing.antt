@@ -10,7 +10,7 @@ use Rattle.told_lines.specs.declared.told.Told.{Told}
 use Rattle.backend_cli.specs.Texts.{told_line}
 use Rattle.told_lines.specs.Counts.{all_commits_of}
 use Rattle.run_laws.specs.Counted.{all_reserved_count}
-use Rattle.backend_lanes.specs.declared.backend.Backend.{Backend}
+use Rattle.backend_lanes.specs.declared.backend.AnsweredLines.{AnsweredLines}
 
 -- a told line for each line
 abbrev pub told_lines : ℕ → List Line → List Told → List ℕ
@@ -27,18 +27,18 @@ summary_line s =
     decimal s.segments ∷ codes "\n" ∷ [])
 
 -- so many answers as lines
-abbrev pub HasAnswers : Backend → Type 0
+abbrev pub HasAnswers : AnsweredLines → Type 0
 HasAnswers backend = length backend.lines.items ≡ length backend.told.items
 
 -- the told lines of all backends, from a number on
-abbrev pub told_lines_upward : ℕ → List Backend → List ℕ
+abbrev pub told_lines_upward : ℕ → List AnsweredLines → List ℕ
 told_lines_upward number [] = []
 told_lines_upward number (backend ∷ backends) =
     told_lines number backend.lines.items backend.told.items
     ++ told_lines_upward (number + 1) backends
 
 -- all that is printed of what backends were told
-abbrev pub printed_text : Bool → List Backend → Summary → List ℕ
+abbrev pub printed_text : Bool → List AnsweredLines → Summary → List ℕ
 printed_text list backends s =
     (if list then told_lines_upward 0 backends else []) ++ summary_line s
 

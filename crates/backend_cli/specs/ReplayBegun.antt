@@ -4,8 +4,8 @@ use Rattle.wal_turns.specs.Doing.{Machine}
 use Rattle.machine_core.specs.Cores.{IsPlayed, core_of}
 use Rattle.machine_core.specs.Playing.{PlaysMachine}
 use Rattle.machine_core.specs.declared.machine.Core.{Core}
-use Rattle.machine_turns.specs.declared.script.Line.{Line as MachineLine}
-use Rattle.machine_turns.specs.declared.script.Line.TheVariants as machine_lines
+use Rattle.machine_turns.specs.declared.script.PlainLine.{PlainLine as MachineLine}
+use Rattle.machine_turns.specs.declared.script.PlainLine.TheVariants as machine_lines
 use Rattle.wal_script.specs.Asked.{AskedLine}
 use Rattle.wal_script.specs.Replay.{ReplayMeaning, replay_meaning}
 use Rattle.wal_script.specs.ReplayReading.{AreBackendsOf}

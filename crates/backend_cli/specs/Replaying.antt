@@ -11,6 +11,7 @@ use Rattle.segment_disk.specs.declared.memory.pick.Pick.TheVariants as picks
 use Rattle.listing_filter.specs.Keeping.{everything_from}
 use Rattle.wal_core.specs.declared.setup.Setup.{Setup}
 use Rattle.wal_core.specs.Opened.{AreFirstWords, IsFirstWriter}
+use Rattle.wal_core.specs.Suited.{tape_from}
 use Rattle.wal_core.specs.Views.{Plain}
 use Rattle.wal_reader.specs.declared.standing.ReadErr.TheVariants as reading
 use Rattle.wal_turns.specs.Begun.{first_machine}
@@ -46,8 +47,8 @@ abbrev pub asks_of : List AskedLine → List Ask
 asks_of lines = map (λ line. ask_of line.asked) lines
 
 -- the log of a replay: its system id is 1, and it has a pass for each backend and one more
-abbrev pub setup_of : ReplayOptions → ℕ → Setup
-setup_of options backends = record {
+abbrev pub setup_asked : ReplayOptions → ℕ → Setup
+setup_asked options backends = record {
   segment_size = options.geometry;
   ring_pages = options.ring_pages;
   cap_segments = options.cap_segments;
@@ -61,11 +62,11 @@ pub record BeginsReplay (options : ReplayOptions) (backends : List (List AskedLi
     : Type 0 where
   pub words : List ℕ
   pub writer : Plain
-  pub first_words : AreFirstWords (first_opening (setup_of options (length backends))) words
-  pub first_writer : IsFirstWriter (first_opening (setup_of options (length backends))) writer
-  pub tape : writer.tape ≡ Some (record { at_first = empty_state; calls = [] })
-  pub machine_is : m ≡ first_machine (first_opening (setup_of options (length backends))) words
-      writer [] (map asks_of backends)
+  pub first_words : AreFirstWords (first_opening (setup_asked options (length backends))) words
+  pub first_writer : IsFirstWriter (first_opening (setup_asked options (length backends))) writer
+  pub calls : writer.calls ≡ Some []
+  pub machine_is : m ≡ first_machine empty_state
+      (first_opening (setup_asked options (length backends))) words writer [] (map asks_of backends)
 
 -- the machine behind a replay: each turn of the schedule is had
 abbrev pub IsReplayOf : ReplayOptions → ReplayMeaning → Machine → Type 0
@@ -85,7 +86,7 @@ pub record IsCrashed (pick : CrashPick) (m : Machine) (left : DiskState) : Type 
   pub writer : Plain
   pub tape : Tape
   pub is_writer : HasWriter m writer
-  pub tape_is : writer.tape ≡ Some tape
+  pub tape_is : tape_from m.first writer.calls ≡ Some tape
   pub left_then : LeftAt tape (length tape.calls) (image_as_read left)
   pub picked : IsPicked (choice_of (pick_of pick)) (state_now tape) (image_as_read left)
 

@@ -6,7 +6,7 @@ ghost use Rattle.backend_cli.specs.Texts.{told_line, answer_text, cause_text, re
 ghost use Rattle.wal_script.specs.Replay.{most_backends};
 ghost use Rattle.backend_cli.specs.Printing.{HasAnswers, told_lines, told_lines_upward, summary_line};
 
-use backend_lanes::Backend;
+use backend_lanes::AnsweredLines;
 use segment_disk::Sink;
 use told_lines::Told;
 use wal_script::Line;
@@ -201,7 +201,10 @@ pub(crate) fn put_told_lines<O: Sink>(
 }
 
 /// Puts the told lines of all backends, in order.
-pub(crate) fn put_told_lists<O: Sink>(out: &mut O, backends: &[Backend]) -> Result<(), SinkFault>
+pub(crate) fn put_told_lists<O: Sink>(
+    out: &mut O,
+    backends: &[AnsweredLines],
+) -> Result<(), SinkFault>
     requires answered { All HasAnswers backends.now }
     requires few { length backends.now ≤ most_backends }
     ensures { Puts (O.taken out.old) (O.taken out.new) (O.faults out.old) (O.faults out.new)

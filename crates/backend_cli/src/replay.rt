@@ -16,7 +16,7 @@ ghost use Rattle.machine_core.specs.Playing.{PlaysMachine};
 ghost use Rattle.backend_cli.specs.ReplayBegun.{IsReplayBegun, PlaysBackends, ReadsReplay, machine_line_of, machine_lines_of};
 ghost use Rattle.backend_cli.specs.Outside.{SourceView, outside_of, outside_with, source_view};
 ghost use Rattle.backend_cli.specs.Reading.{ScriptMeansBy};
-ghost use Rattle.backend_cli.specs.Replaying.{HasSinkCause, PutsBefore, ReplayEnds, ReplayHolds, backend_line, backend_lines, outcome_with, pick_of, setup_of};
+ghost use Rattle.backend_cli.specs.Replaying.{HasSinkCause, PutsBefore, ReplayEnds, ReplayHolds, backend_line, backend_lines, outcome_with, pick_of, setup_asked};
 
 use crate::outcome::Outcome;
 use crate::reading::read_script;
@@ -24,7 +24,7 @@ use crate::run::{Finished, SYSTEM_ID};
 use crate::told::ToldLists;
 use byte_position::Geometry;
 use command_words::{CrashPick, ReplayOptions};
-use machine_core::{Core, CoreErr, Line as MachineLine, Script};
+use machine_core::{Core, CoreErr, PlainLine, Script};
 use replay_schedule::{Item, Schedule};
 use segment_disk::{Disk, MemDisk, Pick, Sink, Source};
 use std::alloc::{AllocError, Global};
@@ -51,20 +51,20 @@ fn read_replay<S: Source>(alloc: Global, source: &mut S) -> Result<Replay, Outco
     Ok(parse_replay(alloc, &script)?)
 }
 
-fn machine_line(line: Line) -> MachineLine
+fn machine_line(line: Line) -> PlainLine
     ensures { result ≡ machine_line_of line.action }
 {
     match line.action {
-        Action::Insert(body) => MachineLine::Insert(body),
-        Action::Commit(body) => MachineLine::Commit(body),
-        Action::Flush => MachineLine::Flush,
+        Action::Insert(body) => PlainLine::Insert(body),
+        Action::Commit(body) => PlainLine::Commit(body),
+        Action::Flush => PlainLine::Flush,
     }
 }
 
 fn script_of(alloc: Global, lines: Vec<Line>) -> Result<Script, AllocError>
     ensures { IfOk result (λ script. script ≡ machine_lines_of lines.items) }
 {
-    let lines: Vec<MachineLine> = lines.into_iter().map(machine_line).collect(alloc)?;
+    let lines: Vec<PlainLine> = lines.into_iter().map(machine_line).collect(alloc)?;
     Ok(Script::of(lines))
 }
 
@@ -88,10 +88,10 @@ fn line_counts_of(alloc: Global, scripts: &[Script]) -> Result<Vec<u64>, AllocEr
         .collect(alloc)
 }
 
-fn setup_of(options: &ReplayOptions, backends: u32) -> Setup
+fn setup_asked(options: &ReplayOptions, backends: u32) -> Setup
     requires in_range { IsShapeInRange options.now.ring_pages options.now.cap_segments }
     requires few { backends ≤ most_backends }
-    ensures value { result ≡ setup_of options.now backends }
+    ensures value { result ≡ setup_asked options.now backends }
     ensures can_be { IsSetup result }
 {
     Setup {
@@ -114,7 +114,7 @@ fn begin(
     ensures { (asked : List (List AskedLine)) → AreBackendsOf asked backends.items
         → IfOk result (λ begun. IsReplayBegun options.now asked begun) }
 {
-    let setup = setup_of(options, backends.len() as u32);
+    let setup = setup_asked(options, backends.len() as u32);
     let scripts = scripts_of(alloc, backends)?;
     let line_counts = line_counts_of(alloc, &scripts)?;
     match Core::new(alloc, setup, scripts, Vec::new(alloc)) {

@@ -23,7 +23,7 @@ use crate::outcome::Outcome;
 use crate::printing::{Summary, put_told_lists};
 use crate::reading::read_script;
 use crate::told::ToldLists;
-use backend_lanes::{Backend, Gate, PlayedRun, Room, play_backends};
+use backend_lanes::{AnsweredLines, Gate, PlayedRun, Room, play_backends};
 use byte_position::Geometry;
 use command_words::RunOptions;
 use segment_disk::{Disk, Sink, Source};
@@ -69,7 +69,7 @@ fn prepare<S: Source>(alloc: Global, source: &mut S) -> Result<Room, Outcome>
     }
 }
 
-fn setup_of(options: &RunOptions, backends: u32) -> Setup
+fn setup_asked(options: &RunOptions, backends: u32) -> Setup
     requires in_range { IsShapeInRange options.now.ring_pages options.now.cap_segments }
     requires few { backends ≤ most_backends }
     ensures value { result ≡ run_setup options.now backends }
@@ -111,7 +111,7 @@ fn commits_in(told: &[Told]) -> u64
 }
 
 // How many lines of all backends reserved a record.
-fn all_records_in(backends: &[Backend]) -> u64
+fn all_records_in(backends: &[AnsweredLines]) -> u64
     requires { all_reserved_count (lists_of backends.now) ≤ 2 ^ 42 }
     ensures { result ≡ all_reserved_count (lists_of backends.now) }
 {
@@ -123,7 +123,7 @@ fn all_records_in(backends: &[Backend]) -> u64
 }
 
 // How many of them were told that their commit is durable.
-fn all_commits_in(backends: &[Backend]) -> u64
+fn all_commits_in(backends: &[AnsweredLines]) -> u64
     requires { all_reserved_count (lists_of backends.now) ≤ 2 ^ 42 }
     ensures { result ≡ all_commits_of (lists_of backends.now) }
 {
@@ -135,14 +135,14 @@ fn all_commits_in(backends: &[Backend]) -> u64
 }
 
 // Whether a line of a backend found the log full.
-fn has_found_full(backend: &Backend) -> bool
+fn has_found_full(backend: &AnsweredLines) -> bool
     ensures { IsTrue result ↔ SomeAnswer IsFullAnswer backend.now.told.items }
 {
     backend.told.iter().any(|answer| answer.is_full())
 }
 
 // Whether a line of some backend found the log full.
-fn found_full(backends: &[Backend]) -> bool
+fn found_full(backends: &[AnsweredLines]) -> bool
     ensures full { IsTrue result → SomeTold IsFullAnswer (lists_of backends.now) }
     ensures room { result ≡ false → SomeTold IsFullAnswer (lists_of backends.now) → ⊥ }
 {
@@ -150,7 +150,7 @@ fn found_full(backends: &[Backend]) -> bool
 }
 
 // What the summary says of a log that ends there, and of what its lines were told.
-fn summary_of(geometry: Geometry, end: Lsn, backends: &[Backend]) -> Summary
+fn summary_of(geometry: Geometry, end: Lsn, backends: &[AnsweredLines]) -> Summary
     requires few { all_reserved_count (lists_of backends.now) ≤ 2 ^ 42 }
     requires end { (used : ℕ) × (end.0
         ≡ end_address_of geometry (first_position geometry + used)) }
@@ -176,7 +176,7 @@ fn summary_of(geometry: Geometry, end: Lsn, backends: &[Backend]) -> Summary
 fn print<O: Sink>(
     out: &mut O,
     list: bool,
-    backends: &[Backend],
+    backends: &[AnsweredLines],
     summary: &Summary,
 ) -> Result<(), SinkFault>
     requires answered { All HasAnswers backends.now }
@@ -191,7 +191,7 @@ fn print<O: Sink>(
 }
 
 // How a run that opened the log concludes: the first of its causes.
-fn conclusion(down: Option<u64>, backends: &[Backend], is_printed: bool) -> Outcome
+fn conclusion(down: Option<u64>, backends: &[AnsweredLines], is_printed: bool) -> Outcome
     ensures { Concludes down (lists_of backends.now) (not is_printed) result }
 {
     if down.is_some() {
@@ -242,7 +242,7 @@ pub(crate) fn run_prepared<R: Threads + Wait + Sync, O: Sink, D: Disk + Send, G:
     ensures as_handed_in { result.outcome ≡ Outcome.OutOfMemory → result.disk ≡ disk }
 {
     calls_are_counted(&disk);
-    let setup = setup_of(options, room.backends.len() as u32);
+    let setup = setup_asked(options, room.backends.len() as u32);
     match Wal::open(alloc, disk, setup) {
         Err(fault) => Finished {
             outcome: outcome_unopened(fault.kind),

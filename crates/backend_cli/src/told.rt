@@ -1,7 +1,7 @@
 ghost use Rattle.std.specs.Prelude.{◌≡◌, ◌==◌, ◌<◌, ◌^◌, [], length, slice_index_or};
 ghost use Rattle.backend_lanes.specs.Backends.{lists_of};
 
-use backend_lanes::Backend;
+use backend_lanes::AnsweredLines;
 use std::alloc::Global;
 use std::marker::Model;
 use told_lines::Told;
@@ -9,7 +9,7 @@ use told_lines::Told;
 /// What each backend's lines were told, in order, seen by contracts as a list of lists.
 #[derive(Debug, Drop)]
 pub struct ToldLists {
-    backends: Vec<Backend>,
+    backends: Vec<AnsweredLines>,
 }
 
 impl Model for ToldLists {
@@ -35,7 +35,7 @@ impl ToldLists {
     }
 
     // What the lines of these backends were told.
-    pub(crate) fn of_backends(backends: Vec<Backend>) -> ToldLists
+    pub(crate) fn of_backends(backends: Vec<AnsweredLines>) -> ToldLists
         requires { length backends.items < 2 ^ 32 }
         ensures { result ≡ lists_of backends.items }
     {

@@ -1,4 +1,6 @@
 -- What a line leaves of a session, by what the log answered.
+use Rattle.std.proofs.Math.Logic.{∥∥₁_elim}
+use mathlib.Core.Bool.{Bool-set}
 use Rattle.std.specs.Prelude.{Result, Ok, Err, Option, Some, None}
 use Rattle.std.proofs.Common.{◌≡◌, ◌⊎◌, ℕ, ◌<◌, ◌≤◌, max, List, [], ◌∷◌, ◌++◌, refl, sym, ap, ◌∙◌, subst, inl, inr, arith}
 use Rattle.std.proofs.lemmas.Bool.{cases_lt}
@@ -25,8 +27,9 @@ use Rattle.wal_core.specs.declared.setup.Setup.{Setup}
 use Rattle.wal_core.specs.Moves.{entry_reserved}
 use Rattle.wal_core.specs.Words.{Opening, end_form, log_limit}
 use Rattle.wal_rule.specs.Downs.{KnowsDown}
+use Rattle.wal_rule.specs.Stepping.{Stands}
 use Rattle.wal_rule.specs.Passes.{view_of_pass}
-use Rattle.wal_rule.specs.Seats.{SeatView}
+use Rattle.wal_core.specs.Views.{View}
 use Rattle.wal_rule.specs.declared.pass.Pass.{Pass}
 use Rattle.wal_log.specs.declared.flushing.FlushErr.{FlushErr}
 use Rattle.wal_log.specs.declared.flushing.FlushErr.TheVariants as flushes
@@ -40,10 +43,10 @@ use Rattle.wal_log.specs.Logs.{IsPassOfLog, setup_of_log}
 use Rattle.wal_log.specs.PassLogs.{PassLog, log_of_pass, log_with_entry}
 use Rattle.wal_log.specs.Standing.{KeepsPass}
 use Rattle.wal_log.proofs.CommitLaws.{never_both}
-use Rattle.run_laws.specs.Played.{Leaves, PlaysLine, RefusesRecordLine, Reserves, behind_last_own, end_of_own}
+use Rattle.run_laws.specs.Played.{Leaves, PlaysLine, RefusesRecordLine, Reserves, behind_last_own, end_of_own, pass_state_of}
 use Rattle.run_laws.specs.Reached.{EndsBy}
 use Rattle.backend_lanes.specs.declared.session.Session.{Session}
-use Rattle.backend_lanes.specs.Sessions.{IsSessionOf, IsReserved, LeavesSession, PlaysAnswer, state_of_view, view_of_session}
+use Rattle.backend_lanes.specs.Sessions.{IsSessionOf, IsReserved, LeavesSession, PlaysAnswer, view_of_session}
 
 -- ---- the end of a pass's own last entry
 
@@ -61,20 +64,20 @@ end_of_own-append size es e =
 -- ---- addresses that were reserved
 
 module _ (setup : Setup) (valid : IsSegmentSize setup.segment_size) where
-  pub reserved_since : (address : ℕ) (u v : SeatView) → (u.reserving).seen ≤ (v.reserving).seen
+  pub reserved_since : (address : ℕ) (u v : View) → (u.reserving).seen ≤ (v.reserving).seen
       → IsReserved setup address u → IsReserved setup address v
   reserved_since address u v rises (inl below) = inl below
   reserved_since address u v rises (inr below) =
       let further = end_address_of-mono setup.segment_size valid (u.reserving).seen
       (v.reserving).seen rises in inr (omega (arith, below, further))
 
-  pub finish_reserved : (e : Entry) (v : SeatView)
+  pub finish_reserved : (e : Entry) (v : View)
       → position_behind setup.segment_size e ≤ (v.reserving).seen
       → IsReserved setup (finish_of setup.segment_size e) v
   finish_reserved e v seen = inr (end_address_of-mono setup.segment_size valid
       (position_behind setup.segment_size e) (v.reserving).seen seen)
 
-pub reserved_max : (setup : Setup) (a b : ℕ) (v : SeatView) → IsReserved setup a v
+pub reserved_max : (setup : Setup) (a b : ℕ) (v : View) → IsReserved setup a v
     → IsReserved setup b v → IsReserved setup (max a b) v
 reserved_max setup a b v first second =
     elim (cases_lt a b) [
@@ -127,7 +130,7 @@ le-end_behind end (Flushed upto moment) = omega arith
 le-end_behind end (Refused cause reserved) = omega arith
 
 -- an insert is refused as its commit would be
-pub refused_as_commit : (setup : Setup) (body : Assembled) (old new : SeatView) (e : InsertErr)
+pub refused_as_commit : (setup : Setup) (body : Assembled) (old new : View) (e : InsertErr)
     → RefusesInsert setup body old new e → RefusesCommit setup body old new
     (refused_of_insert e).cause (refused_of_insert e).reserved
 refused_as_commit setup body old new (inserts.Full free) why = why
@@ -137,12 +140,12 @@ refused_as_commit setup body old new (inserts.Down faults start) why = why
 -- ---- the end kept beside a pass
 
 -- as `KeepsEnd` says it of a session
-pub record HasEnd (setup : Setup) (end : ℕ) (v : SeatView) : Type 0 where
+pub record HasEnd (setup : Setup) (end : ℕ) (v : View) : Type 0 where
   pub own : (end_of_own setup.segment_size (v.reserving).entries ≤ end)
       ⊎ ((faults : ℕ) × KnowsDown faults v)
   pub reserved : IsReserved setup end v
 
-module _ (setup : Setup) (valid : IsSegmentSize setup.segment_size) (old new : SeatView)
+module _ (setup : Setup) (valid : IsSegmentSize setup.segment_size) (old new : View)
     (keeps : KeepsPass old new) (end : ℕ) (had : HasEnd setup end old) where
   still_reserved : IsReserved setup end new
   still_reserved = reserved_since setup valid end old new keeps.rises had.reserved
@@ -230,7 +233,7 @@ KnowsRecords = (r other : Record) → IsWritable r → IsWritable other
     → assembled r ≡ assembled other → r ≡ other
 
 module _ (knows_record : KnowsRecords) (setup : Setup) (body : Assembled)
-    (old new : SeatView) (value : Record) (is_body : IsBodyOf value body) where
+    (old new : View) (value : Record) (is_body : IsBodyOf value body) where
   entry_is : (e : Entry) (own : IsOwnEntry setup body old e)
       → e ≡ entry_reserved (old.reserving).number own.at value
   entry_is e own = own.entry_is ∙ ap (entry_reserved (old.reserving).number own.at)
@@ -255,7 +258,7 @@ module _ (knows_record : KnowsRecords) (setup : Setup) (body : Assembled)
   refuses : (cause : Cause) (reserved : Option Lsn)
       → RefusesCommit setup body old new cause reserved
       → RefusesRecordLine setup.segment_size (log_limit setup) (old.reserving).number value cause
-      reserved (state_of_view old) (state_of_view new)
+      reserved (pass_state_of old) (pass_state_of new)
   refuses (causes.Full free) None why = record {
     at = why.0.at;
     free_is = (let is = why.0.free_is in let within = why.0.within in omega (arith, is, within));
@@ -273,7 +276,7 @@ module _ (knows_record : KnowsRecords) (setup : Setup) (body : Assembled)
 
   inserted : (answer : Result Receipt InsertErr) → AnswersInsert setup body old answer new
       → Leaves setup.segment_size (log_limit setup) (old.reserving).number (Insert value)
-      (told_of_inserted answer) (state_of_view old) (state_of_view new)
+      (told_of_inserted answer) (pass_state_of old) (pass_state_of new)
   unfolding reserves
   inserted (Ok receipt) told =
       let own = told.reserved.own in record {
@@ -286,7 +289,7 @@ module _ (knows_record : KnowsRecords) (setup : Setup) (body : Assembled)
 
   committed : (answer : Result Sealed refused.Refused) → AnswersCommit setup body old answer new
       → Leaves setup.segment_size (log_limit setup) (old.reserving).number (Commit value)
-      (told_of_commit answer) (state_of_view old) (state_of_view new)
+      (told_of_commit answer) (pass_state_of old) (pass_state_of new)
   unfolding reserves
   committed (Ok sealed) told = record {
     between = log_with_entry told.entry (log_of_pass old);
@@ -307,10 +310,10 @@ module _ (knows_record : KnowsRecords) (setup : Setup) (body : Assembled)
       → told ≡ told_of_inserted answer → AnswersInsert setup body old answer new
       → ((faults : ℕ) → KnowsDown faults old → answer ≡ Err (inserts.Down faults None))
       → PlaysLine setup.segment_size (log_limit setup) (old.reserving).number (Insert value) told
-      (state_of_view old) (state_of_view new)
+      (pass_state_of old) (pass_state_of new)
   plays_insert answer told is answers again = record {
     leaves = subst (λ (t : Told). Leaves setup.segment_size (log_limit setup)
-        (old.reserving).number (Insert value) t (state_of_view old) (state_of_view new)) (sym is)
+        (old.reserving).number (Insert value) t (pass_state_of old) (pass_state_of new)) (sym is)
         (inserted answer answers);
     again = λ faults knows. is ∙ ap told_of_inserted (again faults knows);
   }
@@ -319,16 +322,16 @@ module _ (knows_record : KnowsRecords) (setup : Setup) (body : Assembled)
       → told ≡ told_of_commit answer → AnswersCommit setup body old answer new
       → ((faults : ℕ) → KnowsDown faults old → answer ≡ commit_known_down faults)
       → PlaysLine setup.segment_size (log_limit setup) (old.reserving).number (Commit value) told
-      (state_of_view old) (state_of_view new)
+      (pass_state_of old) (pass_state_of new)
   plays_commit answer told is answers again = record {
     leaves = subst (λ (t : Told). Leaves setup.segment_size (log_limit setup)
-        (old.reserving).number (Commit value) t (state_of_view old) (state_of_view new)) (sym is)
+        (old.reserving).number (Commit value) t (pass_state_of old) (pass_state_of new)) (sym is)
         (committed answer answers);
     again = λ faults knows. is ∙ ap told_of_commit (again faults knows);
   }
 
 -- a flush of an end
-module _ (setup : Setup) (valid : IsSegmentSize setup.segment_size) (old new : SeatView)
+module _ (setup : Setup) (valid : IsSegmentSize setup.segment_size) (old new : View)
     (own : (old.opening).setup ≡ setup) (end : ℕ) where
   -- where it is reserved, it is not found unreserved
   pub never_unreserved : IsReserved setup end old → (found : ℕ) → IsUnreserved end found old new
@@ -349,7 +352,7 @@ module _ (setup : Setup) (valid : IsSegmentSize setup.segment_size) (old new : S
     flushed : (answer : Result hard.Hard FlushErr) → AnswersFlush end old answer new
         → ((faults : ℕ) → KnowsDown faults old → answer ≡ flush_err_known_down faults)
         → Leaves setup.segment_size (log_limit setup) (old.reserving).number Flush
-        (told_of_flushed answer) (state_of_view old) (state_of_view new)
+        (told_of_flushed answer) (pass_state_of old) (pass_state_of new)
     flushed (Ok done) told again = record {
       reached = elim had.own [
         | inl low ↦ (let far = told.0.reached in omega (arith, low, far))
@@ -368,10 +371,10 @@ module _ (setup : Setup) (valid : IsSegmentSize setup.segment_size) (old new : S
         → told ≡ told_of_flushed answer → AnswersFlush end old answer new
         → ((faults : ℕ) → KnowsDown faults old → answer ≡ flush_err_known_down faults)
         → PlaysLine setup.segment_size (log_limit setup) (old.reserving).number Flush told
-        (state_of_view old) (state_of_view new)
+        (pass_state_of old) (pass_state_of new)
     plays_flush answer told is answers again = record {
       leaves = subst (λ (t : Told). Leaves setup.segment_size (log_limit setup)
-          (old.reserving).number Flush t (state_of_view old) (state_of_view new)) (sym is)
+          (old.reserving).number Flush t (pass_state_of old) (pass_state_of new)) (sym is)
           (flushed answer answers again);
       again = λ faults knows. is ∙ ap told_of_flushed (again faults knows);
     }
@@ -399,7 +402,8 @@ pub has_valid_size : {D : Type 0} (wal : Wal D) (pass : Pass) → IsPassOfLog wa
     → IsSegmentSize (setup_of_log wal).segment_size
 has_valid_size {D} wal pass here =
     subst (λ (o : Opening). IsSegmentSize (o.setup).segment_size) here.of_log.own
-    here.of_log.stands.sound.setup_is.size
+    (∥∥₁_elim here.of_log.stands (Bool-set _ _)
+    (λ (s : Stands (view_of_pass pass)). ((s.sound).setup_is).size))
 
 pub has_setup : {D : Type 0} (wal : Wal D) (pass : Pass) → IsPassOfLog wal pass
     → ((view_of_pass pass).opening).setup ≡ setup_of_log wal
@@ -434,13 +438,13 @@ module _ {D : Type 0} (wal : Wal D) (old new : Session) (pass : Pass) (here : Is
 
   plays_answer : (asked : Asked)
       → PlaysLine (setup_of_log wal).segment_size (log_limit (setup_of_log wal))
-      ((view_of_session old).reserving).number asked told (state_of_view (view_of_session old))
-      (state_of_view (view_of_pass pass))
+      ((view_of_session old).reserving).number asked told (pass_state_of (view_of_session old))
+      (pass_state_of (view_of_pass pass))
       → PlaysAnswer wal asked told old new
   plays_answer asked plays =
       subst (λ (p : Pass). PlaysLine (setup_of_log wal).segment_size
       (log_limit (setup_of_log wal)) ((view_of_session old).reserving).number asked told
-      (state_of_view (view_of_session old)) (state_of_view (view_of_pass p))) (sym same) plays
+      (pass_state_of (view_of_session old)) (pass_state_of (view_of_pass p))) (sym same) plays
 
   module _ (body : Assembled) where
     module _ (answer : Result Receipt InsertErr) (is : told ≡ told_of_inserted answer)
@@ -503,7 +507,7 @@ module _ {D : Type 0} (wal : Wal D) (old new : Session) (pass : Pass) (here : Is
 
 -- a flush of the end kept is not found unreserved
 pub session_never_unreserved : {D : Type 0} (wal : Wal D) (session : Session)
-    → IsSessionOf wal session → (found : ℕ) (new : SeatView)
+    → IsSessionOf wal session → (found : ℕ) (new : View)
     → IsUnreserved session.end.0 found (view_of_session session) new → ⊥
 session_never_unreserved {D} wal session here found new told =
     never_unreserved (setup_of_log wal) (has_valid_size wal session.pass here.pass)

@@ -8,23 +8,23 @@ use Rattle.byte_position.proofs.EndAddresses.{end_address_of-le}
 use Rattle.wal_page.specs.Order.{Entry}
 use Rattle.machine_laws.specs.ClosedLogs.{HasAllNumbers}
 use Rattle.wal_rule.specs.Passes.{view_of_pass}
-use Rattle.wal_rule.specs.Seats.{SeatView, seat_after_split, seat_split_off}
+use Rattle.wal_core.specs.Views.{View}
+use Rattle.wal_core.specs.Moves.{after_split, split_off}
 use Rattle.wal_rule.specs.declared.pass.Pass.{Pass}
 use Rattle.wal_log.specs.Logs.{IsPassOfLog, setup_of_log}
 use Rattle.wal_log.specs.declared.wal.Wal.{Wal}
 use Rattle.wal_script.specs.Asked.{AskedLine}
 use Rattle.wal_script.specs.ReplayReading.{AreBackendsOf}
-use Rattle.run_laws.specs.Played.{end_of_own}
+use Rattle.run_laws.specs.Played.{end_of_own, pass_state_of}
 use Rattle.wal_log.specs.Sharing.{ShareNumbers}
 use Rattle.wal_log.proofs.Lanes.{views_with_one_more}
 use Rattle.backend_lanes.specs.Backends.{HasRoom, scripts_of}
 use Rattle.backend_lanes.specs.Lanes.{BegunLanes, IsFreshLane, IsIdle, view_of_lane}
-use Rattle.backend_lanes.specs.Sessions.{state_of_view}
-use Rattle.backend_lanes.specs.declared.backend.Backend.{Backend}
+use Rattle.backend_lanes.specs.declared.backend.AnsweredLines.{AnsweredLines}
 use Rattle.backend_lanes.specs.declared.lane.Lane.{Lane}
 use Rattle.backend_lanes.proofs.Answering.{has_valid_size}
 
-abbrev pub backends_of : List Lane → List Backend
+abbrev pub backends_of : List Lane → List AnsweredLines
 backends_of lanes = map (λ lane. lane.backend) lanes
 
 -- their passes have the numbers from this one on
@@ -63,8 +63,8 @@ module _ {D : Type 0} (wal : Wal D) where
       (first_position size) size (omega arith)
 
   -- a lane with a pass that was just split off
-  fresh_lane : (lane : Lane) (v : SeatView) → IsPassOfLog wal (lane.session).pass
-      → view_of_lane lane ≡ seat_split_off v → ((lane.session).end).0 ≡ size → HasRoom lane.backend
+  fresh_lane : (lane : Lane) (v : View) → IsPassOfLog wal (lane.session).pass
+      → view_of_lane lane ≡ split_off v → ((lane.session).end).0 ≡ size → HasRoom lane.backend
       → IsFreshLane wal lane
   fresh_lane lane v pass split start room = record {
     session = record {
@@ -72,22 +72,22 @@ module _ {D : Type 0} (wal : Wal D) where
         pass = pass;
         end = record {
           own = inl (subst (λ (es : List Entry). end_of_own size es ≤ ((lane.session).end).0)
-              (sym (ap (λ (w : SeatView). (w.reserving).entries) split))
+              (sym (ap (λ (w : View). (w.reserving).entries) split))
               (subst (λ (end : ℕ). end_of_own size [] ≤ end) (sym start)
               (own_of_none (lane.session).pass pass)));
           reserved = inl (omega (arith, start));
         };
       };
-      joined = ap (λ (w : SeatView). (w.reserving).joined) split;
-      none_to_give = ap (λ (w : SeatView). (w.reserving).spare_end) split;
+      joined = ap (λ (w : View). (w.reserving).joined) split;
+      none_to_give = ap (λ (w : View). (w.reserving).spare_end) split;
     };
-    unplayed = ap state_of_view split;
+    unplayed = ap pass_state_of split;
     room = room;
   }
 
   -- the lanes so far are those of the first backends, and the first pass has enough spare numbers
   -- for the rest
-  pub record AreBeginning (old : Pass) (all rest : List Backend) (lanes : Vec Lane Global)
+  pub record AreBeginning (old : Pass) (all rest : List AnsweredLines) (lanes : Vec Lane Global)
       (first : Pass) : Type 0 where
     pub pass : IsPassOfLog wal first
     pub next : first.spare ≡ old.spare + length lanes.items
@@ -102,10 +102,10 @@ module _ {D : Type 0} (wal : Wal D) where
         (map (λ lane. view_of_lane lane) lanes.items)
     pub idle : IsIdle (view_of_pass old) → IsIdle (view_of_pass first)
 
-  pub none_begun : (old : Pass) (all : List Backend) (lanes : Vec Lane Global)
+  pub none_begun : (old : Pass) (all : List AnsweredLines) (lanes : Vec Lane Global)
       → IsPassOfLog wal old → length all ≤ old.spare_end - old.spare → All HasRoom all
       → lanes.items ≡ [] → length all ≤ vec_capacity lanes
-      → ((v : SeatView) → HasAllNumbers (setup_of_log wal).passes v.reserving
+      → ((v : View) → HasAllNumbers (setup_of_log wal).passes v.reserving
       → ShareNumbers (setup_of_log wal).passes v [])
       → AreBeginning old all all lanes old
   none_begun old all lanes pass enough each none room share =
@@ -125,34 +125,34 @@ module _ {D : Type 0} (wal : Wal D) where
         idle = λ is. is;
       }
 
-  pub one_more_begun : (old first left : Pass) (all rest : List Backend)
+  pub one_more_begun : (old first left : Pass) (all rest : List AnsweredLines)
       (lanes more : Vec Lane Global) (lane : Lane)
       → AreBeginning old all (lane.backend ∷ rest) lanes first
       → more.items ≡ lanes.items ++ lane ∷ [] → vec_capacity more ≡ vec_capacity lanes
-      → IsPassOfLog wal left × (view_of_pass left ≡ seat_after_split (view_of_pass first))
+      → IsPassOfLog wal left × (view_of_pass left ≡ after_split (view_of_pass first))
       → IsPassOfLog wal (lane.session).pass
-      × (view_of_lane lane ≡ seat_split_off (view_of_pass first))
+      × (view_of_lane lane ≡ split_off (view_of_pass first))
       → ((lane.session).end).0 ≡ size
-      → ((v : SeatView) (others : List SeatView) → ShareNumbers (setup_of_log wal).passes v others
-      → ShareNumbers (setup_of_log wal).passes (seat_after_split v)
-      (others ++ seat_split_off v ∷ []))
+      → ((v : View) (others : List View) → ShareNumbers (setup_of_log wal).passes v others
+      → ShareNumbers (setup_of_log wal).passes (after_split v)
+      (others ++ split_off v ∷ []))
       → AreBeginning old all rest more left
   one_more_begun old first left all rest lanes more lane begin pushed room pass own start share =
       let mine = ((begin.pass).of_log).numbers in
       let theirs = ((pass.0).of_log).numbers in
-      let low = ap (λ (v : SeatView). (v.reserving).spare) pass.1 in
-      let high = ap (λ (v : SeatView). (v.reserving).spare_end) pass.1 in
-      let number = ap (λ (v : SeatView). (v.reserving).number) own.1 in
+      let low = ap (λ (v : View). (v.reserving).spare) pass.1 in
+      let high = ap (λ (v : View). (v.reserving).spare_end) pass.1 in
+      let number = ap (λ (v : View). (v.reserving).number) own.1 in
       let len = ap (λ (x : List Lane). length x) pushed ∙ length-append lanes.items (lane ∷ []) in
       let views = views_with_one_more (λ (x : Lane). view_of_lane x) lanes.items more.items lane
-      (seat_split_off (view_of_pass first)) pushed own.1 in
+      (split_off (view_of_pass first)) pushed own.1 in
       record {
         pass = pass.0;
         next = omega (arith, len, begin.next, mine.low, theirs.low, low);
         enough = omega (arith, begin.enough, mine.low, theirs.low, low, mine.high, theirs.high, high);
         room = omega (arith, len, begin.room, room);
         backends = ap (λ (x : List Lane). backends_of x ++ rest) pushed
-            ∙ ap (λ (x : List Backend). x ++ rest) (map_push (λ lane. lane.backend) lanes.items lane)
+            ∙ ap (λ (x : List AnsweredLines). x ++ rest) (map_push (λ lane. lane.backend) lanes.items lane)
             ∙ append_assoc (backends_of lanes.items) (lane.backend ∷ []) rest ∙ begin.backends;
         each = All-tail HasRoom lane.backend rest begin.each;
         numbered = subst (AreNumberedFrom old.spare) (sym pushed)
@@ -166,17 +166,17 @@ module _ {D : Type 0} (wal : Wal D) where
             (share (view_of_pass first) (map (λ lane. view_of_lane lane) lanes.items)
             (begin.shared have));
         idle = λ is. let was = begin.idle is in record {
-          number = ap (λ (v : SeatView). (v.reserving).number) pass.1 ∙ was.number;
-          none = ap (λ (v : SeatView). (v.reserving).entries) pass.1 ∙ was.none;
-          joined = ap (λ (v : SeatView). (v.reserving).joined) pass.1 ∙ was.joined;
+          number = ap (λ (v : View). (v.reserving).number) pass.1 ∙ was.number;
+          none = ap (λ (v : View). (v.reserving).entries) pass.1 ∙ was.none;
+          joined = ap (λ (v : View). (v.reserving).joined) pass.1 ∙ was.joined;
         };
       }
 
-  pub all_begun : (old first : Pass) (all rest : List Backend) (lanes : Vec Lane Global)
+  pub all_begun : (old first : Pass) (all rest : List AnsweredLines) (lanes : Vec Lane Global)
       → AreBeginning old all rest lanes first → rest ≡ [] → (script : List (List AskedLine))
       → AreBackendsOf script (scripts_of all) → BegunLanes wal old.spare script lanes.items
   all_begun old first all rest lanes begin none script are =
       let same : backends_of lanes.items ≡ all = sym (append-nil (backends_of lanes.items))
-      ∙ ap (λ (x : List Backend). backends_of lanes.items ++ x) (sym none) ∙ begin.backends in
+      ∙ ap (λ (x : List AnsweredLines). backends_of lanes.items ++ x) (sym none) ∙ begin.backends in
       begun_lanes old.spare script lanes.items begin.fresh begin.numbered
-      (subst (λ (x : List Backend). AreBackendsOf script (scripts_of x)) (sym same) are)
+      (subst (λ (x : List AnsweredLines). AreBackendsOf script (scripts_of x)) (sym same) are)

@@ -4,7 +4,7 @@ use Rattle.std.proofs.lemmas.List.{length_push, take_all}
 use Rattle.std.proofs.lemmas.List.Elements.{All-nil, All-push, All-weaker}
 use Rattle.wal_core.specs.Words.{log_limit}
 use Rattle.wal_core.specs.declared.setup.Setup.{Setup}
-use Rattle.wal_rule.specs.Seats.{SeatView}
+use Rattle.wal_core.specs.Views.{View}
 use Rattle.wal_log.specs.Logs.{setup_of_log}
 use Rattle.wal_log.specs.Standing.{KeepsPass}
 use Rattle.wal_log.specs.declared.wal.Wal.{Wal}
@@ -72,7 +72,7 @@ PlaysFor wal pass asked told after =
 
 -- the lines before a place were played by a session that began with this view, and told these
 -- answers
-pub record HasPlayedUpto {D : Type 0} (wal : Wal D) (begun : SeatView) (lines : List Line) (i : ℕ)
+pub record HasPlayedUpto {D : Type 0} (wal : Wal D) (begun : View) (lines : List Line) (i : ℕ)
     (told : List Told) (session : Session) : Type 0 where
   pub each : length told ≡ i
   pub plays : (asked : List AskedLine) → AreLinesOf asked lines
@@ -81,7 +81,7 @@ pub record HasPlayedUpto {D : Type 0} (wal : Wal D) (begun : SeatView) (lines : 
   pub keeps : KeepsPass begun (view_of_session session)
   pub ends : All (EndsBy session.end.0) told
 
-module _ (D : Type 0) (wal : Wal D) (begun : SeatView) (lines : List Line) where
+module _ (D : Type 0) (wal : Wal D) (begun : View) (lines : List Line) where
   pub none_played : (told : List Told) (session : Session) → told ≡ [] → IsSessionOf wal session
       → state_of_session session ≡ state_at_first → begun ≡ view_of_session session
       → HasPlayedUpto wal begun lines 0 told session
@@ -91,7 +91,7 @@ module _ (D : Type 0) (wal : Wal D) (begun : SeatView) (lines : List Line) where
         each = refl;
         plays = λ asked are. first;
         of_log = is;
-        keeps = subst (λ (v : SeatView). KeepsPass begun v) same (same_pass begun);
+        keeps = subst (λ (v : View). KeepsPass begun v) same (same_pass begun);
         ends = All-nil (EndsBy session.end.0);
       })
 

@@ -5,13 +5,12 @@ use Rattle.std.proofs.lemmas.List.Elements.{Contains-append_right}
 use Rattle.std.specs.Prelude.{Contains}
 use Rattle.byte_position.specs.Geometry.{IsSegmentSize}
 use Rattle.wal_types.specs.declared.answers.Hard.{Hard}
-use Rattle.segment_disk.specs.Tape.{DiskState}
-use Rattle.wal_core.specs.Views.{FlushPromise}
+use Rattle.wal_core.specs.Views.{FlushPromise, View}
 use Rattle.wal_core.specs.Words.{Opening}
 use Rattle.wal_core.specs.declared.setup.Setup.{Setup}
 use Rattle.wal_rule.specs.Closing.{KeepsNumbers}
 use Rattle.wal_rule.specs.Passes.{view_of_pass}
-use Rattle.wal_rule.specs.Seats.{SeatView, first_seat_view, view_on}
+use Rattle.wal_core.specs.Opened.{first_view}
 use Rattle.wal_rule.specs.declared.pass.Pass.{Pass}
 use Rattle.wal_log.specs.Flushing.{AnswersFlush}
 use Rattle.wal_log.specs.Logs.{IsPassOfLog, opening_of_log, setup_of_log}
@@ -111,9 +110,9 @@ module _ {D : Type 0} (wal : Wal D) where
       )
 
   -- they share the numbers of the log still
-  pub played_share : (v : SeatView) (old new : List Lane) → HavePlayed old new
-      → ((v w : SeatView) → KeepsPass v w → KeepsNumbers v w)
-      → ((others more : List SeatView) → length more ≡ length others → KeepEach others more
+  pub played_share : (v : View) (old new : List Lane) → HavePlayed old new
+      → ((v w : View) → KeepsPass v w → KeepsNumbers v w)
+      → ((others more : List View) → length more ≡ length others → KeepEach others more
       → ShareNumbers (setup_of_log wal).passes v others
       → ShareNumbers (setup_of_log wal).passes v more)
       → ShareNumbers (setup_of_log wal).passes v (map (λ lane. view_of_lane lane) old)
@@ -128,7 +127,7 @@ module _ {D : Type 0} (wal : Wal D) where
 
 -- ---- the first pass before them
 
-pub first_is_idle : (opening : Opening) (v : SeatView) → v ≡ first_seat_view opening → IsIdle v
+pub first_is_idle : (opening : Opening) (v : View) → v ≡ first_view opening → IsIdle v
 first_is_idle opening v is = subst IsIdle (sym is) (record {
   number = refl;
   none = refl;
@@ -136,28 +135,28 @@ first_is_idle opening v is = subst IsIdle (sym is) (record {
 })
 
 pub first_gives_from_one : {D : Type 0} (wal : Wal D) (first : Pass) → IsPassOfLog wal first
-    → view_of_pass first ≡ first_seat_view (opening_of_log wal) → first.spare ≡ 1
+    → view_of_pass first ≡ first_view (opening_of_log wal) → first.spare ≡ 1
 first_gives_from_one wal first pass is =
-    ((pass.of_log).numbers).low ∙ ap (λ (v : SeatView). (v.reserving).spare) is
+    ((pass.of_log).numbers).low ∙ ap (λ (v : View). (v.reserving).spare) is
 
 -- ---- the last flush
 
-same_entries : (asked : ℕ) (v w : SeatView) (answer : Result Hard FlushErr)
+same_entries : (asked : ℕ) (v w : View) (answer : Result Hard FlushErr)
     → AnswersFlush asked v answer w → (w.reserving).entries ≡ (v.reserving).entries
 same_entries asked v w (Ok hard) told = ap (λ (l : PassLog). l.entries) (told.0).log_is
 same_entries asked v w (Err e) told = ap (λ (l : PassLog). l.entries) told.0
 
 -- the passes that were taken in are so still
-pub taken_behind_flush : (opening : Opening) (held : DiskState) (asked : ℕ) (v w : SeatView)
+pub taken_behind_flush : (opening : Opening) (asked : ℕ) (v w : View)
     (answer : Result Hard FlushErr) → AnswersFlush asked v answer w → KeepsPass v w
     → (script : List (List AskedLine)) (lists : List (List Told))
-    → HasTakenIn opening (view_on held v) script lists
-    → HasTakenIn opening (view_on held w) script lists
-taken_behind_flush opening held asked v w answer told keeps script lists taken =
-    still_taken_in opening (view_on held v) (view_on held w) script lists taken keeps.number
+    → HasTakenIn opening v script lists
+    → HasTakenIn opening w script lists
+taken_behind_flush opening asked v w answer told keeps script lists taken =
+    still_taken_in opening v w script lists taken keeps.number
     (same_entries asked v w answer told) keeps.joined (λ faults knows. keeps.down faults knows)
 
-module _ (setup : Setup) (valid : IsSegmentSize setup.segment_size) (asked : ℕ) (v w : SeatView)
+module _ (setup : Setup) (valid : IsSegmentSize setup.segment_size) (asked : ℕ) (v w : View)
     (setup_is : (v.opening).setup ≡ setup) where
   -- it promises all that was reserved, or tells that the disk has failed
   pub flushed_all : (lists : List (List Told)) (answer : Result Hard FlushErr)
@@ -173,7 +172,7 @@ module _ (setup : Setup) (valid : IsSegmentSize setup.segment_size) (asked : ℕ
         p,
         subst (λ (ps : List FlushPromise). Contains ps p)
             (sym (ap (λ (l : PassLog). l.promises) (told.0).log_is))
-            (Contains-append_right v.promises (p ∷ []) p (0, (omega arith), refl)),
+            (Contains-append_right v.writing.promises (p ∷ []) p (0, (omega arith), refl)),
         reaches_further setup.segment_size asked (hard.upto).0 lists (told.0).reached reaches,
       )
   flushed_all lists (Err (Disk faults)) told reserved reaches =

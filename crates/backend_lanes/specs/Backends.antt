@@ -5,19 +5,19 @@ use Rattle.wal_script.specs.Asked.{AskedLine}
 use Rattle.wal_script.specs.Bodies.{AreLinesOf}
 use Rattle.wal_script.specs.declared.line.Line.{Line}
 use Rattle.told_lines.specs.declared.told.Told.{Told}
-use Rattle.backend_lanes.specs.declared.backend.Backend.{Backend}
+use Rattle.backend_lanes.specs.declared.backend.AnsweredLines.{AnsweredLines}
 use Rattle.backend_lanes.specs.declared.playing.Room.{Room}
 
 -- what the lines of each were told
-abbrev pub lists_of : List Backend → List (List Told)
+abbrev pub lists_of : List AnsweredLines → List (List Told)
 lists_of backends = map (λ backend. backend.told.items) backends
 
 -- the lines of each
-abbrev pub scripts_of : List Backend → List (Vec Line Global)
+abbrev pub scripts_of : List AnsweredLines → List (Vec Line Global)
 scripts_of backends = map (λ backend. backend.lines) backends
 
 -- nothing was told yet, and there is room for an answer to each line
-pub record HasRoom (backend : Backend) : Type 0 where
+pub record HasRoom (backend : AnsweredLines) : Type 0 where
   pub none : backend.told.items ≡ []
   pub room : length backend.lines.items ≤ vec_capacity backend.told
 
@@ -31,12 +31,12 @@ pub record IsRoomFor (scripts : List (Vec Line Global)) (room : Room) : Type 0 w
   pub played_room : length scripts ≤ vec_capacity room.played
 
 -- one backend's lines ask for this, and each was told an answer
-pub record HasToldEach (asked : List AskedLine) (backend : Backend) : Type 0 where
+pub record HasToldEach (asked : List AskedLine) (backend : AnsweredLines) : Type 0 where
   pub lines : AreLinesOf asked backend.lines.items
   pub each : length backend.told.items ≡ length backend.lines.items
 
 -- so it is for each backend of a script
-abbrev pub HaveToldEach : List (List AskedLine) → List Backend → Type 0
+abbrev pub HaveToldEach : List (List AskedLine) → List AnsweredLines → Type 0
 HaveToldEach [] [] = Unit {0}
 HaveToldEach (asked ∷ script) (backend ∷ backends) =
     HasToldEach asked backend × HaveToldEach script backends

@@ -1,7 +1,7 @@
 -- Lanes before and behind their lines, and the first pass beside them.
 use Rattle.std.specs.Prelude.{◌≡◌, ℕ, ◌+◌, All, List, [], ◌∷◌, length}
 use Rattle.wal_core.specs.Words.{log_limit}
-use Rattle.wal_rule.specs.Seats.{SeatView}
+use Rattle.wal_core.specs.Views.{View}
 use Rattle.wal_log.specs.Logs.{setup_of_log}
 use Rattle.wal_log.specs.Standing.{KeepsPass}
 use Rattle.wal_log.specs.declared.wal.Wal.{Wal}
@@ -13,11 +13,11 @@ use Rattle.backend_lanes.specs.declared.lane.Lane.{Lane}
 use Rattle.backend_lanes.specs.Backends.{HasRoom, HasToldEach}
 use Rattle.backend_lanes.specs.Sessions.{IsSessionOf, state_of_session, view_of_session}
 
-abbrev pub view_of_lane : Lane → SeatView
+abbrev pub view_of_lane : Lane → View
 view_of_lane lane = view_of_session lane.session
 
 -- the first pass beside the lanes: it has number 0, reserved nothing and took nobody in
-pub record IsIdle (v : SeatView) : Type 0 where
+pub record IsIdle (v : View) : Type 0 where
   pub number : (v.reserving).number ≡ 0
   pub none : (v.reserving).entries ≡ []
   pub joined : (v.reserving).joined ≡ []

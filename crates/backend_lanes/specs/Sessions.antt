@@ -1,11 +1,10 @@
 -- A backend's pass, what it has between two lines, and the end that is kept beside it.
 use Rattle.std.specs.Prelude.{◌⊎◌, ℕ, ◌≤◌}
-use Rattle.segment_disk.specs.Tape.{empty_state}
 use Rattle.wal_core.specs.Words.{end_form, log_limit}
 use Rattle.wal_core.specs.declared.setup.Setup.{Setup}
 use Rattle.wal_rule.specs.Downs.{KnowsDown}
 use Rattle.wal_rule.specs.Passes.{view_of_pass}
-use Rattle.wal_rule.specs.Seats.{SeatView, view_on}
+use Rattle.wal_core.specs.Views.{View}
 use Rattle.wal_log.specs.Logs.{IsPassOfLog, setup_of_log}
 use Rattle.wal_log.specs.Standing.{KeepsPass}
 use Rattle.wal_log.specs.declared.wal.Wal.{Wal}
@@ -15,18 +14,15 @@ use Rattle.run_laws.specs.Played.{PassState, PlaysLine, end_of_own, pass_state_o
 use Rattle.run_laws.specs.Reached.{EndsBy}
 use Rattle.backend_lanes.specs.declared.session.Session.{Session}
 
-abbrev pub view_of_session : Session → SeatView
+abbrev pub view_of_session : Session → View
 view_of_session session = view_of_pass session.pass
 
--- what a pass has between two lines: it does not rest on what the disk held at first
-abbrev pub state_of_view : SeatView → PassState
-state_of_view v = pass_state_of (view_on empty_state v)
-
+-- what a pass has between two lines
 abbrev pub state_of_session : Session → PassState
-state_of_session session = state_of_view (view_of_session session)
+state_of_session session = pass_state_of (view_of_session session)
 
 -- an address is no further than the log's start, or than what a pass has seen reserved
-abbrev pub IsReserved : Setup → ℕ → SeatView → Type 0
+abbrev pub IsReserved : Setup → ℕ → View → Type 0
 IsReserved setup address v =
     (address ≤ setup.segment_size) ⊎ (address ≤ end_form setup (v.reserving).seen)
 

@@ -8,18 +8,18 @@ use wal_script::Line;
 
 /// A backend: its lines, and what they were told, in order.
 #[derive(Debug, Drop)]
-pub struct Backend {
+pub struct AnsweredLines {
     pub lines: Vec<Line>,
     pub told: Vec<Told>,
 }
 
-impl Backend {
+impl AnsweredLines {
     /// A backend that was told nothing yet, with room for an answer to each line.
-    pub fn of(alloc: Global, lines: Vec<Line>) -> Result<Backend, AllocError>
+    pub fn of(alloc: Global, lines: Vec<Line>) -> Result<AnsweredLines, AllocError>
         ensures lines { IfOk result (λ backend. backend.lines ≡ lines) }
         ensures room { IfOk result HasRoom }
     {
         let told = Vec::with_capacity(alloc, lines.len())?;
-        Ok(Backend { lines, told })
+        Ok(AnsweredLines { lines, told })
     }
 }

@@ -13,7 +13,7 @@ ghost use Rattle.run_laws.specs.Reached.{EndsBy};
 ghost use Rattle.backend_lanes.specs.Lanes.{IsFreshLane, PlaysLane};
 ghost use Rattle.backend_lanes.specs.Sessions.{IsSessionOf, state_of_session, view_of_session};
 
-use crate::backend::Backend;
+use crate::backend::AnsweredLines;
 use crate::gate::Gate;
 use crate::session::Session;
 use run_laws::laws::lines_are_played_one_by_one;
@@ -27,7 +27,7 @@ use wal_script::Line;
 #[derive(Drop)]
 pub(crate) struct Lane {
     pub session: Session,
-    pub backend: Backend,
+    pub backend: AnsweredLines,
 }
 
 impl Lane {

@@ -4,10 +4,8 @@
 // first pass's or a lane's all the time. Behind the join the first pass has all numbers, and with
 // them what each backend's pass reserved and was promised, in the order of the backends.
 ghost use Rattle.std.specs.Prelude.{◌≡◌, ℕ, ◌-◌, ◌<◌, ◌≤◌, All, List, [], length, map, slice_index_or, vec_capacity, vec_len};
-ghost use Rattle.segment_disk.specs.Tape.{DiskState};
 ghost use Rattle.machine_laws.specs.ClosedLogs.{HasAllNumbers};
 ghost use Rattle.wal_rule.specs.Passes.{view_of_pass};
-ghost use Rattle.wal_rule.specs.Seats.{view_on};
 ghost use Rattle.wal_log.specs.Logs.{IsPassOfLog, opening_of_log, setup_of_log};
 ghost use Rattle.wal_script.specs.Asked.{AskedLine};
 ghost use Rattle.run_laws.specs.Ended.{HasTakenIn};
@@ -19,7 +17,7 @@ ghost use Rattle.backend_lanes.specs.Lanes.{BegunLanes, IsFreshLane, IsIdle, May
 ghost use Rattle.backend_lanes.specs.Sessions.{IsReserved};
 ghost use Rattle.backend_lanes.specs.declared.lane.Lane.{Lane};
 
-use crate::backend::Backend;
+use crate::backend::AnsweredLines;
 use crate::gate::Gate;
 use crate::lane::Lane;
 use crate::session::Session;
@@ -36,7 +34,7 @@ use wal_types::Lsn;
 pub(crate) fn begin_lanes<D: Disk>(
     log: &Wal<D>,
     first: &mut Pass,
-    backends: Vec<Backend>,
+    backends: Vec<AnsweredLines>,
     mut lanes: Vec<Lane>,
     start: Lsn,
 ) -> Vec<Lane>
@@ -93,7 +91,7 @@ pub(crate) fn run_lanes<R: Threads + Wait + Sync, D: Disk + Send, G: Gate + Sync
 /// told; the log's start where they were told none.
 #[derive(Drop)]
 pub(crate) struct Rejoined {
-    pub backends: Vec<Backend>,
+    pub backends: Vec<AnsweredLines>,
     pub end: Lsn,
 }
 
@@ -103,7 +101,7 @@ pub(crate) fn join_lanes<D: Disk>(
     log: &Wal<D>,
     first: &mut Pass,
     lanes: Vec<Lane>,
-    mut backends: Vec<Backend>,
+    mut backends: Vec<AnsweredLines>,
     start: Lsn,
 ) -> Rejoined
     // The lanes' passes are about nothing and share the log's numbers with the first; `backends`
@@ -117,8 +115,8 @@ pub(crate) fn join_lanes<D: Disk>(
     requires start { start.0 ≡ (setup_of_log log.now).segment_size }
     // What the lines were told is what stands in the logs that the first pass took in.
     ensures taken { (script : List (List AskedLine)) → PlayedLanes log.now 1 script lanes.items
-        → IsIdle (view_of_pass first.old) → (held : DiskState)
-        → HasTakenIn (opening_of_log log.now) (view_on held (view_of_pass first.new)) script
+        → IsIdle (view_of_pass first.old)
+        → HasTakenIn (opening_of_log log.now) (view_of_pass first.new) script
         (lists_of result.backends.items) }
     ensures lines { (script : List (List AskedLine)) → PlayedLanes log.now 1 script lanes.items
         → HaveToldEach script result.backends.items }

@@ -8,6 +8,6 @@ mod lanes;
 mod playing;
 mod session;
 
-pub use backend::Backend;
+pub use backend::AnsweredLines;
 pub use gate::{Gate, OpenGate};
 pub use playing::{PlayedRun, Room, play_backends};

@@ -5,14 +5,14 @@
 // for that flush, so none is told of it: it is for records that no line has flushed.
 ghost use Rattle.std.specs.Prelude.{◌≡◌, ◌+◌, ◌<◌, IfOk, List, length, map, vec_len};
 ghost use Rattle.wal_rule.specs.Passes.{view_of_pass};
-ghost use Rattle.wal_rule.specs.Seats.{first_seat_view};
+ghost use Rattle.wal_core.specs.Opened.{first_view};
 ghost use Rattle.wal_log.specs.Logs.{IsPassOfLog, opening_of_log, setup_of_log};
 ghost use Rattle.wal_script.specs.Asked.{AskedLine};
 ghost use Rattle.wal_script.specs.ReplayReading.{AreBackendsOf};
 ghost use Rattle.backend_lanes.specs.Backends.{IsRoomFor, scripts_of};
 ghost use Rattle.backend_lanes.specs.Playing.{HasPlayed};
 
-use crate::backend::Backend;
+use crate::backend::AnsweredLines;
 use crate::gate::Gate;
 use crate::lane::Lane;
 use crate::lanes::{Rejoined, begin_lanes, join_lanes, run_lanes};
@@ -30,9 +30,9 @@ use wal_types::Lsn;
 /// All room that backends take while they play: taken before the log is opened.
 #[derive(Drop)]
 pub struct Room {
-    pub backends: Vec<Backend>,
+    pub backends: Vec<AnsweredLines>,
     lanes: Vec<Lane>,
-    played: Vec<Backend>,
+    played: Vec<AnsweredLines>,
 }
 
 impl Room {
@@ -44,7 +44,7 @@ impl Room {
         let played = Vec::with_capacity(alloc, scripts.len())?;
         let mut backends = Vec::with_capacity(alloc, scripts.len())?;
         for lines in scripts {
-            backends.push_reserved(Backend::of(alloc, lines)?);
+            backends.push_reserved(AnsweredLines::of(alloc, lines)?);
         }
         Ok(Room {
             backends,
@@ -58,7 +58,7 @@ impl Room {
 #[derive(Drop)]
 pub struct PlayedRun<D> {
     pub closed: Closed<D>,
-    pub backends: Vec<Backend>,
+    pub backends: Vec<AnsweredLines>,
 }
 
 /// Plays the lines of all backends side by side, by passes that are split off the first one and
@@ -75,7 +75,7 @@ pub fn play_backends<R: Threads + Wait + Sync, D: Disk + Send, G: Gate + Sync>(
     // The first pass is as the log's opening left it, and there are as many other numbers as
     // backends.
     requires pass { IsPassOfLog log first }
-    requires fresh { view_of_pass first ≡ first_seat_view (opening_of_log log) }
+    requires fresh { view_of_pass first ≡ first_view (opening_of_log log) }
     requires passes { (setup_of_log log).passes ≡ 1 + vec_len room.backends }
     requires room { (scripts : _) × IsRoomFor scripts room }
     requires start { start.0 ≡ (setup_of_log log).segment_size }

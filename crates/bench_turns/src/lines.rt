@@ -1,6 +1,6 @@
 //! What the backends are to do.
 
-use machine_core::{Line, Script};
+use machine_core::{PlainLine, Script};
 use record_spelling::{Body, BodyErr};
 use std::alloc::Global;
 use wal_types::{BlockList, Bytes, Record, Xid};
@@ -22,9 +22,9 @@ fn script(alloc: Global) -> Result<Script, BodyErr> {
     let mut lines = Vec::new(alloc);
     for number in 0..LINES {
         let line = if number % 50 == 49 {
-            Line::Commit(body(alloc, 1, 8)?)
+            PlainLine::Commit(body(alloc, 1, 8)?)
         } else {
-            Line::Insert(body(alloc, 10, 14)?)
+            PlainLine::Insert(body(alloc, 10, 14)?)
         };
         lines.push(line)?;
     }

@@ -1,15 +1,13 @@
 ghost use Rattle.std.specs.Prelude.{◌≡◌, ℕ, ◌+◌, ◌*◌, ◌/◌, ◌^◌, ◌<◌, ◌≤◌, SomeIff};
 ghost use Rattle.byte_position.specs.Geometry.{IsSegmentSize, file_name, pages_of};
 
-use crate::layout::PAGE_SIZE;
+use crate::layout::{PAGE_SIZE, TIMELINE};
 use std::marker::Model;
 use wal_types::upper_hexadecimal;
 
 const MIN_SEGMENT_SIZE: u64 = 1 << 20;
 
 const MAX_SEGMENT_SIZE: u64 = 1 << 30;
-
-const TIMELINE: u32 = 1;
 
 /// The size of a log's segments, seen by contracts as that number of bytes.
 #[derive(Clone, Copy, Debug, PartialEq, Eq)]

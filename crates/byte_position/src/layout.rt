@@ -10,6 +10,10 @@ pub const WORD: u64 = 8;
 /// How many words a page has.
 pub const PAGE_WORDS: u64 = PAGE_SIZE / WORD;
 
+/// The timeline that this log is written on: each page's header has it, and each segment's name
+/// begins with it.
+pub const TIMELINE: u32 = 1;
+
 /// SizeOfXLogLongPHD: the length of the header of a segment's first page.
 pub const LONG_HEADER_LEN: u64 = 40;
 

@@ -16,7 +16,8 @@ use Rattle.wal_core.specs.Words.{Opening, down_word, flushed_word, log_limit, mo
 use Rattle.wal_core.specs.Views.{FlushPromise, Joined, Plain, View, receipts_of}
 use Rattle.wal_core.specs.Durable.{AreKept, IsPromiseKept, IsToldRightly}
 use Rattle.wal_core.specs.Sound.{IsSetup}
-use Rattle.wal_core.proofs.Tapes.{at_suited, at_told}
+use Rattle.wal_core.specs.Suited.{tape_from}
+use Rattle.wal_core.proofs.Tapes.{at_suited, counted_on}
 use Rattle.machine_laws.specs.Crashes.{CrashesLeave, HoldsPromise}
 use Rattle.closed_log.specs.Closed.{IsClosedOn, WasPromised}
 use Rattle.closed_log.proofs.Promises.{of_promise, told_rightly}
@@ -81,22 +82,25 @@ module _ (opening : Opening) (order : List Entry) (t : Tape) (v : View)
   same_writer = some-injective c.writer (c.sound).writer
       ((((c.sound).locks).writing).free ((c.closed).free).writing)
 
-  pub sound_tape : ((c.sound).writer).tape ≡ Some t
-  sound_tape = ap (λ (w : Plain). w.tape) (sym same_writer) ∙ c.tape_is
+  told_tape : tape_from t.at_first (c.writer).calls ≡ Some t
+  told_tape = ap (tape_from t.at_first) c.calls_is
+
+  pub sound_tape : tape_from t.at_first ((c.sound).writer).calls ≡ Some t
+  sound_tape = ap (λ (w : Plain). tape_from t.at_first w.calls) (sym same_writer) ∙ told_tape
 
   pub crashes : CrashesLeave opening order (flushed_word c.words) (moment_word c.words) t
       (receipts_of v ∷ [])
-  crashes = at_suited opening c.writer (λ (t : Tape). CrashesLeave opening order flushed moment t
-      (receipts_of v ∷ [])) t c.tape_is c.began ((c.closed).durable).crashes
+  crashes = at_suited t.at_first opening c.writer (λ (t : Tape). CrashesLeave opening order flushed moment t
+      (receipts_of v ∷ [])) t told_tape c.began ((c.closed).durable).crashes
 
   -- the moment that the words tell is one of the disk's
   pub moment_passed : moment_word c.words ≤ length t.calls
   moment_passed =
-      let counted = at_told (λ (t : Tape). (c.writer).moment ≡ length t.calls) (c.writer).tape t
-      c.tape_is ((c.closed).durable).counted in
+      let counted = counted_on t.at_first (c.writer).moment (c.writer).calls t told_tape
+      ((c.closed).durable).counted in
       omega (arith, counted, ((c.closed).durable).moment_low)
 
-  abbrev told : IsToldRightly opening (c.sound).order (flushed_word c.words)
+  abbrev told : IsToldRightly t.at_first opening (c.sound).order (flushed_word c.words)
       (moment_word c.words) (down_word c.words) (c.sound).writer (receipts_of v)
   told = told_rightly opening c.words (some c.writer) c.views c.sound c.id v c.here
 
@@ -107,10 +111,10 @@ module _ (opening : Opening) (order : List Entry) (t : Tape) (v : View)
 
     pub promise_since : opening.moment ≤ p.moment
     promise_since =
-        let own = at_suited opening (c.sound).writer (λ (t : Tape). AreKept opening
+        let own = at_suited t.at_first opening (c.sound).writer (λ (t : Tape). AreKept opening
         (c.sound).order t (v.reserving).entries (v.writing).promises) t sound_tape c.began
         told.own in
-        let joined = at_suited opening (c.sound).writer (λ (t : Tape). All (λ (j : Joined).
+        let joined = at_suited t.at_first opening (c.sound).writer (λ (t : Tape). All (λ (j : Joined).
         AreKept opening (c.sound).order t j.entries j.promises) (v.reserving).joined) t sound_tape
         c.began told.joined in
         (of_promise (IsPromiseKept opening (c.sound).order t) v own joined entries p was).since

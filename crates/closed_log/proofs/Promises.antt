@@ -9,6 +9,7 @@ use Rattle.wal_core.specs.Durable.{IsPromised, IsToldRightly}
 use Rattle.wal_core.specs.Sound.{IsSound}
 use Rattle.wal_core.proofs.Lists.{part_at}
 use Rattle.closed_log.specs.Closed.{WasPromised}
+use Rattle.segment_disk.specs.Tape.{DiskState}
 
 -- what holds of all promises of a pass, and of those that it took in, holds of each
 pub of_promise : (P : List Entry → FlushPromise → Type 0) (v : View)
@@ -25,10 +26,10 @@ of_promise P v own joined entries p (inr its) =
     subst (λ (es : List Entry). P es p) (sym its.2)
     (All-contains (P j.entries) j.promises p all its.3)
 
-module _ (opening : Opening) (words : List ℕ) (home : Option Plain) (views : List View)
-    (k : IsSound opening words home views) (id : ℕ) (v : View) (here : HasAt views id v) where
+module _ {first : DiskState} (opening : Opening) (words : List ℕ) (home : Option Plain) (views : List View)
+    (k : IsSound first opening words home views) (id : ℕ) (v : View) (here : HasAt views id v) where
   -- what the state says of this view
-  pub told_rightly : IsToldRightly opening k.order (flushed_word words) (moment_word words)
+  pub told_rightly : IsToldRightly first opening k.order (flushed_word words) (moment_word words)
       (down_word words) k.writer (receipts_of v)
   told_rightly = (k.durable).views id (receipts_of v) (part_at receipts_of views id v here)
 

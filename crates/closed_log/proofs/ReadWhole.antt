@@ -84,7 +84,7 @@ module _ (opening : Opening) (order : List Entry) (t : Tape) (v : View)
   only_log : DiskImageFits (opening.setup).segment_size IsNowhere
       (IsLawfulAt opening.setup (c.sound).order) (image_as_read (state_now t))
   only_log = as_read_fits size IsNowhere (IsLawfulAt opening.setup (c.sound).order) (state_now t)
-      (at_suited opening (c.sound).writer (TapeAssures size IsNowhere
+      (at_suited t.at_first opening (c.sound).writer (TapeAssures size IsNowhere
       (IsLawfulAt opening.setup (c.sound).order) opening.moment) t (sound_tape opening order t v c)
       c.began ((c.sound).durable).lawful).now
 
@@ -95,7 +95,7 @@ module _ (opening : Opening) (order : List Entry) (t : Tape) (v : View)
       (image_as_read (state_now t))
   all_below = as_read_fits size (IsMadeUpto size flushed)
       (IsLogBelow opening.setup (c.sound).order flushed) (state_now t)
-      (at_suited opening (c.sound).writer (IsFirm opening.setup (c.sound).order flushed
+      (at_suited t.at_first opening (c.sound).writer (IsFirm opening.setup (c.sound).order flushed
       (moment_word c.words)) t (sound_tape opening order t v c) c.began
       ((c.sound).durable).firm).now
 

@@ -16,13 +16,13 @@ pub record IsClosedOn (opening : Opening) (order : List Entry) (t : Tape) (v : V
   pub writer : Plain
   pub views : List View
   pub id : ℕ
-  pub sound : IsSound opening words (some writer) views
+  pub sound : IsSound t.at_first opening words (some writer) views
   pub order_is : sound.order ≡ order
   pub here : HasAt views id v
-  pub closed : IsClosed opening order words (some writer) writer views id v
+  pub closed : IsClosed t.at_first opening order words (some writer) writer views id v
   -- a page tells the system id in eight bytes
   pub narrow : (opening.setup).sysid < 2 ^ 64
-  pub tape_is : writer.tape ≡ Some t
+  pub calls_is : writer.calls ≡ Some t.calls
   pub began : BeganSuited opening t
 
 -- a log was promised this: it is the log of this pass, or of one that it took in

@@ -2,10 +2,10 @@
 
 ghost use Rattle.std.specs.Prelude.{◌≡◌, ℕ, ◌^◌, ◌<◌, ◌≤◌, List, Some};
 ghost use mathlib.Core.Option.{Option};
-ghost use Rattle.segment_disk.specs.Tape.{Tape};
+ghost use Rattle.segment_disk.specs.Tape.{DiskState, Tape};
 ghost use Rattle.wal_page.specs.Order.{Entry, end_position};
 ghost use Rattle.wal_core.specs.Words.{Opening, end_form, flushed_word, moment_word};
-ghost use Rattle.wal_core.specs.Suited.{BeganSuited};
+ghost use Rattle.wal_core.specs.Suited.{BeganSuited, tape_from};
 ghost use Rattle.wal_core.specs.Views.{HasAt, FlushPromise, Plain, Reserving, View};
 ghost use Rattle.wal_core.specs.Durable.{IsPromised};
 ghost use Rattle.wal_core.specs.Sound.{IsSound};
@@ -19,10 +19,10 @@ ghost use Rattle.closed_log.specs.Rising.{LogsAreOfOrder};
 /// Each sound state in which one pass is left, has all numbers and is about nothing is that of a
 /// closed log, where the disk tells a tape on which a log may begin.
 pub fn last_passes_leave_closed_logs()
-    ensures close { (opening : Opening) (words : List ℕ) (home : Option Plain)
-        (views : List View) (k : IsSound opening words home views) (id : ℕ) (v : View)
+    ensures close { (first : DiskState) (opening : Opening) (words : List ℕ) (home : Option Plain)
+        (views : List View) (k : IsSound first opening words home views) (id : ℕ) (v : View)
         → HasAt views id v → IsLastPass opening v → (opening.setup).sysid < 2 ^ 64
-        → (t : Tape) → (k.writer).tape ≡ Some t → BeganSuited opening t
+        → (t : Tape) → tape_from first (k.writer).calls ≡ Some t → BeganSuited opening t
         → IsClosedOn opening k.order t v }
 {}
 
@@ -43,12 +43,13 @@ pub fn no_promise_is_late()
 /// In each sound state no promise names a higher address than the word that is flushed, a later
 /// moment than the word that goes with it, or more than was reserved; on any disk.
 pub fn promises_name_no_more_than_the_words()
-    ensures words { (opening : Opening) (words : List ℕ) (home : Option Plain)
-        (views : List View) → IsSound opening words home views → (id : ℕ) (v : View)
+    ensures words { (first : DiskState) (opening : Opening) (words : List ℕ) (home : Option Plain)
+        (views : List View) → IsSound first opening words home views → (id : ℕ) (v : View)
         → HasAt views id v → (entries : List Entry) (p : FlushPromise) → WasPromised v entries p
         → IsPromised (flushed_word words) (moment_word words) p }
-    ensures reserved { (opening : Opening) (words : List ℕ) (home : Option Plain)
-        (views : List View) (k : IsSound opening words home views) (id : ℕ) (v : View)
+    ensures reserved { (first : DiskState) (opening : Opening) (words : List ℕ)
+        (home : Option Plain)
+        (views : List View) (k : IsSound first opening words home views) (id : ℕ) (v : View)
         → HasAt views id v → (entries : List Entry) (p : FlushPromise) → WasPromised v entries p
         → p.upto ≤ end_form opening.setup (end_position (opening.setup).segment_size k.order) }
 {}

@@ -7,7 +7,7 @@ ghost use Rattle.command_words.specs.Meanings.{block_number_of, cap_segments_of,
 use crate::commands::CrashPick;
 use byte_position::Geometry;
 use decimal_numbers::{hexadecimal_digit, number};
-use wal_types::{Lsn, Rel, Xid};
+use wal_types::{Lsn, MAX_BLOCK_NUMBER, Rel, Xid};
 
 const MIN_RING_PAGES: u64 = 4;
 
@@ -16,9 +16,6 @@ const MAX_RING_PAGES: u64 = 64;
 const MAX_CAP_SEGMENTS: u64 = 4096;
 
 const MAX_LINES: u64 = 100_000;
-
-// The largest number of a block (PostgreSQL's MaxBlockNumber of block.h).
-const MAX_BLOCK_NUMBER: u64 = 4_294_967_294;
 
 const MIN_CUSTOM_MANAGER: u8 = 128;
 
@@ -102,7 +99,7 @@ pub fn xid(word: &str) -> Option<Xid>
 pub fn block_number(word: &str) -> Option<u32>
     ensures { result ≡ block_number_of word.now }
 {
-    let block = number(word.as_bytes(), MAX_BLOCK_NUMBER)?;
+    let block = number(word.as_bytes(), u64::from(MAX_BLOCK_NUMBER))?;
     Some(block as u32)
 }
 

@@ -2,4 +2,5 @@ pub mod Pages
 pub mod Calls
 pub mod Left
 pub mod Writer
+pub mod Puts
 pub mod Lawful

@@ -5,10 +5,10 @@
 // no others. Behind a fault none is made: what the disk holds is no longer known, and nothing is
 // left to the caller but to take the disk back.
 ghost use Rattle.std.specs.Prelude.{◌≡◌, ℕ, ◌+◌, ◌*◌, ◌/◌, ◌%◌, ◌<◌, ◌≤◌, false, max, not, ◌==◌, OnOk, IfOk, IfErr, MatchResult};
-ghost use Rattle.byte_position.specs.Geometry.{pages_of};
-ghost use Rattle.flush_core.specs.Left.{PutHistory, SameBelow, first_puts, no_puts, with_put};
-ghost use Rattle.flush_core.specs.Pages.{HoldsNothing, PutPages, no_pages, with_page};
-ghost use Rattle.flush_core.specs.Writer.{HasDone, HoldsLogPages, HoldsOnly, IsKept, IsMadeAsWritten, IsWriter, TellsFault, calls_to_harden, calls_to_put, disk_of, last_made, writer_fault, is_unsynced, writer_segment_size, written_of};
+ghost use Rattle.flush_core.specs.Left.{first_puts, no_puts};
+ghost use Rattle.flush_core.specs.Pages.{HoldsNothing, PutPages, no_pages};
+ghost use Rattle.flush_core.specs.Puts.{HasHardened, HasNotPut, HasPutPage, IsAsWritten, IsUnderWay, Keeps, KeepsBehindPut};
+ghost use Rattle.flush_core.specs.Writer.{HoldsLogPages, HoldsOnly, IsKept, IsMadeAsWritten, IsWriter, TellsFault, calls_to_harden, disk_of, last_made, writer_fault, is_unsynced, writer_segment_size, written_of};
 
 use crate::store::{place_of, store_page};
 use byte_position::{Geometry, PAGE_SIZE};
@@ -145,44 +145,14 @@ impl<D: Disk> Writer<D> {
         upto: Lsn,
         bytes: &[u8; PAGE_SIZE as usize],
     ) -> Result<(), DiskFault>
-        // It is the page under way; what is whole of it reaches as far as before at least, and at
-        // most to its end.
-        requires page { page ≡ written_of self.old / 8192 }
-        requires rises { written_of self.old ≤ upto.0 }
-        requires begun { page * 8192 < upto.0 }
-        requires within { upto.0 ≤ (page + 1) * 8192 }
-        // At Ok the disk reads as the pages that were put, this one among them.
-        ensures put { OnOk result ((pages : PutPages) → IsWriter D.tape self.old pages
-            → IsWriter D.tape self.new (with_page pages page bytes.now)) }
-        // However it ends, what was hardened below a position stays, as long as the page has the
-        // same words there; and no word comes to the disk that was not put.
-        ensures keeps { (moment position : ℕ) (pages : PutPages) → position ≤ written_of self.old
-            → SameBelow position page bytes.now (pages page)
-            → IsKept D.tape self.old moment position pages
-            → IsKept D.tape self.new moment position pages }
-        ensures only { (moment : ℕ) (puts : PutHistory) → HoldsOnly D.tape self.old moment puts
-            → HoldsOnly D.tape self.new moment (with_put puts page bytes.now) }
-        // At Ok just these calls were made. At Err a front of them was, or none where the disk had
-        // failed before; and the log is written no further.
-        ensures done { OnOk result (HasDone D.tape D.moment D.faults self.old self.new
-            (calls_to_put self.old page upto.0 bytes.now)) }
-        ensures written { MatchResult result (λ _. written_of self.new ≡ upto.0)
-            (λ _. written_of self.new ≡ written_of self.old) }
-        ensures synced { OnOk result (is_unsynced self.new
-            ≡ not (upto.0 % writer_segment_size self.old == 0)) }
-        ensures failed { IfErr result (λ e. TellsFault D.tape D.moment D.faults self.old self.new
-            e.faults (calls_to_put self.old page upto.0 bytes.now)) }
-        // Which segments are made.
-        ensures made { MatchResult result
-            (λ _. last_made self.new
-            ≡ max (last_made self.old) (page / pages_of (writer_segment_size self.old)))
-            (λ _. last_made self.new ≡ last_made self.old) }
-        ensures as_written { OnOk result (writer_segment_size self.old ≤ written_of self.old
-            → IsMadeAsWritten self.old → IsMadeAsWritten self.new) }
+        requires { IsUnderWay (written_of self.old) page upto.0 }
+        ensures done { OnOk result (HasPutPage D.tape D.moment D.faults self.old self.new
+            page upto.0 bytes.now) }
+        ensures failed { IfErr result (λ e. HasNotPut D.tape D.moment D.faults self.old self.new
+            e.faults page upto.0 bytes.now) }
+        // However it ends.
+        ensures keeps { KeepsBehindPut D.tape self.old self.new page bytes.now }
         ensures size { writer_segment_size self.new ≡ writer_segment_size self.old }
-        // At Ok the moment has risen: no two pages that are put have the same one.
-        ensures moment_rises { OnOk result
-            (D.moment (disk_of self.old) < D.moment (disk_of self.new)) }
         ensures moment_never_falls { D.moment (disk_of self.old) ≤ D.moment (disk_of self.new) }
     {
         self.check()?;
@@ -206,31 +176,16 @@ impl<D: Disk> Writer<D> {
     /// for a position that is written.
     pub fn harden(&mut self, upto: Lsn) -> Result<u64, DiskFault>
         requires { upto.0 ≤ written_of self.old }
-        // The disk reads as before. At Ok each crash from the moment told on leaves what is below
-        // the position as it was put; however it ends, what was hardened before stays, and no page
-        // is written.
-        ensures holds { OnOk result ((pages : PutPages) → IsWriter D.tape self.old pages
-            → IsWriter D.tape self.new pages) }
-        ensures hardened { IfOk result (λ moment. (pages : PutPages)
-            → IsWriter D.tape self.old pages
-            → IsKept D.tape self.new moment upto.0 pages) }
-        ensures keeps { (moment position : ℕ) (pages : PutPages)
-            → IsKept D.tape self.old moment position pages
-            → IsKept D.tape self.new moment position pages }
-        ensures only { (moment : ℕ) (puts : PutHistory) → HoldsOnly D.tape self.old moment puts
-            → HoldsOnly D.tape self.new moment puts }
-        // At Ok one sync was made, or no call where nothing waits; at Err that sync failed, or the
-        // disk had failed before. Written and made stay as they are.
-        ensures moment { IfOk result (λ moment. moment ≡ D.moment (disk_of self.new)) }
-        ensures done { OnOk result (HasDone D.tape D.moment D.faults self.old self.new
-            (calls_to_harden self.old)) }
-        ensures synced { OnOk result (is_unsynced self.new ≡ false) }
-        ensures written { written_of self.new ≡ written_of self.old }
+        ensures done { IfOk result (λ moment. HasHardened D.tape D.moment D.faults
+            self.old self.new moment upto.0) }
+        // At Err the sync failed, or the disk had failed before.
         ensures failed { IfErr result (λ e. TellsFault D.tape D.moment D.faults self.old self.new
             e.faults (calls_to_harden self.old)) }
+        // Where nothing waits for a sync nothing is touched.
         ensures same { is_unsynced self.old ≡ false → self.new ≡ self.old }
-        ensures made { last_made self.new ≡ last_made self.old }
-        ensures size { writer_segment_size self.new ≡ writer_segment_size self.old }
+        // However it ends.
+        ensures keeps { Keeps D.tape self.old self.new }
+        ensures as_written { IsAsWritten self.old self.new }
         ensures moment_never_falls { D.moment (disk_of self.old) ≤ D.moment (disk_of self.new) }
     {
         prove!(upto.0 <= self.written.0);

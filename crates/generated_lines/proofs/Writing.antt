@@ -38,8 +38,12 @@ IsWritable-commit_record xid time below = record {
 
 -- ---- inserts
 
-length-main_header-le : (main : List ℕ) → length (main_header main) ≤ 5
-length-main_header-le main =
+-- the header of main data
+abbrev main_head : List ℕ → List ℕ
+main_head main = cond (eqb (length main) 0) [] (main_header (ltb (length main) 256) (length main))
+
+length-main_head-le : (main : List ℕ) → length (main_head main) ≤ 5
+length-main_head-le main =
     let short = 255 ∷ length main ∷ [] in
     let long = 254 ∷ to_le_bytes w32 (length main) in
     let is_few : List ℕ → Type 0 = λ bytes. length bytes ≤ 5 in
@@ -49,7 +53,7 @@ length-main_header-le main =
 length-generated_data-lt : (backend index : ℕ) → length (generated_data backend index) < 1500
 length-generated_data-lt backend index = omega (arith, length-replicate {A = ℕ} ((7 * index * index + 17 * index + 131 * backend) % 1500) ((index + backend) % 256))
 
-size_of-parts : (r : Record) → size_of r ≡ 24 + (length (block_headers None r.blocks) + length (origin_item r.origin) + length (top_xid_item r.top_xid) + length (main_header r.main) + length (flat_map block_payload r.blocks) + length r.main)
+size_of-parts : (r : Record) → size_of r ≡ 24 + (length (block_headers None r.blocks) + length (origin_item r.origin) + length (top_xid_item r.top_xid) + length (main_head r.main) + length (flat_map block_payload r.blocks) + length r.main)
 size_of-parts r = simp length-append
 
 block_headers-le : (backend index : ℕ) → length (block_headers None (generated_blocks backend index)) ≤ 25
@@ -61,7 +65,7 @@ block_payloads-le backend index = cond_both (eqb (index % 10) 4) (generated_bloc
 size_of-generated_record-le : (backend index : ℕ) → size_of (generated_record backend index) ≤ 1048576
 size_of-generated_record-le backend index =
     let r = generated_record backend index in
-    omega (arith, size_of-parts r, length-main_header-le r.main, length-generated_data-lt backend index, block_headers-le backend index, block_payloads-le backend index)
+    omega (arith, size_of-parts r, length-main_head-le r.main, length-generated_data-lt backend index, block_headers-le backend index, block_payloads-le backend index)
 
 BlockFits-generated_block : (backend index : ℕ) → backend < 4 → index < 100000 → BlockFits (generated_block backend index)
 BlockFits-generated_block backend index few within = record {

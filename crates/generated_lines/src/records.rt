@@ -9,11 +9,9 @@ ghost use Rattle.wal_script.specs.Meaning.{commit_record};
 use record_spelling::{Body, BodyErr};
 use std::alloc::{AllocError, Global};
 use wal_script::Action;
-use wal_types::{Block, BlockList, Bytes, Image, Record, Rel, Xid};
+use wal_types::{Block, BlockList, Bytes, Image, Record, Rel, TRANSACTION_MANAGER, Xid};
 
-// The resource managers of transactions and of heap (PostgreSQL's rmgrlist.h).
-const TRANSACTION_MANAGER: u8 = 1;
-
+// The resource manager of heap (PostgreSQL's rmgrlist.h).
 const HEAP_MANAGER: u8 = 10;
 
 // The transaction of backend 0; each other backend's is the next one.

@@ -3,13 +3,12 @@ use Rattle.std.proofs.Common.{◌≡◌, ℕ, ◌≤◌, Bool, cond, map, ap, su
 use Rattle.wal_page.specs.Order.{end_position}
 use Rattle.wal_core.specs.declared.setup.Setup.{Setup}
 use Rattle.wal_core.specs.Words.{end_form, lock_word}
-use Rattle.wal_core.specs.Views.{flight_of}
+use Rattle.wal_core.specs.Views.{flight_of, View}
 use Rattle.wal_core.specs.Positioned.{IsCopiedBelow}
 use Rattle.machine_laws.proofs.WatchLaws.{known_is_copied}
-use Rattle.wal_rule.specs.Seats.{SeatView, view_on}
 use Rattle.wal_rule.specs.Stepping.{Stands}
 
-module _ (v : SeatView) (s : Stands v) (all : (v.watching).visited ≡ 8) where
+module _ (v : View) (s : Stands v) (all : (v.watching).visited ≡ 8) where
   abbrev setup : Setup
   setup = (v.opening).setup
 
@@ -23,4 +22,4 @@ module _ (v : SeatView) (s : Stands v) (all : (v.watching).visited ≡ 8) where
       × IsCopiedBelow setup.segment_size (map flight_of s.views) n)
       (ap (λ (b : Bool). cond b (v.watching).bound 0) (eq-eqb (v.watching).visited 8 all))
       (known_is_copied setup.segment_size reserved_end (lock_word s.words) s.views
-      ((s.sound).locks).locks (s.sound).watching s.id (view_on s.first v) s.here)
+      ((s.sound).locks).locks (s.sound).watching s.id v s.here)

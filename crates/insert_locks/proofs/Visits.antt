@@ -1,11 +1,9 @@
--- A watch goes from lock to lock, as the seat's view has it.
+-- A watch goes from lock to lock, as the pass's view has it.
 use Rattle.std.proofs.Common.{◌≡◌, ◌≢◌, ℕ, ◌+◌, ◌-◌, ◌<◌, ◌≤◌, ◌&&◌, Bool, true, false, cond, eqb, not, min, refl, sym, ap, subst, ◌∙◌, ⊎_elim, eq-eqb, ne_eqb, arith}
-use Rattle.segment_disk.specs.Tape.{empty_state}
 use Rattle.machine_laws.proofs.LocksKept.{met_cases}
 use Rattle.wal_core.specs.Words.{end_form}
-use Rattle.wal_core.specs.Views.{Watching}
+use Rattle.wal_core.specs.Views.{Watching, View}
 use Rattle.wal_core.specs.Moves.{begun, is_own, visited_on}
-use Rattle.wal_rule.specs.Seats.{SeatView, view_on}
 use Rattle.insert_locks.specs.Watching.{LetsPass, bound_behind, watched_to, with_sight, with_watching}
 
 -- ---- one lock
@@ -48,17 +46,17 @@ module _ (asked end lock word bound : ℕ) (passes : LetsPass asked word) where
 -- ---- all of them
 
 -- behind some locks, which hold a watch for an address not back: `old` is the view before the watch
-pub record WatchesOn (upto end bound lock : ℕ) (old new : SeatView) : Type 0 where
+pub record WatchesOn (upto end bound lock : ℕ) (old new : View) : Type 0 where
   pub rises : (old.reserving).seen ≤ (new.reserving).seen
   pub end_is : end ≡ end_form (old.opening).setup (new.reserving).seen
   pub reaches : min upto end ≤ bound
   pub within : bound ≤ end
   pub is : new ≡ with_watching new.watching (with_sight (new.reserving).seen old)
-  pub begins : begun lock end (view_on empty_state new) ≡ watched_to end lock bound
+  pub begins : begun lock end new ≡ watched_to end lock bound
 
-module _ (upto end bound lock : ℕ) (old new newer : SeatView)
+module _ (upto end bound lock : ℕ) (old new newer : View)
     (k : WatchesOn upto end bound lock old new) (word : ℕ) (is : newer ≡ with_watching
-    (visited_on (is_own lock new.working) lock word (begun lock end (view_on empty_state new)))
+    (visited_on (is_own lock new.working) lock word (begun lock end new))
     new) where
   met_is : newer ≡ with_watching
       (visited_on (is_own lock new.working) lock word (watched_to end lock bound)) new
@@ -71,7 +69,7 @@ module _ (upto end bound lock : ℕ) (old new newer : SeatView)
   watch_goes_on passes own =
       let asked : ℕ = min upto end in
       let next : Watching = watched_to end (lock + 1) (bound_behind word bound) in
-      subst (λ (w : SeatView). WatchesOn upto end (bound_behind word bound) (lock + 1) old w)
+      subst (λ (w : View). WatchesOn upto end (bound_behind word bound) (lock + 1) old w)
       (sym (met_is ∙ ap (λ (x : Watching). with_watching x new)
       (passed asked end lock word bound passes (is_own lock new.working) own)))
       (record {

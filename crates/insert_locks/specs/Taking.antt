@@ -1,21 +1,21 @@
 -- What a try to take an insertion lock leaves (PostgreSQL's xlog.c, WALInsertLockAcquire).
 use Rattle.std.specs.Prelude.{ℕ, ◌+◌, ◌%◌, ◌≢◌, ◌<◌, List, [], ◌∷◌, ◌++◌, slice_index}
 use Rattle.wal_core.specs.Steps.{take_lock}
-use Rattle.wal_rule.specs.Seats.{SeatView}
+use Rattle.wal_core.specs.Views.{View}
 use Rattle.wal_rule.specs.Stepping.{Meets}
 
 -- the view that holds one lock more, and is else as it was
-abbrev pub with_lock : ℕ → SeatView → SeatView
+abbrev pub with_lock : ℕ → View → View
 with_lock lock v = record v {
   working = record v.working { locks = (v.working).locks ++ lock ∷ [] };
 }
 
--- words of locks that are held, each met where a pass with this view and number tried one lock: its
--- own first, and then the next ones
-abbrev pub HaveMetHeld : SeatView → (number tries : ℕ) → List ℕ → Type 0
-HaveMetHeld v number tries words = (tried : ℕ) → tried < tries → (slice_index words tried ≢ 0)
-    × Meets v (take_lock ((number % 8 + tried) % 8)) (slice_index words tried)
+-- words of locks that are held, each met where a pass with this view tried one lock: the one of its
+-- number first, and then the next ones
+abbrev pub HaveMetHeld : View → (tries : ℕ) → List ℕ → Type 0
+HaveMetHeld v tries words = (tried : ℕ) → tried < tries → (slice_index words tried ≢ 0)
+    × Meets v (take_lock (((v.reserving).number % 8 + tried) % 8)) (slice_index words tried)
 
 -- eight words, of all locks
-abbrev pub AreHeldWords : SeatView → (number : ℕ) → List ℕ → Type 0
-AreHeldWords v number words = HaveMetHeld v number 8 words
+abbrev pub AreHeldWords : View → List ℕ → Type 0
+AreHeldWords v words = HaveMetHeld v 8 words

@@ -2,18 +2,17 @@
 use Rattle.std.specs.Prelude.{◌≡◌, ◌≢◌, ◌⊎◌, ℕ, ◌-◌, ◌<◌, ◌≤◌, min, ◌==◌, if◌then◌else◌}
 use Rattle.wal_core.specs.declared.setup.Setup.{Setup}
 use Rattle.wal_core.specs.Words.{end_form}
-use Rattle.wal_core.specs.Views.{Watching}
+use Rattle.wal_core.specs.Views.{Watching, View}
 use Rattle.wal_core.specs.Moves.{is_own, unlocked, visited_on}
 use Rattle.wal_core.specs.Steps.{load_lock, load_position}
-use Rattle.wal_rule.specs.Seats.{SeatView}
 use Rattle.wal_rule.specs.Stepping.{Meets}
 
 -- the view that has seen so much reserved, and is else as it was
-abbrev pub with_sight : ℕ → SeatView → SeatView
+abbrev pub with_sight : ℕ → View → View
 with_sight seen v = record v { reserving = record v.reserving { seen = seen } }
 
 -- the view that knows this of the locks, and is else as it was
-abbrev pub with_watching : Watching → SeatView → SeatView
+abbrev pub with_watching : Watching → View → View
 with_watching watching v = record v { watching = watching }
 
 -- so many of the locks are visited, in order: below the bound all is copied of what they guard that
@@ -35,20 +34,20 @@ abbrev pub bound_behind : (word bound : ℕ) → ℕ
 bound_behind word bound = if word == 0 then bound else min bound (word - 1)
 
 -- what is seen reserved is a position that a load of a pass with this view met
-pub record SeesPosition (v : SeatView) (seen : ℕ) : Type 0 where
+pub record SeesPosition (v : View) (seen : ℕ) : Type 0 where
   pub word : ℕ
   pub met : Meets v load_position word
   pub seen_is : seen ≡ unlocked word
 
 -- `end` is how far a watch for an address can tell: that address, where all below it is seen
 -- reserved, else the end of what is. What is seen is the position met, and no less than before
-pub record SeesTo (setup : Setup) (upto end seen : ℕ) (old : SeatView) : Type 0 where
+pub record SeesTo (setup : Setup) (upto end seen : ℕ) (old : View) : Type 0 where
   pub rises : (old.reserving).seen ≤ seen
   pub end_is : end ≡ min upto (end_form setup seen)
 
 -- all eight locks were visited: below the bound all is copied of what was reserved below the end,
 -- which is the position met; the bound is no less than what was asked for, where that was reserved
-pub record HasFinished (upto bound : ℕ) (old new : SeatView) : Type 0 where
+pub record HasFinished (upto bound : ℕ) (old new : View) : Type 0 where
   pub end : ℕ
   pub rises : (old.reserving).seen ≤ (new.reserving).seen
   pub end_is : end ≡ end_form (old.opening).setup (new.reserving).seen
@@ -58,7 +57,7 @@ pub record HasFinished (upto bound : ℕ) (old new : SeatView) : Type 0 where
 
 -- the locks before this one let the watch pass, and this one, of which the word was met behind
 -- them, holds it back
-pub record IsHeldBack (upto lock word : ℕ) (old new : SeatView) : Type 0 where
+pub record IsHeldBack (upto lock word : ℕ) (old new : View) : Type 0 where
   pub end : ℕ
   pub bound : ℕ
   pub rises : (old.reserving).seen ≤ (new.reserving).seen
@@ -66,7 +65,7 @@ pub record IsHeldBack (upto lock word : ℕ) (old new : SeatView) : Type 0 where
   pub reaches : min upto end ≤ bound
   pub within : bound ≤ end
   pub lock_low : lock < 8
-  pub before : SeatView
+  pub before : View
   pub before_is : before ≡ with_watching before.watching (with_sight (new.reserving).seen old)
   pub met : Meets before (load_lock lock end) word
   pub holds_back : HoldsBack (min upto end) word

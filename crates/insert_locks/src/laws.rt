@@ -6,18 +6,17 @@
 ghost use Rattle.std.specs.Prelude.{◌≡◌, ◌≤◌, map};
 ghost use Rattle.wal_page.specs.Order.{end_position};
 ghost use Rattle.wal_core.specs.Words.{end_form};
-ghost use Rattle.wal_core.specs.Views.{flight_of};
+ghost use Rattle.wal_core.specs.Views.{flight_of, View};
 ghost use Rattle.wal_core.specs.Positioned.{IsCopiedBelow};
-ghost use Rattle.wal_rule.specs.Seats.{SeatView};
 ghost use Rattle.wal_rule.specs.Stepping.{Stands};
 
 /// Where a view has visited all eight locks, all below its bound is reserved, and no entry in
 /// flight has a word below it that is still to copy.
 pub fn finished_watches_know_the_log()
-    ensures reserved { (v : SeatView) (s : Stands v) → (v.watching).visited ≡ 8
+    ensures reserved { (v : View) (s : Stands v) → (v.watching).visited ≡ 8
         → (v.watching).bound ≤ end_form (v.opening).setup
         (end_position ((v.opening).setup).segment_size (s.sound).order) }
-    ensures copied { (v : SeatView) (s : Stands v) → (v.watching).visited ≡ 8
+    ensures copied { (v : View) (s : Stands v) → (v.watching).visited ≡ 8
         → IsCopiedBelow ((v.opening).setup).segment_size (map flight_of s.views)
         (v.watching).bound }
 {}

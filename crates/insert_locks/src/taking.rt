@@ -7,12 +7,12 @@
 ghost use Rattle.std.specs.Prelude.{◌≡◌, ◌≢◌, ◌<◌, IfErr, IfOk};
 ghost use Rattle.wal_core.specs.Steps.{take_lock};
 ghost use Rattle.wal_rule.specs.Stepping.{Meets};
-ghost use Rattle.wal_rule.specs.Tables.{IsSeatOn};
+ghost use Rattle.wal_rule.specs.SeatedPasses.{HasView, view_of};
 ghost use Rattle.insert_locks.specs.Taking.{AreHeldWords, with_lock};
 
 use machine_words::layout::LOCKS;
 use segment_disk::Disk;
-use wal_rule::{LogSeat, LogTable};
+use wal_rule::SeatedPass;
 
 /// All locks were held: the words met, none of them 0, in the order of the tries.
 #[derive(Clone, Copy, Debug, PartialEq, Eq)]
@@ -22,25 +22,19 @@ pub struct AllHeld {
 
 /// Takes an insertion lock: the one of the pass's number first, then the next ones, each tried
 /// once. Where each is held, nothing has changed.
-pub fn try_take<D: Disk>(
-    table: &LogTable<D>,
-    seat: &mut LogSeat<D>,
-    number: u32,
-) -> Result<u32, AllHeld>
-    requires seat { IsSeatOn table.now seat.old }
+pub fn try_take<'p, D: Disk>(seated: &mut SeatedPass<'p, D>) -> Result<u32, AllHeld>
     // The pass holds this lock beside those that it held, and nothing else has changed for it.
     ensures taken { IfOk result (λ lock. (lock < 8)
-        × (seat.new.me ≡ (with_lock lock seat.old.me.0, seat.old.me.1))) }
+        × HasView (with_lock lock (view_of seated.old)) seated.old seated.new) }
     // None of the eight words is 0, and each was met where its lock was tried.
-    ensures held { IfErr result (λ e. AreHeldWords seat.old.me.0 number e.seen
-        × (seat.new.me ≡ seat.old.me)) }
-    ensures seat { IsSeatOn table.now seat.new }
+    ensures held { IfErr result (λ e. AreHeldWords (view_of seated.old) e.seen
+        × HasView (view_of seated.old) seated.old seated.new) }
 {
-    let first = number % LOCKS;
+    let first = seated.number % LOCKS;
     let mut seen = [0; 8];
     for tried in 0..8 {
         let lock = (first + tried) % LOCKS;
-        let word = try_lock(table, seat, lock);
+        let word = try_lock(seated, lock);
         if word == 0 {
             return Ok(lock);
         }
@@ -51,14 +45,12 @@ pub fn try_take<D: Disk>(
 
 // Takes a lock where it is free, which is where the word met is 0. Else the pass holds what it
 // held.
-fn try_lock<D: Disk>(table: &LogTable<D>, seat: &mut LogSeat<D>, lock: u32) -> u64
-    requires seat { IsSeatOn table.now seat.old }
+fn try_lock<'p, D: Disk>(seated: &mut SeatedPass<'p, D>, lock: u32) -> u64
     requires lock { lock < 8 }
     ensures taken { result ≡ 0
-        → seat.new.me ≡ (with_lock lock seat.old.me.0, seat.old.me.1) }
-    ensures held { result ≢ 0 → seat.new.me ≡ seat.old.me }
-    ensures met { Meets seat.old.me.0 (take_lock lock) result }
-    ensures seat { IsSeatOn table.now seat.new }
+        → HasView (with_lock lock (view_of seated.old)) seated.old seated.new }
+    ensures held { result ≢ 0 → HasView (view_of seated.old) seated.old seated.new }
+    ensures met { Meets (view_of seated.old) (take_lock lock) result }
 {
-    table.take_lock(seat, lock)
+    seated.take_lock(lock)
 }

@@ -6,21 +6,19 @@
 // waits there (LWLockWaitForVar), here the caller is told and asks again.
 // What a finished watch knows stays true whatever others do, since copies only go on (laws.rt). So
 // who takes the writer out of its slot behind it may write up to the bound.
-ghost use Rattle.std.specs.Prelude.{◌≡◌, ◌<◌, ◌≤◌, true, false};
+ghost use Rattle.std.specs.Prelude.{◌≡◌, ◌%◌, ◌<◌, ◌≤◌, true, false};
 ghost use Rattle.segment_disk.specs.Tape.{empty_state};
 ghost use Rattle.wal_core.specs.Moves.{begun, is_own, visited_on};
 ghost use Rattle.wal_core.specs.Steps.{load_lock};
-ghost use Rattle.wal_rule.specs.Seats.{view_on};
 ghost use Rattle.wal_rule.specs.Stepping.{Meets};
-ghost use Rattle.wal_rule.specs.Tables.{IsSeatOn, opening_of_table};
+ghost use Rattle.wal_rule.specs.SeatedPasses.{HasView, StaysSeated, view_of};
 ghost use Rattle.insert_locks.specs.Watching.{HasFinished, HoldsBack, IsHeldBack, LetsPass};
 ghost use Rattle.insert_locks.specs.Watching.{bound_behind, with_watching};
 
 use crate::seeing::see_reserved;
-use machine_words::LogShape;
 use machine_words::layout::LOCKS;
 use segment_disk::Disk;
-use wal_rule::{LogSeat, LogTable};
+use wal_rule::SeatedPass;
 
 /// What a watch tells.
 #[derive(Clone, Copy, Debug, PartialEq, Eq)]
@@ -36,30 +34,22 @@ pub enum Watched {
 /// Visits the eight locks, to learn below which address all that is reserved is copied, which is at
 /// least the one asked for. It does not wait: the caller asks again. An insert that holds a lock
 /// first tells its progress there.
-pub fn watch<D: Disk>(
-    table: &LogTable<D>,
-    seat: &mut LogSeat<D>,
-    shape: &LogShape,
-    upto: u64,
-) -> Watched
-    requires seat { IsSeatOn table.now seat.old }
-    requires shape { shape.now ≡ (opening_of_table table.now).setup }
+pub fn watch<'p, D: Disk>(seated: &mut SeatedPass<'p, D>, upto: u64) -> Watched
     // All eight locks were visited. Below the bound all is copied that was reserved, and it is no
     // less than the address asked for, or than the reserved end if that is less.
     ensures finished { (bound : _) → result ≡ Watched.Finished bound
-        → HasFinished upto bound seat.old.me.0 seat.new.me.0 }
+        → HasFinished upto bound (view_of seated.old) (view_of seated.new) }
     // The locks before this one let the watch pass, and this one does not: its word was met. Here
     // as there nothing of the view has changed but what is seen reserved and what is watched.
     ensures behind { (lock word : _) → result ≡ Watched.Behind lock word
-        → IsHeldBack upto lock word seat.old.me.0 seat.new.me.0 }
-    ensures slots { seat.new.me.1 ≡ seat.old.me.1 }
-    ensures seat { IsSeatOn table.now seat.new }
+        → IsHeldBack upto lock word (view_of seated.old) (view_of seated.new) }
+    ensures stays { StaysSeated seated.old seated.new }
 {
-    let end = see_reserved(table, seat, shape);
+    let end = see_reserved(seated);
     let asked = upto.min(end);
     let mut bound = end;
     for lock in 0..LOCKS {
-        let word = visit(table, seat, lock, end);
+        let word = visit(seated, lock, end);
         if holds_back(asked, word) {
             return Watched::Behind { lock, word };
         }
@@ -71,21 +61,17 @@ pub fn watch<D: Disk>(
 // Visits a lock, to learn up to the end of what is reserved: the view watches as the machine has it
 // behind such a visit, which begins a watch at lock 0. A pass's own lock tells nothing where the
 // pass copies nothing.
-fn visit<D: Disk>(table: &LogTable<D>, seat: &mut LogSeat<D>, lock: u32, end: u64) -> u64
-    requires seat { IsSeatOn table.now seat.old }
+fn visit<'p, D: Disk>(seated: &mut SeatedPass<'p, D>, lock: u32, end: u64) -> u64
     requires lock { lock < 8 }
-    ensures visits { seat.new.me ≡ (
-      with_watching
-          (visited_on (is_own lock seat.old.me.0.working) lock result
-          (begun lock end (view_on empty_state seat.old.me.0)))
-          seat.old.me.0,
-      seat.old.me.1,
-    ) }
-    ensures own { is_own lock seat.old.me.0.working ≡ true → result ≤ 1 }
-    ensures met { Meets seat.old.me.0 (load_lock lock end) result }
-    ensures seat { IsSeatOn table.now seat.new }
+    requires whole { end % 8 ≡ 0 }
+    ensures visits { HasView (with_watching
+        (visited_on (is_own lock (view_of seated.old).working) lock result
+        (begun lock end (view_of seated.old)))
+        (view_of seated.old)) seated.old seated.new }
+    ensures own { is_own lock (view_of seated.old).working ≡ true → result ≤ 1 }
+    ensures met { Meets (view_of seated.old) (load_lock lock end) result }
 {
-    table.load_lock(seat, lock, end)
+    seated.load_lock(lock, end)
 }
 
 // Whether a lock with this word holds back a watch for an address.

@@ -2,7 +2,7 @@
 
 ghost use Rattle.std.specs.Prelude.{◌≡◌, IfOk};
 ghost use Rattle.wal_rule.specs.Passes.{view_of_pass};
-ghost use Rattle.wal_rule.specs.Seats.{first_seat_view};
+ghost use Rattle.wal_core.specs.Opened.{first_view};
 ghost use Rattle.wal_log.specs.Logs.{IsPassOfLog, opening_of_log};
 
 use log_workers::{Job, work_side_by_side};
@@ -52,7 +52,7 @@ pub fn filled<R: Threads + Wait + Sync>(
 // pass.
 fn open(alloc: Global, setup: Setup, fail: Vec<u64>) -> Result<(Wal<MemDisk>, Pass), Fail>
     ensures pass { IfOk result (λ r. IsPassOfLog r.0 r.1) }
-    ensures view { IfOk result (λ r. view_of_pass r.1 ≡ first_seat_view (opening_of_log r.0)) }
+    ensures view { IfOk result (λ r. view_of_pass r.1 ≡ first_view (opening_of_log r.0)) }
 {
     let disk = MemDisk::new(alloc, 4, 1300, fail, Vec::new(alloc))?;
     match Wal::open(alloc, disk, setup) {

@@ -1,20 +1,19 @@
 //! Tables of logs that hold nothing, on disks in memory.
 
-ghost use Rattle.std.specs.Prelude.{◌≡◌, [], IfOk};
+ghost use Rattle.std.specs.Prelude.{◌≡◌, IfOk};
+ghost use Rattle.wal_core.specs.Opened.{first_view};
 ghost use Rattle.wal_rule.specs.Founded.{empty_log_opening};
-ghost use Rattle.wal_rule.specs.Seats.{first_seat_view};
-ghost use Rattle.wal_rule.specs.Tables.{IsSeatOn, opening_of_table};
+ghost use Rattle.wal_rule.specs.Passes.{view_of_pass};
+ghost use Rattle.wal_rule.specs.Tables.{IsPassOn};
 
-use machine_words::{LogShape, MachineWords, is_setup};
+use machine_words::{LogShape, MachineWords};
 use segment_disk::MemDisk;
 use std::alloc::Global;
 use std::test::Fail;
 use wal_core::Setup;
-use wal_rule::{Founding, LogSeat, LogTable, LogWriter};
+use wal_rule::{Founding, LogTable, LogWriter, Pass};
 
 pub type Table = LogTable<MemDisk>;
-
-pub type Seat = LogSeat<MemDisk>;
 
 /// Segments of 1 MiB, of which the log may fill two, a ring of four pages, and four passes.
 pub const SETUP: Setup = Setup {
@@ -25,28 +24,25 @@ pub const SETUP: Setup = Setup {
     passes: 4,
 };
 
-pub fn shape(setup: Setup) -> Result<LogShape, Fail>
-    ensures { IfOk result (λ s. s ≡ setup) }
+fn shape() -> Result<LogShape, Fail>
+    ensures { IfOk result (λ s. s ≡ SETUP) }
 {
-    Ok(LogShape::new(setup).ok_or("a log's setup")?)
+    Ok(LogShape::new(SETUP).ok_or("a log's setup")?)
 }
 
-/// A table on a disk that holds nothing, with its first seat.
-pub fn open(alloc: Global, shape: &LogShape, setup: Setup) -> Result<(Table, Seat), Fail>
-    requires { shape.now ≡ setup }
-    ensures setup { IfOk result (λ t. opening_of_table t.0 ≡ empty_log_opening setup 0 0) }
-    ensures seat { IfOk result (λ t. (t.1.me
-        ≡ (first_seat_view (empty_log_opening setup 0 0), [])) × IsSeatOn t.0 t.1) }
+/// A table on a disk that holds nothing, with its first pass, whose number is 0.
+pub fn open(alloc: Global) -> Result<(Table, Pass), Fail>
+    ensures pass { IfOk result (λ t. IsPassOn t.0 t.1) }
+    ensures view { IfOk result (λ t. view_of_pass t.1
+        ≡ first_view (empty_log_opening SETUP 0 0)) }
 {
-    if !is_setup(setup) {
-        return Err(Fail::from("a log's setup"));
-    }
+    let shape = shape()?;
     let disk = MemDisk::new(alloc, 4, 100, Vec::new(alloc), Vec::new(alloc))?;
-    let founding = Founding::of(setup, &disk);
-    let words = MachineWords::first(alloc, setup, founding.moment)?;
+    let founding = Founding::of(SETUP, &disk);
+    let words = MachineWords::first(alloc, SETUP, founding.moment)?;
     let writer = LogWriter::new(disk, shape.geometry());
-    match LogTable::open(alloc, words.as_slice(), writer, &founding) {
-        Ok(opened) => Ok(opened),
+    match LogTable::open(alloc, words.as_slice(), writer, shape, &founding) {
+        Ok((table, seat)) => Ok((table, Pass::of_seat(seat, 0, 1, SETUP.passes))),
         Err(_) => Err(Fail::from("memory for a table")),
     }
 }

@@ -1,14 +1,14 @@
 -- The workers of a log: whose passes they have, and what these keep.
 use Rattle.std.specs.Prelude.{◌≡◌, ℕ, ◌<◌, All, List, length, slice_index_or}
 use Rattle.wal_rule.specs.Passes.{view_of_pass}
-use Rattle.wal_rule.specs.Seats.{SeatView}
+use Rattle.wal_core.specs.Views.{View}
 use Rattle.wal_log.specs.Logs.{IsPassOfLog}
 use Rattle.wal_log.specs.Standing.{KeepsPass}
 use Rattle.wal_log.specs.declared.wal.Wal.{Wal}
 use Rattle.log_workers.specs.declared.worker.Worker.{Worker}
 
 -- what the pass of a worker knows and is about
-abbrev pub view_of_worker : Worker → SeatView
+abbrev pub view_of_worker : Worker → View
 view_of_worker worker = view_of_pass worker.pass
 
 -- a worker of a log has a pass of it that has no number to give away

@@ -2,8 +2,8 @@
 use Rattle.std.specs.Prelude.{◌≡◌, ◌⊎◌, ℕ, ◌+◌, ◌≤◌, Bool, true, false, All, Any, List, [], ◌∷◌}
 use Rattle.std.specs.List.{count_by}
 use Rattle.wal_core.specs.Words.{position_word, prev_word}
-use Rattle.machine_turns.specs.declared.view.Place.{Place}
-use Rattle.machine_turns.specs.declared.view.Place.TheVariants.{Free, Locked, Loaded, Stored}
+use Rattle.machine_turns.specs.declared.view.PlainPlace.{PlainPlace}
+use Rattle.machine_turns.specs.declared.view.PlainPlace.TheVariants.{Free, Locked, Loaded, Stored}
 use Rattle.machine_checks.specs.declared.moment.BackendNow.{BackendNow}
 use Rattle.machine_checks.specs.declared.moment.ReservedSpan.{ReservedSpan}
 
@@ -24,13 +24,13 @@ start_of_records last [] = last
 start_of_records last (r ∷ rs) = start_of_records r.address rs
 
 -- whether a backend has the position locked; and whether it has stored where its record starts
-abbrev pub has_position : Place → Bool
+abbrev pub has_position : PlainPlace → Bool
 has_position Free = false
 has_position (Locked at) = true
 has_position (Loaded at prev) = true
 has_position (Stored at prev) = true
 
-abbrev pub has_stored : Place → Bool
+abbrev pub has_stored : PlainPlace → Bool
 has_stored Free = false
 has_stored (Locked at) = false
 has_stored (Loaded at prev) = false
@@ -47,7 +47,7 @@ IsPosition position end backends =
     (locked_by backends ≤ 1) × (position ≡ end + locked_by backends)
 
 -- what a backend that has the position locked met of it
-abbrev pub Met : (end last : ℕ) → Place → Type 0
+abbrev pub Met : (end last : ℕ) → PlainPlace → Type 0
 Met end last Free = Unit {0}
 Met end last (Locked at) = at ≡ end
 Met end last (Loaded at prev) = (at ≡ end) × (prev ≡ last)

@@ -3,8 +3,8 @@ use Rattle.std.specs.Prelude.{◌≡◌, ◌⊎◌, ℕ, zero, suc, ◌+◌, ◌
 use Rattle.wal_core.specs.declared.setup.Setup.{Setup}
 use Rattle.wal_core.specs.Words.{initialised_word, written_word, end_word}
 use Rattle.wal_core.specs.Shown.{IsPresent}
-use Rattle.machine_turns.specs.declared.view.Stage.{Stage}
-use Rattle.machine_turns.specs.declared.view.Stage.TheVariants.{Away, Taken, Looked, Ready, Zeroing, Published}
+use Rattle.machine_turns.specs.declared.view.PlainStage.{PlainStage}
+use Rattle.machine_turns.specs.declared.view.PlainStage.TheVariants.{Away, Taken, Looked, Ready, Zeroing, Published}
 use Rattle.machine_checks.specs.declared.moment.BackendNow.{BackendNow}
 
 -- a buffer holds nothing, or a page of the log that belongs in it
@@ -18,7 +18,7 @@ highest_end words zero = 0
 highest_end words (suc n) = max (highest_end words n) (end_word words n)
 
 -- a mapper has published the end of the page at this address, and not yet that it is there
-abbrev pub HasPublished : ℕ → Stage → Type 0
+abbrev pub HasPublished : ℕ → PlainStage → Type 0
 HasPublished address Away = ⊥
 HasPublished address Taken = ⊥
 HasPublished address (Looked at) = ⊥

@@ -1,12 +1,12 @@
 -- The written and flushed ends.
 use Rattle.std.specs.Prelude.{ℕ, ◌+◌, ◌*◌, ◌<◌, ◌≤◌, All, List, length}
 use Rattle.wal_core.specs.Words.{flushed_word, written_word}
-use Rattle.machine_turns.specs.declared.view.Flight.{Flight}
-use Rattle.machine_turns.specs.declared.view.Flight.TheVariants.{Landed, Copying}
+use Rattle.machine_turns.specs.declared.view.PlainFlight.{PlainFlight}
+use Rattle.machine_turns.specs.declared.view.PlainFlight.TheVariants.{Landed, Copying}
 use Rattle.machine_checks.specs.declared.moment.BackendNow.{BackendNow}
 
 -- no word below an address is still to be copied by a backend
-abbrev pub HasCopiedBelow : ℕ → Flight → Type 0
+abbrev pub HasCopiedBelow : ℕ → PlainFlight → Type 0
 HasCopiedBelow address Landed = Unit {0}
 HasCopiedBelow address (Copying start prev next end) = next < end → address ≤ next
 

@@ -1,13 +1,13 @@
 -- What the locks tell of copies.
 use Rattle.std.specs.Prelude.{ℕ, ◌+◌, ◌≤◌, All, List, Option, Some, None}
 use Rattle.wal_core.specs.Words.{lock_word}
-use Rattle.machine_turns.specs.declared.view.Flight.{Flight}
-use Rattle.machine_turns.specs.declared.view.Flight.TheVariants.{Landed, Copying}
+use Rattle.machine_turns.specs.declared.view.PlainFlight.{PlainFlight}
+use Rattle.machine_turns.specs.declared.view.PlainFlight.TheVariants.{Landed, Copying}
 use Rattle.machine_checks.specs.declared.moment.BackendNow.{BackendNow}
 
 -- the most that the lock of a backend may tell: one more than the address of the next word that it
 -- copies, or only that it is held
-abbrev pub most_of : Flight → ℕ
+abbrev pub most_of : PlainFlight → ℕ
 most_of Landed = 1
 most_of (Copying start prev next end) = next + 1
 

@@ -2,12 +2,12 @@
 use Rattle.std.specs.Prelude.{◌≡◌, ◌≢◌, ◌⊎◌, ℕ, ◌+◌, ◌-◌, ◌*◌, ◌/◌, ◌<◌, ◌≤◌, Any, List, slice_index}
 use Rattle.wal_core.specs.declared.setup.Setup.{Setup}
 use Rattle.wal_core.specs.Words.{end_word, word_of_ring}
-use Rattle.machine_turns.specs.declared.view.Flight.{Flight}
-use Rattle.machine_turns.specs.declared.view.Flight.TheVariants.{Landed, Copying}
+use Rattle.machine_turns.specs.declared.view.PlainFlight.{PlainFlight}
+use Rattle.machine_turns.specs.declared.view.PlainFlight.TheVariants.{Landed, Copying}
 use Rattle.machine_checks.specs.declared.moment.BackendNow.{BackendNow}
 
 -- a backend is still to copy the word at this address
-abbrev pub IsToCopy : ℕ → Flight → Type 0
+abbrev pub IsToCopy : ℕ → PlainFlight → Type 0
 IsToCopy address Landed = ⊥
 IsToCopy address (Copying start prev next end) = (next ≤ address) × (address < end)
 

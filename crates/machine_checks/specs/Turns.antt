@@ -2,14 +2,14 @@
 use Rattle.std.specs.Prelude.{◌≡◌, ℕ, ◌+◌, Bool, true, false, All, List, ◌==◌, if◌then◌else◌}
 use Rattle.std.specs.List.{count_by}
 use Rattle.wal_core.specs.Words.{mapping_turn, write_turn}
-use Rattle.machine_turns.specs.declared.view.Stage.{Stage}
-use Rattle.machine_turns.specs.declared.view.Stage.TheVariants.{Away, Taken, Looked, Ready, Zeroing, Published}
-use Rattle.machine_turns.specs.declared.view.Hold.{Hold}
-use Rattle.machine_turns.specs.declared.view.Hold.TheVariants.{Idle, Turned, Out}
+use Rattle.machine_turns.specs.declared.view.PlainStage.{PlainStage}
+use Rattle.machine_turns.specs.declared.view.PlainStage.TheVariants.{Away, Taken, Looked, Ready, Zeroing, Published}
+use Rattle.machine_turns.specs.declared.view.PlainHold.{PlainHold}
+use Rattle.machine_turns.specs.declared.view.PlainHold.TheVariants.{Idle, Turned, Out}
 use Rattle.machine_checks.specs.declared.moment.BackendNow.{BackendNow}
 
 -- whether a backend has the turn to map, and the turn to write
-abbrev pub maps : Stage → Bool
+abbrev pub maps : PlainStage → Bool
 maps Away = false
 maps Taken = true
 maps (Looked at) = true
@@ -17,7 +17,7 @@ maps (Ready at) = true
 maps (Zeroing at count) = true
 maps (Published at) = true
 
-abbrev pub writes : Hold → Bool
+abbrev pub writes : PlainHold → Bool
 writes Idle = false
 writes Turned = true
 writes (Out known) = true

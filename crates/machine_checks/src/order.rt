@@ -7,7 +7,7 @@ ghost use Rattle.machine_checks.specs.Order.{FollowOn, IsPosition, Met, OrderAgr
 
 use crate::moment::{BackendNow, ReservedSpan};
 use crate::words::word_at;
-use machine_turns::Place;
+use machine_turns::PlainPlace;
 use machine_words::LogShape;
 use machine_words::layout::{LAST_START, POSITION};
 use wal_core::Setup;
@@ -79,12 +79,12 @@ fn locked_by(backends: &[BackendNow]) -> usize
         .count()
 }
 
-fn has_position(place: Place) -> bool
+fn has_position(place: PlainPlace) -> bool
     ensures { result ≡ has_position place }
 {
     match place {
-        Place::Free => false,
-        Place::Locked { .. } | Place::Loaded { .. } | Place::Stored { .. } => true,
+        PlainPlace::Free => false,
+        PlainPlace::Locked { .. } | PlainPlace::Loaded { .. } | PlainPlace::Stored { .. } => true,
     }
 }
 
@@ -94,13 +94,14 @@ fn have_met(end: u64, last: u64, backends: &[BackendNow]) -> bool
     backends.iter().all(|b| met(end, last, b.view.place))
 }
 
-fn met(end: u64, last: u64, place: Place) -> bool
+fn met(end: u64, last: u64, place: PlainPlace) -> bool
     ensures { IsTrue result ↔ Met end last place }
 {
     match place {
-        Place::Free => true,
-        Place::Locked { at } => at == end,
-        Place::Loaded { at, prev } | Place::Stored { at, prev } => at == end && prev == last,
+        PlainPlace::Free => true,
+        PlainPlace::Locked { at } => at == end,
+        PlainPlace::Loaded { at, prev } | PlainPlace::Stored { at, prev } => at == end
+            && prev == last,
     }
 }
 
@@ -110,11 +111,11 @@ fn has_any_stored(backends: &[BackendNow]) -> bool
     backends.iter().any(|b| has_stored(b.view.place))
 }
 
-fn has_stored(place: Place) -> bool
+fn has_stored(place: PlainPlace) -> bool
     ensures { result ≡ has_stored place }
 {
     match place {
-        Place::Stored { .. } => true,
-        Place::Free | Place::Locked { .. } | Place::Loaded { .. } => false,
+        PlainPlace::Stored { .. } => true,
+        PlainPlace::Free | PlainPlace::Locked { .. } | PlainPlace::Loaded { .. } => false,
     }
 }

@@ -7,7 +7,7 @@ ghost use Rattle.machine_checks.specs.Pages.{ArePresent, HasPublished, IsEndIn, 
 use crate::moment::BackendNow;
 use crate::words::word_at;
 use byte_position::PAGE_SIZE;
-use machine_turns::Stage;
+use machine_turns::PlainStage;
 use machine_words::layout::{BUFFER_ENDS, INITIALISED_END, WRITTEN};
 use wal_core::Setup;
 
@@ -95,15 +95,15 @@ fn any_has_published(address: u64, backends: &[BackendNow]) -> bool
         .any(|b| has_published(address, b.view.stage))
 }
 
-fn has_published(address: u64, stage: Stage) -> bool
+fn has_published(address: u64, stage: PlainStage) -> bool
     ensures { IsTrue result ↔ HasPublished address stage }
 {
     match stage {
-        Stage::Published { at } => at == address,
-        Stage::Away
-        | Stage::Taken
-        | Stage::Looked { .. }
-        | Stage::Ready { .. }
-        | Stage::Zeroing { .. } => false,
+        PlainStage::Published { at } => at == address,
+        PlainStage::Away
+        | PlainStage::Taken
+        | PlainStage::Looked { .. }
+        | PlainStage::Ready { .. }
+        | PlainStage::Zeroing { .. } => false,
     }
 }

@@ -5,7 +5,7 @@ ghost use Rattle.machine_checks.specs.Positions.{HasCopiedBelow, PositionsAgree}
 
 use crate::moment::BackendNow;
 use crate::words::word_at;
-use machine_turns::Flight;
+use machine_turns::PlainFlight;
 use machine_words::layout::{FLUSHED, WRITTEN};
 
 pub(crate) fn positions_agree(
@@ -32,11 +32,11 @@ fn have_copied_below(address: u64, backends: &[BackendNow]) -> bool
         .all(|b| has_copied_below(address, b.view.flight))
 }
 
-fn has_copied_below(address: u64, flight: Flight) -> bool
+fn has_copied_below(address: u64, flight: PlainFlight) -> bool
     ensures { IsTrue result ↔ HasCopiedBelow address flight }
 {
     match flight {
-        Flight::Landed => true,
-        Flight::Copying { next, end, .. } => next >= end || address <= next,
+        PlainFlight::Landed => true,
+        PlainFlight::Copying { next, end, .. } => next >= end || address <= next,
     }
 }

@@ -5,7 +5,7 @@ ghost use Rattle.machine_checks.specs.Progress.{ProgressAgrees, TellsAtMost, mos
 
 use crate::moment::BackendNow;
 use crate::words::word_at;
-use machine_turns::Flight;
+use machine_turns::PlainFlight;
 use machine_words::layout::FIRST_LOCK;
 
 pub(crate) fn progress_agrees(words: &[u64], backends: &[BackendNow]) -> bool
@@ -16,7 +16,7 @@ pub(crate) fn progress_agrees(words: &[u64], backends: &[BackendNow]) -> bool
         .all(|b| tells_at_most(words, b.lock, b.view.flight))
 }
 
-fn tells_at_most(words: &[u64], lock: Option<u32>, flight: Flight) -> bool
+fn tells_at_most(words: &[u64], lock: Option<u32>, flight: PlainFlight) -> bool
     ensures { IsTrue result ↔ TellsAtMost words.now lock (most_of flight) }
 {
     match lock {
@@ -25,11 +25,11 @@ fn tells_at_most(words: &[u64], lock: Option<u32>, flight: Flight) -> bool
     }
 }
 
-fn is_at_most(word: u64, flight: Flight) -> bool
+fn is_at_most(word: u64, flight: PlainFlight) -> bool
     ensures { IsTrue result ↔ word ≤ most_of flight }
 {
     match flight {
-        Flight::Landed => word <= 1,
-        Flight::Copying { next, .. } => word.saturating_sub(1) <= next,
+        PlainFlight::Landed => word <= 1,
+        PlainFlight::Copying { next, .. } => word.saturating_sub(1) <= next,
     }
 }

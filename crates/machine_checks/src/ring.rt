@@ -6,7 +6,7 @@ ghost use Rattle.machine_checks.specs.Ring.{IsLoggedOrToCopy, IsToCopy, PageAgre
 use crate::moment::BackendNow;
 use crate::words::word_at;
 use byte_position::{PAGE_SIZE, PAGE_WORDS};
-use machine_turns::Flight;
+use machine_turns::PlainFlight;
 use machine_words::layout::BUFFER_ENDS;
 use wal_core::Setup;
 
@@ -58,11 +58,11 @@ fn any_is_to_copy(address: u64, backends: &[BackendNow]) -> bool
     backends.iter().any(|b| is_to_copy(address, b.view.flight))
 }
 
-fn is_to_copy(address: u64, flight: Flight) -> bool
+fn is_to_copy(address: u64, flight: PlainFlight) -> bool
     ensures { IsTrue result ↔ IsToCopy address flight }
 {
     match flight {
-        Flight::Landed => false,
-        Flight::Copying { next, end, .. } => next <= address && address < end,
+        PlainFlight::Landed => false,
+        PlainFlight::Copying { next, end, .. } => next <= address && address < end,
     }
 }

@@ -5,7 +5,7 @@ ghost use Rattle.machine_checks.specs.Turns.{TurnAgrees, TurnsAgree, maps, write
 
 use crate::moment::BackendNow;
 use crate::words::word_at;
-use machine_turns::{Hold, Stage};
+use machine_turns::{PlainHold, PlainStage};
 use machine_words::layout::{MAPPING_TURN, WRITE_TURN};
 
 pub(crate) fn turns_agree(words: &[u64], backends: &[BackendNow]) -> bool
@@ -31,24 +31,24 @@ fn writing_agrees(turn: u64, backends: &[BackendNow]) -> bool
         && backends.iter().all(|b| !writes(b.view.hold) || turn == u64::from(b.view.number) + 1)
 }
 
-fn maps(stage: Stage) -> bool
+fn maps(stage: PlainStage) -> bool
     ensures { result ≡ maps stage }
 {
     match stage {
-        Stage::Away => false,
-        Stage::Taken
-        | Stage::Looked { .. }
-        | Stage::Ready { .. }
-        | Stage::Zeroing { .. }
-        | Stage::Published { .. } => true,
+        PlainStage::Away => false,
+        PlainStage::Taken
+        | PlainStage::Looked { .. }
+        | PlainStage::Ready { .. }
+        | PlainStage::Zeroing { .. }
+        | PlainStage::Published { .. } => true,
     }
 }
 
-fn writes(hold: Hold) -> bool
+fn writes(hold: PlainHold) -> bool
     ensures { result ≡ writes hold }
 {
     match hold {
-        Hold::Idle => false,
-        Hold::Turned | Hold::Out { .. } => true,
+        PlainHold::Idle => false,
+        PlainHold::Turned | PlainHold::Out { .. } => true,
     }
 }

@@ -8,8 +8,8 @@ use Rattle.wal_core.proofs.Lists.{at_same}
 use Rattle.wal_core.specs.Views.{HasAt, Lent, Out, Plain, View}
 use Rattle.wal_turns.specs.Doing.{Backend, Machine}
 use Rattle.wal_turns.specs.Standing.{HasBackend}
-use Rattle.machine_turns.specs.declared.lane.Lane.{Lane}
-use Rattle.machine_turns.specs.declared.script.Line.{Line}
+use Rattle.machine_turns.specs.declared.lane.PlainBackend.{PlainBackend}
+use Rattle.machine_turns.specs.declared.script.PlainLine.{PlainLine}
 use Rattle.machine_core.specs.Cores.{HasWriter, first_lane, first_lanes}
 use Rattle.machine_core.specs.PlainData.{plain_view}
 use Rattle.machine_core.specs.Playing.{CoreState, PlaysMachine}
@@ -18,12 +18,12 @@ use Rattle.machine_core.proofs.Ready.{live_is_low}
 
 module _ (core : CoreState) (m : Machine) (k : PlaysMachine core m) where
   -- a lane has answered as many lines as its backend
-  pub answered_is : (number : ℕ) (b : Backend) (lane : Lane) → HasBackend m number b
+  pub answered_is : (number : ℕ) (b : Backend) (lane : PlainBackend) → HasBackend m number b
       → slice_get core.lanes number ≡ Some lane → b.answered ≡ lane.answered
   answered_is number b lane there at =
       let found = k.lanes number b there in
       let same : found.0 ≡ lane = cc in
-      (found.2.2).answered ∙ ap (λ (l : Lane). l.answered) same
+      (found.2.2).answered ∙ ap (λ (l : PlainBackend). l.answered) same
 
   -- each pass has a number below 65,536
   pub few_lanes : length core.lanes < 65536
@@ -53,19 +53,19 @@ module _ (core : CoreState) (m : Machine) (k : PlaysMachine core m) where
       sym hand.5 ∙ (k.writer_is).in_hand hand.0 hand.1 hand.2 hand.3 hand.4) has
 
 -- a lane more, and one script fewer left, come to the same lanes
-pub lanes_go_on : (size number : ℕ) (old new : List Lane) (lane : Lane) (script : List Line)
-    (rest left : List (List Line)) → new ≡ old ++ lane ∷ []
+pub lanes_go_on : (size number : ℕ) (old new : List PlainBackend) (lane : PlainBackend) (script : List PlainLine)
+    (rest left : List (List PlainLine)) → new ≡ old ++ lane ∷ []
     → lane ≡ first_lane size number script → rest ≡ script ∷ left
     → new ++ first_lanes size (number + 1) left ≡ old ++ first_lanes size number rest
 lanes_go_on size number old new lane script rest left more is next =
-    ap (λ (x : List Lane). x ++ first_lanes size (number + 1) left) more
+    ap (λ (x : List PlainBackend). x ++ first_lanes size (number + 1) left) more
     ∙ (append_assoc old (lane ∷ []) (first_lanes size (number + 1) left)
-    ∙ ap (λ (x : Lane). old ++ (x ∷ first_lanes size (number + 1) left)) is
-    ∙ ap (λ (x : List (List Line)). old ++ first_lanes size number x) (sym next))
+    ∙ ap (λ (x : PlainBackend). old ++ (x ∷ first_lanes size (number + 1) left)) is
+    ∙ ap (λ (x : List (List PlainLine)). old ++ first_lanes size number x) (sym next))
 
 module _ (core : CoreState) (m : Machine) (k : PlaysMachine core m) (number : ℕ) (b : Backend) where
   -- the lane that is read is the backend's
-  pub lane_read : (lane : Lane) → HasBackend m number b
+  pub lane_read : (lane : PlainBackend) → HasBackend m number b
       → lane ≡ slice_index_or core.lanes number lane → b.answered ≡ lane.answered
   lane_read lane there is =
       let low = got_below m.backends number b there in
@@ -74,7 +74,7 @@ module _ (core : CoreState) (m : Machine) (k : PlaysMachine core m) (number : �
       is)
 
   -- and so is what is read of its view
-  pub view_read : (lane : Lane) (v : View) → HasBackend m number b
+  pub view_read : (lane : PlainBackend) (v : View) → HasBackend m number b
       → HasAt (m.state).views (number + 1) v → lane ≡ slice_index_or core.lanes number lane
       → lane.view ≡ plain_view v
   view_read lane v there at is =
@@ -85,7 +85,7 @@ module _ (core : CoreState) (m : Machine) (k : PlaysMachine core m) (number : �
       let same : found.0 ≡ lane = cc in
       let same_view : found.2.0 ≡ v =
       at_same (m.state).views found.2.0 v (number + 1) found.2.1 at in
-      ap (λ (l : Lane). l.view) (sym same) ∙ (found.2.2).view ∙ ap plain_view same_view
+      ap (λ (l : PlainBackend). l.view) (sym same) ∙ (found.2.2).view ∙ ap plain_view same_view
 
   pub none_there : HasBackend m number b → (number < length core.lanes → ⊥) → ⊥
   none_there there none =

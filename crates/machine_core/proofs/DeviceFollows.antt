@@ -13,13 +13,13 @@ use Rattle.wal_turns.specs.Doing.{Ask, Doing, Machine, ForLine, SetsDown, Stores
 use Rattle.wal_turns.specs.Turned.{behind_call, goes_on, page_staged, page_or_end as machine_page_or_end, segment_or}
 use Rattle.wal_turns.proofs.FlushPlaces.{hold_of}
 use Rattle.wal_turns.proofs.Poses.{bool_cases}
-use Rattle.machine_turns.specs.declared.doing.Doing.{Doing as PlainDoing}
-use Rattle.machine_turns.specs.declared.doing.Doing.TheVariants as doings
-use Rattle.machine_turns.specs.declared.doing.Next.TheVariants as nexts
-use Rattle.machine_turns.specs.declared.doing.Purpose.{Purpose as PlainPurpose}
-use Rattle.machine_turns.specs.declared.doing.Purpose.TheVariants as purposes
+use Rattle.machine_turns.specs.declared.doing.PlainDoing.{PlainDoing}
+use Rattle.machine_turns.specs.declared.doing.PlainDoing.TheVariants as doings
+use Rattle.machine_turns.specs.declared.doing.PlainNext.TheVariants as nexts
+use Rattle.machine_turns.specs.declared.doing.PlainPurpose.{PlainPurpose}
+use Rattle.machine_turns.specs.declared.doing.PlainPurpose.TheVariants as purposes
 use Rattle.machine_turns.specs.declared.event.Event.TheVariants as events
-use Rattle.machine_turns.specs.declared.script.Line.{Line}
+use Rattle.machine_turns.specs.declared.script.PlainLine.{PlainLine}
 use Rattle.machine_turns.specs.Writer.{WriterState, page_at, segment_at, succeeds}
 use Rattle.machine_turns.specs.Writing.{is_some_waiting, page_or_end, segment_waiting}
 use Rattle.machine_core.specs.Following.{Follows, StandsPlain, plain_step}
@@ -43,7 +43,7 @@ page_or_end_by (purposes.Page lock end) known a b written waiting = λ i.
     cond (ltb (written i) known) (doings.LoadsPage (purposes.Page lock end) 0)
     (doings.StoresWritten (purposes.Page lock end))
 
-module _ (m : Machine) (number : ℕ) (v : View) (ask : Ask) (line : Line) (copied : Option Line)
+module _ (m : Machine) (number : ℕ) (v : View) (ask : Ask) (line : PlainLine) (copied : Option PlainLine)
     (w : WriterState) where
   abbrev words : List ℕ
   words = (m.state).words

@@ -8,11 +8,11 @@ use Rattle.wal_core.specs.Steps.{load_lock, take_lock, with_call_on, with_slot, 
 use Rattle.wal_turns.specs.Doing.{Ask, Machine, ForLine}
 use Rattle.wal_turns.specs.Turned.{lock_tried}
 use Rattle.wal_turns.proofs.FlushPlaces.{hold_of}
-use Rattle.machine_turns.specs.declared.doing.Doing.{Doing as PlainDoing}
-use Rattle.machine_turns.specs.declared.doing.Doing.TheVariants as doings
-use Rattle.machine_turns.specs.declared.doing.Next.{Next as PlainNext}
-use Rattle.machine_turns.specs.declared.doing.Next.TheVariants.{GoesOn, Answers}
-use Rattle.machine_turns.specs.declared.script.Line.{Line}
+use Rattle.machine_turns.specs.declared.doing.PlainDoing.{PlainDoing}
+use Rattle.machine_turns.specs.declared.doing.PlainDoing.TheVariants as doings
+use Rattle.machine_turns.specs.declared.doing.PlainNext.{PlainNext}
+use Rattle.machine_turns.specs.declared.doing.PlainNext.TheVariants.{GoesOn, Answers}
+use Rattle.machine_turns.specs.declared.script.PlainLine.{PlainLine}
 use Rattle.machine_turns.specs.Lanes.{Stepped}
 use Rattle.machine_turns.specs.Writer.{WriterState}
 use Rattle.machine_core.specs.Following.{Follows, StandsPlain, plain_step, step_made, view_left, number_met}
@@ -35,7 +35,7 @@ use Rattle.machine_core.proofs.PagelessNext.{IsPageless, LeavesNone}
 use Rattle.machine_core.proofs.NumberStays.{number_stays}
 use Rattle.machine_core.proofs.QuietSteps.{IsQuiet, quiet_load_down, quiet_mapping, quiet_reserving, quiet_take_lock, quiet_either}
 
-module _ (m : Machine) (number : ℕ) (v : View) (ask : Ask) (line : Line) (copied : Option Line)
+module _ (m : Machine) (number : ℕ) (v : View) (ask : Ask) (line : PlainLine) (copied : Option PlainLine)
     (w : WriterState) where
   abbrev Stands : PlainDoing → Type 0
   Stands d = StandsPlain m number v ask line copied w d
@@ -242,6 +242,7 @@ module _ (m : Machine) (number : ℕ) (v : View) (ask : Ask) (line : Line) (copi
     failing_kept = refl;
     size_kept = refl;
     end_kept = refl;
+    first_kept = refl;
     whole = s.whole;
   }
 
@@ -267,30 +268,35 @@ module _ (m : Machine) (number : ℕ) (v : View) (ask : Ask) (line : Line) (copi
     failing_kept = refl;
     size_kept = refl;
     end_kept = refl;
+    first_kept = refl;
     whole = held.loads_page_whole m number v ask line copied w purpose loaded s;
   }
   like_next (doings.Creates purpose) s = record {
     failing_kept = refl;
     size_kept = refl;
     end_kept = refl;
+    first_kept = refl;
     whole = s.whole;
   }
   like_next (doings.Writes purpose) s = record {
     failing_kept = refl;
     size_kept = refl;
     end_kept = refl;
+    first_kept = refl;
     whole = s.whole;
   }
   like_next (doings.SyncsFull purpose) s = record {
     failing_kept = refl;
     size_kept = refl;
     end_kept = refl;
+    first_kept = refl;
     whole = s.whole;
   }
   like_next doings.SyncsLast s = record {
     failing_kept = refl;
     size_kept = refl;
     end_kept = refl;
+    first_kept = refl;
     whole = s.whole;
   }
   like_next (doings.StoresWritten purpose) s = like_same _ s

@@ -5,7 +5,7 @@ use Rattle.std.proofs.lemmas.List.Elements.{All-cons, All-head, All-tail, All-pu
 use mathlib.Core.Option.{some-injective, some-ne-none}
 use Rattle.byte_position.specs.Position.{end_address_of}
 use Rattle.record_spelling.specs.Spelling.{RecordOf}
-use Rattle.segment_disk.specs.Tape.{Tape}
+use Rattle.segment_disk.specs.declared.disk.Call.{Call}
 use Rattle.wal_core.specs.declared.setup.Setup.{Setup}
 use Rattle.wal_core.specs.Words.{Opening, log_limit, log_start}
 use Rattle.wal_core.specs.Moves.{no_writing, split_off}
@@ -18,8 +18,8 @@ use Rattle.wal_turns.specs.Doing.{Ask, Inserts, Commits, Flushes, Backend, Machi
 use Rattle.wal_turns.specs.Standing.{IsLine}
 use Rattle.wal_turns.proofs.FirstMachine.{runs_first, spares, split_at}
 use Rattle.machine_words.specs.Numbers.{WordsState}
-use Rattle.machine_turns.specs.declared.script.Line.{Line}
-use Rattle.machine_turns.specs.declared.script.Line.TheVariants.{Insert, Commit, Flush}
+use Rattle.machine_turns.specs.declared.script.PlainLine.{PlainLine}
+use Rattle.machine_turns.specs.declared.script.PlainLine.TheVariants.{Insert, Commit, Flush}
 use Rattle.machine_turns.specs.Lanes.{start_of_line}
 use Rattle.machine_turns.specs.Scripts.{body_of, rooms_of_lines}
 use Rattle.machine_turns.specs.Writer.{IsFreshWriter, WriterState}
@@ -32,7 +32,7 @@ use Rattle.machine_core.proofs.NextLanes.{begins_alike, few_at_begin, holds_at_b
 
 -- ---- the lines
 
-line_writable : (ask : Ask) (line : Line) → IsLineFor ask line → IsLine ask
+line_writable : (ask : Ask) (line : PlainLine) → IsLineFor ask line → IsLine ask
 line_writable (Inserts value) (Insert body) is = is.1
 line_writable (Inserts value) (Commit body) is = absurd is
 line_writable (Inserts value) Flush is = absurd is
@@ -41,13 +41,13 @@ line_writable (Commits value) (Commit body) is = is.1
 line_writable (Commits value) Flush is = absurd is
 line_writable Flushes line is = tt
 
-lines_writable : (asks : List Ask) (lines : List Line) → AreLinesFor asks lines → All IsLine asks
+lines_writable : (asks : List Ask) (lines : List PlainLine) → AreLinesFor asks lines → All IsLine asks
 lines_writable [] lines are = λ i x low. absurd (omega (arith, low))
 lines_writable (ask ∷ asks) [] are = absurd are
 lines_writable (ask ∷ asks) (line ∷ lines) are = All-cons IsLine ask asks
     (line_writable ask line are.0) (lines_writable asks lines are.1)
 
-scripts_writable : (asks : List (List Ask)) (scripts : List (List Line))
+scripts_writable : (asks : List (List Ask)) (scripts : List (List PlainLine))
     → AreScriptsFor asks scripts → All (All IsLine) asks
 scripts_writable [] [] are = λ i x low. absurd (omega (arith, low))
 scripts_writable [] (script ∷ scripts) are = absurd are
@@ -55,7 +55,7 @@ scripts_writable (ask ∷ asks) [] are = absurd are
 scripts_writable (ask ∷ asks) (script ∷ scripts) are = All-cons (All IsLine) ask asks
     (lines_writable ask script are.0) (scripts_writable asks scripts are.1)
 
-same_length : (asks : List (List Ask)) (scripts : List (List Line)) → AreScriptsFor asks scripts
+same_length : (asks : List (List Ask)) (scripts : List (List PlainLine)) → AreScriptsFor asks scripts
     → length asks ≡ length scripts
 same_length [] [] are = refl
 same_length [] (script ∷ scripts) are = absurd are
@@ -64,7 +64,7 @@ same_length (ask ∷ asks) (script ∷ scripts) are = ap suc (same_length asks s
 
 -- ---- the lanes
 
-same_count : (asks : List (List Ask)) (scripts : List (List Line)) → AreScriptsFor asks scripts
+same_count : (asks : List (List Ask)) (scripts : List (List PlainLine)) → AreScriptsFor asks scripts
     → (size base : ℕ) → length (first_lanes size base scripts) ≡ length (map first_backend asks)
 same_count [] [] are size base = refl
 same_count [] (script ∷ scripts) are size base = absurd are
@@ -73,17 +73,17 @@ same_count (ask ∷ asks) (script ∷ scripts) are size base =
     ap suc (same_count asks scripts are.1 size (base + 1))
 
 -- the backend with this number has its lines, and its lane their script
-record HasFirst (asks : List (List Ask)) (scripts : List (List Line)) (size base number : ℕ)
+record HasFirst (asks : List (List Ask)) (scripts : List (List PlainLine)) (size base number : ℕ)
     (b : Backend) : Type 0 where
   lines : List Ask
-  script : List Line
+  script : List PlainLine
   backend_is : first_backend lines ≡ b
   lane_at : slice_get (first_lanes size base scripts) number
       ≡ Some (first_lane size (base + number) script)
   are : AreLinesFor lines script
   low : number < length asks
 
-lane_first : (asks : List (List Ask)) (scripts : List (List Line)) → AreScriptsFor asks scripts
+lane_first : (asks : List (List Ask)) (scripts : List (List PlainLine)) → AreScriptsFor asks scripts
     → (size base number : ℕ) (b : Backend) → slice_get (map first_backend asks) number ≡ Some b
     → HasFirst asks scripts size base number b
 lane_first [] scripts are size base number b there = absurd (cc)
@@ -112,7 +112,7 @@ lane_first (ask ∷ asks) (script ∷ scripts) are size base (suc number) b ther
 
 -- ---- room
 
-rooms_first : (size base : ℕ) (scripts : List (List Line))
+rooms_first : (size base : ℕ) (scripts : List (List PlainLine))
     → all_rooms_left (first_lanes size base scripts) ≤ rooms_of_scripts scripts
 rooms_first size base [] = omega arith
 rooms_first size base (script ∷ scripts) =
@@ -169,7 +169,7 @@ module _ (opening : Opening) where
 -- ---- all
 
 module _ (setup : Setup) (is : IsSetup setup) (words : WordsState) (w : WriterState)
-    (failing : List ℕ) (scripts : List (List Line)) (few : length scripts < setup.passes)
+    (failing : List ℕ) (scripts : List (List PlainLine)) (few : length scripts < setup.passes)
     (first_words : AreFirstWords (first_opening setup) words.words)
     (pages_are : words.pages ≡ setup.ring_pages) (end : ℕ)
     (end_is : end ≡ end_address_of setup.segment_size
@@ -190,8 +190,8 @@ module _ (setup : Setup) (is : IsSetup setup) (words : WordsState) (w : WriterSt
   pub writer_first : IsFirstWriter opening w.plain
   writer_first = record {
     moment_is = first.moment;
-    counted = subst (λ (t : Option Tape). IfSome t (λ x. (w.plain).moment ≡ length x.calls))
-        (sym first.tape) first.moment;
+    counted = subst (λ (o : Option (List Call)). IfSome o (λ calls. (w.plain).moment ≡ length calls))
+        (sym first.calls) first.moment;
     written = first.written;
     made = first.made;
     waiting = first.waiting;
@@ -243,7 +243,8 @@ module _ (setup : Setup) (is : IsSetup setup) (words : WordsState) (w : WriterSt
 
     pub begins_playing : PlaysMachine core begun
     begins_playing = record {
-      running = runs_first opening words.words w.plain w.failing asks may;
+      running = runs_first opening words.words w.plain w.first w.failing asks may;
+      first_is = refl;
       setup_is = refl;
       since = refl;
       unfailed = refl;
@@ -274,12 +275,12 @@ module _ (setup : Setup) (is : IsSetup setup) (words : WordsState) (w : WriterSt
 -- ---- the lines are asked for
 
 -- a line that inserts a record inserts one that can be written
-pub line_asked : (line : Line) → IfSome (body_of line) RecordOf → IsAsked line
+pub line_asked : (line : PlainLine) → IfSome (body_of line) RecordOf → IsAsked line
 line_asked (Insert body) known = (Inserts known.value, (known.same, known.writable))
 line_asked (Commit body) known = (Commits known.value, (known.same, known.writable))
 line_asked Flush known = (Flushes, tt)
 
-pub lines_asked : (lines : List Line) → All IsAsked lines
+pub lines_asked : (lines : List PlainLine) → All IsAsked lines
     → (asks : List Ask) × AreLinesFor asks lines
 lines_asked [] all = ([], tt)
 lines_asked (line ∷ lines) all =
@@ -287,7 +288,7 @@ lines_asked (line ∷ lines) all =
     let rest = lines_asked lines (All-tail IsAsked line lines all) in
     (here.0 ∷ rest.0, (here.1, rest.1))
 
-pub scripts_asked : (scripts : List (List Line)) → All (All IsAsked) scripts
+pub scripts_asked : (scripts : List (List PlainLine)) → All (All IsAsked) scripts
     → (asks : List (List Ask)) × AreScriptsFor asks scripts
 scripts_asked [] all = ([], tt)
 scripts_asked (script ∷ scripts) all =

@@ -12,13 +12,13 @@ use Rattle.wal_turns.specs.Doing.{Ask, Machine, ForLine, LoadsMoment, Visits, Ta
 use Rattle.wal_turns.specs.Turned.{asked_end, behind_writing as machine_behind, goes_on, outcome}
 use Rattle.wal_turns.specs.Standing.{WritesFor}
 use Rattle.wal_turns.proofs.Poses.{bool_cases}
-use Rattle.machine_turns.specs.declared.doing.Doing.{Doing as PlainDoing}
-use Rattle.machine_turns.specs.declared.doing.Doing.TheVariants as doings
-use Rattle.machine_turns.specs.declared.doing.Next.TheVariants as nexts
-use Rattle.machine_turns.specs.declared.doing.Purpose.{Purpose as PlainPurpose}
-use Rattle.machine_turns.specs.declared.doing.Purpose.TheVariants as purposes
-use Rattle.machine_turns.specs.declared.script.Line.{Line}
-use Rattle.machine_turns.specs.declared.view.Watching.{Watching as PlainWatching}
+use Rattle.machine_turns.specs.declared.doing.PlainDoing.{PlainDoing}
+use Rattle.machine_turns.specs.declared.doing.PlainDoing.TheVariants as doings
+use Rattle.machine_turns.specs.declared.doing.PlainNext.TheVariants as nexts
+use Rattle.machine_turns.specs.declared.doing.PlainPurpose.{PlainPurpose}
+use Rattle.machine_turns.specs.declared.doing.PlainPurpose.TheVariants as purposes
+use Rattle.machine_turns.specs.declared.script.PlainLine.{PlainLine}
+use Rattle.machine_turns.specs.declared.view.PlainWatching.{PlainWatching}
 use Rattle.machine_turns.specs.Flushing.{behind_writing}
 use Rattle.machine_turns.specs.Inserting.{watch_begun, watch_visited}
 use Rattle.machine_turns.specs.Writer.{WriterState}
@@ -62,7 +62,7 @@ none_own v (purposes.Page other end) ask h lock p =
     ap (λ (f : Flight). is_among (v.working).locks lock && is_landed f) (p.0.1).flight_is
     ∙ and-false (is_among (v.working).locks lock)
 
-module _ (m : Machine) (number : ℕ) (v : View) (ask : Ask) (line : Line) (copied : Option Line)
+module _ (m : Machine) (number : ℕ) (v : View) (ask : Ask) (line : PlainLine) (copied : Option PlainLine)
     (w : WriterState) where
   abbrev words : List ℕ
   words = (m.state).words

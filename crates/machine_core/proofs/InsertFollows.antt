@@ -18,14 +18,14 @@ use Rattle.wal_turns.specs.Turned.{asked_end, fits, goes_on, lock_tried}
 use Rattle.wal_turns.specs.Standing.{IsRecord, IsUnder, IsLeft}
 use Rattle.wal_turns.proofs.AtView.{sound}
 use Rattle.wal_turns.proofs.Poses.{of_posed, posed}
-use Rattle.machine_turns.specs.declared.doing.Doing.{Doing as PlainDoing}
-use Rattle.machine_turns.specs.declared.doing.Doing.TheVariants as doings
-use Rattle.machine_turns.specs.declared.doing.Next.TheVariants.{GoesOn}
-use Rattle.machine_turns.specs.declared.script.Line.{Line}
-use Rattle.machine_turns.specs.declared.script.Line.TheVariants.{Insert, Commit, Flush}
-use Rattle.machine_turns.specs.declared.view.Flight.TheVariants as flights
+use Rattle.machine_turns.specs.declared.doing.PlainDoing.{PlainDoing}
+use Rattle.machine_turns.specs.declared.doing.PlainDoing.TheVariants as doings
+use Rattle.machine_turns.specs.declared.doing.PlainNext.TheVariants.{GoesOn}
+use Rattle.machine_turns.specs.declared.script.PlainLine.{PlainLine}
+use Rattle.machine_turns.specs.declared.script.PlainLine.TheVariants.{Insert, Commit, Flush}
+use Rattle.machine_turns.specs.declared.view.PlainFlight.TheVariants as flights
 use Rattle.machine_turns.specs.declared.view.PlainView.{PlainView}
-use Rattle.machine_turns.specs.declared.view.Watching.{Watching as PlainWatching}
+use Rattle.machine_turns.specs.declared.view.PlainWatching.{PlainWatching}
 use Rattle.machine_turns.specs.Writer.{WriterState}
 use Rattle.machine_turns.specs.Inserting.{reserved, watch_begun, watch_visited}
 use Rattle.machine_core.specs.Lines.{InsertsRecord, IsLineFor}
@@ -90,10 +90,10 @@ reserved_plain lock at prev u value =
     }
 
 -- a line that inserts a record has that record assembled
-pub by_line : (P : Ask → Line → Type 0)
+pub by_line : (P : Ask → PlainLine → Type 0)
     → ((value : Record) → P (Inserts value) (Insert (assembled value)))
     → ((value : Record) → P (Commits value) (Commit (assembled value)))
-    → (a : Ask) (l : Line) → IsLineFor a l → IsRecord a → P a l
+    → (a : Ask) (l : PlainLine) → IsLineFor a l → IsRecord a → P a l
 by_line P p q (Inserts value) (Insert body) is record_is =
     subst (λ (b : Assembled). P (Inserts value) (Insert b)) (sym is.0) (p value)
 by_line P p q (Inserts value) (Commit body) is record_is = absurd is
@@ -139,7 +139,7 @@ behind_copy lock true b = refl
 behind_copy lock false true = refl
 behind_copy lock false false = refl
 
-module _ (m : Machine) (number : ℕ) (v : View) (ask : Ask) (line : Line) (copied : Option Line)
+module _ (m : Machine) (number : ℕ) (v : View) (ask : Ask) (line : PlainLine) (copied : Option PlainLine)
     (w : WriterState) where
   pub begins_follow : StandsPlain m number v ask line copied w doings.Begins
       → Follows m v ask doings.Begins (plain_step m v line copied w doings.Begins).left
@@ -153,7 +153,7 @@ module _ (m : Machine) (number : ℕ) (v : View) (ask : Ask) (line : Line) (copi
   abbrev Goal : PlainDoing → View → Type 0
   Goal d u = Follows m u ask d (plain_step m u line copied w d).left
 
-  abbrev GoalFor : PlainDoing → View → Ask → Line → Type 0
+  abbrev GoalFor : PlainDoing → View → Ask → PlainLine → Type 0
   GoalFor d u a l = Follows m u a d (plain_step m u l copied w d).left
 
   abbrev with_watching : View → PlainWatching → PlainView
@@ -305,7 +305,7 @@ module _ (m : Machine) (number : ℕ) (v : View) (ask : Ask) (line : Line) (copi
       of_posed (Goal (doings.Looks lock)) Free (lock ∷ []) (Copying c) Away Idle v
       s.stands.0.1 (looks_at lock c v)
 
-  abbrev GoalOf : PlainDoing → View → Option Line → Type 0
+  abbrev GoalOf : PlainDoing → View → Option PlainLine → Type 0
   GoalOf d u l = Follows m u ask d (plain_step m u line l w d).left
 
   copies_at : (lock : ℕ) (c : Copy) (u : View) → IsSegmentSize ((u.opening).setup).segment_size
@@ -329,7 +329,7 @@ module _ (m : Machine) (number : ℕ) (v : View) (ask : Ask) (line : Line) (copi
   -- the line copied has the record in flight assembled
   copies_line : (lock : ℕ) (c : Copy) (u : View) → IsSegmentSize ((u.opening).setup).segment_size
       → IsUnder lock c → IsLeft ((u.opening).setup).segment_size c
-      → (l : Line) → InsertsRecord (c.entry).value l
+      → (l : PlainLine) → InsertsRecord (c.entry).value l
       → GoalOf (doings.Copies lock) (at_copy lock c u) (Some l)
   copies_line lock c u valid under left (Insert body) is = subst
       (λ (b : Assembled). GoalOf (doings.Copies lock) (at_copy lock c u) (Some (Insert b)))

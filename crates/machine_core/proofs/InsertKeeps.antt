@@ -12,16 +12,16 @@ use Rattle.wal_turns.specs.Doing.{Ask, Inserts, Commits, Flushes, Machine}
 use Rattle.wal_turns.specs.Turned.{can_step, fits, lock_tried}
 use Rattle.wal_turns.specs.Standing.{IsRecord, IsUnder}
 use Rattle.wal_turns.proofs.Poses.{of_posed, posed}
-use Rattle.machine_turns.specs.declared.doing.Doing.{Doing as PlainDoing}
-use Rattle.machine_turns.specs.declared.doing.Doing.TheVariants as doings
-use Rattle.machine_turns.specs.declared.doing.Next.{Next as PlainNext}
-use Rattle.machine_turns.specs.declared.doing.Next.TheVariants as nexts
-use Rattle.machine_turns.specs.declared.script.Line.{Line}
+use Rattle.machine_turns.specs.declared.doing.PlainDoing.{PlainDoing}
+use Rattle.machine_turns.specs.declared.doing.PlainDoing.TheVariants as doings
+use Rattle.machine_turns.specs.declared.doing.PlainNext.{PlainNext}
+use Rattle.machine_turns.specs.declared.doing.PlainNext.TheVariants as nexts
+use Rattle.machine_turns.specs.declared.script.PlainLine.{PlainLine}
 use Rattle.machine_turns.specs.declared.view.PlainView.{PlainView}
-use Rattle.machine_turns.specs.declared.view.Place.{Place as PlainPlace}
-use Rattle.machine_turns.specs.declared.view.Place.TheVariants as places
-use Rattle.machine_turns.specs.declared.view.Stage.{Stage as PlainStage}
-use Rattle.machine_turns.specs.declared.view.Stage.TheVariants as stages
+use Rattle.machine_turns.specs.declared.view.PlainPlace.{PlainPlace}
+use Rattle.machine_turns.specs.declared.view.PlainPlace.TheVariants as places
+use Rattle.machine_turns.specs.declared.view.PlainStage.{PlainStage}
+use Rattle.machine_turns.specs.declared.view.PlainStage.TheVariants as stages
 use Rattle.machine_turns.specs.Left.{at_place, at_stage, page_end_in}
 use Rattle.machine_turns.specs.Lanes.{is_commit, stepped}
 use Rattle.machine_turns.specs.Inserting.{has_no_word_left, lock_to_try, with_one_more}
@@ -44,7 +44,7 @@ either_few : (b : Bool) (d e : PlainDoing) → TriesFew d → TriesFew e
 either_few true d e p q = p
 either_few false d e p q = q
 
-module _ (setup : Setup) (words : List ℕ) (w : WriterState) (line : Line) (copied : Option Line)
+module _ (setup : Setup) (words : List ℕ) (w : WriterState) (line : PlainLine) (copied : Option PlainLine)
   where
     abbrev Few : PlainView → PlainDoing → Type 0
     Few view d = FewBehind ((((stepped setup words w view line copied d).left).made).next)
@@ -149,7 +149,7 @@ pub kept_or_new : (v : View) (ask : Ask) (d : PlainDoing) (c : Copy) → IsCopyB
 kept_or_new v ask (doings.Reserves lock) c is = inr ((lock, refl), is)
 kept_or_new v ask other c is = inl is
 
-module _ (m : Machine) (number : ℕ) (v : View) (ask : Ask) (line : Line) (copied : Option Line)
+module _ (m : Machine) (number : ℕ) (v : View) (ask : Ask) (line : PlainLine) (copied : Option PlainLine)
     (w : WriterState) where
   pub begins_keeps : StandsPlain m number v ask line copied w doings.Begins
       → KeepsCopy m v ask doings.Begins

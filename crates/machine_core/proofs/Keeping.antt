@@ -4,10 +4,10 @@ use mathlib.Core.Option.{some}
 use Rattle.wal_core.specs.Views.{Copy, Copying, Lent, Out, Plain, View}
 use Rattle.wal_core.specs.Steps.{home_behind}
 use Rattle.wal_turns.specs.Doing.{Ask, Machine}
-use Rattle.machine_turns.specs.declared.doing.Doing.{Doing as PlainDoing}
-use Rattle.machine_turns.specs.declared.doing.Next.{Next as PlainNext}
-use Rattle.machine_turns.specs.declared.doing.Next.TheVariants.{GoesOn, Answers}
-use Rattle.machine_turns.specs.declared.script.Line.{Line}
+use Rattle.machine_turns.specs.declared.doing.PlainDoing.{PlainDoing}
+use Rattle.machine_turns.specs.declared.doing.PlainNext.{PlainNext}
+use Rattle.machine_turns.specs.declared.doing.PlainNext.TheVariants.{GoesOn, Answers}
+use Rattle.machine_turns.specs.declared.script.PlainLine.{PlainLine}
 use Rattle.machine_turns.specs.Lanes.{Stepped}
 use Rattle.machine_turns.specs.Writer.{WriterState}
 use Rattle.machine_core.specs.Playing.{HoldsPageFor, TriesFew}
@@ -28,9 +28,10 @@ pub record IsLikeWriter (old new : WriterState) : Type 0 where
   pub failing_kept : new.failing ≡ old.failing
   pub size_kept : new.size ≡ old.size
   pub end_kept : new.end ≡ old.end
+  pub first_kept : new.first ≡ old.first
   pub whole : length new.page ≡ 8192
 
-pub record Keeps (m : Machine) (v : View) (ask : Ask) (line : Line) (w : WriterState)
+pub record Keeps (m : Machine) (v : View) (ask : Ask) (line : PlainLine) (w : WriterState)
     (d : PlainDoing) (s : Stepped) : Type 0 where
   pub at_home : (p : Plain) → home_behind v (step_made m v ask d) (m.state).home ≡ some p
       → p ≡ (s.writer).plain

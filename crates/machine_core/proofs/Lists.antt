@@ -1,7 +1,7 @@
 -- Lists by index, and lines with what they ask for.
 use Rattle.std.proofs.Common.{◌≡◌, ◌≢◌, ◌⊎◌, inl, inr, ⊎_elim, ℕ, zero, suc, ◌<◌, List, [], ◌∷◌, length, set, slice_get, Some, None, refl, sym, ap, arith}
 use Rattle.wal_turns.specs.Doing.{Ask}
-use Rattle.machine_turns.specs.declared.script.Line.{Line}
+use Rattle.machine_turns.specs.declared.script.PlainLine.{PlainLine}
 use Rattle.machine_core.specs.Lines.{AreLinesFor, IsLineFor}
 
 module _ {A : Type 0} where
@@ -57,9 +57,9 @@ module _ {A : Type 0} where
   none_above (z ∷ zs) (suc i) e low = none_above zs i e (omega arith)
 
 -- a line and what it asks for stand at the same number, or neither does
-pub lines_agree : (asks : List Ask) (lines : List Line) → AreLinesFor asks lines → (i : ℕ)
+pub lines_agree : (asks : List Ask) (lines : List PlainLine) → AreLinesFor asks lines → (i : ℕ)
     → ((slice_get asks i ≡ None) × (slice_get lines i ≡ None))
-    ⊎ ((ask : Ask) × (line : Line) × (slice_get asks i ≡ Some ask)
+    ⊎ ((ask : Ask) × (line : PlainLine) × (slice_get asks i ≡ Some ask)
     × (slice_get lines i ≡ Some line) × IsLineFor ask line)
 lines_agree [] [] are i = inl (refl, refl)
 lines_agree [] (line ∷ lines) are i = absurd are

@@ -11,9 +11,9 @@ use Rattle.wal_turns.specs.Doing.{Ask, Machine}
 use Rattle.wal_turns.specs.Turned.{can_step, next_page_end}
 use Rattle.wal_turns.specs.Standing.{IsRecord, IsUnder}
 use Rattle.wal_turns.proofs.Poses.{of_posed, posed}
-use Rattle.machine_turns.specs.declared.doing.Doing.{Doing as PlainDoing}
-use Rattle.machine_turns.specs.declared.doing.Doing.TheVariants as doings
-use Rattle.machine_turns.specs.declared.script.Line.{Line}
+use Rattle.machine_turns.specs.declared.doing.PlainDoing.{PlainDoing}
+use Rattle.machine_turns.specs.declared.doing.PlainDoing.TheVariants as doings
+use Rattle.machine_turns.specs.declared.script.PlainLine.{PlainLine}
 use Rattle.machine_turns.specs.Writer.{WriterState}
 use Rattle.machine_core.specs.Lines.{IsLineFor}
 use Rattle.machine_core.specs.PlainData.{doing_of, plain_flight, plain_view}
@@ -28,12 +28,12 @@ lands lock c under =
     (ap (λ (b : Bool). cond (b || false) (standing c (cond (not b) (lock ∷ []) [])) (Copying c))
     (eq-eqb lock lock refl))
 
-module _ (m : Machine) (number : ℕ) (v : View) (ask : Ask) (line : Line) (copied : Option Line)
+module _ (m : Machine) (number : ℕ) (v : View) (ask : Ask) (line : PlainLine) (copied : Option PlainLine)
     (w : WriterState) where
   abbrev Goal : PlainDoing → View → Type 0
   Goal d u = Follows m u ask d (plain_step m u line copied w d).left
 
-  abbrev GoalFor : PlainDoing → View → Ask → Line → Type 0
+  abbrev GoalFor : PlainDoing → View → Ask → PlainLine → Type 0
   GoalFor d u a l = Follows m u a d (plain_step m u l copied w d).left
 
   abbrev at_map : ℕ → Copy → Stage → View → View

@@ -3,12 +3,12 @@ use Rattle.std.proofs.Common.{◌≡◌, ⊎_elim, ℕ, ◌+◌, List, slice_get
 use Rattle.wal_core.specs.Views.{Copy, Copying, View}
 use Rattle.wal_turns.specs.Doing.{Ask, Inserts, Commits, Flushes, Backend}
 use Rattle.wal_turns.specs.Turned.{line_start, with_answer, with_next}
-use Rattle.machine_turns.specs.declared.doing.Doing.{Doing as PlainDoing}
-use Rattle.machine_turns.specs.declared.doing.Next.{Next as PlainNext}
-use Rattle.machine_turns.specs.declared.doing.Next.TheVariants.{GoesOn, Answers}
-use Rattle.machine_turns.specs.declared.lane.Lane.{Lane}
-use Rattle.machine_turns.specs.declared.script.Line.{Line}
-use Rattle.machine_turns.specs.declared.script.Line.TheVariants.{Insert, Commit, Flush}
+use Rattle.machine_turns.specs.declared.doing.PlainDoing.{PlainDoing}
+use Rattle.machine_turns.specs.declared.doing.PlainNext.{PlainNext}
+use Rattle.machine_turns.specs.declared.doing.PlainNext.TheVariants.{GoesOn, Answers}
+use Rattle.machine_turns.specs.declared.lane.PlainBackend.{PlainBackend}
+use Rattle.machine_turns.specs.declared.script.PlainLine.{PlainLine}
+use Rattle.machine_turns.specs.declared.script.PlainLine.TheVariants.{Insert, Commit, Flush}
 use Rattle.machine_turns.specs.declared.view.PlainView.{PlainView}
 use Rattle.machine_turns.specs.Lanes.{lane_answered, lane_behind, start_of_line}
 use Rattle.machine_core.proofs.Keeping.{NextHas}
@@ -17,7 +17,7 @@ use Rattle.machine_core.specs.PlainData.{doing_of, next_of_plain, plain_view}
 use Rattle.machine_core.specs.Playing.{HoldsPageFor, IsLaneOf, TriesFew}
 use Rattle.machine_core.proofs.Lists.{lines_agree}
 
-starts_alike : (ask : Ask) (line : Line) → IsLineFor ask line
+starts_alike : (ask : Ask) (line : PlainLine) → IsLineFor ask line
     → line_start (Some ask) ≡ doing_of (start_of_line (Some line))
 starts_alike (Inserts value) (Insert body) is = refl
 starts_alike (Inserts value) (Commit body) is = absurd is
@@ -30,36 +30,36 @@ starts_alike Flushes (Commit body) is = absurd is
 starts_alike Flushes Flush is = refl
 
 -- the next line begins alike
-pub begins_alike : (asks : List Ask) (script : List Line) → AreLinesFor asks script → (i : ℕ)
+pub begins_alike : (asks : List Ask) (script : List PlainLine) → AreLinesFor asks script → (i : ℕ)
     → line_start (slice_get asks i) ≡ doing_of (start_of_line (slice_get script i))
 begins_alike asks script are i = ⊎_elim
     (λ (x : (slice_get asks i ≡ None) × (slice_get script i ≡ None)).
-    ap line_start x.0 ∙ sym (ap (λ (l : Option Line). doing_of (start_of_line l)) x.1))
-    (λ (x : (ask : Ask) × (line : Line) × (slice_get asks i ≡ Some ask)
+    ap line_start x.0 ∙ sym (ap (λ (l : Option PlainLine). doing_of (start_of_line l)) x.1))
+    (λ (x : (ask : Ask) × (line : PlainLine) × (slice_get asks i ≡ Some ask)
     × (slice_get script i ≡ Some line) × IsLineFor ask line).
     ap line_start x.2 ∙ starts_alike x.0 x.1 x.4
-    ∙ sym (ap (λ (l : Option Line). doing_of (start_of_line l)) x.3))
+    ∙ sym (ap (λ (l : Option PlainLine). doing_of (start_of_line l)) x.3))
     (lines_agree asks script are i)
 
 -- at a line's begin no page is loaded, and no lock was tried
-pub holds_at_begin : (page : List ℕ) (v : View) (line : Option Line)
+pub holds_at_begin : (page : List ℕ) (v : View) (line : Option PlainLine)
     → HoldsPageFor page v (start_of_line line)
 holds_at_begin page v None = tt
 holds_at_begin page v (Some (Insert body)) = tt
 holds_at_begin page v (Some (Commit body)) = tt
 holds_at_begin page v (Some Flush) = tt
 
-pub few_at_begin : (line : Option Line) → TriesFew (start_of_line line)
+pub few_at_begin : (line : Option PlainLine) → TriesFew (start_of_line line)
 few_at_begin None = tt
 few_at_begin (Some (Insert body)) = tt
 few_at_begin (Some (Commit body)) = tt
 few_at_begin (Some Flush) = tt
 
-module _ (page : List ℕ) (view : PlainView) (script : List Line) (copied answered : ℕ)
+module _ (page : List ℕ) (view : PlainView) (script : List PlainLine) (copied answered : ℕ)
     (d : PlainDoing) (asks : List Ask) (w : View) (lines : AreLinesFor asks script)
     (same : view ≡ plain_view w)
     (copies : (c : Copy) → (w.working).flight ≡ Copying c → HasRecord script copied (c.entry).value) where
-  abbrev lane : Lane
+  abbrev lane : PlainBackend
   lane = record {
     view = view;
     script = script;
@@ -83,7 +83,7 @@ module _ (page : List ℕ) (view : PlainView) (script : List Line) (copied answe
     ended = λ none_left. ap start_of_line none_left;
   }
 
-  pub lane_follows : (line : Line) → slice_get script answered ≡ Some line → (next : PlainNext)
+  pub lane_follows : (line : PlainLine) → slice_get script answered ≡ Some line → (next : PlainNext)
       → NextHas TriesFew next → NextHas (HoldsPageFor page w) next
       → IsLaneOf page (lane_behind next lane) (with_next (next_of_plain next) backend) w
   lane_follows line left (GoesOn later) few holds = record {

@@ -10,9 +10,9 @@ use Rattle.wal_core.proofs.Lists.{at_place, at_else, one_set, part_at}
 use Rattle.wal_turns.specs.Doing.{Backend, Machine}
 use Rattle.wal_turns.specs.Standing.{HasBackend, IsRunning}
 use Rattle.wal_turns.specs.Turned.{bytes_staged}
-use Rattle.machine_turns.specs.declared.doing.Doing.{Doing as PlainDoing}
-use Rattle.machine_turns.specs.declared.doing.Doing.TheVariants as doings
-use Rattle.machine_turns.specs.declared.lane.Lane.{Lane}
+use Rattle.machine_turns.specs.declared.doing.PlainDoing.{PlainDoing}
+use Rattle.machine_turns.specs.declared.doing.PlainDoing.TheVariants as doings
+use Rattle.machine_turns.specs.declared.lane.PlainBackend.{PlainBackend}
 use Rattle.machine_turns.specs.Lanes.{PlayedTurn}
 use Rattle.machine_turns.specs.Writer.{WriterState}
 use Rattle.machine_core.proofs.Keeping.{IsLikeWriter, MayWrite}
@@ -20,12 +20,12 @@ use Rattle.machine_core.specs.Playing.{CoreState, HasLaneOf, HasLoaded, HasRoomF
 use Rattle.machine_core.proofs.Lists.{set_cases, set_here, set_there, length_set}
 
 module _ (core : CoreState) (m : Machine) (k : PlaysMachine core m) (number : ℕ) (b : Backend)
-    (here : HasBackend m number b) (lane : Lane) (at : slice_get core.lanes number ≡ Some lane)
+    (here : HasBackend m number b) (lane : PlainBackend) (at : slice_get core.lanes number ≡ Some lane)
     (v : View) (live : IsLive m.state (number + 1) v) where
   abbrev views : List View
   views = (m.state).views
 
-  abbrev sound : IsSound m.opening (m.state).words (m.state).home (m.state).views
+  abbrev sound : IsSound m.first m.opening (m.state).words (m.state).home (m.state).views
   sound = (k.running).sound
 
   -- how a view stands to the writer that has it in hand
@@ -166,6 +166,7 @@ module _ (core : CoreState) (m : Machine) (k : PlaysMachine core m) (number : �
     pub plays_on : IsRunning later → PlaysMachine (core_behind core number p) later
     plays_on running = record {
       running = running;
+      first_is = k.first_is ∙ sym like.first_kept;
       setup_is = k.setup_is;
       since = k.since;
       unfailed = k.unfailed;

@@ -4,14 +4,14 @@ use Rattle.std.proofs.Math.Dec.{ltb, leb}
 use Rattle.wal_core.specs.declared.setup.Setup.{Setup}
 use Rattle.wal_core.specs.Words.{lock_word, log_limit, written_word}
 use Rattle.wal_core.specs.Views.{View}
-use Rattle.machine_turns.specs.declared.doing.Doing.{Doing as PlainDoing}
-use Rattle.machine_turns.specs.declared.doing.Doing.TheVariants as doings
-use Rattle.machine_turns.specs.declared.script.Line.{Line}
+use Rattle.machine_turns.specs.declared.doing.PlainDoing.{PlainDoing}
+use Rattle.machine_turns.specs.declared.doing.PlainDoing.TheVariants as doings
+use Rattle.machine_turns.specs.declared.script.PlainLine.{PlainLine}
 use Rattle.machine_turns.specs.declared.view.PlainView.{PlainView}
-use Rattle.machine_turns.specs.declared.view.Place.{Place as PlainPlace}
-use Rattle.machine_turns.specs.declared.view.Place.TheVariants as places
-use Rattle.machine_turns.specs.declared.view.Stage.{Stage as PlainStage}
-use Rattle.machine_turns.specs.declared.view.Stage.TheVariants as stages
+use Rattle.machine_turns.specs.declared.view.PlainPlace.{PlainPlace}
+use Rattle.machine_turns.specs.declared.view.PlainPlace.TheVariants as places
+use Rattle.machine_turns.specs.declared.view.PlainStage.{PlainStage}
+use Rattle.machine_turns.specs.declared.view.PlainStage.TheVariants as stages
 use Rattle.machine_turns.specs.Left.{Left, at_place, at_stage, next_in, page_end_in}
 use Rattle.machine_turns.specs.Inserting.{has_no_word_left, lock_to_try, with_one_more}
 use Rattle.machine_turns.specs.Lanes.{is_commit, stepped}
@@ -36,7 +36,7 @@ either_doing : (b : Bool) (d e : PlainDoing) → IsPageless d → IsPageless e
 either_doing true d e p q = p
 either_doing false d e p q = q
 
-module _ (setup : Setup) (words : List ℕ) (w : WriterState) (line : Line) (copied : Option Line)
+module _ (setup : Setup) (words : List ℕ) (w : WriterState) (line : PlainLine) (copied : Option PlainLine)
   where
     abbrev left_by : PlainView → PlainDoing → Left
     left_by view d = (stepped setup words w view line copied d).left

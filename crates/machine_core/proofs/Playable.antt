@@ -11,8 +11,8 @@ use Rattle.wal_core.specs.Views.{View}
 use Rattle.wal_core.proofs.Lists.{at_same}
 use Rattle.wal_turns.specs.Doing.{Ask, Doing, Machine}
 use Rattle.wal_turns.specs.Standing.{StandsToDo}
-use Rattle.machine_turns.specs.declared.lane.Lane.{Lane}
-use Rattle.machine_turns.specs.declared.script.Line.{Line}
+use Rattle.machine_turns.specs.declared.lane.PlainBackend.{PlainBackend}
+use Rattle.machine_turns.specs.declared.script.PlainLine.{PlainLine}
 use Rattle.machine_turns.specs.declared.view.PlainView.{PlainView}
 use Rattle.machine_turns.specs.Lanes.{IsLow, IsReadyFor, MayPlay}
 use Rattle.machine_core.specs.Lines.{IsLineFor}
@@ -51,7 +51,7 @@ module _ (core : CoreState) (m : Machine) (k : PlaysMachine core m) where
       (unlocked (position_word (m.state).words))
       (min (k.room).position (log_limit core.setup)) low)
 
-  pub may_play : (number : ℕ) (lane : Lane) → slice_get core.lanes number ≡ Some lane
+  pub may_play : (number : ℕ) (lane : PlainBackend) → slice_get core.lanes number ≡ Some lane
       → MayPlay core.setup (core.words).words core.writer lane
   may_play number lane at =
       let low = got_below core.lanes number lane at in
@@ -63,7 +63,7 @@ module _ (core : CoreState) (m : Machine) (k : PlaysMachine core m) where
       let v = run.0 in
       let same_view : found.2.0 ≡ v =
       at_same (m.state).views found.2.0 v (number + 1) found.2.1 run.1.0 in
-      let of = subst (λ (y : Lane × View). IsLaneOf (core.writer).page y.0 b y.1)
+      let of = subst (λ (y : PlainBackend × View). IsLaneOf (core.writer).page y.0 b y.1)
       (λ i. (same i, same_view i)) found.2.2 in
       let own = (((k.running).sound).grounded (number + 1) v run.1.0).opening_is run.1.1 in
       let setup_own : (v.opening).setup ≡ core.setup =
@@ -77,7 +77,7 @@ module _ (core : CoreState) (m : Machine) (k : PlaysMachine core m) where
             × (slice_get lane.script lane.answered ≡ None)).
             subst (IsReadyFor core.setup (core.words).words core.writer lane.view
             (slice_get lane.script lane.copied)) (sym (of.ended x.1)) tt)
-            (λ (x : (ask : Ask) × (line : Line) × (slice_get b.asks lane.answered ≡ Some ask)
+            (λ (x : (ask : Ask) × (line : PlainLine) × (slice_get b.asks lane.answered ≡ Some ask)
             × (slice_get lane.script lane.answered ≡ Some line) × IsLineFor ask line).
             subst (λ (y : Setup × List ℕ × PlainView). IsReadyFor y.0 y.1 core.writer y.2
             (slice_get lane.script lane.copied) lane.doing)

@@ -12,19 +12,21 @@ use Rattle.byte_position.proofs.SegmentSizes.{segment_size_tests}
 use Rattle.byte_position.proofs.Segments.{first_position-usable}
 use Rattle.byte_position.proofs.Words.{end_address_of-mod_word}
 use Rattle.record_spelling.specs.Spelling.{Assembled, assembled}
+use Rattle.segment_disk.specs.Tape.{DiskState}
 use Rattle.wal_page.specs.Order.{Entry, IsChained, end_position, position_behind, rooms_of}
 use Rattle.wal_page.specs.EntryWords.{address_of_word, words_owned}
 use Rattle.wal_page.proofs.OrderLaws.{FollowsFrom-parts, rooms_of-append, rooms_of_cons}
 use Rattle.wal_page.proofs.OwnerLaws.{rooms_of-whole}
 use Rattle.wal_page.proofs.WordPositions.{first_position-whole}
 use Rattle.wal_core.specs.declared.setup.Setup.{Setup}
-use Rattle.wal_core.specs.Words.{end_form, log_limit, position_word, written_word, initialised_word, word_of_ring}
-use Rattle.wal_core.specs.Views.{HasAt, Place, Free, Locked, Loaded, Stored, Copy, Flight, Landed, Copying, Stage, Away, Taken, Looked, Ready, Zeroing, Published, Plain, Lent, Hold, Out, View, reserving_of, working_of, flight_of, mapper_of, writing_of}
+use Rattle.wal_core.specs.Words.{end_form, log_limit, position_word, written_word, initialised_word, word_of_ring, write_turn}
+use Rattle.wal_core.specs.Views.{HasAt, Place, Free, Locked, Loaded, Stored, Copy, Flight, Landed, Copying, Stage, Away, Taken, Looked, Ready, Zeroing, Published, Plain, Lent, Hold, Out, View, reserving_of, working_of, flight_of, mapper_of, writer_of, writing_of}
 use Rattle.wal_core.specs.Moves.{unlocked}
 use Rattle.wal_core.specs.Ordered.{AtPlace}
-use Rattle.wal_core.specs.Locked.{HasTurn}
+use Rattle.wal_core.specs.Locked.{HasTurn, StandsTo}
 use Rattle.wal_core.specs.Ringed.{IsOfOrder}
 use Rattle.wal_core.specs.Paged.{AtStage}
+use Rattle.wal_core.specs.Aligned.{IsKnownAligned}
 use Rattle.wal_core.specs.Sound.{IsSetup, IsSound}
 use Rattle.wal_core.proofs.Lists.{part_at}
 use Rattle.wal_core.specs.Steps.{IsLive}
@@ -33,10 +35,10 @@ use Rattle.wal_turns.specs.Standing.{AwaitsSync, IsRunning, IsWriterUp, LoadsOn,
 use Rattle.wal_turns.proofs.AtView.{sound}
 use Rattle.wal_turns.proofs.FlushPlaces.{hold_of}
 use Rattle.wal_turns.proofs.SegmentSteps.{next-begins}
-use Rattle.machine_turns.specs.declared.doing.Doing.{Doing as PlainDoing}
-use Rattle.machine_turns.specs.declared.doing.Doing.TheVariants as doings
-use Rattle.machine_turns.specs.declared.script.Line.{Line}
-use Rattle.machine_turns.specs.declared.script.Line.TheVariants.{Insert, Commit, Flush as LineFlush}
+use Rattle.machine_turns.specs.declared.doing.PlainDoing.{PlainDoing}
+use Rattle.machine_turns.specs.declared.doing.PlainDoing.TheVariants as doings
+use Rattle.machine_turns.specs.declared.script.PlainLine.{PlainLine}
+use Rattle.machine_turns.specs.declared.script.PlainLine.TheVariants.{Insert, Commit, Flush as LineFlush}
 use Rattle.machine_turns.specs.Left.{next_in}
 use Rattle.machine_turns.specs.Lanes.{HasNextOf, HasNextWord, IsLow, IsLowPlace, IsLowStage, IsReadyFor}
 use Rattle.machine_turns.specs.Writer.{WriterState, IsCreateDue, IsSyncDue, IsWriteDue}
@@ -84,10 +86,15 @@ entry-within size order chain c s =
     ap (rooms_of size) s.are ∙ rooms_of-append size s.front (c.entry ∷ s.back) in
     omega (arith, start, all, rooms_of_cons size c.entry s.back)
 
+-- what is written next raises the written address by a word
+rises_by_word : (written known : ℕ) → written % 8 ≡ 0 → known % 8 ≡ 0 → written < known
+    → written + 8 ≤ min known (written / 8192 * 8192 + 8192)
+rises_by_word written known one other low = le-min (omega arith) (omega arith)
+
 -- ---- a live view, under the invariant
 
-module _ (words : List ℕ) (home : Maybe Plain) (views : List View) (id : ℕ)
-    (v : View) (k : IsSound v.opening words home views) (here : HasAt views id v)
+module _ {first : DiskState} (words : List ℕ) (home : Maybe Plain) (views : List View) (id : ℕ)
+    (v : View) (k : IsSound first v.opening words home views) (here : HasAt views id v)
     (alive : (v.reserving).live ≡ true) where
   abbrev setup : Setup
   setup = (v.opening).setup
@@ -222,7 +229,7 @@ module _ (words : List ℕ) (home : Maybe Plain) (views : List View) (id : ℕ)
       (whole, low, omega (arith, first), omega arith, omega (arith, left))
 
   next_of_line : (c : Copy) → (v.working).flight ≡ Copying c → (c.entry).start % 8 ≡ 0
-      → c.copied < words_owned size c.entry → (line : Line)
+      → c.copied < words_owned size c.entry → (line : PlainLine)
       → InsertsRecord (c.entry).value line
       → HasNextWord setup (Some line) (plain_flight size (Copying c))
   next_of_line c is whole left (Insert body) inserts =
@@ -235,9 +242,9 @@ module _ (words : List ℕ) (home : Maybe Plain) (views : List View) (id : ℕ)
 
   -- ---- each place
 
-  module _ (ask : Ask) (copied : Option Line)
+  module _ (ask : Ask) (copied : Option PlainLine)
       (copies : (c : Copy) → (v.working).flight ≡ Copying c
-      → (l : Line) × (copied ≡ Some l) × InsertsRecord (c.entry).value l)
+      → (l : PlainLine) × (copied ≡ Some l) × InsertsRecord (c.entry).value l)
       (w : WriterState) (writer_is : IsWriterOf w.plain home views) (size_is : w.size ≡ size)
       (end_is : end_form setup (unlocked (position_word words)) ≤ w.end) where
     has_next : (c : Copy) → (v.working).flight ≡ Copying c → (c.entry).start % 8 ≡ 0
@@ -246,7 +253,7 @@ module _ (words : List ℕ) (home : Maybe Plain) (views : List View) (id : ℕ)
     has_next c is whole left =
         let line = copies c is in
         subst (λ (f : Flight). HasNextWord setup copied (plain_flight size f)) (sym is)
-        (subst (λ (o : Option Line). HasNextWord setup o (plain_flight size (Copying c)))
+        (subst (λ (o : Option PlainLine). HasNextWord setup o (plain_flight size (Copying c)))
         (sym line.1) (next_of_line c is whole left line.0 line.2))
 
     -- ---- with the writer in hand
@@ -263,6 +270,11 @@ module _ (words : List ℕ) (home : Maybe Plain) (views : List View) (id : ℕ)
     module _ (l : Lent) (hold : (v.writing).hold ≡ Out l) where
       same : l.writer ≡ w.plain
       same = writer_is.in_hand id v l here hold
+
+      held_writer : l.writer ≡ k.writer
+      held_writer = (subst (λ (h : Hold). StandsTo (write_turn words)
+          ((k.locks).writing).holder home k.writer id (v.reserving).number h) hold
+          (((k.locks).writing).each id (writer_of v) (part_at writer_of views id v here))).3
 
       known-low : l.known ≤ w.end
       known-low =
@@ -297,10 +309,14 @@ module _ (words : List ℕ) (home : Maybe Plain) (views : List View) (id : ℕ)
           let made_here : segment_next size w.plain ≤ (w.plain).made =
           subst (λ (p : Plain). segment_next size p ≤ p.made) same made in
           let page_end = (w.plain).written / 8192 * 8192 + 8192 in
+          let known_aligned : l.known % 8 ≡ 0 =
+          subst IsKnownAligned hold ((k.aligned).views id v here).known in
+          let written_aligned : (w.plain).written % 8 ≡ 0 =
+          ap (λ (p : Plain). p.written % 8) (sym same ∙ held_writer) ∙ (k.aligned).writer_at in
           subst (λ (h : Hold). IsWriteDue w (min (known_in (plain_hold h)) page_end)) (sym hold)
           (record {
             up = (writer_up on.writer_up).up;
-            rises = le-min low (omega arith);
+            rises = rises_by_word (w.plain).written l.known written_aligned known_aligned low;
             within = (let most = min-le_left l.known page_end in omega (arith, most, known-low));
             is_made = subst (λ (s : ℕ). segment_next s w.plain ≤ (w.plain).made) (sym size_is)
                 made_here;
@@ -343,9 +359,9 @@ module _ (m : Machine) (run : IsRunning m) (number : ℕ) (v : View)
       (sound m run number v live Flushes) live.0 live.1
 
   pub stands_is_ready : (ask : Ask) (d : PlainDoing) → StandsToDo v (doing_of d) ask
-      → (copied : Option Line)
+      → (copied : Option PlainLine)
       → ((c : Copy) → (v.working).flight ≡ Copying c
-      → (l : Line) × (copied ≡ Some l) × InsertsRecord (c.entry).value l)
+      → (l : PlainLine) × (copied ≡ Some l) × InsertsRecord (c.entry).value l)
       → (w : WriterState) → IsWriterOf w.plain (m.state).home (m.state).views
       → w.size ≡ ((v.opening).setup).segment_size
       → end_form (v.opening).setup (unlocked (position_word (m.state).words)) ≤ w.end

@@ -18,22 +18,22 @@ use Rattle.wal_core.proofs.WordLists.{word_else, word_set}
 use Rattle.wal_turns.specs.Doing.{Ask, Machine}
 use Rattle.wal_turns.specs.Turned.{is_free}
 use Rattle.wal_turns.proofs.AtView.{sound}
-use Rattle.machine_turns.specs.declared.doing.Doing.{Doing as PlainDoing}
-use Rattle.machine_turns.specs.declared.doing.Doing.TheVariants as doings
-use Rattle.machine_turns.specs.declared.doing.Next.{Next as PlainNext}
-use Rattle.machine_turns.specs.declared.doing.Next.TheVariants as nexts
-use Rattle.machine_turns.specs.declared.doing.Purpose.{Purpose as PlainPurpose}
-use Rattle.machine_turns.specs.declared.doing.Purpose.TheVariants as purposes
+use Rattle.machine_turns.specs.declared.doing.PlainDoing.{PlainDoing}
+use Rattle.machine_turns.specs.declared.doing.PlainDoing.TheVariants as doings
+use Rattle.machine_turns.specs.declared.doing.PlainNext.{PlainNext}
+use Rattle.machine_turns.specs.declared.doing.PlainNext.TheVariants as nexts
+use Rattle.machine_turns.specs.declared.doing.PlainPurpose.{PlainPurpose}
+use Rattle.machine_turns.specs.declared.doing.PlainPurpose.TheVariants as purposes
 use Rattle.machine_turns.specs.declared.event.Event.TheVariants as events
-use Rattle.machine_turns.specs.declared.script.Line.{Line}
-use Rattle.machine_turns.specs.declared.script.Line.TheVariants.{Insert, Commit, Flush as LineFlush}
-use Rattle.machine_turns.specs.declared.lane.Lane.{Lane}
-use Rattle.machine_turns.specs.declared.view.Flight.{Flight as PlainFlight}
-use Rattle.machine_turns.specs.declared.view.Place.{Place as PlainPlace}
-use Rattle.machine_turns.specs.declared.view.Place.TheVariants as places
+use Rattle.machine_turns.specs.declared.script.PlainLine.{PlainLine}
+use Rattle.machine_turns.specs.declared.script.PlainLine.TheVariants.{Insert, Commit, Flush as LineFlush}
+use Rattle.machine_turns.specs.declared.lane.PlainBackend.{PlainBackend}
+use Rattle.machine_turns.specs.declared.view.PlainFlight.{PlainFlight}
+use Rattle.machine_turns.specs.declared.view.PlainPlace.{PlainPlace}
+use Rattle.machine_turns.specs.declared.view.PlainPlace.TheVariants as places
 use Rattle.machine_turns.specs.declared.view.PlainView.{PlainView}
-use Rattle.machine_turns.specs.declared.view.Stage.{Stage as PlainStage}
-use Rattle.machine_turns.specs.declared.view.Stage.TheVariants as stages
+use Rattle.machine_turns.specs.declared.view.PlainStage.{PlainStage}
+use Rattle.machine_turns.specs.declared.view.PlainStage.TheVariants as stages
 use Rattle.machine_turns.specs.Left.{Left, at_place, at_stage, left_going_on, next_in, page_end_in}
 use Rattle.machine_turns.specs.Scripts.{room_of_line, rooms_of_lines}
 use Rattle.machine_turns.specs.Inserting.{lock_to_try, at_reserves, at_tries, behind_release, has_no_word_left, reserved, watched, with_one_more}
@@ -138,8 +138,8 @@ position_else : (words : List ℕ) (i n : ℕ) → 0 < i
     → position_word (set words i n) ≡ position_word words
 position_else words i n behind = word_else words i n 0 (λ is. omega arith)
 
-module _ (setup : Setup) (words : List ℕ) (w : WriterState) (view : PlainView) (line : Line)
-    (copied : Option Line) where
+module _ (setup : Setup) (words : List ℕ) (w : WriterState) (view : PlainView) (line : PlainLine)
+    (copied : Option PlainLine) where
   past_word : (purpose : PlainPurpose)
       → IsPast (behind_written_word setup words view w purpose)
   past_word purposes.Line = now_past _ refl
@@ -314,7 +314,7 @@ module _ (setup : Setup) (words : List ℕ) (w : WriterState) (view : PlainView)
 eights : (n : ℕ) → n / 8 * 8 % 8 ≡ 0
 eights n = omega arith
 
-room-whole : (line : Line) → room_of_line line % 8 ≡ 0
+room-whole : (line : PlainLine) → room_of_line line % 8 ≡ 0
 room-whole (Insert body) = eights (assembled_size body + 7)
 room-whole (Commit body) = eights (assembled_size body + 7)
 room-whole LineFlush = omega arith
@@ -331,7 +331,7 @@ module _ (words : List ℕ) where
   RestsOn (places.Loaded at prev) = IsLockedAt at
   RestsOn (places.Stored at prev) = IsLockedAt at
 
-  module _ (setup : Setup) (view : PlainView) (lock : ℕ) (line : Line) (some : 0 < length words)
+  module _ (setup : Setup) (view : PlainView) (lock : ℕ) (line : PlainLine) (some : 0 < length words)
     where
       abbrev room : ℕ
       room = room_of_line line
@@ -374,7 +374,7 @@ module _ (words : List ℕ) where
 
 -- ---- a machine that runs
 
-module _ (m : Machine) (number : ℕ) (v : View) (ask : Ask) (line : Line) (copied : Option Line)
+module _ (m : Machine) (number : ℕ) (v : View) (ask : Ask) (line : PlainLine) (copied : Option PlainLine)
     (w : WriterState) where
   place_rests : (p : Place) (size end last prev locked holder : ℕ)
       → AtPlace size end last prev locked holder (number + 1) p
@@ -415,7 +415,7 @@ module _ (m : Machine) (number : ℕ) (v : View) (ask : Ask) (line : Line) (copi
 
 -- ---- the lines that are left
 
-pub drop-fewer : (lines : List Line) (i j : ℕ) → i ≤ j
+pub drop-fewer : (lines : List PlainLine) (i j : ℕ) → i ≤ j
     → rooms_of_lines (drop j lines) ≤ rooms_of_lines (drop i lines)
 drop-fewer lines zero zero low = omega arith
 drop-fewer [] i (suc j) low = omega arith
@@ -425,23 +425,23 @@ drop-fewer lines (suc i) zero low = absurd (omega arith)
 drop-fewer (line ∷ lines) (suc i) (suc j) low = drop-fewer lines i j (omega arith)
 
 -- the next line's room is the first of those left
-drop-next : (lines : List Line) (i : ℕ) (line : Line) → slice_get lines i ≡ Some line
+drop-next : (lines : List PlainLine) (i : ℕ) (line : PlainLine) → slice_get lines i ≡ Some line
     → rooms_of_lines (drop i lines) ≡ room_of_line line + rooms_of_lines (drop (suc i) lines)
 drop-next [] i line is = absurd (cc)
 drop-next (x ∷ lines) zero line is =
     let same : x ≡ line = cc in
-    ap (λ (l : Line). room_of_line l + rooms_of_lines lines) same
+    ap (λ (l : PlainLine). room_of_line l + rooms_of_lines lines) same
 drop-next (x ∷ lines) (suc i) line is = drop-next lines i line is
 
 -- a line that is answered needs no room
-pub answered_needs_none : (lane : Lane) → rooms_left (lane_answered lane) ≤ rooms_left lane
+pub answered_needs_none : (lane : PlainBackend) → rooms_left (lane_answered lane) ≤ rooms_left lane
 answered_needs_none lane = drop-fewer lane.script (lane.answered + lines_reserved lane.doing)
     (lane.answered + 1
     + lines_reserved (start_of_line (slice_get lane.script (lane.answered + 1))))
     (omega (arith, at_most_one lane.doing))
 
-module _ (lane : Lane) (view : PlainView) (copied : ℕ) where
-  abbrev stepped_lane : Lane
+module _ (lane : PlainBackend) (view : PlainView) (copied : ℕ) where
+  abbrev stepped_lane : PlainBackend
   stepped_lane = record lane { view = view; copied = copied }
 
   pub behind_needs_no_more : (next : PlainNext) → GoesNotBack lane.doing next
@@ -451,7 +451,7 @@ module _ (lane : Lane) (view : PlainView) (copied : ℕ) where
       (omega (arith, on))
   behind_needs_no_more (nexts.Answers full) on = answered_needs_none lane
 
-  module _ (line : Line) (under_way : slice_get lane.script lane.answered ≡ Some line) where
+  module _ (line : PlainLine) (under_way : slice_get lane.script lane.answered ≡ Some line) where
     pub behind_needs_less : (next : PlainNext) → HasReserved next
         → lines_reserved lane.doing ≡ 0
         → rooms_left (lane_behind next stepped_lane) + room_of_line line ≤ rooms_left lane
@@ -489,23 +489,23 @@ module _ (lane : Lane) (view : PlainView) (copied : ℕ) where
 -- ---- all lanes
 
 -- where one lane needs less room, all together do
-pub lanes_need_less : (lanes : List Lane) (i grown : ℕ) (lane new : Lane)
+pub lanes_need_less : (lanes : List PlainBackend) (i grown : ℕ) (lane new : PlainBackend)
     → slice_get lanes i ≡ Some lane → rooms_left new + grown ≤ rooms_left lane
     → all_rooms_left (set lanes i new) + grown ≤ all_rooms_left lanes
 lanes_need_less [] i grown lane new is less = absurd (cc)
 lanes_need_less (x ∷ lanes) zero grown lane new is less =
     let same : x ≡ lane = cc in
-    omega (arith, ap (λ (l : Lane). rooms_left l) same, less)
+    omega (arith, ap (λ (l : PlainBackend). rooms_left l) same, less)
 lanes_need_less (x ∷ lanes) (suc i) grown lane new is less =
     omega (arith, lanes_need_less lanes i grown lane new is less)
 
 -- and where it needs no more than before, but for what the position rose by
-pub lanes_keep_room : (lanes : List Lane) (i old position : ℕ) (lane new : Lane)
+pub lanes_keep_room : (lanes : List PlainBackend) (i old position : ℕ) (lane new : PlainBackend)
     → slice_get lanes i ≡ Some lane → position + rooms_left new ≤ old + rooms_left lane
     → position + all_rooms_left (set lanes i new) ≤ old + all_rooms_left lanes
 lanes_keep_room [] i old position lane new is keeps = absurd (cc)
 lanes_keep_room (x ∷ lanes) zero old position lane new is keeps =
     let same : x ≡ lane = cc in
-    omega (arith, ap (λ (l : Lane). rooms_left l) same, keeps)
+    omega (arith, ap (λ (l : PlainBackend). rooms_left l) same, keeps)
 lanes_keep_room (x ∷ lanes) (suc i) old position lane new is keeps =
     omega (arith, lanes_keep_room lanes i old position lane new is keeps)

@@ -12,19 +12,19 @@ use Rattle.wal_core.specs.Views.{Copy, Copying, View}
 use Rattle.wal_core.specs.Steps.{IsLive, load_down, word_of_step, view_behind}
 use Rattle.wal_core.proofs.WordLists.{word_again}
 use Rattle.wal_turns.specs.Doing.{Ask, Inserts, Commits, Backend, Machine}
-use Rattle.wal_turns.specs.Turned.{Turn, AllDone, Waits, Next, can_step, event_named, looks_down, word_waited, fallen, moved_on, next_of, outcome, state_stepped, tells_full, turned, turned_by, turned_for, turned_of, with_answer, with_next}
+use Rattle.wal_turns.specs.Turned.{TurnMade, AllDone, Waits, Next, can_step, event_named, looks_down, word_waited, fallen, moved_on, next_of, outcome, state_stepped, tells_full, turned, turned_by, turned_for, turned_of, with_answer, with_next}
 use Rattle.wal_turns.specs.Standing.{HasBackend, IsRunning, StandsFor}
 use Rattle.wal_turns.proofs.Poses.{bool_cases}
 use Rattle.wal_turns.proofs.Schedules.{turned_good}
-use Rattle.machine_turns.specs.declared.doing.Doing.{Doing as PlainDoing}
-use Rattle.machine_turns.specs.declared.doing.Doing.TheVariants as doings
-use Rattle.machine_turns.specs.declared.doing.Next.{Next as PlainNext}
-use Rattle.machine_turns.specs.declared.doing.Next.TheVariants.{GoesOn, Answers}
+use Rattle.machine_turns.specs.declared.doing.PlainDoing.{PlainDoing}
+use Rattle.machine_turns.specs.declared.doing.PlainDoing.TheVariants as doings
+use Rattle.machine_turns.specs.declared.doing.PlainNext.{PlainNext}
+use Rattle.machine_turns.specs.declared.doing.PlainNext.TheVariants.{GoesOn, Answers}
 use Rattle.machine_turns.specs.declared.event.Turn.{Turn as PlainTurn}
 use Rattle.machine_turns.specs.declared.event.Turn.TheVariants as turns
-use Rattle.machine_turns.specs.declared.lane.Lane.{Lane}
-use Rattle.machine_turns.specs.declared.script.Line.{Line}
-use Rattle.machine_turns.specs.declared.script.Line.TheVariants.{Insert, Commit, Flush}
+use Rattle.machine_turns.specs.declared.lane.PlainBackend.{PlainBackend}
+use Rattle.machine_turns.specs.declared.script.PlainLine.{PlainLine}
+use Rattle.machine_turns.specs.declared.script.PlainLine.TheVariants.{Insert, Commit, Flush}
 use Rattle.machine_turns.specs.Lanes.{PlayedTurn, Stepped, by_line, by_wait, copied_behind, finds_full, lane_answered, loads_down, moved_to, played, unmoved, word_awaited}
 use Rattle.machine_turns.specs.Writer.{WriterState}
 use Rattle.machine_core.specs.Following.{Follows, StandsPlain, plain_step, step_made, view_left}
@@ -47,19 +47,19 @@ full_alike (GoesOn later) = refl
 full_alike (Answers full) = refl
 
 -- a line that asks for a record has it
-inserts_it : (value : Record) (line : Line) → IsLineFor (Inserts value) line
+inserts_it : (value : Record) (line : PlainLine) → IsLineFor (Inserts value) line
     → InsertsRecord value line
 inserts_it value (Insert body) is = is
 inserts_it value (Commit body) is = absurd is
 inserts_it value Flush is = absurd is
 
-commits_it : (value : Record) (line : Line) → IsLineFor (Commits value) line
+commits_it : (value : Record) (line : PlainLine) → IsLineFor (Commits value) line
     → InsertsRecord value line
 commits_it value (Insert body) is = absurd is
 commits_it value (Commit body) is = is
 commits_it value Flush is = absurd is
 
-line_record : (ask : Ask) (line : Line) (value : Record) → IsLineFor ask line → AsksFor ask value
+line_record : (ask : Ask) (line : PlainLine) (value : Record) → IsLineFor ask line → AsksFor ask value
     → InsertsRecord value line
 line_record ask line value is asked = ⊎_elim
     (λ (insert : ask ≡ Inserts value).
@@ -68,16 +68,16 @@ line_record ask line value is asked = ⊎_elim
     commits_it value line (subst (λ (a : Ask). IsLineFor a line) commit is)) asked
 
 -- the turn and the plain data behind it are the machine's
-abbrev pub IsTurnOf : CoreState → ℕ → PlayedTurn → Turn × Machine → Type 0
+abbrev pub IsTurnOf : CoreState → ℕ → PlayedTurn → TurnMade × Machine → Type 0
 IsTurnOf core number p t = (p.turn ≡ turn_of t.0) × PlaysMachine (core_behind core number p) t.1
 
 module _ (m : Machine) (number : ℕ) (v : View) (live : IsLive m.state (number + 1) v)
     (own : v.opening ≡ m.opening) (number_is : (v.reserving).number ≡ number + 1)
-    (script : List Line) (copied answered : ℕ) (d : PlainDoing) (asks : List Ask) where
+    (script : List PlainLine) (copied answered : ℕ) (d : PlainDoing) (asks : List Ask) where
   abbrev backend : Backend
   backend = record { asks = asks; answered = answered; doing = doing_of d }
 
-  abbrev lane : Lane
+  abbrev lane : PlainBackend
   lane = record {
     view = plain_view v;
     script = script;
@@ -89,7 +89,7 @@ module _ (m : Machine) (number : ℕ) (v : View) (live : IsLive m.state (number 
   module _ (core : CoreState) (k : PlaysMachine core m) (here : HasBackend m number backend)
       (at : slice_get core.lanes number ≡ Some lane)
       (of : IsLaneOf (core.writer).page lane backend v)
-      (line : Line) (line_left : slice_get script answered ≡ Some line)
+      (line : PlainLine) (line_left : slice_get script answered ≡ Some line)
       (ask : Ask) (left : slice_get asks answered ≡ Some ask) (line_is : IsLineFor ask line) where
     abbrev words : List ℕ
     words = (m.state).words
@@ -121,6 +121,7 @@ module _ (m : Machine) (number : ℕ) (v : View) (live : IsLive m.state (number 
       failing_kept = refl;
       size_kept = refl;
       end_kept = refl;
+      first_kept = refl;
       whole = whole;
     }
 
@@ -279,7 +280,7 @@ module _ (m : Machine) (number : ℕ) (v : View) (live : IsLive m.state (number 
     plain_turn awaited = cond (down_now && (loads_down d || is_some awaited)) fell
         (by_wait (v.opening).setup words w lane line awaited)
 
-    abbrev machine_turn : Bool → Turn × Machine
+    abbrev machine_turn : Bool → TurnMade × Machine
     machine_turn can = cond (down_now && (looks_down m v ask (doing_of d) || not can))
         (fallen m number backend v ask)
         (cond can (moved_on m number backend v ask (event_named m v ask (doing_of d))) (
@@ -350,7 +351,7 @@ module _ (m : Machine) (number : ℕ) (v : View) (live : IsLive m.state (number 
 -- ---- the lane and its backend as they stand
 
 module _ (core : CoreState) (m : Machine) (k : PlaysMachine core m) (number : ℕ) where
-  module _ (b : Backend) (here : HasBackend m number b) (lane : Lane)
+  module _ (b : Backend) (here : HasBackend m number b) (lane : PlainBackend)
       (at : slice_get core.lanes number ≡ Some lane) (v : View)
       (live : IsLive m.state (number + 1) v) (stands : StandsFor b v)
       (of : IsLaneOf (core.writer).page lane b v) (number_is : (v.reserving).number ≡ number + 1)
@@ -364,7 +365,7 @@ module _ (core : CoreState) (m : Machine) (k : PlaysMachine core m) (number : �
       setup_own : (v.opening).setup ≡ core.setup
       setup_own = ap (λ (o : Opening). o.setup) own ∙ k.setup_is
 
-      abbrev plain_lane : Lane
+      abbrev plain_lane : PlainBackend
       plain_lane = record {
         view = plain_view v;
         script = lane.script;
@@ -396,10 +397,10 @@ module _ (core : CoreState) (m : Machine) (k : PlaysMachine core m) (number : �
       here_plain = subst (HasBackend m number) backend_is here
 
       at_plain : slice_get core.lanes number ≡ Some plain_lane
-      at_plain = at ∙ ap (λ (l : Lane). Some l) lane_is
+      at_plain = at ∙ ap (λ (l : PlainBackend). Some l) lane_is
 
       of_plain : IsLaneOf (core.writer).page plain_lane plain_backend v
-      of_plain = subst (λ (y : Lane × Backend). IsLaneOf (core.writer).page y.0 y.1 v)
+      of_plain = subst (λ (y : PlainBackend × Backend). IsLaneOf (core.writer).page y.0 y.1 v)
           (λ i. (lane_is i, backend_is i)) of
 
       stands_plain : StandsFor plain_backend v
@@ -414,12 +415,12 @@ module _ (core : CoreState) (m : Machine) (k : PlaysMachine core m) (number : �
           (slice_get b.asks lane.answered)
       turned_is = λ i. turned_of m number (here_plain i) (live.0 i)
 
-      with_line : (ask : Ask) (line : Line) → slice_get b.asks lane.answered ≡ Some ask
+      with_line : (ask : Ask) (line : PlainLine) → slice_get b.asks lane.answered ≡ Some ask
           → slice_get lane.script lane.answered ≡ Some line → IsLineFor ask line
           → IsTurnOf core number (played (v.opening).setup words_now core.writer plain_lane)
           (turned_for m number plain_backend v (slice_get b.asks lane.answered))
       with_line ask line left line_left line_is = subst
-          (λ (y : Option Line × Option Ask). IsTurnOf core number
+          (λ (y : Option PlainLine × Option Ask). IsTurnOf core number
           (by_line (v.opening).setup words_now core.writer plain_lane y.0)
           (turned_for m number plain_backend v y.1))
           (λ i. (sym line_left i, sym left i))
@@ -442,7 +443,7 @@ module _ (core : CoreState) (m : Machine) (k : PlaysMachine core m) (number : �
             whole = k.page_whole;
             loaded = of_plain.loaded ask left;
           })
-          (subst (λ (t : Turn × Machine). IsRunning t.1)
+          (subst (λ (t : TurnMade × Machine). IsRunning t.1)
           (turned_is ∙ ap (turned_for m number plain_backend v) left)
           (turned_good m k.running number).1))
 
@@ -450,7 +451,7 @@ module _ (core : CoreState) (m : Machine) (k : PlaysMachine core m) (number : �
           → IsTurnOf core number (played (v.opening).setup words_now core.writer plain_lane)
           (turned_for m number plain_backend v (slice_get b.asks lane.answered))
       without none_asked none_left = subst
-          (λ (y : Option Line × Option Ask). IsTurnOf core number
+          (λ (y : Option PlainLine × Option Ask). IsTurnOf core number
           (by_line (v.opening).setup words_now core.writer plain_lane y.0)
           (turned_for m number plain_backend v y.1))
           (λ i. (sym none_left i, sym none_asked i)) (
@@ -475,17 +476,17 @@ module _ (core : CoreState) (m : Machine) (k : PlaysMachine core m) (number : �
 
       turns_here : IsTurnOf core number (played core.setup (core.words).words core.writer lane)
           (turned m number)
-      turns_here = subst (λ (y : PlayedTurn × (Turn × Machine)). IsTurnOf core number y.0 y.1)
+      turns_here = subst (λ (y : PlayedTurn × (TurnMade × Machine)). IsTurnOf core number y.0 y.1)
           (λ i. (sym played_is i, sym turned_is i))
           (⊎_elim
           (λ (x : (slice_get b.asks lane.answered ≡ None)
           × (slice_get lane.script lane.answered ≡ None)). without x.0 x.1)
-          (λ (x : (ask : Ask) × (line : Line) × (slice_get b.asks lane.answered ≡ Some ask)
+          (λ (x : (ask : Ask) × (line : PlainLine) × (slice_get b.asks lane.answered ≡ Some ask)
           × (slice_get lane.script lane.answered ≡ Some line) × IsLineFor ask line).
           with_line x.0 x.1 x.2 x.3 x.4)
           (lines_agree b.asks lane.script of.lines lane.answered))
 
-  pub plain_turn_is : (lane : Lane) → slice_get core.lanes number ≡ Some lane
+  pub plain_turn_is : (lane : PlainBackend) → slice_get core.lanes number ≡ Some lane
       → IsTurnOf core number (played core.setup (core.words).words core.writer lane)
       (turned m number)
   plain_turn_is lane at =
@@ -498,7 +499,7 @@ module _ (core : CoreState) (m : Machine) (k : PlaysMachine core m) (number : �
       let v = run.0 in
       let same_view : found.2.0 ≡ v =
       at_same (m.state).views found.2.0 v (number + 1) found.2.1 run.1.0 in
-      let of = subst (λ (y : Lane × View). IsLaneOf (core.writer).page y.0 b y.1
+      let of = subst (λ (y : PlainBackend × View). IsLaneOf (core.writer).page y.0 b y.1
       × ((y.1.reserving).number ≡ number + 1)) (λ i. (same i, same_view i))
       (found.2.2, found.2.3) in
       turns_here b there.1 lane at v run.1 run.2 of.0 of.1

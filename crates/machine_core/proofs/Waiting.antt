@@ -4,10 +4,10 @@ use Rattle.wal_core.specs.Words.{lock_word, mapping_turn, position_word, write_t
 use Rattle.wal_core.specs.Views.{Place, Free, Locked, Loaded, Stored, Stage, Away, Taken, Looked, Ready, Zeroing, Published, View}
 use Rattle.wal_turns.specs.Doing.{Ask, Machine}
 use Rattle.wal_turns.specs.Turned.{asked_for, can_step, holds_back, is_away, is_free, looks_down, word_waited}
-use Rattle.machine_turns.specs.declared.doing.Doing.{Doing as PlainDoing}
-use Rattle.machine_turns.specs.declared.doing.Doing.TheVariants as doings
-use Rattle.machine_turns.specs.declared.doing.Purpose.{Purpose as PlainPurpose}
-use Rattle.machine_turns.specs.declared.doing.Purpose.TheVariants as purposes
+use Rattle.machine_turns.specs.declared.doing.PlainDoing.{PlainDoing}
+use Rattle.machine_turns.specs.declared.doing.PlainDoing.TheVariants as doings
+use Rattle.machine_turns.specs.declared.doing.PlainPurpose.{PlainPurpose}
+use Rattle.machine_turns.specs.declared.doing.PlainPurpose.TheVariants as purposes
 use Rattle.machine_turns.specs.Lanes.{asked_by, loads_down, waits_if, word_awaited}
 use Rattle.machine_turns.specs.Lanes as lanes
 use Rattle.machine_core.specs.PlainData.{doing_of, plain_place, plain_stage, plain_view, purpose_of}

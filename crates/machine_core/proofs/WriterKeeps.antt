@@ -19,13 +19,13 @@ use Rattle.wal_turns.proofs.AtView.{sound, to_writer_of}
 use Rattle.wal_turns.proofs.FlushPlaces.{hold_of, of_hold}
 use Rattle.wal_turns.proofs.Loads.{bytes-length}
 use Rattle.wal_turns.proofs.Poses.{bool_cases}
-use Rattle.machine_turns.specs.declared.doing.Doing.{Doing as PlainDoing}
-use Rattle.machine_turns.specs.declared.doing.Doing.TheVariants as doings
-use Rattle.machine_turns.specs.declared.doing.Next.{Next as PlainNext}
-use Rattle.machine_turns.specs.declared.doing.Next.TheVariants as nexts
-use Rattle.machine_turns.specs.declared.doing.Purpose.{Purpose as PlainPurpose}
-use Rattle.machine_turns.specs.declared.doing.Purpose.TheVariants as purposes
-use Rattle.machine_turns.specs.declared.script.Line.{Line}
+use Rattle.machine_turns.specs.declared.doing.PlainDoing.{PlainDoing}
+use Rattle.machine_turns.specs.declared.doing.PlainDoing.TheVariants as doings
+use Rattle.machine_turns.specs.declared.doing.PlainNext.{PlainNext}
+use Rattle.machine_turns.specs.declared.doing.PlainNext.TheVariants as nexts
+use Rattle.machine_turns.specs.declared.doing.PlainPurpose.{PlainPurpose}
+use Rattle.machine_turns.specs.declared.doing.PlainPurpose.TheVariants as purposes
+use Rattle.machine_turns.specs.declared.script.PlainLine.{PlainLine}
 use Rattle.machine_turns.specs.Writer.{WriterState, page_at, page_written, segment_at, succeeds, synced}
 use Rattle.machine_turns.specs.Writing.{is_some_waiting, page_or_end, segment_waiting, word_to_load}
 use Rattle.machine_turns.specs.Lanes.{Stepped}
@@ -142,7 +142,7 @@ page_still_whole page k word whole low =
     let three = length-append (front ++ last) rest in
     omega (arith, whole, low, first, eight, left, two, three)
 
-module _ (m : Machine) (number : ℕ) (v : View) (ask : Ask) (line : Line) (copied : Option Line)
+module _ (m : Machine) (number : ℕ) (v : View) (ask : Ask) (line : PlainLine) (copied : Option PlainLine)
     (w : WriterState) where
   abbrev words : List ℕ
   words = (m.state).words

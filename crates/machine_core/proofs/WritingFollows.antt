@@ -12,12 +12,12 @@ use Rattle.wal_turns.specs.Turned.{goes_on, is_some_segment, outcome, page_or_en
 use Rattle.wal_turns.proofs.AtView.{sound, to_writer_of}
 use Rattle.wal_turns.proofs.FlushPlaces.{hold_of, of_hold}
 use Rattle.wal_turns.proofs.Poses.{bool_cases}
-use Rattle.machine_turns.specs.declared.doing.Doing.{Doing as PlainDoing}
-use Rattle.machine_turns.specs.declared.doing.Doing.TheVariants as doings
-use Rattle.machine_turns.specs.declared.doing.Next.TheVariants as nexts
-use Rattle.machine_turns.specs.declared.doing.Purpose.{Purpose as PlainPurpose}
-use Rattle.machine_turns.specs.declared.doing.Purpose.TheVariants as purposes
-use Rattle.machine_turns.specs.declared.script.Line.{Line}
+use Rattle.machine_turns.specs.declared.doing.PlainDoing.{PlainDoing}
+use Rattle.machine_turns.specs.declared.doing.PlainDoing.TheVariants as doings
+use Rattle.machine_turns.specs.declared.doing.PlainNext.TheVariants as nexts
+use Rattle.machine_turns.specs.declared.doing.PlainPurpose.{PlainPurpose}
+use Rattle.machine_turns.specs.declared.doing.PlainPurpose.TheVariants as purposes
+use Rattle.machine_turns.specs.declared.script.PlainLine.{PlainLine}
 use Rattle.machine_turns.specs.Writer.{WriterState, segment_at}
 use Rattle.machine_turns.specs.Writing.{is_some_waiting, number_or_0, page_or_end}
 use Rattle.machine_core.specs.Following.{Follows, StandsPlain, plain_step}
@@ -61,7 +61,7 @@ fault_alike : (v : View) (fault : mathlib.Core.Option.Option ℕ)
 fault_alike v none = refl
 fault_alike v (some faults) = refl
 
-module _ (m : Machine) (number : ℕ) (v : View) (ask : Ask) (line : Line) (copied : Option Line)
+module _ (m : Machine) (number : ℕ) (v : View) (ask : Ask) (line : PlainLine) (copied : Option PlainLine)
     (w : WriterState) where
   abbrev words : List ℕ
   words = (m.state).words

@@ -1,5 +1,5 @@
 -- A core as plain data, and the machine as which it begins.
-use Rattle.std.specs.Prelude.{◌≡◌, ◌⊎◌, ℕ, ◌+◌, false, List, [], ◌∷◌, length, slice_get, Some}
+use Rattle.std.specs.Prelude.{◌≡◌, ◌⊎◌, ℕ, ◌+◌, List, [], ◌∷◌, slice_get, Some}
 use mathlib.Core.Option.{some}
 use Rattle.segment_disk.specs.Tape.{empty_state}
 use Rattle.wal_core.specs.declared.setup.Setup.{Setup}
@@ -8,12 +8,12 @@ use Rattle.wal_core.specs.Opened.{AreFirstWords, IsFirstWriter}
 use Rattle.wal_core.specs.Views.{HasAt, Lent, Out, Plain, View}
 use Rattle.wal_turns.specs.Begun.{first_machine}
 use Rattle.wal_turns.specs.Doing.{Ask, Machine}
-use Rattle.machine_turns.specs.declared.lane.Lane.{Lane}
-use Rattle.machine_turns.specs.declared.script.Line.{Line}
-use Rattle.machine_turns.specs.declared.view.Flight.TheVariants.{Landed}
-use Rattle.machine_turns.specs.declared.view.Hold.TheVariants.{Idle}
-use Rattle.machine_turns.specs.declared.view.Place.TheVariants.{Free}
-use Rattle.machine_turns.specs.declared.view.Stage.TheVariants.{Away}
+use Rattle.machine_turns.specs.declared.lane.PlainBackend.{PlainBackend}
+use Rattle.machine_turns.specs.declared.script.PlainLine.{PlainLine}
+use Rattle.machine_turns.specs.declared.view.PlainFlight.TheVariants.{Landed}
+use Rattle.machine_turns.specs.declared.view.PlainHold.TheVariants.{Idle}
+use Rattle.machine_turns.specs.declared.view.PlainPlace.TheVariants.{Free}
+use Rattle.machine_turns.specs.declared.view.PlainStage.TheVariants.{Away}
 use Rattle.machine_turns.specs.declared.view.PlainView.{PlainView}
 use Rattle.machine_turns.specs.Lanes.{start_of_line}
 use Rattle.machine_turns.specs.Scripts.{rooms_of_lines}
@@ -54,7 +54,7 @@ first_plain_view size number = record {
   hold = Idle;
 }
 
-abbrev pub first_lane : (size number : ℕ) → List Line → Lane
+abbrev pub first_lane : (size number : ℕ) → List PlainLine → PlainBackend
 first_lane size number script = record {
   view = first_plain_view size number;
   script = script;
@@ -64,28 +64,28 @@ first_lane size number script = record {
 }
 
 -- one for each script, from a pass's number on
-abbrev pub first_lanes : (size number : ℕ) → List (List Line) → List Lane
+abbrev pub first_lanes : (size number : ℕ) → List (List PlainLine) → List PlainBackend
 first_lanes size number [] = []
 first_lanes size number (script ∷ scripts) =
     first_lane size number script ∷ first_lanes size (number + 1) scripts
 
 -- how many bytes the records of all scripts take up
-abbrev pub rooms_of_scripts : List (List Line) → ℕ
+abbrev pub rooms_of_scripts : List (List PlainLine) → ℕ
 rooms_of_scripts [] = 0
 rooms_of_scripts (script ∷ scripts) = rooms_of_lines script + rooms_of_scripts scripts
 
 -- the machine as which plain data begin, where their scripts ask for these lines
 abbrev pub machine_begun : CoreState → List (List Ask) → Machine
-machine_begun core asks = first_machine (first_opening core.setup) (core.words).words
-    (core.writer).plain (core.writer).failing asks
+machine_begun core asks = first_machine (core.writer).first (first_opening core.setup)
+    (core.words).words (core.writer).plain (core.writer).failing asks
 
 -- the log holds nothing, and nor does the disk
 pub record HasBegun (setup : Setup) (failing : List ℕ) (core : CoreState) : Type 0 where
   pub setup_is : core.setup ≡ setup
   pub words : AreFirstWords (first_opening setup) (core.words).words
   pub writer : IsFirstWriter (first_opening setup) (core.writer).plain
-  pub tape : ((core.writer).plain).tape
-      ≡ Rattle.std.specs.Prelude.Some (record { at_first = empty_state; calls = [] })
+  pub first : (core.writer).first ≡ empty_state
+  pub calls : ((core.writer).plain).calls ≡ Some []
   pub failing_is : (core.writer).failing ≡ failing
 
 -- ---- the disk

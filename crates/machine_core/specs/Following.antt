@@ -8,8 +8,8 @@ use Rattle.wal_core.specs.Steps.{StepKind, IsLive, word_of_step, value_behind, v
 use Rattle.wal_turns.specs.Doing.{Ask, Machine}
 use Rattle.wal_turns.specs.Turned.{can_step, event_named, next_of, outcome}
 use Rattle.wal_turns.specs.Standing.{IsRunning, StandsToDo, UpFor}
-use Rattle.machine_turns.specs.declared.doing.Doing.{Doing as PlainDoing}
-use Rattle.machine_turns.specs.declared.script.Line.{Line}
+use Rattle.machine_turns.specs.declared.doing.PlainDoing.{PlainDoing}
+use Rattle.machine_turns.specs.declared.script.PlainLine.{PlainLine}
 use Rattle.machine_turns.specs.Lanes.{Stepped, stepped}
 use Rattle.machine_turns.specs.Left.{Left}
 use Rattle.machine_turns.specs.Writer.{WriterState}
@@ -19,8 +19,8 @@ use Rattle.machine_core.specs.Playing.{HoldsPageFor, IsWriterOf}
 
 -- a backend of a machine that runs is to make its step, which may be made now. `line` is its line
 -- under way, `copied` the one whose record it copies, and `w` the writer
-pub record StandsPlain (m : Machine) (number : ℕ) (v : View) (ask : Ask) (line : Line)
-    (copied : Option Line) (w : WriterState) (d : PlainDoing) : Type 0 where
+pub record StandsPlain (m : Machine) (number : ℕ) (v : View) (ask : Ask) (line : PlainLine)
+    (copied : Option PlainLine) (w : WriterState) (d : PlainDoing) : Type 0 where
   pub running : IsRunning m
   pub live : IsLive m.state (number + 1) v
   pub own : v.opening ≡ m.opening
@@ -30,7 +30,7 @@ pub record StandsPlain (m : Machine) (number : ℕ) (v : View) (ask : Ask) (line
   pub can : can_step m v ask (doing_of d) ≡ true
   pub line_is : IsLineFor ask line
   pub copies : (c : Copy) → (v.working).flight ≡ Copying c
-      → (l : Line) × (copied ≡ Some l) × InsertsRecord (c.entry).value l
+      → (l : PlainLine) × (copied ≡ Some l) × InsertsRecord (c.entry).value l
   pub writer_is : IsWriterOf w.plain (m.state).home (m.state).views
   pub size_is : w.size ≡ ((v.opening).setup).segment_size
   pub failing_is : m.failing ≡ w.failing
@@ -39,7 +39,8 @@ pub record StandsPlain (m : Machine) (number : ℕ) (v : View) (ask : Ask) (line
   pub loaded : HoldsPageFor w.page v d
 
 -- the plain turn at this place
-abbrev pub plain_step : Machine → View → Line → Option Line → WriterState → PlainDoing → Stepped
+abbrev pub plain_step : Machine → View → PlainLine → Option PlainLine → WriterState → PlainDoing
+    → Stepped
 plain_step m v line copied w d =
     stepped (v.opening).setup (m.state).words w (plain_view v) line copied d
 

@@ -3,15 +3,15 @@ use Rattle.std.specs.Prelude.{◌≡◌, ℕ, List, [], ◌∷◌, slice_get, So
 use Rattle.wal_types.specs.declared.record.Record.{Record}
 use Rattle.record_spelling.specs.Spelling.{Assembled, IsWritable, assembled}
 use Rattle.wal_turns.specs.Doing.{Ask, Inserts, Commits, Flushes}
-use Rattle.machine_turns.specs.declared.script.Line.{Line}
-use Rattle.machine_turns.specs.declared.script.Line.TheVariants.{Insert, Commit, Flush}
+use Rattle.machine_turns.specs.declared.script.PlainLine.{PlainLine}
+use Rattle.machine_turns.specs.declared.script.PlainLine.TheVariants.{Insert, Commit, Flush}
 
 -- a record that can be written, assembled
 abbrev pub IsBody : Record → Assembled → Type 0
 IsBody value body = (body ≡ assembled value) × IsWritable value
 
 -- a line does what is asked for
-abbrev pub IsLineFor : Ask → Line → Type 0
+abbrev pub IsLineFor : Ask → PlainLine → Type 0
 IsLineFor (Inserts value) (Insert body) = IsBody value body
 IsLineFor (Inserts value) (Commit body) = ⊥
 IsLineFor (Inserts value) Flush = ⊥
@@ -23,18 +23,18 @@ IsLineFor Flushes (Commit body) = ⊥
 IsLineFor Flushes Flush = Unit {0}
 
 -- something is asked for that a line does
-abbrev pub IsAsked : Line → Type 0
+abbrev pub IsAsked : PlainLine → Type 0
 IsAsked line = (ask : Ask) × IsLineFor ask line
 
 -- each does, in order
-abbrev pub AreLinesFor : List Ask → List Line → Type 0
+abbrev pub AreLinesFor : List Ask → List PlainLine → Type 0
 AreLinesFor [] [] = Unit {0}
 AreLinesFor [] (line ∷ lines) = ⊥
 AreLinesFor (ask ∷ asks) [] = ⊥
 AreLinesFor (ask ∷ asks) (line ∷ lines) = IsLineFor ask line × AreLinesFor asks lines
 
 -- and so for each backend
-abbrev pub AreScriptsFor : List (List Ask) → List (List Line) → Type 0
+abbrev pub AreScriptsFor : List (List Ask) → List (List PlainLine) → Type 0
 AreScriptsFor [] [] = Unit {0}
 AreScriptsFor [] (lines ∷ scripts) = ⊥
 AreScriptsFor (asks ∷ others) [] = ⊥
@@ -42,12 +42,12 @@ AreScriptsFor (asks ∷ others) (lines ∷ scripts) =
     AreLinesFor asks lines × AreScriptsFor others scripts
 
 -- a line inserts this record
-abbrev pub InsertsRecord : Record → Line → Type 0
+abbrev pub InsertsRecord : Record → PlainLine → Type 0
 InsertsRecord value (Insert body) = IsBody value body
 InsertsRecord value (Commit body) = IsBody value body
 InsertsRecord value Flush = ⊥
 
 -- the line with this number does
-abbrev pub HasRecord : List Line → ℕ → Record → Type 0
+abbrev pub HasRecord : List PlainLine → ℕ → Record → Type 0
 HasRecord script number value =
-    (line : Line) × (slice_get script number ≡ Some line) × InsertsRecord value line
+    (line : PlainLine) × (slice_get script number ≡ Some line) × InsertsRecord value line

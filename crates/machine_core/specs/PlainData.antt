@@ -6,27 +6,27 @@ use Rattle.wal_core.specs.Views.{Place, Free, Locked, Loaded, Stored, Flight, La
 use Rattle.wal_core.specs.Moves.{is_done}
 use Rattle.wal_core.specs.Steps.{StepKind, load_position, take_write_turn, slot_out, slot_in, release_write_turn, lock_position, load_prev, store_prev, store_position, give_position_back, load_lock, take_lock, advance, release, load_buffer_end, store_ring_word, load_ring_word, load_written, load_flushed, load_moment, load_down, store_written, store_moment, store_flushed, set_down, take_mapping_turn, load_initialised_end, clear_end, zero_ring_word, publish_end, publish_initialised_end, release_mapping_turn, create, write, sync}
 use Rattle.wal_turns.specs.Doing.{Purpose, ForLine, ForPage, Doing, Begins, Tries, Reserves, Looks, Copies, Maps, GivesTurn, Tells, Releases, FlushBegins, LoadsPosition, LoadsFlushed, LoadsMoment, Visits, TakesTurn, LoadsDown, TakesOut, LoadsPage, Creates, Writes, SyncsFull, SyncsLast, StoresWritten, StoresMoment, StoresFlushed, SetsDown, PutsBack, GivesWriteTurn}
-use Rattle.wal_turns.specs.Turned.{Turn, Moved, Waits, AllDone, IsDown, Next, goes_on, answers, asked_end}
-use Rattle.machine_turns.specs.declared.doing.Doing.{Doing as PlainDoing}
-use Rattle.machine_turns.specs.declared.doing.Doing.TheVariants as doings
-use Rattle.machine_turns.specs.declared.doing.Next.{Next as PlainNext}
-use Rattle.machine_turns.specs.declared.doing.Next.TheVariants as nexts
-use Rattle.machine_turns.specs.declared.doing.Purpose.{Purpose as PlainPurpose}
-use Rattle.machine_turns.specs.declared.doing.Purpose.TheVariants as purposes
+use Rattle.wal_turns.specs.Turned.{TurnMade, Moved, Waits, AllDone, IsDown, Next, goes_on, answers, asked_end}
+use Rattle.machine_turns.specs.declared.doing.PlainDoing.{PlainDoing}
+use Rattle.machine_turns.specs.declared.doing.PlainDoing.TheVariants as doings
+use Rattle.machine_turns.specs.declared.doing.PlainNext.{PlainNext}
+use Rattle.machine_turns.specs.declared.doing.PlainNext.TheVariants as nexts
+use Rattle.machine_turns.specs.declared.doing.PlainPurpose.{PlainPurpose}
+use Rattle.machine_turns.specs.declared.doing.PlainPurpose.TheVariants as purposes
 use Rattle.machine_turns.specs.declared.event.Event.{Event}
 use Rattle.machine_turns.specs.declared.event.Event.TheVariants as events
 use Rattle.machine_turns.specs.declared.event.Turn.{Turn as PlainTurn}
 use Rattle.machine_turns.specs.declared.event.Turn.TheVariants as turns
-use Rattle.machine_turns.specs.declared.view.Flight.{Flight as PlainFlight}
-use Rattle.machine_turns.specs.declared.view.Flight.TheVariants as flights
-use Rattle.machine_turns.specs.declared.view.Hold.{Hold as PlainHold}
-use Rattle.machine_turns.specs.declared.view.Hold.TheVariants as holds
-use Rattle.machine_turns.specs.declared.view.Place.{Place as PlainPlace}
-use Rattle.machine_turns.specs.declared.view.Place.TheVariants as places
+use Rattle.machine_turns.specs.declared.view.PlainFlight.{PlainFlight}
+use Rattle.machine_turns.specs.declared.view.PlainFlight.TheVariants as flights
+use Rattle.machine_turns.specs.declared.view.PlainHold.{PlainHold}
+use Rattle.machine_turns.specs.declared.view.PlainHold.TheVariants as holds
+use Rattle.machine_turns.specs.declared.view.PlainPlace.{PlainPlace}
+use Rattle.machine_turns.specs.declared.view.PlainPlace.TheVariants as places
 use Rattle.machine_turns.specs.declared.view.PlainView.{PlainView}
-use Rattle.machine_turns.specs.declared.view.Stage.{Stage as PlainStage}
-use Rattle.machine_turns.specs.declared.view.Stage.TheVariants as stages
-use Rattle.machine_turns.specs.declared.view.Watching.{Watching as PlainWatching}
+use Rattle.machine_turns.specs.declared.view.PlainStage.{PlainStage}
+use Rattle.machine_turns.specs.declared.view.PlainStage.TheVariants as stages
+use Rattle.machine_turns.specs.declared.view.PlainWatching.{PlainWatching}
 use Rattle.machine_turns.specs.Writer.{maybe}
 
 -- ---- a view
@@ -155,7 +155,7 @@ event_of (write segment page upto bytes outcome) = events.Write segment page upt
 event_of (sync segment outcome) = events.Sync segment (is_done outcome)
 
 -- what a turn tells
-abbrev pub turn_of : Turn → PlainTurn
+abbrev pub turn_of : TurnMade → PlainTurn
 turn_of (Moved e) = turns.Moved (event_of e)
 turn_of (Waits on value) = turns.Waits on value
 turn_of AllDone = turns.Done

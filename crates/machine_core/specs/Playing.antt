@@ -10,9 +10,9 @@ use Rattle.wal_turns.specs.Doing.{Ask, Backend, Machine}
 use Rattle.wal_turns.specs.Turned.{bytes_staged}
 use Rattle.wal_turns.specs.Standing.{HasBackend, HasLeft, IsRunning}
 use Rattle.machine_words.specs.Numbers.{WordsState}
-use Rattle.machine_turns.specs.declared.doing.Doing.{Doing as PlainDoing}
-use Rattle.machine_turns.specs.declared.doing.Doing.TheVariants as doings
-use Rattle.machine_turns.specs.declared.lane.Lane.{Lane}
+use Rattle.machine_turns.specs.declared.doing.PlainDoing.{PlainDoing}
+use Rattle.machine_turns.specs.declared.doing.PlainDoing.TheVariants as doings
+use Rattle.machine_turns.specs.declared.lane.PlainBackend.{PlainBackend}
 use Rattle.machine_turns.specs.Lanes.{PlayedTurn}
 use Rattle.machine_turns.specs.Scripts.{rooms_of_lines}
 use Rattle.machine_turns.specs.Writer.{WriterState}
@@ -25,7 +25,7 @@ pub record CoreState : Type 0 where
   pub setup : Setup
   pub words : WordsState
   pub writer : WriterState
-  pub lanes : List Lane
+  pub lanes : List PlainBackend
   pub full : Bool
 
 -- ---- the writer and its page
@@ -57,7 +57,7 @@ TriesFew other = Unit {0}
 
 -- a lane has its backend's lines, and knows what the view knows; the record that it copies is that
 -- of one of its lines; a backend whose lines are all answered begins nothing
-pub record IsLaneOf (page : List ℕ) (lane : Lane) (b : Backend) (v : View) : Type 0 where
+pub record IsLaneOf (page : List ℕ) (lane : PlainBackend) (b : Backend) (v : View) : Type 0 where
   pub lines : AreLinesFor b.asks lane.script
   pub answered : b.answered ≡ lane.answered
   pub doing : b.doing ≡ doing_of lane.doing
@@ -70,7 +70,7 @@ pub record IsLaneOf (page : List ℕ) (lane : Lane) (b : Backend) (v : View) : T
 
 -- backend number b steps with the view at b + 1, whose pass has that number
 abbrev pub HasLaneOf : CoreState → Machine → ℕ → Backend → Type 0
-HasLaneOf core m number b = (lane : Lane) × (slice_get core.lanes number ≡ Some lane)
+HasLaneOf core m number b = (lane : PlainBackend) × (slice_get core.lanes number ≡ Some lane)
     × ((v : View) × HasAt (m.state).views (number + 1) v
     × IsLaneOf (core.writer).page lane b v × ((v.reserving).number ≡ number + 1))
 
@@ -84,10 +84,10 @@ lines_reserved (doings.Reserves lock) = 0
 lines_reserved other = 1
 
 -- how many bytes the records take up that a backend is still to reserve, and all of them
-abbrev pub rooms_left : Lane → ℕ
+abbrev pub rooms_left : PlainBackend → ℕ
 rooms_left lane = rooms_of_lines (drop (lane.answered + lines_reserved lane.doing) lane.script)
 
-abbrev pub all_rooms_left : List Lane → ℕ
+abbrev pub all_rooms_left : List PlainBackend → ℕ
 all_rooms_left [] = 0
 all_rooms_left (lane ∷ lanes) = rooms_left lane + all_rooms_left lanes
 
@@ -112,6 +112,7 @@ core_behind core number p = record core {
 -- the plain data are those of a machine that runs, over a log that held nothing when it was opened
 pub record PlaysMachine (core : CoreState) (m : Machine) : Type 0 where
   pub running : IsRunning m
+  pub first_is : m.first ≡ (core.writer).first
   pub setup_is : (m.opening).setup ≡ core.setup
   pub since : (m.opening).moment ≡ 0
   pub unfailed : (m.opening).faults ≡ 0

@@ -8,7 +8,10 @@ ghost use Rattle.machine_turns.specs.Scripts.{rooms_of_lines};
 ghost use Rattle.machine_core.specs.Cores.{first_lane, first_lanes, first_plain_view, rooms_of_scripts};
 ghost use Rattle.machine_core.specs.Lines.{IsAsked};
 
-use machine_turns::{Doing, Flight, Hold, Lane, Line, Place, PlainView, Script, Stage, Watching};
+use machine_turns::{
+    PlainBackend, PlainDoing, PlainFlight, PlainHold, PlainLine, PlainPlace, PlainStage, PlainView,
+    PlainWatching, Script,
+};
 use machine_words::LogShape;
 use std::alloc::{AllocError, Global};
 
@@ -17,7 +20,7 @@ pub(crate) fn lanes_of(
     alloc: Global,
     shape: &LogShape,
     scripts: Vec<Script>,
-) -> Result<Vec<Lane>, AllocError>
+) -> Result<Vec<PlainBackend>, AllocError>
     requires few { length scripts.items < 65536 }
     ensures { IfOk result (λ lanes. lanes.items
         ≡ first_lanes shape.now.segment_size 1 scripts.items) }
@@ -32,14 +35,14 @@ pub(crate) fn lanes_of(
 }
 
 // A backend that is about nothing, at its first line.
-fn first_lane(shape: &LogShape, number: u32, script: Script) -> Lane
+fn first_lane(shape: &LogShape, number: u32, script: Script) -> PlainBackend
     ensures { result ≡ first_lane shape.now.segment_size number script }
 {
     let doing = match script.lines().first() {
-        Some(Line::Flush) => Doing::FlushBegins,
-        _ => Doing::Begins,
+        Some(PlainLine::Flush) => PlainDoing::FlushBegins,
+        _ => PlainDoing::Begins,
     };
-    Lane {
+    PlainBackend {
         view: first_view(shape, number),
         script,
         copied: 0,
@@ -53,17 +56,17 @@ fn first_view(shape: &LogShape, number: u32) -> PlainView
 {
     PlainView {
         number,
-        place: Place::Free,
+        place: PlainPlace::Free,
         seen: 0,
         last_end: shape.geometry().segment_size(),
-        flight: Flight::Landed,
-        watching: Watching {
+        flight: PlainFlight::Landed,
+        watching: PlainWatching {
             end: 0,
             visited: 0,
             bound: 0,
         },
-        stage: Stage::Away,
-        hold: Hold::Idle,
+        stage: PlainStage::Away,
+        hold: PlainHold::Idle,
     }
 }
 
@@ -87,7 +90,7 @@ pub(crate) fn log_end(shape: &LogShape, scripts: &[Script]) -> u64
 }
 
 // The byte position behind the records of some lines, at most where the log is full.
-fn after_lines(position: u64, lines: &[Line], limit: u64) -> u64
+fn after_lines(position: u64, lines: &[PlainLine], limit: u64) -> u64
     requires within { position ≤ limit }
     requires low { limit < 2 ^ 43 }
     ensures position { result ≡ min (position + rooms_of_lines lines.now) limit }

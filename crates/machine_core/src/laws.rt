@@ -4,8 +4,8 @@
 ghost use Rattle.std.specs.Prelude.{ℕ, Option};
 ghost use Rattle.wal_core.specs.Views.{View};
 ghost use Rattle.wal_turns.specs.Doing.{Ask, Machine};
-ghost use Rattle.machine_turns.specs.declared.doing.Doing.{Doing};
-ghost use Rattle.machine_turns.specs.declared.script.Line.{Line};
+ghost use Rattle.machine_turns.specs.declared.doing.PlainDoing.{PlainDoing};
+ghost use Rattle.machine_turns.specs.declared.script.PlainLine.{PlainLine};
 ghost use Rattle.machine_turns.specs.Writer.{WriterState};
 ghost use Rattle.machine_core.specs.Following.{Follows, StandsPlain, plain_step};
 
@@ -13,8 +13,8 @@ ghost use Rattle.machine_core.specs.Following.{Follows, StandsPlain, plain_step}
 /// step that the order names and what comes behind it, and leaves the words and the view that the
 /// machine leaves.
 pub fn plain_turns_follow()
-    ensures { (m : Machine) (number : ℕ) (v : View) (ask : Ask) (line : Line)
-        (copied : Option Line) (w : WriterState) (d : Doing)
+    ensures { (m : Machine) (number : ℕ) (v : View) (ask : Ask) (line : PlainLine)
+        (copied : Option PlainLine) (w : WriterState) (d : PlainDoing)
         → StandsPlain m number v ask line copied w d
         → Follows m v ask d (plain_step m v line copied w d).left }
 {}

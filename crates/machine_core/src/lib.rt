@@ -9,6 +9,7 @@ mod machine;
 
 pub use machine::{Core, CoreErr};
 pub use machine_turns::{
-    Doing, Event, Flight, Hold, Line, Place, PlainView, Purpose, Script, Stage, Turn, Watching,
+    Event, PlainDoing, PlainFlight, PlainHold, PlainLine, PlainPlace, PlainPurpose, PlainStage,
+    PlainView, PlainWatching, Script, Turn,
 };
 pub use machine_words::Word;

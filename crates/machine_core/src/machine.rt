@@ -10,6 +10,7 @@ ghost use Rattle.segment_disk.specs.MemDisk.{first_image, tape_of};
 ghost use Rattle.segment_disk.specs.Picks.{IsPicked, choice_of};
 ghost use Rattle.segment_disk.specs.Tape.{state_now};
 ghost use Rattle.wal_core.specs.Sound.{IsSetup, IsSound};
+ghost use Rattle.wal_core.specs.Suited.{tape_from};
 ghost use Rattle.wal_core.specs.Views.{HasAt, Plain, View};
 ghost use Rattle.wal_turns.specs.Doing.{Ask, Backend, Machine};
 ghost use Rattle.wal_turns.specs.Standing.{HasBackend};
@@ -21,7 +22,7 @@ ghost use Rattle.machine_core.specs.PlainData.{plain_view, turn_of};
 ghost use Rattle.machine_core.specs.Playing.{PlaysMachine};
 
 use crate::beginning::{lanes_of, log_end};
-use machine_turns::{Lane, MachineWriter, PlainView, Script, Turn};
+use machine_turns::{MachineWriter, PlainBackend, PlainView, Script, Turn};
 use machine_words::{LogShape, MachineWords, Word};
 use segment_disk::{MemDisk, Memory, Pick};
 use std::alloc::{AllocError, Global};
@@ -46,7 +47,7 @@ pub struct Core {
     shape: LogShape,
     words: MachineWords,
     writer: MachineWriter,
-    lanes: Vec<Lane>,
+    lanes: Vec<PlainBackend>,
     full: bool,
 }
 
@@ -101,7 +102,7 @@ impl Core {
         // The machine keeps its invariant.
         ensures sound { (m : Machine) → PlaysMachine (core_of self.old) m
             → let n = (turned m backend).1 in
-            IsSound n.opening n.state.words n.state.home n.state.views }
+            IsSound n.first n.opening n.state.words n.state.home n.state.views }
         ensures played { IsPlayed self.new }
     {
         match self.lanes.get_mut(backend as usize) {
@@ -172,10 +173,11 @@ impl Core {
         // may leave, the one that the pick names. The core goes on as it was.
         ensures left { IfOk result (λ disk. (m : Machine) (w : Plain)
             → PlaysMachine (core_of self.now) m → HasWriter m w
-            → IfSome w.tape (λ tape. LeftAt tape (length tape.calls) (first_image disk))) }
+            → IfSome (tape_from m.first w.calls) (λ tape. LeftAt tape (length tape.calls)
+            (first_image disk))) }
         ensures picked { IfOk result (λ disk. (m : Machine) (w : Plain)
             → PlaysMachine (core_of self.now) m → HasWriter m w
-            → IfSome w.tape (λ tape. IsPicked (choice_of pick) (state_now tape)
+            → IfSome (tape_from m.first w.calls) (λ tape. IsPicked (choice_of pick) (state_now tape)
             (first_image disk))) }
         ensures nothing_called { IfOk result (λ disk. tape_of disk
             ≡ Some (record { at_first = first_state disk.first.items; calls = [] })) }

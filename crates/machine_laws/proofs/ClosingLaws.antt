@@ -18,6 +18,7 @@ use Rattle.machine_laws.proofs.OrderSharing.{shared}
 use Rattle.machine_laws.proofs.ShownLaws.{pages_are_present, words_are_logs}
 use Rattle.machine_laws.proofs.CrashLaws.{crashes_leave_the_log, down_tells}
 use Rattle.machine_laws.specs.ClosedLogs.{AllIsCopied, IsClosed, IsLastPass, LogIsDurable, OrderIsAccounted, PositionsAreLast, WordsAreFree}
+use Rattle.segment_disk.specs.Tape.{DiskState}
 
 -- ---- what stands for nothing
 
@@ -49,8 +50,8 @@ only_one : {A : Type 0} → (x : A) (j : ℕ) (y : A) → HasAt (x ∷ []) j y �
 only_one x zero y e = (refl, some-injective x y e)
 only_one x (suc j) y e = absurd (some-ne-none y (sym e))
 
-module _ (opening : Opening) (words : List ℕ) (home : Option Plain) (views : List View)
-    (k : IsSound opening words home views) (id : ℕ) (v : View) (here : HasAt views id v)
+module _ {first : DiskState} (opening : Opening) (words : List ℕ) (home : Option Plain) (views : List View)
+    (k : IsSound first opening words home views) (id : ℕ) (v : View) (here : HasAt views id v)
     (last : IsLastPass opening v) where
   abbrev size : ℕ
   size = (opening.setup).segment_size
@@ -216,7 +217,7 @@ module _ (opening : Opening) (words : List ℕ) (home : Option Plain) (views : L
 
   -- ---- positions, and what crashes leave
 
-  positions : PositionsAreLast opening k.order words k.writer
+  positions : PositionsAreLast first opening k.order words k.writer
   positions = record {
     begun = (k.positions).begun;
     flushed_low = (k.positions).flushed_low;
@@ -227,7 +228,7 @@ module _ (opening : Opening) (words : List ℕ) (home : Option Plain) (views : L
   }
 
   -- what durability says of all views, of this one alone
-  kept : DurabilityHolds opening k.order (flushed_word words) (moment_word words)
+  kept : DurabilityHolds first opening k.order (flushed_word words) (moment_word words)
       (down_word words) (some k.writer) k.writer (receipts_of v ∷ [])
   kept = record {
     counted = (k.durable).counted;
@@ -241,13 +242,13 @@ module _ (opening : Opening) (words : List ℕ) (home : Option Plain) (views : L
     down_at_home = λ there. (k.durable).down_at_home at_home;
     fault_rose = (k.durable).fault_rose;
     views = λ j x there. subst
-        (IsToldRightly opening k.order (flushed_word words) (moment_word words) (down_word words)
+        (IsToldRightly first opening k.order (flushed_word words) (moment_word words) (down_word words)
         k.writer)
         (only_one (receipts_of v) j x there).1
         ((k.durable).views id (receipts_of v) (part_at receipts_of views id v here));
   }
 
-  durable : LogIsDurable opening k.order words k.writer v
+  durable : LogIsDurable first opening k.order words k.writer v
   durable = record {
     counted = (k.durable).counted;
     since = (k.durable).begun;
@@ -260,7 +261,7 @@ module _ (opening : Opening) (words : List ℕ) (home : Option Plain) (views : L
         (some k.writer) k.writer (receipts_of v ∷ []) kept;
   }
 
-  pub closed : IsClosed opening k.order words home k.writer views id v
+  pub closed : IsClosed first opening k.order words home k.writer views id v
   closed = record {
     alone = alone;
     at_home = at_home;

@@ -1,5 +1,5 @@
 -- Images that a crash leaves are lawful, and hold what was promised.
-use Rattle.std.proofs.Common.{◌≡◌, ◌≢◌, ℕ, ◌+◌, ◌-◌, ◌*◌, ◌/◌, ◌%◌, ◌<◌, ◌≤◌, ◌⊎◌, inl, inr, All, List, drop, length, Some, None, IfSome, IsSome, sym, ap, subst, ◌∙◌, arith}
+use Rattle.std.proofs.Common.{◌≡◌, ◌≢◌, ℕ, ◌+◌, ◌-◌, ◌*◌, ◌/◌, ◌%◌, ◌<◌, ◌≤◌, ◌⊎◌, inl, inr, All, List, drop, Some, None, IfSome, IsSome, sym, ap, subst, ◌∙◌, arith}
 use Rattle.std.specs.Int.{w64, to_le_bytes}
 use Rattle.std.proofs.lemmas.Bool.{cases_eq, cases_lt}
 use Rattle.std.proofs.lemmas.List.Elements.{All-weaker}
@@ -11,7 +11,7 @@ use Rattle.segment_disk.specs.declared.disk.Call.{Call}
 use Rattle.segment_disk.specs.declared.disk.CallKind.{CallKind}
 use Rattle.segment_disk.specs.declared.disk.CallKind.TheVariants.{Create, Write, Sync}
 use Rattle.segment_disk.specs.DiskImage.{DiskImage}
-use Rattle.segment_disk.specs.Tape.{Tape}
+use Rattle.segment_disk.specs.Tape.{DiskState, Tape}
 use Rattle.segment_disk.specs.Assured.{CallFits, DiskImageFits, IsMadeUpto, IsNowhere, KindFits, SegmentFits, TapeAssures}
 use Rattle.flush_core.proofs.LeftPuts.{div_rises}
 use Rattle.wal_page.specs.Order.{Entry, IsChained}
@@ -30,8 +30,8 @@ use Rattle.wal_core.specs.Steps.{MayStep, create, fault_number, number_lent, set
 use Rattle.wal_core.specs.Durable.{AreKept, DurabilityHolds, IsFirm, IsPromiseKept, IsLawfulAt, IsLogBelow}
 use Rattle.machine_laws.specs.Crashes.{CrashesLeave, DownTells, HoldsPromise, LeavesLawful, PutsOwned}
 use Rattle.machine_laws.proofs.DurableAssured.{stands_out}
-use Rattle.wal_core.proofs.Tapes.{at_suited, at_told, began_still, on_tape, told_suited}
-use Rattle.wal_core.specs.Suited.{BeganSuited, IfSuited}
+use Rattle.wal_core.proofs.Tapes.{at_suited, at_told, began_still, counted_on, on_tape, told_suited}
+use Rattle.wal_core.specs.Suited.{tape_from, BeganSuited, IfSuited}
 
 module _ (setup : Setup) (valid : IsSegmentSize setup.segment_size) (order : List Entry)
     (chained : IsChained setup.segment_size order) (image : DiskImage) where
@@ -95,13 +95,13 @@ module _ (setup : Setup) (valid : IsSegmentSize setup.segment_size) (order : Lis
       there = λ k below owned. (kept_word k below).1 owned;
     }
 
-module _ (o : Opening) (order : List Entry) (flushed moment down : ℕ) (home : _) (writer : Plain)
-    (parts : List Receipts) (h : DurabilityHolds o order flushed moment down home writer parts)
+module _ {first : DiskState} (o : Opening) (order : List Entry) (flushed moment down : ℕ) (home : _) (writer : Plain)
+    (parts : List Receipts) (h : DurabilityHolds first o order flushed moment down home writer parts)
     (valid : IsSegmentSize (o.setup).segment_size)
     (chained : IsChained (o.setup).segment_size order) where
-  module _ (t : Tape) (is : writer.tape ≡ Some t) (suited : BeganSuited o t) where
+  module _ (t : Tape) (is : tape_from first writer.calls ≡ Some t) (suited : BeganSuited o t) where
     only_log : TapeAssures (o.setup).segment_size IsNowhere (IsLawfulAt o.setup order) o.moment t
-    only_log = at_suited o writer
+    only_log = at_suited first o writer
         (TapeAssures (o.setup).segment_size IsNowhere (IsLawfulAt o.setup order) o.moment)
         t is suited h.lawful
 
@@ -149,48 +149,47 @@ module _ (o : Opening) (order : List Entry) (flushed moment down : ℕ) (home : 
         there = λ k below owned. absurd (omega arith);
       };
       flushed_kept = firm_lawful flushed moment h.begun
-          (at_suited o writer (IsFirm o.setup order flushed moment) t is suited h.firm);
+          (at_suited first o writer (IsFirm o.setup order flushed moment) t is suited h.firm);
       owned = All-weaker (CallFits (o.setup).segment_size (IsLawfulAt o.setup order))
           (λ (c : Call). PutsOwned (o.setup).segment_size order c.segment c.kind)
           (λ c fits. puts_owned c.geometry c.segment c.kind fits) (drop o.moment t.calls)
           only_log.calls;
       own = λ id x here. keeps_promises x.entries (x.writing).promises
-          (at_suited o writer (λ t. AreKept o order t x.entries (x.writing).promises) t is suited
+          (at_suited first o writer (λ t. AreKept o order t x.entries (x.writing).promises) t is suited
           (h.views id x here).own);
       joined = λ id x here. All-weaker
           (λ (j : Joined). AreKept o order t j.entries j.promises)
           (λ (j : Joined). All (HoldsPromise o order t j.entries) j.promises)
           (λ j kept. keeps_promises j.entries j.promises kept) x.joined
-          (at_suited o writer (λ t. All (λ
+          (at_suited first o writer (λ t. All (λ
           (j : Joined). AreKept o order t j.entries j.promises) x.joined)
           t is suited (h.views id x here).joined);
     }
 
-  pub crashes_leave_the_log : IfSuited o writer
+  pub crashes_leave_the_log : IfSuited first o writer
       (λ t. CrashesLeave o order flushed moment t parts)
-  crashes_leave_the_log = told_suited o writer left_behind
+  crashes_leave_the_log = told_suited first o writer left_behind
 
 -- a call leaves what the disk held when the log was opened
-pub stays_suited : (o : Opening) (order : List Entry) (flushed moment down : ℕ) (home : _)
+pub stays_suited : {first : DiskState} (o : Opening) (order : List Entry) (flushed moment down : ℕ) (home : _)
     (writer : Plain) (parts : List Receipts) (call : Call) (outcome : CallOutcome)
-    → DurabilityHolds o order flushed moment down home writer parts
-    → IfSome writer.tape (BeganSuited o)
-    → IfSome (with_outcome call outcome writer).tape (BeganSuited o)
-stays_suited o order flushed moment down home writer parts call outcome h suited =
-    on_tape (BeganSuited o) call outcome writer (λ t is.
-    let Counts : Tape → Type 0 = λ t. writer.moment ≡ length t.calls in
-    let counts = at_told Counts writer.tape t is h.counted in
+    → DurabilityHolds first o order flushed moment down home writer parts
+    → IfSome (tape_from first writer.calls) (BeganSuited o)
+    → IfSome (tape_from first (with_outcome call outcome writer).calls) (BeganSuited o)
+stays_suited {first} o order flushed moment down home writer parts call outcome h suited =
+    on_tape first (BeganSuited o) call outcome writer (λ t is.
+    let counts = counted_on first writer.moment writer.calls t is h.counted in
     began_still o call outcome t (omega (arith, h.begun, h.moment_low, counts))
-    (at_told (BeganSuited o) writer.tape t is suited))
+    (at_told (BeganSuited o) (tape_from first writer.calls) t is suited))
 
 -- ---- the down value
 
 zero_or : (n down : ℕ) → (n ≢ 0 → n ≡ down) → (n ≡ 0) ⊎ (n ≡ down)
 zero_or n down is = elim (cases_eq n 0) [ inl zeros ↦ inl zeros | inr some_n ↦ inr (is some_n) ]
 
-module _ (o : Opening) (order : List Entry) (flushed moment down : ℕ) (home : _)
+module _ {first : DiskState} (o : Opening) (order : List Entry) (flushed moment down : ℕ) (home : _)
     (writer : Plain) (parts : List Receipts)
-    (h : DurabilityHolds o order flushed moment down home writer parts) where
+    (h : DurabilityHolds first o order flushed moment down home writer parts) where
   no_fault : writer.fault ≡ none → down ≡ 0
   no_fault up = elim (cases_eq down 0) [
     | inl zeros ↦ zeros

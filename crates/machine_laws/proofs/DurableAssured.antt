@@ -4,7 +4,7 @@ use Rattle.std.proofs.lemmas.Bool.{cases_lt}
 use Rattle.std.proofs.lemmas.List.Elements.{All-append, All-cons, All-nil, All-push, All-weaker}
 use Rattle.std.proofs.lemmas.Option.{none-some, slice_get_past}
 use mathlib.Core.Option.{none, some}
-use Rattle.segment_disk.specs.Tape.{Tape}
+use Rattle.segment_disk.specs.Tape.{DiskState, Tape}
 use Rattle.wal_page.specs.Order.{Entry}
 use Rattle.wal_core.specs.Words.{Opening}
 use Rattle.wal_core.specs.Views.{HasAt, Hold, Idle, Turned, Out, Joined, Lent, Plain, FlushPromise, Receipts, Writing}
@@ -42,12 +42,12 @@ lent_cases f P Idle g l is = absurd (cc)
 lent_cases f P Turned g l is = absurd (cc)
 lent_cases f P (Out m) g l is = let same : f m ≡ l = cc in subst P same (g m refl)
 
-module _ (opening : Opening) (order : List Entry) (flushed moment down : ℕ) (writer : Plain) where
+module _ (first : DiskState) (opening : Opening) (order : List Entry) (flushed moment down : ℕ) (writer : Plain) where
   abbrev Is : Receipts → Type 0
-  Is x = IsToldRightly opening order flushed moment down writer x
+  Is x = IsToldRightly first opening order flushed moment down writer x
 
   abbrev IsHeld : Lent → Type 0
-  IsHeld l = IsInHand opening order moment writer l
+  IsHeld l = IsInHand first opening order moment writer l
 
   -- with another of what is loaded, and in hand
   pub rebuilt : (es : List Entry) (js : List Joined) (x y : Writing) → y.promises ≡ x.promises
@@ -57,7 +57,7 @@ module _ (opening : Opening) (order : List Entry) (flushed moment down : ℕ) (w
     own_promised = subst (λ (ps : List FlushPromise). All (IsPromised flushed moment) ps)
         (sym promises) a.own_promised;
     joined_promised = a.joined_promised;
-    own = subst (λ (ps : List FlushPromise). IfSuited opening writer
+    own = subst (λ (ps : List FlushPromise). IfSuited first opening writer
         (λ t. AreKept opening order t es ps))
         (sym promises) a.own;
     joined = a.joined;
@@ -107,18 +107,18 @@ module _ (opening : Opening) (order : List Entry) (flushed moment down : ℕ) (w
 
   pub is_promised : (upto from : ℕ) (es : List Entry) (js : List Joined) (x : Writing)
       → opening.moment ≤ from → from ≤ moment → upto ≤ flushed
-      → IfSuited opening writer (IsFirm opening.setup order upto from) → Is (told es js x)
+      → IfSuited first opening writer (IsFirm opening.setup order upto from) → Is (told es js x)
       → Is (told es js (record x { promises = x.promises ++ promise upto from es ∷ [] }))
   is_promised upto from es js x begun past low firm a = record {
     own_promised = All-push (IsPromised flushed moment) x.promises (promise upto from es)
         a.own_promised (record { upto_low = low; moment_low = past });
     joined_promised = a.joined_promised;
-    own = told_suited opening writer (λ t is suited. All-push
+    own = told_suited first opening writer (λ t is suited. All-push
         (IsPromiseKept opening order t es) x.promises
         (promise upto from es)
-        (at_suited opening writer (λ t. AreKept opening order t es x.promises) t is suited a.own)
+        (at_suited first opening writer (λ t. AreKept opening order t es x.promises) t is suited a.own)
         (is_kept upto from es t begun
-        (at_suited opening writer (IsFirm opening.setup order upto from) t is suited firm)));
+        (at_suited first opening writer (IsFirm opening.setup order upto from) t is suited firm)));
     joined = a.joined;
     in_hand = a.in_hand;
     down_met = a.down_met;
@@ -130,8 +130,8 @@ module _ (opening : Opening) (order : List Entry) (flushed moment down : ℕ) (w
   is_new = record {
     own_promised = All-nil (IsPromised flushed moment);
     joined_promised = All-nil (λ (j : Joined). All (IsPromised flushed moment) j.promises);
-    own = told_suited opening writer (λ t is suited. All-nil (IsPromiseKept opening order t []));
-    joined = told_suited opening writer (λ t is suited.
+    own = told_suited first opening writer (λ t is suited. All-nil (IsPromiseKept opening order t []));
+    joined = told_suited first opening writer (λ t is suited.
         All-nil (λ (j : Joined). AreKept opening order t j.entries j.promises));
     in_hand = λ l is. absurd (cc);
     down_met = λ some_met. absurd (some_met refl);
@@ -140,9 +140,9 @@ module _ (opening : Opening) (order : List Entry) (flushed moment down : ℕ) (w
 
   -- with another list of views
   pub with_views : (home : _) (parts others : List Receipts)
-      → DurabilityHolds opening order flushed moment down home writer parts
+      → DurabilityHolds first opening order flushed moment down home writer parts
       → ((id : ℕ) (x : Receipts) → HasAt others id x → Is x)
-      → DurabilityHolds opening order flushed moment down home writer others
+      → DurabilityHolds first opening order flushed moment down home writer others
   with_views home parts others h views = record {
     counted = h.counted;
     moment_low = h.moment_low;
@@ -158,14 +158,14 @@ module _ (opening : Opening) (order : List Entry) (flushed moment down : ℕ) (w
   }
 
   pub view_set : (home : _) (parts : List Receipts) (id : ℕ) (x : Receipts)
-      → DurabilityHolds opening order flushed moment down home writer parts → Is x
-      → DurabilityHolds opening order flushed moment down home writer (set parts id x)
+      → DurabilityHolds first opening order flushed moment down home writer parts → Is x
+      → DurabilityHolds first opening order flushed moment down home writer (set parts id x)
   view_set home parts id x h is = with_views home parts (set parts id x) h
       (one_set (λ _ y. Is y) parts id x (λ j y other at. h.views j y at) is)
 
   pub view_added : (home : _) (parts : List Receipts) (x : Receipts)
-      → DurabilityHolds opening order flushed moment down home writer parts → Is x
-      → DurabilityHolds opening order flushed moment down home writer (parts ++ x ∷ [])
+      → DurabilityHolds first opening order flushed moment down home writer parts → Is x
+      → DurabilityHolds first opening order flushed moment down home writer (parts ++ x ∷ [])
   view_added home parts x h is = with_views home parts (parts ++ x ∷ []) h
       (one_added (λ _ y. Is y) parts x h.views is)
 
@@ -200,15 +200,15 @@ module _ (opening : Opening) (order : List Entry) (flushed moment down : ℕ) (w
         joined_promised = All-append Promised js (j ∷ ks) a.joined_promised
             (All-cons Promised j ks b.own_promised b.joined_promised);
         own = a.own;
-        joined = told_suited opening writer (λ t is suited.
+        joined = told_suited first opening writer (λ t is suited.
             let Kept : Joined → Type 0 = λ j. AreKept opening order t j.entries j.promises in
-            All-append Kept js (j ∷ ks) (at_suited opening writer (λ t.
+            All-append Kept js (j ∷ ks) (at_suited first opening writer (λ t.
             All (λ (j : Joined). AreKept opening order t j.entries j.promises) js)
             t is suited a.joined)
             (All-cons Kept j ks
-            (at_suited opening writer
+            (at_suited first opening writer
             (λ t. AreKept opening order t fs y.promises) t is suited b.own)
-            (at_suited opening writer (λ t.
+            (at_suited first opening writer (λ t.
             All (λ (j : Joined). AreKept opening order t j.entries j.promises) ks)
             t is suited b.joined)));
         in_hand = a.in_hand;
@@ -219,7 +219,7 @@ module _ (opening : Opening) (order : List Entry) (flushed moment down : ℕ) (w
   -- ---- with other words
 
   pub with_down : (other : ℕ) (x : Receipts) → (down ≢ 0 → down ≡ other) → Is x
-      → IsToldRightly opening order flushed moment other writer x
+      → IsToldRightly first opening order flushed moment other writer x
   with_down other x same a = record {
     own_promised = a.own_promised;
     joined_promised = a.joined_promised;
@@ -242,7 +242,7 @@ module _ (opening : Opening) (order : List Entry) (flushed moment down : ℕ) (w
       }) ps all
 
   pub with_words : (higher later : ℕ) (x : Receipts) → flushed ≤ higher → moment ≤ later → Is x
-      → IsToldRightly opening order higher later down writer x
+      → IsToldRightly first opening order higher later down writer x
   with_words higher later x up low a = record {
     own_promised = promised_later higher later up low (x.writing).promises a.own_promised;
     joined_promised = All-weaker (λ (j : Joined). All (IsPromised flushed moment) j.promises)

@@ -5,7 +5,7 @@ use mathlib.Core.Option.{none, some}
 use Rattle.byte_position.specs.Geometry.{pages_of}
 use Rattle.byte_position.proofs.SegmentSizes.{segment_size_in_pages}
 use Rattle.segment_disk.specs.Cause.{Rose}
-use Rattle.segment_disk.specs.Tape.{create_call, state_now, sync_call, write_call}
+use Rattle.segment_disk.specs.Tape.{DiskState, create_call, state_now, sync_call, write_call}
 use Rattle.segment_disk.specs.Assured.{IsNowhere, TapeAssures}
 use Rattle.wal_page.specs.Order.{Entry}
 use Rattle.wal_core.specs.Words.{Opening}
@@ -56,13 +56,13 @@ synced_reached size segment w Done reached = reached
 synced_reached size segment w (Failed faults none) reached = reached
 synced_reached size segment w (Failed faults (some any)) reached = reached
 
-module _ (o : Opening) (order : List Entry) (flushed moment down : ℕ) (home : _) (writer : Plain)
-    (parts : List Receipts) (h : DurabilityHolds o order flushed moment down home writer parts)
+module _ {first : DiskState} (o : Opening) (order : List Entry) (flushed moment down : ℕ) (home : _) (writer : Plain)
+    (parts : List Receipts) (h : DurabilityHolds first o order flushed moment down home writer parts)
     (id : ℕ) (v : View) (here : HasAt parts id (receipts_of v)) (opening : v.opening ≡ o)
     (setup : IsSetup o.setup) (turn : ℕ) (writers : List (ℕ × Hold))
     (has : IsWriteTurn turn home writer writers) (at : HasAt writers id (writer_of v))
     (written : ℕ) (flights : List Flight) (writings : List Writing)
-    (positions : PositionsHold o order written flushed down home writer flights writings)
+    (positions : PositionsHold first o order written flushed down home writer flights writings)
   where
     abbrev size : ℕ
     size = (o.setup).segment_size
@@ -76,7 +76,7 @@ module _ (o : Opening) (order : List Entry) (flushed moment down : ℕ) (home : 
 
     pub create_keeps : (segment : ℕ) (outcome : CallOutcome) (met : ℕ)
         → MayStep v (create segment outcome)
-        → DurabilityHolds o order flushed moment down home
+        → DurabilityHolds first o order flushed moment down home
         (after_create segment (create_call (o.setup).segment_size segment) outcome writer)
         (set parts id (receipts_of (view_behind v (create segment outcome) met home)))
     create_keeps segment outcome met may =
@@ -89,7 +89,7 @@ module _ (o : Opening) (order : List Entry) (flushed moment down : ℕ) (home : 
         call_keeps o order flushed moment down home writer parts h low call outcome
         (after_create segment call outcome writer)
         (record {
-          tape = refl;
+          calls = refl;
           moment = refl;
           rises = omega (arith, same_written call outcome writer);
         })
@@ -107,7 +107,7 @@ module _ (o : Opening) (order : List Entry) (flushed moment down : ℕ) (home : 
 
     pub write_keeps : (segment page upto : ℕ) (bytes : List ℕ) (outcome : CallOutcome) (met : ℕ)
         → MayStep v (write segment page upto bytes outcome)
-        → DurabilityHolds o order flushed moment down home
+        → DurabilityHolds first o order flushed moment down home
         (after_write segment upto (write_call (o.setup).segment_size segment page bytes) outcome
         writer)
         (set parts id (receipts_of (view_behind v (write segment page upto bytes outcome) met home)))
@@ -140,7 +140,7 @@ module _ (o : Opening) (order : List Entry) (flushed moment down : ℕ) (home : 
         call_keeps o order flushed moment down home writer parts h low call outcome
         (after_write segment upto call outcome writer)
         (record {
-          tape = refl;
+          calls = refl;
           moment = refl;
           rises = written_rises size segment page upto bytes writer outcome rises;
         })
@@ -158,7 +158,7 @@ module _ (o : Opening) (order : List Entry) (flushed moment down : ℕ) (home : 
         id v l here may.0.1
 
     pub sync_keeps : (segment : ℕ) (outcome : CallOutcome) (met : ℕ) → MayStep v (sync segment outcome)
-        → DurabilityHolds o order flushed moment down home
+        → DurabilityHolds first o order flushed moment down home
         (after_sync (sync_call (o.setup).segment_size segment) outcome writer)
         (set parts id (receipts_of (view_behind v (sync segment outcome) met home)))
     sync_keeps segment outcome met may =
@@ -171,16 +171,16 @@ module _ (o : Opening) (order : List Entry) (flushed moment down : ℕ) (home : 
         call_keeps o order flushed moment down home writer parts h low call outcome
         (after_sync call outcome writer)
         (record {
-          tape = refl;
+          calls = refl;
           moment = refl;
           rises = omega (arith, same_written call outcome writer);
         })
         tt (λ a under. tt)
         (synced_reached size segment writer outcome h.reached)
         (λ t is suited d. on_disk_synced o.setup setup.size order segment writer waits h.reached t d
-        (at_suited o writer (TapeAssures size IsNowhere (IsLawfulAt o.setup order) o.moment) t is
+        (at_suited first o writer (TapeAssures size IsNowhere (IsLawfulAt o.setup order) o.moment) t is
         suited h.lawful).now
-        (at_suited o writer (λ t. ReadsBelow o.setup order writer.written (state_now t)) t is
+        (at_suited first o writer (λ t. ReadsBelow o.setup order writer.written (state_now t)) t is
         suited positions.reads) outcome)
         up holds.0
         (λ f is. subst (λ (q : Opening). Rose q.faults f) opening

@@ -3,7 +3,7 @@ use Rattle.std.proofs.Common.{◌≡◌, ℕ, zero, suc, ◌≤◌, ◌⊎◌, i
 use Rattle.std.proofs.lemmas.List.Elements.{All-weaker}
 use Rattle.std.proofs.lemmas.Option.{IfSome_then, none-some, same_Some}
 use Rattle.byte_position.specs.Geometry.{IsSegmentSize}
-use Rattle.segment_disk.specs.Tape.{Tape, state_now}
+use Rattle.segment_disk.specs.Tape.{DiskState, Tape, state_now}
 use Rattle.segment_disk.specs.Assured.{IsMadeUpto, IsNowhere, TapeAssures}
 use Rattle.wal_types.specs.declared.record.Record.{Record}
 use Rattle.wal_page.specs.Order.{Entry, IsChained, end_position}
@@ -20,7 +20,7 @@ use Rattle.machine_laws.proofs.DurableAssured.{told, view_set}
 use Rattle.machine_laws.proofs.DurableGrowth.{IsUnwritten-new, below_grows, firm_stays, lawful_stays, staged_stays}
 use Rattle.machine_laws.proofs.SegmentStates.{All-both, SegmentAssures-weaker}
 use Rattle.wal_core.proofs.Tapes.{told_suited, at_suited}
-use Rattle.wal_core.specs.Suited.{BeganSuited}
+use Rattle.wal_core.specs.Suited.{tape_from, BeganSuited}
 
 got_cases : (es : List Entry) (e f : Entry) (k : ℕ) → slice_get (es ++ e ∷ []) k ≡ Some f
     → (slice_get es k ≡ Some f) ⊎ (e ≡ f)
@@ -30,9 +30,9 @@ got_cases (x ∷ es) e f zero is = inl is
 got_cases (x ∷ es) e f (suc k) is = got_cases es e f k is
 
 -- a view with the writer in hand knows no more copied than is reserved
-pub known_reserved : (o : Opening) (order : List Entry) (written flushed down : ℕ) (home : _)
+pub known_reserved : {first : DiskState} (o : Opening) (order : List Entry) (written flushed down : ℕ) (home : _)
     (writer : Plain) (flights : List Flight) (views : List View)
-    → PositionsHold o order written flushed down home writer flights (map writing_of views)
+    → PositionsHold first o order written flushed down home writer flights (map writing_of views)
     → (id : ℕ) (x : Receipts) → HasAt (map receipts_of views) id x
     → (l : Lent) → (x.writing).hold ≡ Out l
     → l.known ≤ end_form o.setup (end_position (o.setup).segment_size order)
@@ -57,9 +57,9 @@ reserved_is : (v : View) (locks : List ℕ) (value : Record) (at prev : ℕ)
     v.reserving.joined v.writing
 reserved_is v locks value at prev is = rw is refl
 
-module _ (o : Opening) (order : List Entry) (flushed moment down : ℕ) (home : _)
+module _ {first : DiskState} (o : Opening) (order : List Entry) (flushed moment down : ℕ) (home : _)
     (writer : Plain) (parts : List Receipts)
-    (h : DurabilityHolds o order flushed moment down home writer parts)
+    (h : DurabilityHolds first o order flushed moment down home writer parts)
     (valid : IsSegmentSize (o.setup).segment_size) (e : Entry)
     (chained : IsChained (o.setup).segment_size order)
     (start : e.start ≡ end_position (o.setup).segment_size order) where
@@ -101,21 +101,21 @@ module _ (o : Opening) (order : List Entry) (flushed moment down : ℕ) (home : 
     -- of each view, whose entries may be one more
     longer_assured : (x : Receipts) (es : List Entry)
         → ((l : Lent) → (x.writing).hold ≡ Out l → l.known ≤ end)
-        → ((t : Tape) → writer.tape ≡ Some t → BeganSuited o t → (p : FlushPromise)
+        → ((t : Tape) → tape_from first writer.calls ≡ Some t → BeganSuited o t → (p : FlushPromise)
         → IsPromiseKept o order t x.entries p
         → IsPromised flushed moment p → IsPromiseKept o longer t es p)
-        → IsToldRightly o order flushed moment down writer x
-        → IsToldRightly o longer flushed moment down writer (told es x.joined x.writing)
+        → IsToldRightly first o order flushed moment down writer x
+        → IsToldRightly first o longer flushed moment down writer (told es x.joined x.writing)
     longer_assured x es within keeps a = record {
       own_promised = a.own_promised;
       joined_promised = a.joined_promised;
-      own = told_suited o writer (λ t is suited. All-both (IsPromiseKept o order t x.entries)
+      own = told_suited first o writer (λ t is suited. All-both (IsPromiseKept o order t x.entries)
           (IsPromised flushed moment) (IsPromiseKept o longer t es) (keeps t is suited)
           (x.writing).promises
-          (at_suited o writer (λ t. AreKept o order t x.entries
+          (at_suited first o writer (λ t. AreKept o order t x.entries
           (x.writing).promises) t is suited a.own)
           a.own_promised);
-      joined = told_suited o writer (λ t is suited.
+      joined = told_suited first o writer (λ t is suited.
           All-both (λ (j : Joined). AreKept o order t j.entries j.promises)
           (λ (j : Joined). All (IsPromised flushed moment) j.promises)
           (λ (j : Joined). AreKept o longer t j.entries j.promises)
@@ -123,7 +123,7 @@ module _ (o : Opening) (order : List Entry) (flushed moment down : ℕ) (home : 
           (IsPromised flushed moment)
           (IsPromiseKept o longer t j.entries) (kept_longer t j.entries) j.promises kept promised)
           x.joined
-          (at_suited o writer (λ t. All (λ
+          (at_suited first o writer (λ t. All (λ
           (j : Joined). AreKept o order t j.entries j.promises) x.joined)
           t is suited a.joined) a.joined_promised);
       in_hand = λ l is. let i = a.in_hand l is in record {
@@ -133,7 +133,7 @@ module _ (o : Opening) (order : List Entry) (flushed moment down : ℕ) (home : 
         hard_low = i.hard_low;
         moment_low = i.moment_low;
         since = i.since;
-        firm = λ some_hard. IfSome_then writer.tape (i.firm some_hard) (λ t firm suited.
+        firm = λ some_hard. IfSome_then (tape_from first writer.calls) (i.firm some_hard) (λ t firm suited.
             firm_stays o.setup valid order e chained start l.hard l.hard_moment t
             (omega (arith, i.hard_low)) (firm suited));
       };
@@ -154,18 +154,18 @@ module _ (o : Opening) (order : List Entry) (flushed moment down : ℕ) (home : 
       there = is.there;
     }
 
-    all_longer : DurabilityHolds o longer flushed moment down home writer parts
+    all_longer : DurabilityHolds first o longer flushed moment down home writer parts
     all_longer = record {
       counted = h.counted;
       moment_low = h.moment_low;
       begun = h.begun;
       reached = h.reached;
-      lawful = IfSome_then writer.tape h.lawful (λ t lawful suited.
+      lawful = IfSome_then (tape_from first writer.calls) h.lawful (λ t lawful suited.
           lawful_stays o.setup valid order e chained start opened t (lawful suited));
-      firm = IfSome_then writer.tape h.firm (λ t firm suited.
+      firm = IfSome_then (tape_from first writer.calls) h.firm (λ t firm suited.
           firm_stays o.setup valid order e chained start flushed moment t (omega arith)
           (firm suited));
-      on_disk = IfSome_then writer.tape h.on_disk (λ t is suited. on_disk_longer t (is suited));
+      on_disk = IfSome_then (tape_from first writer.calls) h.on_disk (λ t is suited. on_disk_longer t (is suited));
       down_is = h.down_is;
       down_at_home = h.down_at_home;
       fault_rose = h.fault_rose;
@@ -174,36 +174,36 @@ module _ (o : Opening) (order : List Entry) (flushed moment down : ℕ) (home : 
     }
 
     pub reserve_keeps : (id : ℕ) (x : Receipts) → HasAt parts id x
-        → DurabilityHolds o longer flushed moment down home writer
+        → DurabilityHolds first o longer flushed moment down home writer
         (set parts id (told (x.entries ++ e ∷ []) x.joined x.writing))
-    reserve_keeps id x here = view_set o longer flushed moment down writer home parts id
+    reserve_keeps id x here = view_set first o longer flushed moment down writer home parts id
         (told (x.entries ++ e ∷ []) x.joined x.writing) all_longer
         (longer_assured x (x.entries ++ e ∷ []) (known id x here)
-        (λ t is suited p. kept_more t x.entries p (at_suited o writer
+        (λ t is suited p. kept_more t x.entries p (at_suited first o writer
         (TapeAssures (o.setup).segment_size IsNowhere (IsLawfulAt o.setup order) opened)
         t is suited h.lawful))
         (h.views id x here))
 
 -- the step, of all views
-pub store_position_keeps : (o : Opening) (order : List Entry) (flushed moment down : ℕ) (home : _)
+pub store_position_keeps : {first : DiskState} (o : Opening) (order : List Entry) (flushed moment down : ℕ) (home : _)
     (writer : Plain) (views : List View) (id met : ℕ) (locks : List ℕ) (value : Record) (v : View)
     (at prev : ℕ) (last word locked holder written : ℕ) (flights : List Flight)
-    → DurabilityHolds o order flushed moment down home writer (map receipts_of views)
+    → DurabilityHolds first o order flushed moment down home writer (map receipts_of views)
     → HasAt views id v → IsSetup o.setup → IsChained (o.setup).segment_size order
     → AtPlace (o.setup).segment_size (end_position (o.setup).segment_size order) last word locked
     holder id (v.reserving).place
-    → PositionsHold o order written flushed down home writer flights (map writing_of views)
+    → PositionsHold first o order written flushed down home writer flights (map writing_of views)
     → (v.reserving).place ≡ Stored at prev
-    → DurabilityHolds o (order ++ entry_reserved
+    → DurabilityHolds first o (order ++ entry_reserved
     (v.reserving).number at value ∷ []) flushed moment down
     home writer
     (set (map receipts_of views) id (receipts_of (view_behind v (store_position locks value) met home)))
-store_position_keeps o order flushed moment down home writer views id met locks value v at prev
+store_position_keeps {first} o order flushed moment down home writer views id met locks value v at prev
     last word locked holder written flights h here setup chained stands positions is =
     let e = entry_reserved (v.reserving).number at value in
     let start = at_end (o.setup).segment_size (end_position (o.setup).segment_size order) last word
     locked holder id (v.reserving).place at prev is stands in
-    subst (λ (x : Receipts). DurabilityHolds o (order ++ e ∷ []) flushed moment down home writer
+    subst (λ (x : Receipts). DurabilityHolds first o (order ++ e ∷ []) flushed moment down home writer
     (set (map receipts_of views) id x)) (sym (reserved_is v locks value at prev is))
     (reserve_keeps o order flushed moment down home writer (map receipts_of views) h setup.size e
     chained start positions.reserved

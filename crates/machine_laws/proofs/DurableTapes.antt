@@ -1,5 +1,5 @@
 -- What a tape assures from a later moment on, and behind a call, however the call ended.
-use Rattle.std.proofs.Common.{◌≡◌, inl, ℕ, ◌+◌, ◌-◌, ◌≤◌, All, List, [], ◌∷◌, ◌++◌, length, take, drop, Some, refl, sym, ap, ◌∙◌, arith, length-append}
+use Rattle.std.proofs.Common.{◌≡◌, inl, ℕ, ◌+◌, ◌-◌, ◌≤◌, All, List, [], ◌∷◌, ◌++◌, length, take, drop, Option, Some, None, IfSome, refl, sym, ap, ◌∙◌, arith, length-append}
 use Rattle.std.proofs.lemmas.List.{drop-drop}
 use Rattle.std.proofs.lemmas.List.Elements.{All-drop, All-same}
 use mathlib.Core.Option.{none, some}
@@ -10,7 +10,7 @@ use Rattle.segment_disk.proofs.Fronts.{take-before}
 use Rattle.flush_core.proofs.LeftLaws.{TapeAssures-with_call, TapeAssures-failed}
 use Rattle.wal_page.specs.Order.{Entry}
 use Rattle.wal_core.specs.Views.{Plain}
-use Rattle.wal_core.specs.Moves.{CallOutcome, Done, Failed, with_outcome}
+use Rattle.wal_core.specs.Moves.{CallOutcome, Done, Failed, one_call_more, with_outcome}
 use Rattle.wal_core.proofs.Tapes.{tape_behind}
 use Rattle.wal_core.specs.Durable.{IsUnwritten, PutsNone}
 
@@ -64,13 +64,21 @@ IsUnwritten-behind size opened moment call (Failed faults (some made)) t e withi
     unwritten_before size opened moment t (failed_call made call) e within unwritten
 
 -- the moment counts the calls
-pub counted_behind : (call : Call) (outcome : CallOutcome) (w : Plain) (t : Tape)
-    → w.moment ≡ length t.calls
-    → (with_outcome call outcome w).moment ≡ length (tape_behind outcome call t).calls
-counted_behind call Done w t count = omega (arith, count, length-append t.calls (call ∷ []))
-counted_behind call (Failed faults none) w t count = count
-counted_behind call (Failed faults (some made)) w t count =
-    omega (arith, count, length-append t.calls (failed_call made call ∷ []))
+one_counted : (moment : ℕ) (calls : Option (List Call)) (call : Call)
+    → IfSome calls (λ cs. moment ≡ length cs)
+    → IfSome (one_call_more call calls) (λ cs. moment + 1 ≡ length cs)
+one_counted moment None call count = tt
+one_counted moment (Some calls) call count =
+    omega (arith, count, length-append calls (call ∷ []))
+
+pub counted_behind : (call : Call) (outcome : CallOutcome) (w : Plain)
+    → IfSome w.calls (λ calls. w.moment ≡ length calls)
+    → IfSome (with_outcome call outcome w).calls
+    (λ calls. (with_outcome call outcome w).moment ≡ length calls)
+counted_behind call Done w count = one_counted w.moment w.calls call count
+counted_behind call (Failed faults none) w count = count
+counted_behind call (Failed faults (some made)) w count =
+    one_counted w.moment w.calls (failed_call made call) count
 
 pub moment_rises : (call : Call) (outcome : CallOutcome) (w : Plain)
     → w.moment ≤ (with_outcome call outcome w).moment

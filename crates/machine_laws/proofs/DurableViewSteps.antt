@@ -1,10 +1,10 @@
 -- Steps that change one view, or add or take one, and of the words and the writer at most the
 -- moment, the flushed address, the down value, and where the writer is.
-use Rattle.std.proofs.Common.{◌≡◌, ◌≢◌, ℕ, ◌≤◌, inl, inr, Bool, true, false, List, [], ◌∷◌, ◌++◌, length, set, refl, sym, ap, subst, ◌∙◌, ◌==◌, if◌then◌else◌, arith}
+use Rattle.std.proofs.Common.{◌≡◌, ◌≢◌, ℕ, ◌≤◌, inl, inr, Bool, true, false, List, [], ◌∷◌, ◌++◌, set, refl, sym, ap, subst, ◌∙◌, ◌==◌, if◌then◌else◌, arith}
 use Rattle.std.proofs.lemmas.List.Elements.{All-cons, All-nil}
 use Rattle.std.proofs.lemmas.Option.{IfSome_then}
 use mathlib.Core.Option.{Option, none, some, some-injective, some-ne-none}
-use Rattle.segment_disk.specs.Tape.{Tape}
+use Rattle.segment_disk.specs.Tape.{DiskState}
 use Rattle.segment_disk.specs.Assured.{IsMadeUpto}
 use Rattle.flush_core.proofs.LeftLaws.{TapeAssures-now}
 use Rattle.wal_page.specs.Order.{Entry}
@@ -16,18 +16,18 @@ use Rattle.wal_core.specs.Durable.{DurabilityHolds, IsToldRightly, IsFirm, IsInH
 use Rattle.wal_core.specs.Steps.{MayStep, fault_number, home_behind, number_lent, returned, value_behind, view_behind, with_slot, set_down, slot_in, slot_out, store_flushed, store_moment}
 use Rattle.machine_laws.proofs.DurableAssured.{did_set_down, with_down, with_words, is_joined, is_new, is_promised, lent_cases, met_down, rebuilt, stands_out, stands_turned, told, view_added, view_set}
 use Rattle.machine_laws.proofs.DurableGrowth.{IsFirm-lower}
-use Rattle.wal_core.proofs.Tapes.{at_told, told_suited, at_suited}
+use Rattle.wal_core.proofs.Tapes.{counted_on, told_suited, at_suited}
 use Rattle.machine_laws.proofs.DurableTapes.{TapeAssures-later}
-use Rattle.wal_core.specs.Suited.{IfSuited}
+use Rattle.wal_core.specs.Suited.{tape_from, IfSuited}
 
-module _ (o : Opening) (order : List Entry) (flushed moment down : ℕ) (home : Option Plain)
+module _ {first : DiskState} (o : Opening) (order : List Entry) (flushed moment down : ℕ) (home : Option Plain)
     (writer : Plain) (parts : List Receipts)
-    (h : DurabilityHolds o order flushed moment down home writer parts) where
+    (h : DurabilityHolds first o order flushed moment down home writer parts) where
   abbrev Holds : List Receipts → Type 0
-  Holds views = DurabilityHolds o order flushed moment down home writer views
+  Holds views = DurabilityHolds first o order flushed moment down home writer views
 
   abbrev Is : Receipts → Type 0
-  Is x = IsToldRightly o order flushed moment down writer x
+  Is x = IsToldRightly first o order flushed moment down writer x
 
   module _ (id : ℕ) (v : View) (here : HasAt parts id (receipts_of v)) where
     was : Is (receipts_of v)
@@ -40,13 +40,13 @@ module _ (o : Opening) (order : List Entry) (flushed moment down : ℕ) (home : 
     js = v.reserving.joined
 
     one : (x : Receipts) → Is x → Holds (set parts id x)
-    one x is = view_set o order flushed moment down writer home parts id x h is
+    one x is = view_set first o order flushed moment down writer home parts id x h is
 
     -- nothing in hand
     empty_handed : (hold : Hold) → ((l : Lent) → hold ≡ Out l → ⊥)
         → Holds (set parts id (told es js (record v.writing { hold = hold })))
     empty_handed hold nothing = one (told es js (record v.writing { hold = hold }))
-        (rebuilt o order flushed moment down writer es js v.writing
+        (rebuilt first o order flushed moment down writer es js v.writing
         (record v.writing { hold = hold }) refl refl refl was
         (λ l is. absurd (nothing l is)))
 
@@ -55,25 +55,25 @@ module _ (o : Opening) (order : List Entry) (flushed moment down : ℕ) (home : 
 
     pub load_written_keeps : (met : ℕ) → Holds (set parts id (receipts_of (after_load_written met v)))
     load_written_keeps met = one (told es js (record v.writing { written = met }))
-        (rebuilt o order flushed moment down writer es js v.writing
+        (rebuilt first o order flushed moment down writer es js v.writing
         (record v.writing { written = met }) refl refl refl was was.in_hand)
 
     pub load_flushed_keeps : (met : ℕ) → Holds (set parts id (receipts_of (after_load_flushed met v)))
     load_flushed_keeps met = one (told es js (record v.writing { flushed = met }))
-        (rebuilt o order flushed moment down writer es js v.writing
+        (rebuilt first o order flushed moment down writer es js v.writing
         (record v.writing { flushed = met }) refl refl refl was was.in_hand)
 
     pub load_moment_keeps : v.writing.flushed ≤ flushed
         → Holds (set parts id (receipts_of (after_load_moment moment v)))
     load_moment_keeps low = one (receipts_of (after_load_moment moment v))
-        (is_promised o order flushed moment down writer v.writing.flushed moment es js v.writing
+        (is_promised first o order flushed moment down writer v.writing.flushed moment es js v.writing
         h.begun (omega arith) low
-        (IfSome_then writer.tape h.firm (λ t firm suited.
+        (IfSome_then (tape_from first writer.calls) h.firm (λ t firm suited.
         IsFirm-lower o.setup order v.writing.flushed flushed moment t low (firm suited))) was)
 
     pub load_down_keeps : Holds (set parts id (receipts_of (after_load_down down v)))
     load_down_keeps = one (receipts_of (after_load_down down v))
-        (met_down o order flushed moment down writer es js v.writing was)
+        (met_down first o order flushed moment down writer es js v.writing was)
 
     pub take_turn_keeps : (met : ℕ) → Holds (set parts id (receipts_of (after_take_write_turn met v)))
     take_turn_keeps met = by_test (met == 0)
@@ -88,14 +88,14 @@ module _ (o : Opening) (order : List Entry) (flushed moment down : ℕ) (home : 
 
     -- with the writer in hand, where what is said of it stays
     in_hand_keeps : (f : Lent → Lent)
-        → ((m : Lent) → v.writing.hold ≡ Out m → IsInHand o order moment writer (f m))
+        → ((m : Lent) → v.writing.hold ≡ Out m → IsInHand first o order moment writer (f m))
         → Holds (set parts id (told es js
         (record v.writing { hold = with_lent f v.writing.hold })))
     in_hand_keeps f stays =
         one (told es js (record v.writing { hold = with_lent f v.writing.hold }))
-        (rebuilt o order flushed moment down writer es js v.writing
+        (rebuilt first o order flushed moment down writer es js v.writing
         (record v.writing { hold = with_lent f v.writing.hold }) refl refl refl was
-        (lent_cases f (IsInHand o order moment writer) v.writing.hold stays))
+        (lent_cases f (IsInHand first o order moment writer) v.writing.hold stays))
 
     pub store_written_keeps : Holds (set parts id (receipts_of (after_store_written v)))
     store_written_keeps = in_hand_keeps (λ l. record l { stored = (l.writer).written })
@@ -124,7 +124,7 @@ module _ (o : Opening) (order : List Entry) (flushed moment down : ℕ) (home : 
     -- with the writer at home, or away
     rehomed : (elsewhere : Option Plain) (others : List Receipts)
         → (elsewhere ≡ some writer → down ≡ 0 → writer.fault ≡ none) → Holds others
-        → DurabilityHolds o order flushed moment down elsewhere writer others
+        → DurabilityHolds first o order flushed moment down elsewhere writer others
     rehomed elsewhere others at_home g = record {
       counted = g.counted;
       moment_low = g.moment_low;
@@ -148,10 +148,10 @@ module _ (o : Opening) (order : List Entry) (flushed moment down : ℕ) (home : 
 
       nothing_loaded : Holds (set parts id (receipts_of (after_slot_out writer v)))
       nothing_loaded = one (receipts_of (after_slot_out writer v))
-          (rebuilt o order flushed moment down writer es js v.writing
+          (rebuilt first o order flushed moment down writer es js v.writing
           ((after_slot_out writer v).writing) refl refl refl was
           (λ l is. let taken : lent writer v ≡ l = cc in
-          subst (IsInHand o order moment writer) taken (record {
+          subst (IsInHand first o order moment writer) taken (record {
             staged = All-nil (IsStaged o.setup order (lent writer v).known);
             hard_low = omega arith;
             moment_low = omega arith;
@@ -160,25 +160,25 @@ module _ (o : Opening) (order : List Entry) (flushed moment down : ℕ) (home : 
           })))
 
       pub slot_out_keeps : (met : ℕ) → MayStep v slot_out
-          → DurabilityHolds o order flushed moment down (home_behind v slot_out home) writer
+          → DurabilityHolds first o order flushed moment down (home_behind v slot_out home) writer
           (set parts id (receipts_of (view_behind v slot_out met home)))
       slot_out_keeps met may =
           let there : home ≡ some writer = stands_turned turn has.holder home writer id
           v.reserving.number v.writing.hold may (has.each id (writer_of v) at) in
-          subst (λ (p : Option Plain). DurabilityHolds o order flushed moment down none writer
+          subst (λ (p : Option Plain). DurabilityHolds first o order flushed moment down none writer
           (set parts id (receipts_of (with_slot v p)))) (sym there)
           (rehomed none (set parts id (receipts_of (after_slot_out writer v)))
           (λ is. absurd (cc)) nothing_loaded)
 
       pub slot_in_keeps : (met : ℕ) → MayStep v slot_in
-          → DurabilityHolds o order flushed moment down (home_behind v slot_in home) writer
+          → DurabilityHolds first o order flushed moment down (home_behind v slot_in home) writer
           (set parts id (receipts_of (view_behind v slot_in met home)))
       slot_in_keeps met may =
           let l = may.0 in
           let own = (held l may.1).1 in
           let back : returned v v.writing.hold home ≡ some writer =
           ap (λ (hold : Hold). returned v hold home) may.1 ∙ ap some own in
-          subst (λ (p : Option Plain). DurabilityHolds o order flushed moment down p writer
+          subst (λ (p : Option Plain). DurabilityHolds first o order flushed moment down p writer
           (set parts id (receipts_of (with_hold Turned v)))) (sym back)
           (rehomed (some writer) (set parts id (receipts_of (with_hold Turned v)))
           (λ _ up. elim may.2 [
@@ -188,7 +188,7 @@ module _ (o : Opening) (order : List Entry) (flushed moment down : ℕ) (home : 
           (empty_handed Turned (λ m is. absurd (cc))))
 
       pub set_down_keeps : (met : ℕ) → MayStep v set_down
-          → DurabilityHolds o order flushed moment (value_behind v set_down met) home writer
+          → DurabilityHolds first o order flushed moment (value_behind v set_down met) home writer
           (set parts id (receipts_of (view_behind v set_down met home)))
       set_down_keeps met may =
           let l = may.0 in
@@ -201,7 +201,7 @@ module _ (o : Opening) (order : List Entry) (flushed moment down : ℕ) (home : 
           ∙ ap (fault_number v) may.2.1 in
           let told_before : down ≢ 0 → down ≡ faults = λ some_down.
           some-injective down faults (sym (h.down_is some_down) ∙ fault) in
-          let behind : DurabilityHolds o order flushed moment faults home writer parts = record {
+          let behind : DurabilityHolds first o order flushed moment faults home writer parts = record {
             counted = h.counted;
             moment_low = h.moment_low;
             begun = h.begun;
@@ -212,31 +212,30 @@ module _ (o : Opening) (order : List Entry) (flushed moment down : ℕ) (home : 
             down_is = λ _. fault;
             down_at_home = λ home_is. absurd (some-ne-none writer (sym home_is ∙ holds.0));
             fault_rose = h.fault_rose;
-            views = λ j x there. with_down o order flushed moment down writer faults x told_before
+            views = λ j x there. with_down first o order flushed moment down writer faults x told_before
                 (h.views j x there);
           } in
-          subst (λ (n : ℕ). DurabilityHolds o order flushed moment n home writer
+          subst (λ (n : ℕ). DurabilityHolds first o order flushed moment n home writer
           (set parts id (receipts_of (after_set_down n v)))) (sym number)
-          (view_set o order flushed moment faults writer home parts id
+          (view_set first o order flushed moment faults writer home parts id
           (receipts_of (after_set_down faults v)) behind
-          (did_set_down o order flushed moment faults writer es js v.writing
+          (did_set_down first o order flushed moment faults writer es js v.writing
           (behind.views id (receipts_of v) here)))
 
       -- nothing waits: all that is written is durable
       all_firm : writer.waiting ≡ none
-          → IfSuited o writer (IsFirm o.setup order writer.written writer.moment)
-      all_firm nothing = told_suited o writer (λ t is suited.
-          let Counts : Tape → Type 0 = λ t. writer.moment ≡ length t.calls in
+          → IfSuited first o writer (IsFirm o.setup order writer.written writer.moment)
+      all_firm nothing = told_suited first o writer (λ t is suited.
           TapeAssures-now o.setup.segment_size
           (IsMadeUpto o.setup.segment_size writer.written)
           (IsLogBelow o.setup order writer.written) writer.moment t
-          (at_told Counts writer.tape t is h.counted)
-          (λ segment. (at_suited o writer
+          (counted_on first writer.moment writer.calls t is h.counted)
+          (λ segment. (at_suited first o writer
           (IsOnDisk o.setup order writer) t is suited h.on_disk).firm
           segment (λ waits. absurd (some-ne-none segment (sym waits ∙ nothing)))))
 
       pub store_moment_keeps : (met : ℕ) → MayStep v store_moment
-          → DurabilityHolds o order flushed (value_behind v store_moment met) down home writer
+          → DurabilityHolds first o order flushed (value_behind v store_moment met) down home writer
           (set parts id (receipts_of (view_behind v store_moment met home)))
       store_moment_keeps met may =
           let l = may.0 in
@@ -247,14 +246,14 @@ module _ (o : Opening) (order : List Entry) (flushed moment down : ℕ) (home : 
           let number : value_behind v store_moment met ≡ writer.moment =
           ap (number_lent v (λ l. (l.writer).moment)) may.1
           ∙ ap (λ (p : Plain). p.moment) holds.1 in
-          let behind : DurabilityHolds o order flushed writer.moment down home writer parts =
+          let behind : DurabilityHolds first o order flushed writer.moment down home writer parts =
           record {
             counted = h.counted;
             moment_low = omega arith;
             begun = omega (arith, h.begun, h.moment_low);
             reached = h.reached;
             lawful = h.lawful;
-            firm = IfSome_then writer.tape h.firm (λ t firm suited.
+            firm = IfSome_then (tape_from first writer.calls) h.firm (λ t firm suited.
                 TapeAssures-later size (IsMadeUpto size flushed)
                 (IsLogBelow o.setup order flushed) moment writer.moment t h.moment_low
                 (firm suited));
@@ -262,17 +261,17 @@ module _ (o : Opening) (order : List Entry) (flushed moment down : ℕ) (home : 
             down_is = h.down_is;
             down_at_home = h.down_at_home;
             fault_rose = h.fault_rose;
-            views = λ j x there. with_words o order flushed moment down writer flushed
+            views = λ j x there. with_words first o order flushed moment down writer flushed
                 writer.moment x (omega arith) h.moment_low (h.views j x there);
           } in
           let now = behind.views id (receipts_of v) here in
-          subst (λ (n : ℕ). DurabilityHolds o order flushed n down home writer
+          subst (λ (n : ℕ). DurabilityHolds first o order flushed n down home writer
           (set parts id (receipts_of (after_store_moment v)))) (sym number)
-          (view_set o order flushed writer.moment down writer home parts id
+          (view_set first o order flushed writer.moment down writer home parts id
           (receipts_of (after_store_moment v)) behind
-          (rebuilt o order flushed writer.moment down writer es js v.writing
+          (rebuilt first o order flushed writer.moment down writer es js v.writing
           ((after_store_moment v).writing) refl refl refl now
-          (lent_cases hardened (IsInHand o order writer.moment writer) v.writing.hold
+          (lent_cases hardened (IsInHand first o order writer.moment writer) v.writing.hold
           (λ m is.
           let own = (held m is).1 in
           let from : (m.writer).moment ≡ writer.moment = ap (λ (p : Plain). p.moment) own in
@@ -282,13 +281,13 @@ module _ (o : Opening) (order : List Entry) (flushed moment down : ℕ) (home : 
             moment_low = omega (arith, from);
             since = λ _. omega (arith, from, behind.begun);
             firm = λ _. subst (λ (p : Plain).
-                IfSuited o writer (IsFirm o.setup order p.written p.moment)) (sym own)
+                IfSuited first o writer (IsFirm o.setup order p.written p.moment)) (sym own)
                 (all_firm nothing);
           }))))
 
       pub store_flushed_keeps : (met : ℕ) → 1 ≤ flushed → flushed ≤ writer.written
           → MayStep v store_flushed
-          → DurabilityHolds o order (value_behind v store_flushed met) moment down home writer
+          → DurabilityHolds first o order (value_behind v store_flushed met) moment down home writer
           (set parts id (receipts_of (view_behind v store_flushed met home)))
       store_flushed_keeps met some_flushed low may =
           let l = may.0 in
@@ -301,13 +300,13 @@ module _ (o : Opening) (order : List Entry) (flushed moment down : ℕ) (home : 
           let up : flushed ≤ l.hard =
           omega (arith, low, may.2.0, ap (λ (p : Plain). p.written) holds.1) in
           let some_hard : l.hard ≢ 0 = λ none. omega (arith, none, some_flushed, up) in
-          let behind : DurabilityHolds o order l.hard moment down home writer parts = record {
+          let behind : DurabilityHolds first o order l.hard moment down home writer parts = record {
             counted = h.counted;
             moment_low = h.moment_low;
             begun = h.begun;
             reached = h.reached;
             lawful = h.lawful;
-            firm = IfSome_then writer.tape (hand.firm some_hard) (λ t firm suited.
+            firm = IfSome_then (tape_from first writer.calls) (hand.firm some_hard) (λ t firm suited.
                 TapeAssures-later o.setup.segment_size (IsMadeUpto o.setup.segment_size l.hard)
                 (IsLogBelow o.setup order l.hard) l.hard_moment moment t hand.moment_low
                 (firm suited));
@@ -315,39 +314,39 @@ module _ (o : Opening) (order : List Entry) (flushed moment down : ℕ) (home : 
             down_is = h.down_is;
             down_at_home = h.down_at_home;
             fault_rose = h.fault_rose;
-            views = λ j x there. with_words o order flushed moment down writer l.hard moment x up
+            views = λ j x there. with_words first o order flushed moment down writer l.hard moment x up
                 (omega arith) (h.views j x there);
           } in
-          subst (λ (n : ℕ × ℕ). DurabilityHolds o order n.0 moment down home writer
+          subst (λ (n : ℕ × ℕ). DurabilityHolds first o order n.0 moment down home writer
           (set parts id (receipts_of (after_store_flushed n.0 n.1 v))))
           (λ j. (sym number j, sym from j))
-          (view_set o order l.hard moment down writer home parts id
+          (view_set first o order l.hard moment down writer home parts id
           (receipts_of (after_store_flushed l.hard l.hard_moment v)) behind
-          (is_promised o order l.hard moment down writer l.hard l.hard_moment es js v.writing
+          (is_promised first o order l.hard moment down writer l.hard l.hard_moment es js v.writing
           (hand.since some_hard) hand.moment_low (omega arith) (hand.firm some_hard)
           (behind.views id (receipts_of v) here)))
 
     -- ---- passes that begin and end
 
     pub split_keeps : Holds (set parts id (receipts_of (after_split v)) ++ receipts_of (split_off v) ∷ [])
-    split_keeps = view_added o order flushed moment down writer home
+    split_keeps = view_added first o order flushed moment down writer home
         (set parts id (receipts_of v)) (told [] [] no_writing) same
-        (is_new o order flushed moment down writer)
+        (is_new first o order flushed moment down writer)
 
     pub give_up_keeps :
         Holds (set parts id (receipts_of (without_work v)) ++ receipts_of (orphan_of v) ∷ [])
-    give_up_keeps = view_added o order flushed moment down writer home
+    give_up_keeps = view_added first o order flushed moment down writer home
         (set parts id (receipts_of v)) (told [] [] no_writing) same
-        (is_new o order flushed moment down writer)
+        (is_new first o order flushed moment down writer)
 
     pub join_keeps : (other : ℕ) (w : View) → HasAt parts other (receipts_of w)
         → Holds (set (set parts other (receipts_of (spent w))) id (receipts_of (after_join v w)))
     join_keeps other w there =
-        let began = is_new o order flushed moment down writer in
-        view_set o order flushed moment down writer home
+        let began = is_new first o order flushed moment down writer in
+        view_set first o order flushed moment down writer home
         (set parts other (told [] [] no_writing)) id (receipts_of (after_join v w))
-        (view_set o order flushed moment down writer home parts other (told [] [] no_writing) h
+        (view_set first o order flushed moment down writer home parts other (told [] [] no_writing) h
         began)
-        (is_joined o order flushed moment down writer es w.reserving.entries js
+        (is_joined first o order flushed moment down writer es w.reserving.entries js
         w.reserving.joined v.writing w.writing w.reserving.number w.reserving.filled was
         (h.views other (receipts_of w) there))

@@ -3,7 +3,7 @@ use Rattle.std.proofs.Common.{◌≡◌, ℕ, ◌+◌, ◌*◌, ◌≤◌, All, 
 use mathlib.Core.Option.{none, some, some-injective, some-ne-none}
 use Rattle.segment_disk.specs.declared.disk.Call.{Call}
 use Rattle.segment_disk.specs.Cause.{Rose}
-use Rattle.segment_disk.specs.Tape.{Tape}
+use Rattle.segment_disk.specs.Tape.{DiskState, Tape}
 use Rattle.segment_disk.specs.Assured.{CallFits, IsMadeUpto, IsNowhere, TapeAssures}
 use Rattle.wal_page.specs.Order.{Entry}
 use Rattle.wal_core.specs.Words.{Opening}
@@ -13,9 +13,9 @@ use Rattle.wal_core.specs.Durable.{AreKept, DurabilityHolds, IsToldRightly, IsFi
 use Rattle.wal_core.specs.Steps.{IsCallFault, with_call_on}
 use Rattle.machine_laws.proofs.DurableAssured.{lent_cases, rebuilt, told, view_set}
 use Rattle.machine_laws.proofs.SegmentStates.{All-both}
-use Rattle.wal_core.proofs.Tapes.{at_told, on_tape, tape_behind, began_behind, at_suited}
+use Rattle.wal_core.proofs.Tapes.{counted_on, on_tape, tape_behind, began_behind, at_suited}
 use Rattle.machine_laws.proofs.DurableTapes.{IsUnwritten-behind, TapeAssures-behind, counted_behind, moment_rises}
-use Rattle.wal_core.specs.Suited.{BeganSuited, IfSuited}
+use Rattle.wal_core.specs.Suited.{tape_from, BeganSuited, IfSuited}
 
 -- a call leaves of the writer all but its tape, its moment and its fault
 pub same_written : (call : Call) (outcome : CallOutcome) (w : Plain)
@@ -36,13 +36,13 @@ fault_rose v call (Failed faults (some made)) w up rose f is =
 
 -- the writer behind the call
 pub record ComesBehind (call : Call) (outcome : CallOutcome) (w n : Plain) : Type 0 where
-  pub tape : n.tape ≡ (with_outcome call outcome w).tape
+  pub calls : n.calls ≡ (with_outcome call outcome w).calls
   pub moment : n.moment ≡ (with_outcome call outcome w).moment
   pub rises : w.written ≤ n.written
 
-module _ (o : Opening) (order : List Entry) (flushed moment down : ℕ) (home : _)
+module _ {first : DiskState} (o : Opening) (order : List Entry) (flushed moment down : ℕ) (home : _)
     (w : Plain) (parts : List Receipts)
-    (h : DurabilityHolds o order flushed moment down home w parts)
+    (h : DurabilityHolds first o order flushed moment down home w parts)
     (low : flushed ≤ w.written) (call : Call) (outcome : CallOutcome) (n : Plain)
     (is : ComesBehind call outcome w n)
     (lawful : CallFits (o.setup).segment_size (IsLawfulAt o.setup order) call)
@@ -52,30 +52,29 @@ module _ (o : Opening) (order : List Entry) (flushed moment down : ℕ) (home : 
   size = (o.setup).segment_size
 
   behind : (Q : Tape → Type 0)
-      → ((t : Tape) → w.tape ≡ Some t → Q (tape_behind outcome call t)) → IfSome n.tape Q
-  behind Q f = subst (λ (p : Option Tape). IfSome p Q) (sym is.tape) (on_tape Q call outcome w f)
+      → ((t : Tape) → tape_from first w.calls ≡ Some t → Q (tape_behind outcome call t)) → IfSome (tape_from first n.calls) Q
+  behind Q f = subst (λ (p : Option (List Call)). IfSome (tape_from first p) Q) (sym is.calls)
+      (on_tape first Q call outcome w f)
 
-  counts : (t : Tape) → w.tape ≡ Some t → w.moment ≡ length t.calls
-  counts t there =
-      let Counts : Tape → Type 0 = λ t. w.moment ≡ length t.calls in
-      at_told Counts w.tape t there h.counted
+  counts : (t : Tape) → tape_from first w.calls ≡ Some t → w.moment ≡ length t.calls
+  counts t there = counted_on first w.moment w.calls t there h.counted
 
   suited_behind : (Q : Tape → Type 0)
-      → ((t : Tape) → w.tape ≡ Some t → BeganSuited o t → Q (tape_behind outcome call t))
-      → IfSuited o n Q
+      → ((t : Tape) → tape_from first w.calls ≡ Some t → BeganSuited o t → Q (tape_behind outcome call t))
+      → IfSuited first o n Q
   suited_behind Q f = behind (λ t. BeganSuited o t → Q t) (λ t there suited. f t there
       (began_behind o call outcome t (omega (arith, h.begun, h.moment_low, counts t there)) suited))
 
   firm_behind : (upto from : ℕ) → upto ≤ w.written
-      → IfSuited o w (IsFirm o.setup order upto from)
-      → IfSuited o n (IsFirm o.setup order upto from)
+      → IfSuited first o w (IsFirm o.setup order upto from)
+      → IfSuited first o n (IsFirm o.setup order upto from)
   firm_behind upto from under firm = suited_behind (IsFirm o.setup order upto from)
       (λ t there suited.
       TapeAssures-behind size (IsMadeUpto size upto) (IsLogBelow o.setup order upto) call outcome
       from t (fits upto under)
-      (at_suited o w (IsFirm o.setup order upto from) t there suited firm))
+      (at_suited first o w (IsFirm o.setup order upto from) t there suited firm))
 
-  kept_behind : (t : Tape) → w.tape ≡ Some t → (es : List Entry) (p : FlushPromise)
+  kept_behind : (t : Tape) → tape_from first w.calls ≡ Some t → (es : List Entry) (p : FlushPromise)
       → IsPromiseKept o order t es p → IsPromised flushed moment p
       → IsPromiseKept o order (tape_behind outcome call t) es p
   kept_behind t there es p kept promised = record {
@@ -87,7 +86,7 @@ module _ (o : Opening) (order : List Entry) (flushed moment down : ℕ) (home : 
         (kept.later k e from got);
   }
 
-  in_hand_behind : (l : Lent) → IsInHand o order moment w l → IsInHand o order moment n l
+  in_hand_behind : (l : Lent) → IsInHand first o order moment w l → IsInHand first o order moment n l
   in_hand_behind l i = record {
     staged = i.staged;
     hard_low = omega (arith, i.hard_low, is.rises);
@@ -96,8 +95,8 @@ module _ (o : Opening) (order : List Entry) (flushed moment down : ℕ) (home : 
     firm = λ some_hard. firm_behind l.hard l.hard_moment i.hard_low (i.firm some_hard);
   }
 
-  assured_behind : (x : Receipts) → IsToldRightly o order flushed moment down w x
-      → IsToldRightly o order flushed moment down n x
+  assured_behind : (x : Receipts) → IsToldRightly first o order flushed moment down w x
+      → IsToldRightly first o order flushed moment down n x
   assured_behind x a = record {
     own_promised = a.own_promised;
     joined_promised = a.joined_promised;
@@ -106,7 +105,7 @@ module _ (o : Opening) (order : List Entry) (flushed moment down : ℕ) (home : 
         All-both (IsPromiseKept o order t x.entries) (IsPromised flushed moment)
         (IsPromiseKept o order (tape_behind outcome call t) x.entries)
         (kept_behind t there x.entries) (x.writing).promises
-        (at_suited o w (λ t. AreKept o order t x.entries (x.writing).promises) t there suited a.own)
+        (at_suited first o w (λ t. AreKept o order t x.entries (x.writing).promises) t there suited a.own)
         a.own_promised);
     joined = suited_behind
         (λ t. All (λ (j : Joined). AreKept o order t j.entries j.promises) x.joined)
@@ -116,7 +115,7 @@ module _ (o : Opening) (order : List Entry) (flushed moment down : ℕ) (home : 
         (λ j kept promised. All-both (IsPromiseKept o order t j.entries) (IsPromised flushed moment)
         (IsPromiseKept o order (tape_behind outcome call t) j.entries)
         (kept_behind t there j.entries) j.promises kept promised) x.joined
-        (at_suited o w
+        (at_suited first o w
         (λ t. All (λ (j : Joined). AreKept o order t j.entries j.promises) x.joined) t there suited
         a.joined) a.joined_promised);
     in_hand = λ l out. in_hand_behind l (a.in_hand l out);
@@ -125,14 +124,14 @@ module _ (o : Opening) (order : List Entry) (flushed moment down : ℕ) (home : 
   }
 
   module _ (reached : n.written ≤ n.made * (o.setup).segment_size + (o.setup).segment_size)
-      (disk : (t : Tape) → w.tape ≡ Some t → BeganSuited o t → IsOnDisk o.setup order w t
+      (disk : (t : Tape) → tape_from first w.calls ≡ Some t → BeganSuited o t → IsOnDisk o.setup order w t
       → IsOnDisk o.setup order n (tape_behind outcome call t))
       (up : w.fault ≡ none) (away : home ≡ none)
       (rose : (f : ℕ) → n.fault ≡ some f → Rose o.faults f) where
-    all_behind : DurabilityHolds o order flushed moment down home n parts
+    all_behind : DurabilityHolds first o order flushed moment down home n parts
     all_behind = record {
-      counted = behind (λ t. n.moment ≡ length t.calls) (λ t there.
-          is.moment ∙ counted_behind call outcome w t (counts t there));
+      counted = subst (λ (x : ℕ × Option (List Call)). IfSome x.1 (λ calls. x.0 ≡ length calls))
+          (λ j. (sym is.moment j, sym is.calls j)) (counted_behind call outcome w h.counted);
       moment_low = omega (arith, h.moment_low, moment_rises call outcome w, is.moment);
       begun = h.begun;
       reached = reached;
@@ -140,11 +139,11 @@ module _ (o : Opening) (order : List Entry) (flushed moment down : ℕ) (home : 
           (λ t there suited. TapeAssures-behind size IsNowhere
           (IsLawfulAt o.setup order) call outcome
           o.moment t lawful
-          (at_suited o w (TapeAssures size IsNowhere (IsLawfulAt o.setup order) o.moment) t there
+          (at_suited first o w (TapeAssures size IsNowhere (IsLawfulAt o.setup order) o.moment) t there
           suited h.lawful));
       firm = firm_behind flushed moment low h.firm;
       on_disk = suited_behind (IsOnDisk o.setup order n) (λ t there suited. disk t there suited
-          (at_suited o w (IsOnDisk o.setup order w) t there suited h.on_disk));
+          (at_suited first o w (IsOnDisk o.setup order w) t there suited h.on_disk));
       down_is = λ is_down. absurd (some-ne-none down (sym (h.down_is is_down) ∙ up));
       down_at_home = λ at_home. absurd (some-ne-none n (sym at_home ∙ away));
       fault_rose = rose;
@@ -154,19 +153,19 @@ module _ (o : Opening) (order : List Entry) (flushed moment down : ℕ) (home : 
     -- of all views, where the one that has the writer keeps the new one
     pub call_keeps : (f : Plain → Plain) (id : ℕ) (v : View) (l : Lent)
         → HasAt parts id (receipts_of v) → (v.writing).hold ≡ Out l
-        → DurabilityHolds o order flushed moment down home n
+        → DurabilityHolds first o order flushed moment down home n
         (set parts id (receipts_of (with_call_on v f (v.writing).hold)))
     call_keeps f id v l here out =
         let g = λ (m : Lent). record m { writer = f l.writer } in
         let x = record v.writing { hold = with_lent g v.writing.hold } in
         let now = assured_behind (receipts_of v) (h.views id (receipts_of v) here) in
-        subst (λ (hold : Hold). DurabilityHolds o order flushed moment down home n
+        subst (λ (hold : Hold). DurabilityHolds first o order flushed moment down home n
         (set parts id (receipts_of (with_call_on v f hold)))) (sym out)
-        (view_set o order flushed moment down n home parts id
+        (view_set first o order flushed moment down n home parts id
         (told v.reserving.entries v.reserving.joined x) all_behind
-        (rebuilt o order flushed moment down n v.reserving.entries v.reserving.joined v.writing x
+        (rebuilt first o order flushed moment down n v.reserving.entries v.reserving.joined v.writing x
         refl refl refl now
-        (lent_cases g (IsInHand o order moment n) v.writing.hold (λ m has.
+        (lent_cases g (IsInHand first o order moment n) v.writing.hold (λ m has.
         let i = now.in_hand m has in record {
           staged = i.staged;
           hard_low = i.hard_low;

@@ -28,6 +28,7 @@ use Rattle.machine_laws.proofs.RingLaws.{copy-whole, last_word-ends}
 use Rattle.machine_laws.proofs.ShownLaws.{entries_are_copied}
 use Rattle.machine_laws.specs.SoundLocks.{SomeView, HasInFlight, IsToldBy, LocksTellCopies, IsCopiedWhole, EntriesAreWholeOrInFlight}
 use Rattle.machine_laws.proofs.HolderLaws.{locks_have_holders}
+use Rattle.segment_disk.specs.Tape.{DiskState}
 
 -- ---- an order's entries
 
@@ -108,8 +109,8 @@ flies views id v c here is = subst (λ (f : Flight). HasAt (map flight_of views)
 
 -- ---- entries, and what locks tell of them
 
-module _ (opening : Opening) (words : List ℕ) (home : Option Plain) (views : List View)
-    (k : IsSound opening words home views) where
+module _ {first : DiskState} (opening : Opening) (words : List ℕ) (home : Option Plain) (views : List View)
+    (k : IsSound first opening words home views) where
   abbrev setup : Setup
   setup = opening.setup
 

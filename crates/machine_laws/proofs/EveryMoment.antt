@@ -8,7 +8,7 @@ use Rattle.wal_core.specs.Views.{HasAt, Hold, Idle, Turned, Out, Plain, View, wr
 use Rattle.wal_core.specs.Locked.{HasWriteTurn, IsWriteTurn, StandsTo}
 use Rattle.wal_core.specs.Moves.{after_split, split_off, after_join, spent, without_work, orphan_of}
 use Rattle.wal_core.specs.Opened.{first_view}
-use Rattle.wal_core.specs.Steps.{StepKind, State, Step, Makes, Splits, Joins, GivesUp, Moves, SplitsOff, TakesIn, Abandons, word_of_step, value_behind, home_behind, view_behind}
+use Rattle.wal_core.specs.Steps.{StepKind, State, MachineStep, Makes, Splits, Joins, GivesUp, Moves, SplitsOff, TakesIn, Abandons, word_of_step, value_behind, home_behind, view_behind}
 use Rattle.wal_core.specs.Sound.{IsSound}
 use Rattle.wal_core.proofs.Lists.{part_at}
 use Rattle.machine_laws.specs.LocksBehind.{views_behind, words_behind, writer_behind}
@@ -20,6 +20,7 @@ use Rattle.machine_laws.specs.RisingMoments.{LogsRise, MomentsKeepRising, RisesH
 use Rattle.machine_laws.proofs.MomentsBehind.{moments_behind}
 use Rattle.machine_laws.proofs.MomentParts.{begins}
 use Rattle.machine_laws.proofs.PassMoments.{given_up_moments, joined_moments, split_moments}
+use Rattle.segment_disk.specs.Tape.{DiskState}
 
 -- ---- a state has one writer, wherever it is
 
@@ -40,16 +41,16 @@ one_writer turn home a b writers s t = dite (ℕ_discrete turn 0)
     same_held turn home a b s.holder t.holder s.holder (w.0).0 (w.0).1 w.2
     (s.each s.holder w.0 w.1) (t.each s.holder w.0 w.1))
 
-module _ (opening : Opening) where
+module _ (first : DiskState) (opening : Opening) where
   abbrev Sound : State → Type 0
-  Sound s = IsSound opening s.words s.home s.views
+  Sound s = IsSound first opening s.words s.home s.views
 
   abbrev Rising : (s : State) → Sound s → Type 0
   Rising s k = MomentsKeepRising opening s.words s.home s.views k
 
   -- what holds with the writer of one proof that a state is sound holds with that of any other
   of_any : (words : List ℕ) (home : Option Plain) (views : List View)
-      (k l : IsSound opening words home views) → MomentsKeepRising opening words home views k
+      (k l : IsSound first opening words home views) → MomentsKeepRising opening words home views k
       → MomentsKeepRising opening words home views l
   of_any words home views k l rising = subst
       (λ (w : Plain). RisesHold opening (flushed_word words) (moment_word words) w
@@ -64,7 +65,7 @@ module _ (opening : Opening) where
       → (t : State) → t.words ≡ words → t.home ≡ home → t.views ≡ views
       → (l : Sound t) → Rising t l
   lands words home views writer rising turn t same_words same_home same_views = subst
-      (λ (x : List ℕ × Option Plain × List View). (l : IsSound opening x.0 x.1 x.2)
+      (λ (x : List ℕ × Option Plain × List View). (l : IsSound first opening x.0 x.1 x.2)
       → MomentsKeepRising opening x.0 x.1 x.2 l)
       (λ i. (sym same_words i, sym same_home i, sym same_views i))
       (λ l. subst (λ (w : Plain). RisesHold opening (flushed_word words) (moment_word words) w
@@ -101,44 +102,44 @@ module _ (opening : Opening) where
       m.may).writing t m.words m.home m.views
 
 -- a step of a pass, at what its view knows is fixed
-makes_own : (id : ℕ) (e : StepKind) (met : ℕ) (s t : State) (m : Makes id e met s t)
-    → KeepsRising (m.view).opening s t
-makes_own id e met s t m k rising =
+makes_own : (first : DiskState) (id : ℕ) (e : StepKind) (met : ℕ) (s t : State) (m : Makes id e met s t)
+    → KeepsRising first (m.view).opening s t
+makes_own first id e met s t m k rising =
     let v : View = m.view in
-    lands v.opening (words_behind s.words v e) (home_behind v e s.home)
+    lands first v.opening (words_behind s.words v e) (home_behind v e s.home)
     (views_behind s.words s.home s.views id v e) (writer_behind v e k.writer)
     (moments_behind s.words s.home s.views id v k (m.live).0 (m.live).1 rising e m.may)
     ((locks_behind v.opening s.words s.home s.views k id v (m.live).0 (m.live).1 e m.may).1).writing
     t (m.words ∙ ap (λ (n : ℕ). set s.words (word_of_step v e) (value_behind v e n)) m.met_is)
     m.home (m.views ∙ ap (λ (n : ℕ). set s.views id (view_behind v e n s.home)) m.met_is)
 
-module _ (opening : Opening) where
-  pub steps_rise : (s t : State) (k : IsSound opening s.words s.home s.views)
-      → MomentsKeepRising opening s.words s.home s.views k → Step s t
-      → (l : IsSound opening t.words t.home t.views)
+module _ {first : DiskState} (opening : Opening) where
+  pub steps_rise : (s t : State) (k : IsSound first opening s.words s.home s.views)
+      → MomentsKeepRising opening s.words s.home s.views k → MachineStep s t
+      → (l : IsSound first opening t.words t.home t.views)
       → MomentsKeepRising opening t.words t.home t.views l
-  steps_rise s t k rising (Moves id e met m) = subst (λ (o : Opening). KeepsRising o s t)
-      ((k.grounded id m.view (m.live).0).opening_is (m.live).1) (makes_own id e met s t m) k rising
-  steps_rise s t k rising (SplitsOff id m) = splits opening id s t m k rising
-  steps_rise s t k rising (TakesIn id other m) = joins opening id other s t m k rising
-  steps_rise s t k rising (Abandons id m) = gives_up opening id s t m k rising
+  steps_rise s t k rising (Moves id e met m) = subst (λ (o : Opening). KeepsRising first o s t)
+      ((k.grounded id m.view (m.live).0).opening_is (m.live).1) (makes_own first id e met s t m) k rising
+  steps_rise s t k rising (SplitsOff id m) = splits first opening id s t m k rising
+  steps_rise s t k rising (TakesIn id other m) = joins first opening id other s t m k rising
+  steps_rise s t k rising (Abandons id m) = gives_up first opening id s t m k rising
 
-  pub runs_rise : (n : ℕ) (s t : State) (k : IsSound opening s.words s.home s.views)
+  pub runs_rise : (n : ℕ) (s t : State) (k : IsSound first opening s.words s.home s.views)
       → MomentsKeepRising opening s.words s.home s.views k → Runs n s t
-      → (l : IsSound opening t.words t.home t.views)
+      → (l : IsSound first opening t.words t.home t.views)
       → MomentsKeepRising opening t.words t.home t.views l
   runs_rise zero s t k rising same = subst
-      (λ (u : State). (l : IsSound opening u.words u.home u.views)
+      (λ (u : State). (l : IsSound first opening u.words u.home u.views)
       → MomentsKeepRising opening u.words u.home u.views l) same
-      (λ l. of_any opening s.words s.home s.views k l rising)
+      (λ l. of_any first opening s.words s.home s.views k l rising)
   runs_rise (suc n) s t k rising run =
-      let mid = run_keeps opening n s run.0 k run.1 in
+      let mid = run_keeps first opening n s run.0 k run.1 in
       steps_rise run.0 t mid (runs_rise n s run.0 k rising run.1 mid) run.2
 
   -- ---- the opening, and what is shown of a view
 
   pub first_rises : (words : List ℕ) (home : Option Plain)
-      (k : IsSound opening words home (first_view opening ∷ []))
+      (k : IsSound first opening words home (first_view opening ∷ []))
       → MomentsKeepRising opening words home (first_view opening ∷ []) k
   first_rises words home k =
       begins opening (flushed_word words) (moment_word words) k.writer [] (record {
@@ -149,7 +150,7 @@ module _ (opening : Opening) where
       }) (k.durable).begun (k.durable).moment_low
 
   pub logs_rise : (words : List ℕ) (home : Option Plain) (views : List View)
-      (k : IsSound opening words home views) → MomentsKeepRising opening words home views k
+      (k : IsSound first opening words home views) → MomentsKeepRising opening words home views k
       → (id : ℕ) (v : View) → HasAt views id v → LogsRise opening (promised_of v)
   logs_rise words home views k rising id v here =
       rising.in_order id (promised_of v) (part_at promised_of views id v here)

@@ -8,6 +8,7 @@ use Rattle.wal_core.specs.Ordered.{OrderHolds}
 use Rattle.wal_core.specs.Positioned.{PositionsHold}
 use Rattle.wal_core.specs.Moves.{after_split, split_off, after_join, spent, without_work, orphan_of}
 use Rattle.wal_core.specs.Steps.{State, Splits, IsResting, Joins, IsStranded, GivesUp}
+use Rattle.wal_core.specs.Aligned.{LearnsAligned}
 use Rattle.wal_core.specs.Sound.{IsGrounded, IsSound}
 use Rattle.wal_core.proofs.Lists.{one_set, one_added, part_at}
 use Rattle.machine_laws.specs.OrderParts.{TakesPart}
@@ -24,6 +25,8 @@ use Rattle.machine_laws.proofs.SoundDurableSteps.{durable-split, durable-taken_i
 use Rattle.machine_laws.proofs.Frames.{grounded_live, watches_still}
 use Rattle.machine_laws.proofs.KnownViews.{now, has_now, told_here}
 use Rattle.machine_laws.proofs.OrderBehind.{takes_part}
+use Rattle.machine_laws.proofs.AlignedBehind.{fresh_aligned, joins_aligned, learns_same}
+use Rattle.segment_disk.specs.Tape.{DiskState}
 
 -- a view that is not live, and has neither turn: with nothing in hand, and behind a fault
 grounded_spent : (opening : Opening) (down : ℕ) (v : View) → IsGrounded opening down (spent v)
@@ -43,8 +46,8 @@ grounded_orphan opening down v failed = record {
   left = λ dead has. failed;
 }
 
-module _ (words : List ℕ) (home : Option Plain) (views : List View) (id : ℕ) (v : View)
-    (k : IsSound v.opening words home views) (here : HasAt views id v)
+module _ {first : DiskState} (words : List ℕ) (home : Option Plain) (views : List View) (id : ℕ) (v : View)
+    (k : IsSound first v.opening words home views) (here : HasAt views id v)
     (live : (v.reserving).live ≡ true) where
   -- the state with other views, of which the parts hold
   module _ (changed : List View) where
@@ -53,7 +56,7 @@ module _ (words : List ℕ) (home : Option Plain) (views : List View) (id : ℕ)
         (position_word words) (prev_word words) rs
 
     abbrev HasPositionsWith : List Flight → List Writing → Type 0
-    HasPositionsWith fs ws = PositionsHold v.opening k.order (written_word words)
+    HasPositionsWith fs ws = PositionsHold first v.opening k.order (written_word words)
         (flushed_word words) (down_word words) home k.writer fs ws
 
     changed_sound : ((j : ℕ) (u : View) → HasAt changed j u
@@ -66,9 +69,10 @@ module _ (words : List ℕ) (home : Option Plain) (views : List View) (id : ℕ)
         → (fs : List Flight) → map flight_of changed ≡ fs
         → (ws : List Writing) → map writing_of changed ≡ ws → HasPositionsWith fs ws
         → HasDurableWith v.opening words home views k changed
-        → IsSound v.opening words home changed
+        → ((j : ℕ) (u : View) → HasAt changed j u → LearnsAligned u)
+        → IsSound first v.opening words home changed
     changed_sound grounded rs are_reserving reserved works turns ring pages fs are_flights ws
-        are_writing positions durable = record {
+        are_writing positions durable learn = record {
           order = k.order;
           memory = k.memory;
           reach = k.reach;
@@ -90,6 +94,13 @@ module _ (words : List ℕ) (home : Option Plain) (views : List View) (id : ℕ)
               (λ j. (sym are_flights j, sym are_writing j)) positions;
           durable = durable;
           watching = works.watched;
+          aligned = record {
+            locks = (k.aligned).locks;
+            written_word = (k.aligned).written_word;
+            flushed_word = (k.aligned).flushed_word;
+            writer_at = (k.aligned).writer_at;
+            views = learn;
+          };
         }
 
   abbrev all : Positions
@@ -111,12 +122,23 @@ module _ (words : List ℕ) (home : Option Plain) (views : List View) (id : ℕ)
       one_added (λ j u. Grounded u) (set views id w) x
       (one_set (λ j u. Grounded u) views id w (λ j u apart at. k.grounded j u at) changed) new
 
+  -- what the view has learnt
+  learns : LearnsAligned v
+  learns = (k.aligned).views id v here
+
+  learns_added : (w x : View) → LearnsAligned w → LearnsAligned x
+      → (j : ℕ) (u : View) → HasAt (set views id w ++ x ∷ []) j u → LearnsAligned u
+  learns_added w x changed new =
+      one_added (λ j u. LearnsAligned u) (set views id w) x
+      (one_set (λ j u. LearnsAligned u) views id w
+      (λ j u apart at. (k.aligned).views j u at) changed) new
+
   -- the view watches for no more than it has seen
   low : (v.watching).end ≤ end_form (v.opening).setup (v.reserving).seen
   low = (k.grounded id v here).watches live
 
   pub split_sound : (v.reserving).spare < (v.reserving).spare_end
-      → IsSound v.opening words home (set views id (after_split v) ++ split_off v ∷ [])
+      → IsSound first v.opening words home (set views id (after_split v) ++ split_off v ∷ [])
   split_sound some_left = changed_sound (set views id (after_split v) ++ split_off v ∷ [])
       (grounded_added (after_split v) (split_off v)
       (grounded_live v.opening (down_word words) (after_split v) refl live low)
@@ -134,6 +156,8 @@ module _ (words : List ℕ) (home : Option Plain) (views : List View) (id : ℕ)
       _ (one_changes writing_of views id v here (after_split v) (split_off v))
       (positions.split_keeps all id v has_all)
       (durable-split words home views id v k here)
+      (learns_added (after_split v) (split_off v) (learns_same v (after_split v) refl learns)
+      (fresh_aligned v (split_off v) learns refl))
 
   -- a down value that the view met or set is the down word
   failed : IsStranded v → down_word words ≢ 0
@@ -142,7 +166,7 @@ module _ (words : List ℕ) (home : Option Plain) (views : List View) (id : ℕ)
       ⊎_elim (λ met. met (told.down_met met ∙ none)) (λ set. set (told.down_set set ∙ none))
       may.down
 
-  pub give_up_sound : IsStranded v → IsSound v.opening words home
+  pub give_up_sound : IsStranded v → IsSound first v.opening words home
       (set views id (without_work v) ++ orphan_of v ∷ [])
   give_up_sound may = changed_sound (set views id (without_work v) ++ orphan_of v ∷ [])
       (grounded_added (without_work v) (orphan_of v)
@@ -161,10 +185,12 @@ module _ (words : List ℕ) (home : Option Plain) (views : List View) (id : ℕ)
       _ (one_changes writing_of views id v here (without_work v) (orphan_of v))
       (positions.give_up_keeps all id v has_all)
       (durable-given_up words home views id v k here)
+      (learns_added (without_work v) (orphan_of v) (learns_same v (without_work v) refl learns)
+      (fresh_aligned v (orphan_of v) learns refl))
 
   pub join_sound : (other : ℕ) (w : View) → HasAt views other w → (w.reserving).live ≡ true
       → id ≢ other → IsResting w
-      → IsSound v.opening words home (set (set views other (spent w)) id (after_join v w))
+      → IsSound first v.opening words home (set (set views other (spent w)) id (after_join v w))
   join_sound other w there alive apart rests =
       changed_sound (set (set views other (spent w)) id (after_join v w))
       (one_set (λ j u. Grounded u) (set views other (spent w)) id (after_join v w)
@@ -187,31 +213,36 @@ module _ (words : List ℕ) (home : Option Plain) (views : List View) (id : ℕ)
       _ (two_change writing_of views id v here other (after_join v w) (spent w))
       (positions.join_keeps all id v has_all other w)
       (durable-taken_in words home views id v k here other w there)
+      (one_set (λ j u. LearnsAligned u) (set views other (spent w)) id (after_join v w)
+      (λ j u not_this at. one_set (λ i x. LearnsAligned x) views other (spent w)
+      (λ i x not_other found. (k.aligned).views i x found)
+      (fresh_aligned w (spent w) ((k.aligned).views other w there) refl) j u at)
+      (joins_aligned v w learns ((k.aligned).views other w there)))
 
 -- ---- of whole states
 
 -- what a live view's own opening makes sound is sound
-pub at_own_opening : (opening : Opening) (words : List ℕ) (home : Option Plain)
-    (views : List View) (id : ℕ) (v : View) → IsSound opening words home views → HasAt views id v
+pub at_own_opening : {first : DiskState} (opening : Opening) (words : List ℕ) (home : Option Plain)
+    (views : List View) (id : ℕ) (v : View) → IsSound first opening words home views → HasAt views id v
     → (v.reserving).live ≡ true → (words' : List ℕ) (home' : Option Plain) (views' : List View)
-    → (IsSound v.opening words home views → IsSound v.opening words' home' views')
-    → IsSound opening words' home' views'
-at_own_opening opening words home views id v k here live words' home' views' steps =
+    → (IsSound first v.opening words home views → IsSound first v.opening words' home' views')
+    → IsSound first opening words' home' views'
+at_own_opening {first} opening words home views id v k here live words' home' views' steps =
     let own : v.opening ≡ opening = (k.grounded id v here).opening_is live in
-    subst (λ (o : Opening). IsSound o words' home' views') own
-    (steps (subst (λ (o : Opening). IsSound o words home views) (sym own) k))
+    subst (λ (o : Opening). IsSound first o words' home' views') own
+    (steps (subst (λ (o : Opening). IsSound first o words home views) (sym own) k))
 
-module _ (opening : Opening) (s t : State) (id : ℕ) (k : IsSound opening s.words s.home s.views)
+module _ {first : DiskState} (opening : Opening) (s t : State) (id : ℕ) (k : IsSound first opening s.words s.home s.views)
   where
     -- a state whose words, writer and views are these
     sound_as : (words : List ℕ) (home : Option Plain) (views : List View) → t.words ≡ words
-        → t.home ≡ home → t.views ≡ views → IsSound opening words home views
-        → IsSound opening t.words t.home t.views
+        → t.home ≡ home → t.views ≡ views → IsSound first opening words home views
+        → IsSound first opening t.words t.home t.views
     sound_as words home views are_words is_home are_views holds =
-        subst (λ (x : List ℕ × Option Plain × List View). IsSound opening x.0 x.1 x.2)
+        subst (λ (x : List ℕ × Option Plain × List View). IsSound first opening x.0 x.1 x.2)
         (λ j. (sym are_words j, sym is_home j, sym are_views j)) holds
 
-    pub splits_keep : Splits id s t → IsSound opening t.words t.home t.views
+    pub splits_keep : Splits id s t → IsSound first opening t.words t.home t.views
     splits_keep m =
         let v : View = m.view in
         let views : List View = set s.views id (after_split v) ++ split_off v ∷ [] in
@@ -220,7 +251,7 @@ module _ (opening : Opening) (s t : State) (id : ℕ) (k : IsSound opening s.wor
         views
         (λ own. split_sound s.words s.home s.views id v own (m.live).0 (m.live).1 m.may))
 
-    pub gives_up_keeps : GivesUp id s t → IsSound opening t.words t.home t.views
+    pub gives_up_keeps : GivesUp id s t → IsSound first opening t.words t.home t.views
     gives_up_keeps m =
         let v : View = m.view in
         let views : List View = set s.views id (without_work v) ++ orphan_of v ∷ [] in
@@ -229,7 +260,7 @@ module _ (opening : Opening) (s t : State) (id : ℕ) (k : IsSound opening s.wor
         views
         (λ own. give_up_sound s.words s.home s.views id v own (m.live).0 (m.live).1 m.may))
 
-    pub joins_keep : (other : ℕ) → Joins id other s t → IsSound opening t.words t.home t.views
+    pub joins_keep : (other : ℕ) → Joins id other s t → IsSound first opening t.words t.home t.views
     joins_keep other m =
         let v : View = m.view in
         let w : View = m.other_view in

@@ -14,26 +14,29 @@ use Rattle.machine_laws.specs.InvariantKept.{number_met}
 use Rattle.wal_core.specs.Sound.{IsGrounded, IsSound}
 use Rattle.wal_core.proofs.Lists.{one_set, part_same}
 use Rattle.wal_core.proofs.WordLists.{word_else, wide_still}
+use Rattle.segment_disk.specs.Tape.{DiskState}
 
 -- a step of one pass: the state before, which keeps the invariant, and the word that it stores with
 -- its value and its pass's view behind it
 pub record Moved : Type 0 where
+  pub first : DiskState
   pub words : List ℕ
   pub home : Option Plain
   pub views : List View
   pub id : ℕ
   pub v : View
-  pub k : IsSound v.opening words home views
+  pub k : IsSound first v.opening words home views
   pub here : HasAt views id v
   pub i : ℕ
   pub n : ℕ
   pub w : View
 
-module _ (words : List ℕ) (home : Option Plain) (views : List View) (id : ℕ) (v : View)
-    (k : IsSound v.opening words home views) (here : HasAt views id v) (e : StepKind) where
+module _ {first : DiskState} (words : List ℕ) (home : Option Plain) (views : List View) (id : ℕ) (v : View)
+    (k : IsSound first v.opening words home views) (here : HasAt views id v) (e : StepKind) where
   -- the step of this kind
   abbrev pub moved : Moved
   moved = record {
+    first = first;
     words = words;
     home = home;
     views = views;
@@ -95,7 +98,7 @@ module _ (s : Moved) where
   abbrev v : View
   v = s.v
 
-  abbrev k : IsSound (s.v).opening s.words s.home s.views
+  abbrev k : IsSound s.first (s.v).opening s.words s.home s.views
   k = s.k
 
   abbrev here : HasAt s.views s.id s.v
@@ -149,7 +152,7 @@ module _ (s : Moved) where
 
   pub positions_stay : flight_of w ≡ flight_of v → writing_of w ≡ writing_of v
       → i ≢ 13 → i ≢ 14 → i ≢ 16
-      → PositionsHold opening k.order (written_word later) (flushed_word later) (down_word later)
+      → PositionsHold s.first opening k.order (written_word later) (flushed_word later) (down_word later)
       home k.writer (map flight_of views_later) (map writing_of views_later)
   positions_stay same_flight same apart_13 apart_14 apart_16 =
       let written = same_word 13 (λ e. apart_13 (sym e)) in
@@ -158,5 +161,5 @@ module _ (s : Moved) where
       let flights = part_same flight_of views id v w here same_flight in
       let parts = part_same writing_of views id v w here same in
       subst (λ (x : ℕ × ℕ × ℕ × List _ × List _).
-      PositionsHold opening k.order x.0 x.1 x.2 home k.writer x.3 x.4)
+      PositionsHold s.first opening k.order x.0 x.1 x.2 home k.writer x.3 x.4)
       (λ j. (sym written j, sym flushed j, sym down j, sym flights j, sym parts j)) k.positions

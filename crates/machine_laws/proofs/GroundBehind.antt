@@ -15,6 +15,7 @@ use Rattle.wal_core.proofs.WordLists.{single_set, word_again, word_else}
 use Rattle.machine_laws.proofs.DurableAssured.{stands_out}
 use Rattle.machine_laws.proofs.Frames.{Moved, moved, later, grounded_live, watches_still}
 use Rattle.machine_laws.proofs.PositionsBehind.{lock_low}
+use Rattle.segment_disk.specs.Tape.{DiskState}
 
 -- what is fixed of a view, that it is live, the end watched for, and what it has seen reserved
 abbrev ground_of : View → Opening × Bool × ℕ × ℕ
@@ -46,8 +47,8 @@ visited_low : (own : Bool) (lock met n : ℕ) (x : Watching) → x.end ≤ n
 visited_low own lock met n x low =
     end_either (eqb lock x.visited && (own || not (eqb met 1))) _ x n low low
 
-module _ (words : List ℕ) (home : Option Plain) (views : List View) (id : ℕ) (v : View)
-    (k : IsSound v.opening words home views) (here : HasAt views id v)
+module _ {first : DiskState} (words : List ℕ) (home : Option Plain) (views : List View) (id : ℕ) (v : View)
+    (k : IsSound first v.opening words home views) (here : HasAt views id v)
     (live : (v.reserving).live ≡ true) where
   abbrev behind : StepKind → View
   behind e = view_behind v e (slice_index words (word_of_step v e)) home

@@ -10,6 +10,7 @@ use Rattle.wal_core.specs.Sound.{IsSound}
 use Rattle.wal_core.proofs.Lists.{part_at, view_from}
 use Rattle.machine_laws.specs.SoundLocks.{SomeView, HoldsLock, LocksHaveHolders, HasMappingTurn, HasTurnToWrite, HasWriterOut, TurnHasHolder, TurnsHaveHolders}
 use Rattle.machine_laws.specs.SoundPositions.{IsTheWriter, KeepsWriter}
+use Rattle.segment_disk.specs.Tape.{DiskState}
 
 -- whoever has the turn to write has the writer in hand, or it is at home
 module _ (turn holder : ℕ) (home : Option Plain) (writer : Plain) (id number : ℕ) where
@@ -23,8 +24,8 @@ module _ (turn holder : ℕ) (home : Option Plain) (writer : Plain) (id number :
   has_writer (Out l) at has =
       (at.0, at.1, inr (at.2, l, refl, at.3))
 
-module _ (opening : Opening) (words : List ℕ) (home : Option Plain) (views : List View)
-    (k : IsSound opening words home views) where
+module _ {first : DiskState} (opening : Opening) (words : List ℕ) (home : Option Plain) (views : List View)
+    (k : IsSound first opening words home views) where
   -- ---- locks
 
   abbrev locks : AreHeld (lock_word words) (map working_of views)

@@ -6,11 +6,13 @@ use Rattle.wal_core.specs.Views.{HasAt, Plain, View, flight_of, writer_of, writi
 use Rattle.wal_core.specs.Sound.{IsSound}
 use Rattle.wal_core.proofs.Lists.{part_at}
 use Rattle.machine_laws.specs.PositionParts.{Positions, HasPositions}
+use Rattle.segment_disk.specs.Tape.{DiskState}
 
-module _ (words : List ℕ) (home : Option Plain) (views : List View) (id : ℕ) (v : View)
-    (k : IsSound v.opening words home views) where
+module _ {first : DiskState} (words : List ℕ) (home : Option Plain) (views : List View) (id : ℕ) (v : View)
+    (k : IsSound first v.opening words home views) where
   abbrev pub now : Positions
   now = record {
+    first = first;
     order = k.order;
     written = written_word words;
     flushed = flushed_word words;

@@ -14,6 +14,7 @@ use Rattle.wal_core.proofs.Lists.{part_at, part_same}
 use Rattle.wal_core.proofs.WordLists.{word_again, word_else, ends_before, ring_before}
 use Rattle.machine_laws.specs.RingBehind.{met_by, words_behind, HasPages, HasRing}
 use Rattle.machine_laws.specs.RingLeft.{LeavesCopies, LeavesPages}
+use Rattle.segment_disk.specs.Tape.{DiskState}
 
 -- ---- a part that is neither of what a view reserves nor of what it writes
 
@@ -161,8 +162,8 @@ module _ (v : View) where
 
 -- ---- a state that keeps the invariant
 
-module _ (v : View) (words : List ℕ) (home : Option Plain) (views : List View) (id : ℕ)
-    (s : IsSound v.opening words home views) (here : HasAt views id v) where
+module _ {first : DiskState} (v : View) (words : List ℕ) (home : Option Plain) (views : List View) (id : ℕ)
+    (s : IsSound first v.opening words home views) (here : HasAt views id v) where
   -- the lock of a step that changes one is one of eight
   held-low : (lock : ℕ) → Contains (v.working).locks lock → lock < 8
   held-low lock held = (((s.locks).locks).each id lock v.working

@@ -50,6 +50,7 @@ mod Frames
 mod GroundBehind
 mod OrderBehind
 mod PositionsBehind
+mod AlignedBehind
 pub mod WholeInvariant
 pub mod EveryPassStep
 pub mod EveryStep

@@ -16,6 +16,7 @@ use Rattle.wal_core.specs.Durable.{IsStaged}
 use Rattle.wal_core.specs.Steps.{IsToBeWritten, ring_place}
 use Rattle.machine_laws.proofs.RingLaws.{awaited-left}
 use Rattle.machine_laws.proofs.PageLaws.{not_given_up}
+use Rattle.segment_disk.specs.Tape.{DiskState}
 
 module _ (setup : Setup) (order : List Entry) (reach : ℕ) (memory : ℕ → ℕ) (flights : List Flight)
     (k : RingHolds setup order reach memory flights)
@@ -62,14 +63,14 @@ module _ (setup : Setup) (order : List Entry) (reach : ℕ) (memory : ℕ → �
                 (λ t. absurd (not_awaited (8 * n) less t.1)) (k.words n);
           }
 
-pub loads_staged : (o : Opening) (order : List Entry) (reach : ℕ) (memory : ℕ → ℕ)
+pub loads_staged : {first : DiskState} (o : Opening) (order : List Entry) (reach : ℕ) (memory : ℕ → ℕ)
     (flights : List Flight) (stage : Stage) (initialised written flushed down : ℕ)
     (ends ring : ℕ → ℕ) (confirmed : List ℕ) (home : Option Plain) (writer : Plain)
     (parts : List Writing) (id n : ℕ) (x : Writing) (l : Lent)
     → IsSegmentSize (o.setup).segment_size → IsChained (o.setup).segment_size order
     → RingHolds o.setup order reach memory flights
     → PagesHold (o.setup).ring_pages reach stage initialised written ends ring memory confirmed
-    → PositionsHold o order written flushed down home writer flights parts
+    → PositionsHold first o order written flushed down home writer flights parts
     → HasAt parts id x → x.hold ≡ Out l → l.writer ≡ writer → IsToBeWritten n l
     → IsStaged o.setup order l.known (n, ring (ring_place o.setup n))
 loads_staged o order reach memory flights stage initialised written flushed down ends ring

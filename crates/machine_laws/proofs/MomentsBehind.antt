@@ -24,6 +24,7 @@ use Rattle.machine_laws.specs.LocksBehind.{view_left, views_behind, words_behind
 use Rattle.machine_laws.specs.RisingMoments.{MomentsKeepRising, Promised, RisesHold, hard_in, hard_moment_in, promised_of, with_opening}
 use Rattle.machine_laws.proofs.MomentRises.{next_weaker}
 use Rattle.machine_laws.proofs.MomentParts.{with_promise, with_entry, with_hard, tells, grows, forgets, calls, writes, stores_moment, stores_flushed}
+use Rattle.segment_disk.specs.Tape.{DiskState}
 
 -- one of two views, of which some part is the same
 same_either : {A : Type 0} (part : View → A) (b : Bool) (x y : View) → part x ≡ part y
@@ -89,8 +90,8 @@ outcome_written call Done writer = refl
 outcome_written call (Failed faults none) writer = refl
 outcome_written call (Failed faults (some made)) writer = refl
 
-module _ (words : List ℕ) (home : Option Plain) (views : List View) (id : ℕ) (v : View)
-    (k : IsSound v.opening words home views) (here : HasAt views id v)
+module _ {first : DiskState} (words : List ℕ) (home : Option Plain) (views : List View) (id : ℕ) (v : View)
+    (k : IsSound first v.opening words home views) (here : HasAt views id v)
     (live : (v.reserving).live ≡ true) (now : MomentsKeepRising v.opening words home views k) where
   abbrev size : ℕ
   size = ((v.opening).setup).segment_size

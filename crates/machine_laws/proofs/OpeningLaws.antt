@@ -28,16 +28,18 @@ use Rattle.machine_laws.proofs.Buffers.{one_page}
 use Rattle.wal_core.specs.Durable.{DurabilityHolds, IsToldRightly, IsLawfulAt, IsLogBelow}
 use Rattle.segment_disk.specs.DiskImage.{image_as_read}
 use Rattle.segment_disk.specs.declared.disk.Call.{Call}
-use Rattle.segment_disk.specs.Tape.{Segment, Tape, after_calls, state_now}
+use Rattle.segment_disk.specs.Tape.{DiskState, Segment, Tape, after_calls, state_now}
 use Rattle.std.proofs.Math.Seq.{take-length}
 use Rattle.flush_core.specs.Pages.{HoldsNothing}
-use Rattle.wal_core.specs.Suited.{BeganSuited}
+use Rattle.wal_core.specs.Suited.{tape_from, BeganSuited}
 use Rattle.segment_disk.specs.ImageWords.{segment_word}
 use Rattle.segment_disk.specs.Assured.{IsMadeUpto, IsNowhere, SegmentAssures}
 use Rattle.flush_core.proofs.LeftLaws.{TapeAssures-now}
 use Rattle.std.proofs.lemmas.Option.{IfSome_then}
 use Rattle.std.proofs.Math.Nat.{div-eq_of_lt}
+use Rattle.wal_core.specs.Aligned.{AlignmentHolds, LearnsAligned}
 use Rattle.wal_core.specs.Sound.{IsSetup, IsSound}
+use Rattle.wal_core.proofs.Tapes.{counted_tape}
 
 -- what holds of the one element of a list holds of each
 only_one : {A : Type 0} (x : A) (P : ℕ → A → Type 0) → P 0 x → (id : ℕ) (y : A)
@@ -50,7 +52,7 @@ no_words : (size sysid : ℕ) → IsSegmentSize size → (k : ℕ) → log_word 
 no_words size sysid valid k = log_word-unowned size sysid valid [] tt (8 * k) (omega arith) refl
 
 module _ (opening : Opening) (words : List ℕ) (writer : Plain) (new : IsNew opening)
-    (first : AreFirstWords opening words) (begins : IsFirstWriter opening writer) where
+    (zeroed : AreFirstWords opening words) (begins : IsFirstWriter opening writer) where
   abbrev setup : Setup
   setup = opening.setup
 
@@ -117,9 +119,9 @@ module _ (opening : Opening) (words : List ℕ) (writer : Plain) (new : IsNew op
     );
     chained = tt;
     within = omega arith;
-    position_is = first.position ∙ omega arith;
+    position_is = zeroed.position ∙ omega arith;
     one_bit = omega arith;
-    at_rest = λ free. first.zeros 1 (omega arith) (omega arith);
+    at_rest = λ free. zeroed.zeros 1 (omega arith) (omega arith);
     unused = λ n unused. refl;
     beyond = role_beyond;
     views = only_one view.reserving _ (λ live. record {
@@ -139,7 +141,7 @@ module _ (opening : Opening) (words : List ℕ) (writer : Plain) (new : IsNew op
   }
 
   lock_zero : (i : ℕ) → i < 8 → lock_word words i ≡ 0
-  lock_zero i below = first.zeros (2 + i) (omega arith) (omega arith)
+  lock_zero i below = zeroed.zeros (2 + i) (omega arith) (omega arith)
 
   pub locks_begin : LocksHold (lock_word words) (view.working ∷ []) (mapping_turn words) Away
       (mapper_of view ∷ []) (write_turn words) (some writer) writer (writer_of view ∷ [])
@@ -155,13 +157,13 @@ module _ (opening : Opening) (words : List ℕ) (writer : Plain) (new : IsNew op
     mapping = record {
       holder = 0;
       each = only_one (mapper_of view) _ (λ has. absurd has);
-      held = λ taken. absurd (taken (first.zeros 10 (omega arith) (omega arith)));
+      held = λ taken. absurd (taken (zeroed.zeros 10 (omega arith) (omega arith)));
       free = λ z. refl;
     };
     writing = record {
       holder = 0;
       each = only_one (writer_of view) _ tt;
-      held = λ taken. absurd (taken (first.zeros 11 (omega arith) (omega arith)));
+      held = λ taken. absurd (taken (zeroed.zeros 11 (omega arith) (omega arith)));
       free = λ z. refl;
     };
   }
@@ -207,7 +209,7 @@ module _ (opening : Opening) (words : List ℕ) (writer : Plain) (new : IsNew op
       → end_word words (p % setup.ring_pages) ≡ (p + 1) * 8192
   page_is p from to =
       let some_page : 0 < setup.ring_pages = (let ring = valid.ring_low in omega arith) in
-      let held = first.ends (p % setup.ring_pages) (mod-lt p some_page) in
+      let held = zeroed.ends (p % setup.ring_pages) (mod-lt p some_page) in
       let same : held.page ≡ p = elim (cases_eq held.page p) [
         | inl is ↦ is
         | inr apart ↦ absurd (one_page setup.ring_pages low reach held.page p
@@ -222,16 +224,16 @@ module _ (opening : Opening) (words : List ℕ) (writer : Plain) (new : IsNew op
       record {
         low = low;
         some_page = (let ring = valid.ring_low in omega arith);
-        given_up = (let written = first.written in omega arith);
+        given_up = (let written = zeroed.written in omega arith);
         present = page_is;
-        content = λ p j from to within. first.ring (p % setup.ring_pages * 1024 + j)
+        content = λ p j from to within. zeroed.ring (p % setup.ring_pages * 1024 + j)
             (let some_page : 0 < setup.ring_pages = (let ring = valid.ring_low in omega arith) in
             let below : p % setup.ring_pages < setup.ring_pages = mod-lt p some_page in
             omega arith);
-        held = λ b below. inr (first.ends b below);
+        held = λ b below. inr (zeroed.ends b below);
         blank = λ k behind. refl;
         seen = only_one 0 (λ id c. c ≤ reach * 8192) (omega arith);
-        mapping = (refl, (let mapped = first.initialised in omega arith));
+        mapping = (refl, (let mapped = zeroed.initialised in omega arith));
       }
 
   watching_begins : WatchHolds setup.segment_size (end_form setup
@@ -245,6 +247,28 @@ module _ (opening : Opening) (words : List ℕ) (writer : Plain) (new : IsNew op
         (λ c is under starts. omega arith) id x at;
   }
 
+  -- the log begins at a word
+  aligned_begins : AlignmentHolds (lock_word words) (written_word words) (flushed_word words)
+      writer (view ∷ [])
+  aligned_begins =
+      let start = start_in_pages in
+      let written = zeroed.written in
+      let flushed = zeroed.flushed in
+      let at = begins.written in record {
+        locks = λ i low. inl (lock_zero i low);
+        written_word = omega arith;
+        flushed_word = omega arith;
+        writer_at = omega arith;
+        views = only_one view (λ id v. LearnsAligned v) (record {
+          seen = refl;
+          end = refl;
+          bound = refl;
+          written = refl;
+          flushed = refl;
+          known = tt;
+        });
+      }
+
   -- what was there at the opening is there still
   suited_now : (t : Tape) → writer.moment ≡ length t.calls → BeganSuited opening t → (n : ℕ)
       → state_now t n ≡ None
@@ -252,36 +276,6 @@ module _ (opening : Opening) (words : List ℕ) (writer : Plain) (new : IsNew op
       let all : take opening.moment t.calls ≡ t.calls =
       ap (λ (m : ℕ). take m t.calls) (sym begins.moment_is ∙ count) ∙ take-length t.calls in
       subst (λ (calls : List Call). after_calls t.at_first calls n ≡ None) all (suited n)
-
-  positions_begin : PositionsHold opening [] (written_word words) (flushed_word words)
-      (down_word words) (some writer) writer (Landed ∷ []) (view.writing ∷ [])
-  positions_begin =
-      let written_is = first.written in
-      let flushed_is = first.flushed in
-      let start = start_is in
-      let at_start = begins.written in
-      record {
-        begun = omega arith;
-        flushed_low = omega arith;
-        written_low = omega arith;
-        at_home = λ home up. omega arith;
-        reserved = omega arith;
-        copied = λ id c at left. only_one Landed (λ j u. u ≡ Copying c
-            → writer.written ≤ address_of_word setup.segment_size c.entry c.copied) (λ is. absurd
-            (cc)) id (Copying c) at refl;
-        reads = IfSome_then writer.tape begins.counted (λ t count suited k below.
-            ap (λ (o : Option Segment). segment_word (image_as_read (λ n. o)
-            (8 * k / setup.segment_size)) (8 * k % setup.segment_size))
-            (suited_now t count suited (8 * k / setup.segment_size))
-            ∙ ap (to_le_bytes w64)
-            (sym (no_words setup.segment_size setup.sysid valid.size k)));
-        views = only_one view.writing _ (record {
-          written_met = omega arith;
-          flushed_met = omega arith;
-          known = λ l is. absurd (cc);
-          stored = λ l is. absurd (cc);
-        });
-      }
 
   -- no segment need be there for what lies below the log's start
   none_below : (n : ℕ) (upto : ℕ) → upto ≡ setup.segment_size
@@ -301,51 +295,87 @@ module _ (opening : Opening) (words : List ℕ) (writer : Plain) (new : IsNew op
       (SegmentAssures setup.segment_size (IsMadeUpto setup.segment_size upto)
       (IsLogBelow setup [] upto) n) (sym (nothing n)) (none_below n upto is)
 
-  told_begins : IsToldRightly opening [] (flushed_word words) (moment_word words)
-      (down_word words) writer (receipts_of view)
-  told_begins = record {
-    own_promised = All-nil _;
-    joined_promised = All-nil _;
-    own = IfSome_then writer.tape begins.counted (λ t count suited. All-nil _);
-    joined = IfSome_then writer.tape begins.counted (λ t count suited. All-nil _);
-    in_hand = λ l is. absurd (cc);
-    down_met = λ some. absurd (some refl);
-    down_set = λ some. absurd (some refl);
-  }
+  -- on a disk that held this at first
+  module _ (first : DiskState) where
+    counted : IfSome (tape_from first writer.calls) (λ t. writer.moment ≡ length t.calls)
+    counted = counted_tape first writer.moment writer.calls begins.counted
 
-  durable_begins : DurabilityHolds opening [] (flushed_word words) (moment_word words)
-      (down_word words) (some writer) writer (receipts_of view ∷ [])
-  durable_begins = record {
-    counted = begins.counted;
-    moment_low = (let moment = first.moment in let same = begins.moment_is in omega arith);
-    begun = (let moment = first.moment in omega arith);
-    reached = (let written = begins.written in omega arith);
-    lawful = IfSome_then writer.tape begins.counted (λ t count suited.
-        TapeAssures-now setup.segment_size IsNowhere (IsLawfulAt setup []) opening.moment t
-        (sym begins.moment_is ∙ count)
-        (λ n. subst (SegmentAssures setup.segment_size IsNowhere (IsLawfulAt setup []) n)
-        (sym (suited_now t count suited n)) (λ nowhere. nowhere)));
-    firm = IfSome_then writer.tape begins.counted (λ t count suited.
-        TapeAssures-now setup.segment_size
-        (IsMadeUpto setup.segment_size (flushed_word words))
-        (IsLogBelow setup [] (flushed_word words)) (moment_word words) t
-        (first.moment ∙ sym begins.moment_is ∙ count)
-        (firm_now (flushed_word words) first.flushed t (suited_now t count suited)));
-    on_disk = IfSome_then writer.tape begins.counted (λ t count suited. record {
-      firm = λ n other.
-          firm_now writer.written begins.written t (suited_now t count suited) n;
-      there = λ n low high. (let made = begins.made in absurd (omega arith));
-    });
-    down_is = λ down. absurd (down first.down);
-    down_at_home = λ home up. begins.fault;
-    fault_rose = λ f is. absurd (some-ne-none f (sym is ∙ begins.fault));
-    views = only_one (receipts_of view) _ told_begins;
-  }
+    positions_begin : PositionsHold first opening [] (written_word words) (flushed_word words)
+        (down_word words) (some writer) writer (Landed ∷ []) (view.writing ∷ [])
+    positions_begin =
+        let written_is = zeroed.written in
+        let flushed_is = zeroed.flushed in
+        let start = start_is in
+        let at_start = begins.written in
+        record {
+          begun = omega arith;
+          flushed_low = omega arith;
+          written_low = omega arith;
+          at_home = λ home up. omega arith;
+          reserved = omega arith;
+          copied = λ id c at left. only_one Landed (λ j u. u ≡ Copying c
+              → writer.written ≤ address_of_word setup.segment_size c.entry c.copied) (λ is. absurd
+              (cc)) id (Copying c) at refl;
+          reads = IfSome_then (tape_from first writer.calls) counted (λ t count suited k below.
+              ap (λ (o : Option Segment). segment_word (image_as_read (λ n. o)
+              (8 * k / setup.segment_size)) (8 * k % setup.segment_size))
+              (suited_now t count suited (8 * k / setup.segment_size))
+              ∙ ap (to_le_bytes w64)
+              (sym (no_words setup.segment_size setup.sysid valid.size k)));
+          views = only_one view.writing _ (record {
+            written_met = omega arith;
+            flushed_met = omega arith;
+            known = λ l is. absurd (cc);
+            stored = λ l is. absurd (cc);
+          });
+        }
+
+    told_begins : IsToldRightly first opening [] (flushed_word words) (moment_word words)
+        (down_word words) writer (receipts_of view)
+    told_begins = record {
+      own_promised = All-nil _;
+      joined_promised = All-nil _;
+      own = IfSome_then (tape_from first writer.calls) counted (λ t count suited. All-nil _);
+      joined = IfSome_then (tape_from first writer.calls) counted (λ t count suited. All-nil _);
+      in_hand = λ l is. absurd (cc);
+      down_met = λ some. absurd (some refl);
+      down_set = λ some. absurd (some refl);
+    }
+
+    durable_begins : DurabilityHolds first opening [] (flushed_word words) (moment_word words)
+        (down_word words) (some writer) writer (receipts_of view ∷ [])
+    durable_begins = record {
+      counted = begins.counted;
+      moment_low = (let moment = zeroed.moment in let same = begins.moment_is in omega arith);
+      begun = (let moment = zeroed.moment in omega arith);
+      reached = (let written = begins.written in omega arith);
+      lawful = IfSome_then (tape_from first writer.calls) counted (λ t count suited.
+          TapeAssures-now setup.segment_size IsNowhere (IsLawfulAt setup []) opening.moment t
+          (sym begins.moment_is ∙ count)
+          (λ n. subst (SegmentAssures setup.segment_size IsNowhere (IsLawfulAt setup []) n)
+          (sym (suited_now t count suited n)) (λ nowhere. nowhere)));
+      firm = IfSome_then (tape_from first writer.calls) counted (λ t count suited.
+          TapeAssures-now setup.segment_size
+          (IsMadeUpto setup.segment_size (flushed_word words))
+          (IsLogBelow setup [] (flushed_word words)) (moment_word words) t
+          (zeroed.moment ∙ sym begins.moment_is ∙ count)
+          (firm_now (flushed_word words) zeroed.flushed t (suited_now t count suited)));
+      on_disk = IfSome_then (tape_from first writer.calls) counted (λ t count suited. record {
+        firm = λ n other.
+            firm_now writer.written begins.written t (suited_now t count suited) n;
+        there = λ n low high. (let made = begins.made in absurd (omega arith));
+      });
+      down_is = λ down. absurd (down zeroed.down);
+      down_at_home = λ home up. begins.fault;
+      fault_rose = λ f is. absurd (some-ne-none f (sym is ∙ begins.fault));
+      views = only_one (receipts_of view) _ told_begins;
+    }
 
 -- a disk that holds nothing then is one on which a log may begin
-pub suited_begins : (opening : Opening) (writer : Plain) → IsFirstWriter opening writer
-    → HoldsNothing writer.tape → IfSome writer.tape (BeganSuited opening)
-suited_begins opening writer begins holds = both writer.tape begins.counted holds
+pub suited_begins : (first : DiskState) (opening : Opening) (writer : Plain) → IsFirstWriter opening writer
+    → HoldsNothing (tape_from first writer.calls) → IfSome (tape_from first writer.calls) (BeganSuited opening)
+suited_begins first opening writer begins holds = both (tape_from first writer.calls)
+    (counted_tape first writer.moment writer.calls begins.counted) holds
   where
     both : (tape : Option Tape) → IfSome tape (λ t. writer.moment ≡ length t.calls)
         → HoldsNothing tape → IfSome tape (BeganSuited opening)
@@ -355,29 +385,30 @@ suited_begins opening writer begins holds = both writer.tape begins.counted hold
         ap (λ (m : ℕ). take m t.calls) (sym begins.moment_is ∙ count) ∙ take-length t.calls in
         subst (λ (calls : List Call). after_calls t.at_first calls n ≡ None) (sym all) (nothing n)
 
-pub logs_begin : (opening : Opening) (words : List ℕ) (writer : Plain) → IsNew opening
+pub logs_begin : (first : DiskState) (opening : Opening) (words : List ℕ) (writer : Plain) → IsNew opening
     → AreFirstWords opening words → IsFirstWriter opening writer
-    → IsSound opening words (some writer) (first_view opening ∷ [])
-logs_begin opening words writer new first begins = record {
+    → IsSound first opening words (some writer) (first_view opening ∷ [])
+logs_begin first opening words writer new zeroed begins = record {
   order = [];
   memory = λ k. 0;
-  reach = reach opening words writer new first begins;
+  reach = reach opening words writer new zeroed begins;
   stage = Away;
   writer = writer;
   setup_is = new.setup_is;
-  wide = first.wide;
+  wide = zeroed.wide;
   grounded = only_one (first_view opening) _ (record {
     opening_is = λ live. refl;
     watches = λ live. omega arith;
     at_rest = λ dead. absurd (cc);
     left = λ dead. absurd (cc);
   });
-  reserved = order_begins opening words writer new first begins;
-  locks = locks_begin opening words writer new first begins;
-  progress = progress_begins opening words writer new first begins;
-  ring = ring_begins opening words writer new first begins;
-  pages = pages_begin opening words writer new first begins;
-  positions = positions_begin opening words writer new first begins;
-  durable = durable_begins opening words writer new first begins;
-  watching = watching_begins opening words writer new first begins;
+  reserved = order_begins opening words writer new zeroed begins;
+  locks = locks_begin opening words writer new zeroed begins;
+  progress = progress_begins opening words writer new zeroed begins;
+  ring = ring_begins opening words writer new zeroed begins;
+  pages = pages_begin opening words writer new zeroed begins;
+  positions = positions_begin opening words writer new zeroed begins first;
+  durable = durable_begins opening words writer new zeroed begins first;
+  watching = watching_begins opening words writer new zeroed begins;
+  aligned = aligned_begins opening words writer new zeroed begins;
 }

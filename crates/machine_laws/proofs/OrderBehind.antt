@@ -16,9 +16,10 @@ use Rattle.machine_laws.proofs.PositionKept.{flushed_is_reserved, hard_is_reserv
 use Rattle.machine_laws.specs.LocksBehind.{order_behind}
 use Rattle.machine_laws.proofs.Frames.{Moved, moved, later, views_later, same_either, order_stays}
 use Rattle.machine_laws.proofs.KnownViews.{now, has_now}
+use Rattle.segment_disk.specs.Tape.{DiskState}
 
-module _ (words : List ℕ) (home : Option Plain) (views : List View) (id : ℕ) (v : View)
-    (k : IsSound v.opening words home views) (here : HasAt views id v)
+module _ {first : DiskState} (words : List ℕ) (home : Option Plain) (views : List View) (id : ℕ) (v : View)
+    (k : IsSound first v.opening words home views) (here : HasAt views id v)
     (live : (v.reserving).live ≡ true) where
   pub takes_part : TakesPart k.order (position_word words) (prev_word words)
       (map reserving_of views)

@@ -13,6 +13,7 @@ use Rattle.machine_laws.specs.SharedOrders.{IsSpare, HasNumber, TellsLastStart, 
 use Rattle.machine_laws.proofs.OrderedEntries.{is_pass_own}
 use Rattle.machine_laws.proofs.OrderSteps.{end_even, unlocked-is}
 use Rattle.machine_laws.proofs.OrderUnique.{named}
+use Rattle.segment_disk.specs.Tape.{DiskState}
 
 -- the view that a role names
 abbrev Names : ℕ → Role → Type 0
@@ -75,8 +76,8 @@ module _ (size : ℕ) (order : List Entry) (prev locked holder id : ℕ) where
   tells_start (Loaded at met) some t = (t.2, t.3, t.4)
   tells_start (Stored at met) some t = (t.2, t.3, t.4)
 
-module _ (opening : Opening) (words : List ℕ) (home : Option Plain) (views : List View)
-    (s : IsSound opening words home views) where
+module _ {first : DiskState} (opening : Opening) (words : List ℕ) (home : Option Plain) (views : List View)
+    (s : IsSound first opening words home views) where
   abbrev size : ℕ
   size = (opening.setup).segment_size
 

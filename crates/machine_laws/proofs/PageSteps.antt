@@ -23,9 +23,10 @@ use Rattle.machine_laws.proofs.PutWords.{put_is, end_put, ring_put, buffer-below
 use Rattle.machine_laws.proofs.PageLaws as page
 use Rattle.machine_laws.proofs.StoredWords.{stores_word}
 use Rattle.machine_laws.proofs.LoadedWords.{loads_staged}
+use Rattle.segment_disk.specs.Tape.{DiskState}
 
-module _ (v : View) (words : List ℕ) (home : Option Plain) (views : List View) (id : ℕ)
-    (s : IsSound v.opening words home views) (here : HasAt views id v) where
+module _ {first : DiskState} (v : View) (words : List ℕ) (home : Option Plain) (views : List View) (id : ℕ)
+    (s : IsSound first v.opening words home views) (here : HasAt views id v) where
   abbrev setup : Setup
   setup = (v.opening).setup
 

@@ -8,9 +8,10 @@ use Rattle.wal_core.specs.Sound.{IsSound}
 use Rattle.wal_core.proofs.Lists.{at_else, part_added, part_at, part_same, part_set}
 use Rattle.machine_laws.specs.RisingMoments.{MomentsKeepRising, Promised, RisesHold, promised_of}
 use Rattle.machine_laws.proofs.MomentParts.{begins, ends, nothing_told, takes_in}
+use Rattle.segment_disk.specs.Tape.{DiskState}
 
-module _ (opening : Opening) (words : List ℕ) (home : Option Plain) (views : List View)
-    (k : IsSound opening words home views) (now : MomentsKeepRising opening words home views k) (id : ℕ)
+module _ {first : DiskState} (opening : Opening) (words : List ℕ) (home : Option Plain) (views : List View)
+    (k : IsSound first opening words home views) (now : MomentsKeepRising opening words home views k) (id : ℕ)
     (v : View) (here : HasAt views id v) where
   abbrev flushed : ℕ
   flushed = flushed_word words

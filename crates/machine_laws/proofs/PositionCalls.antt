@@ -1,5 +1,5 @@
 -- The written and flushed positions through each call of the device, however it ended.
-use Rattle.std.proofs.Common.{◌≡◌, ℕ, ◌+◌, ◌*◌, ◌/◌, ◌<◌, ◌≤◌, inl, inr, Bool, true, false, List, Some, length, set, refl, sym, ap, ◌∙◌, subst, arith, if◌then◌else◌}
+use Rattle.std.proofs.Common.{◌≡◌, ℕ, ◌+◌, ◌*◌, ◌/◌, ◌<◌, ◌≤◌, inl, inr, Bool, true, false, List, Some, set, refl, sym, ap, ◌∙◌, subst, arith, if◌then◌else◌}
 use Rattle.std.proofs.lemmas.Bool.{cases_lt}
 use mathlib.Core.Option.{none, some}
 use Rattle.byte_position.specs.Geometry.{pages_of}
@@ -10,8 +10,8 @@ use Rattle.wal_page.specs.Order.{end_position}
 use Rattle.wal_core.specs.declared.setup.Setup.{Setup}
 use Rattle.wal_core.specs.Words.{end_form}
 use Rattle.wal_core.specs.Views.{HasAt, Plain, Lent, Hold, Out, Receipts, View, flight_of, receipts_of}
-use Rattle.wal_core.specs.Suited.{BeganSuited, IfSuited}
-use Rattle.wal_core.proofs.Tapes.{at_suited, at_told, began_behind, on_tape, tape_behind}
+use Rattle.wal_core.specs.Suited.{tape_from, BeganSuited, IfSuited}
+use Rattle.wal_core.proofs.Tapes.{at_suited, counted_on, began_behind, on_tape, tape_behind}
 use Rattle.wal_core.specs.Positioned.{IsCopiedBelow, ReadsBelow}
 use Rattle.wal_core.specs.Durable.{DurabilityHolds, IsOnDisk}
 use Rattle.wal_core.specs.Moves.{CallOutcome, Done, Failed, is_done, with_hold, with_outcome, after_create, after_write, after_sync}
@@ -54,7 +54,7 @@ module _ (p : Positions) (id : ℕ) (v : View) (t : HasPositions p id v) where
       → (p.writer).written ≤ (f p.writer).written
       → (f p.writer).written ≤ end_form setup (end_position size p.order)
       → IsCopiedBelow size p.flights (f p.writer).written
-      → IfSuited v.opening (f p.writer) (ReadUpto (f p.writer).written)
+      → IfSuited p.first v.opening (f p.writer) (ReadUpto (f p.writer).written)
       → CalledOn f l l.writer
   called f l is rises low copied reads =
       let s = stands p id v t (Out l) is in
@@ -66,31 +66,31 @@ module _ (p : Positions) (id : ℕ) (v : View) (t : HasPositions p id v) where
   -- the writer keeps its position
   stays_there : (f : Plain → Plain) (l : Lent) → (v.writing).hold ≡ Out l
       → (f p.writer).written ≡ (p.writer).written
-      → IfSuited v.opening (f p.writer) (ReadUpto (p.writer).written)
+      → IfSuited p.first v.opening (f p.writer) (ReadUpto (p.writer).written)
       → CalledOn f l l.writer
   stays_there f l is same reads = called f l is (omega (arith, same))
       (omega (arith, same, (t.holds).reserved))
       (subst (λ (a : ℕ). IsCopiedBelow size p.flights a) (sym same) (t.holds).copied)
-      (subst (λ (a : ℕ). IfSuited v.opening (f p.writer) (ReadUpto a)) (sym same) reads)
+      (subst (λ (a : ℕ). IfSuited p.first v.opening (f p.writer) (ReadUpto a)) (sym same) reads)
 
   module _ (moment : ℕ) (tolds : List Receipts)
-      (d : DurabilityHolds v.opening p.order p.flushed moment p.down p.home p.writer tolds) where
+      (d : DurabilityHolds p.first v.opening p.order p.flushed moment p.down p.home p.writer tolds) where
     -- what is read before, of a disk that held at the opening what a log may begin on
-    read_now : (tape : Tape) → (p.writer).tape ≡ Some tape → BeganSuited v.opening tape
+    read_now : (tape : Tape) → tape_from p.first (p.writer).calls ≡ Some tape → BeganSuited v.opening tape
         → ReadUpto (p.writer).written tape
     read_now tape is suited =
-        at_suited v.opening p.writer (ReadUpto (p.writer).written) tape is suited (t.holds).reads
+        at_suited p.first v.opening p.writer (ReadUpto (p.writer).written) tape is suited (t.holds).reads
 
     -- what is read behind a call
     read_behind : (call : Call) (outcome : CallOutcome) (address : ℕ)
-        → ((tape : Tape) → (p.writer).tape ≡ Some tape → BeganSuited v.opening tape
+        → ((tape : Tape) → tape_from p.first (p.writer).calls ≡ Some tape → BeganSuited v.opening tape
         → ReadUpto address (tape_behind outcome call tape))
-        → IfSuited v.opening (with_outcome call outcome p.writer) (ReadUpto address)
+        → IfSuited p.first v.opening (with_outcome call outcome p.writer) (ReadUpto address)
     read_behind call outcome address reads =
-        on_tape (λ tape. BeganSuited v.opening tape → ReadUpto address tape) call outcome p.writer
+        on_tape p.first (λ tape. BeganSuited v.opening tape → ReadUpto address tape) call outcome p.writer
         (λ tape is suited.
-        let Counts : Tape → Type 0 = λ tape. (p.writer).moment ≡ length tape.calls in
-        let counts = at_told Counts (p.writer).tape tape is d.counted in
+        let counts =
+        counted_on p.first (p.writer).moment (p.writer).calls tape is d.counted in
         reads tape is (began_behind v.opening call outcome tape
         (omega (arith, d.begun, d.moment_low, counts)) suited))
 
@@ -183,5 +183,5 @@ module _ (p : Positions) (id : ℕ) (v : View) (t : HasPositions p id v) where
         (λ k low below. loaded_words setup p.order l.known ((p.writer).written / 8192) bytes
         l.staged n.loaded hand.staged k low (omega (arith, below, n.copied)))
         tape (read_now tape told suited)
-        ((at_suited v.opening p.writer (IsOnDisk setup p.order p.writer) tape told suited
+        ((at_suited p.first v.opening p.writer (IsOnDisk setup p.order p.writer) tape told suited
         d.on_disk).there segment first n.is_made) outcome)))

@@ -1,7 +1,7 @@
 -- Every sound state shows how its positions lie.
 use Rattle.std.proofs.Common.{◌≡◌, inl, ℕ, ◌<◌, ◌≤◌, List, sym, ap, ◌∙◌, subst, arith}
 use mathlib.Core.Option.{Option, some}
-use Rattle.segment_disk.specs.Tape.{state_now}
+use Rattle.segment_disk.specs.Tape.{DiskState, state_now}
 use Rattle.wal_page.specs.EntryWords.{address_of_word, words_owned}
 use Rattle.wal_core.specs.Words.{Opening, written_word}
 use Rattle.wal_core.specs.Suited.{IfSuited}
@@ -14,8 +14,8 @@ use Rattle.machine_laws.specs.SoundPositions.{KnowsNoMore, PositionsAreOrdered}
 use Rattle.machine_laws.proofs.EntryLaws.{flies}
 use Rattle.machine_laws.proofs.HolderLaws.{is_writer, writer_is}
 
-module _ (opening : Opening) (words : List ℕ) (home : Option Plain) (views : List View)
-    (k : IsSound opening words home views) where
+module _ {first : DiskState} (opening : Opening) (words : List ℕ) (home : Option Plain) (views : List View)
+    (k : IsSound first opening words home views) where
   abbrev size : ℕ
   size = (opening.setup).segment_size
 
@@ -40,15 +40,15 @@ module _ (opening : Opening) (words : List ℕ) (home : Option Plain) (views : L
       omega arith
 
   -- below the written word the writer's disk reads as the log
-  reads : IfSuited opening k.writer
+  reads : IfSuited first opening k.writer
       (λ t. ReadsBelow opening.setup k.order (written_word words) (state_now t))
-  reads = told_suited opening k.writer (λ t is suited n below.
+  reads = told_suited first opening k.writer (λ t is suited n below.
       let low = (k.positions).written_low in
-      at_suited opening k.writer
+      at_suited first opening k.writer
       (λ t. ReadsBelow opening.setup k.order (k.writer).written (state_now t)) t is suited
       (k.positions).reads n (omega arith))
 
-  pub positions_are_ordered : PositionsAreOrdered opening k.order words home views
+  pub positions_are_ordered : PositionsAreOrdered first opening k.order words home views
   positions_are_ordered = record {
     known = knows_no_more;
     flushed_low = (k.positions).flushed_low;
@@ -65,7 +65,7 @@ module _ (opening : Opening) (words : List ℕ) (home : Option Plain) (views : L
         let low = (k.positions).written_low in
         let within = (k.positions).reserved in omega arith;
     copied = copied;
-    reads = λ w is. subst (λ (x : Plain). IfSuited opening x
+    reads = λ w is. subst (λ (x : Plain). IfSuited first opening x
         (λ t. ReadsBelow opening.setup k.order (written_word words) (state_now t)))
         (sym (is_writer opening words home views k w is)) reads;
   }

@@ -16,7 +16,7 @@ use Rattle.wal_page.proofs.OwnerLaws.{Owns-between}
 use Rattle.wal_page.specs.Log.{log_word_bytes}
 use Rattle.wal_core.specs.declared.setup.Setup.{Setup}
 use Rattle.wal_core.specs.Words.{Opening, end_form}
-use Rattle.wal_core.specs.Suited.{IfSuited}
+use Rattle.wal_core.specs.Suited.{tape_from, IfSuited}
 use Rattle.wal_core.specs.Views.{HasAt, Copy, Flight, Copying, Plain, Lent, Hold, Idle, Turned, Out, Writing}
 use Rattle.wal_core.specs.Moves.{no_writing, with_lent}
 use Rattle.wal_core.specs.Positioned.{IsCopiedBelow, ReadsBelow, IsWithin, PositionsHold}
@@ -47,7 +47,7 @@ KeepsKnown-lent f known stored (Out l) n is =
       ap (λ (x : Lent). x.stored) (sym same) ∙ stored l,
     )
 
-module _ (opening : Opening) (p : Positions) (k : PositionsHold opening p.order p.written p.flushed
+module _ (opening : Opening) (p : Positions) (k : PositionsHold p.first opening p.order p.written p.flushed
     p.down p.home p.writer p.flights p.parts) where
   abbrev setup : Setup
   setup = opening.setup
@@ -96,7 +96,7 @@ module _ (opening : Opening) (p : Positions) (k : PositionsHold opening p.order 
   pub both_change : (flights' : List Flight) (parts' : List Writing)
       → CopiedStill setup.segment_size flights flights'
       → ((id : ℕ) (x : Writing) → HasAt parts' id x → Within x)
-      → PositionsHold opening order written flushed down home writer flights' parts'
+      → PositionsHold p.first opening order written flushed down home writer flights' parts'
   both_change flights' parts' still each = record {
     begun = k.begun;
     flushed_low = k.flushed_low;
@@ -141,7 +141,7 @@ module _ (opening : Opening) (p : Positions) (k : PositionsHold opening p.order 
 
     pub view_changes : (f : Flight) → HasAt flights id f → (y : Writing) → y.written ≤ written
         → y.flushed ≤ flushed → KeepsKnown x.hold y.hold
-        → PositionsHold opening order written flushed down home writer (set flights id f)
+        → PositionsHold p.first opening order written flushed down home writer (set flights id f)
         (set parts id y)
     view_changes f at y low_written low_flushed keeps = both_change (set flights id f)
         (set parts id y) (same_still setup.segment_size flights id f at)
@@ -150,7 +150,7 @@ module _ (opening : Opening) (p : Positions) (k : PositionsHold opening p.order 
 
     -- as it was, with other words
     pub view_stays : (f : Flight) → HasAt flights id f
-        → PositionsHold opening order written flushed down home writer (set flights id f)
+        → PositionsHold p.first opening order written flushed down home writer (set flights id f)
         (set parts id x)
     view_stays f at = view_changes f at x mine.written_met mine.flushed_met
         (λ n is. (n, is, refl, refl))
@@ -159,7 +159,7 @@ module _ (opening : Opening) (p : Positions) (k : PositionsHold opening p.order 
 
     pub goes_out : (f : Flight) → HasAt flights id f → (l : Lent) → l.known ≤ end
         → IsCopiedBelow setup.segment_size flights l.known → l.stored ≤ written
-        → PositionsHold opening order written flushed down none writer (set flights id f)
+        → PositionsHold p.first opening order written flushed down none writer (set flights id f)
         (set parts id (record x { hold = Out l }))
     goes_out f at l low copied stored =
         let still = same_still setup.segment_size flights id f at in
@@ -194,7 +194,7 @@ module _ (opening : Opening) (p : Positions) (k : PositionsHold opening p.order 
 
       pub comes_home : (l : Lent) → x.hold ≡ Out l → l.writer ≡ writer
           → (l.stored ≡ (l.writer).written) ⊎ (down ≢ 0)
-          → PositionsHold opening order written flushed down (some l.writer) writer
+          → PositionsHold p.first opening order written flushed down (some l.writer) writer
           (set flights id f) (set parts id (record x { hold = Turned }))
       comes_home l is own settled =
           let after = view_changes f at (record x { hold = Turned }) mine.written_met
@@ -218,7 +218,7 @@ module _ (opening : Opening) (p : Positions) (k : PositionsHold opening p.order 
       -- the down word, while the writer is away
       pub tells_down : (down' : ℕ) → home ≡ none → (y : Writing) → y.written ≡ x.written
           → y.flushed ≡ x.flushed → y.hold ≡ x.hold
-          → PositionsHold opening order written flushed down' home writer (set flights id f)
+          → PositionsHold p.first opening order written flushed down' home writer (set flights id f)
           (set parts id y)
       tells_down down' away y is_w is_f is_h =
           let after = view_changes f at y (omega (arith, is_w, mine.written_met))
@@ -245,7 +245,7 @@ module _ (opening : Opening) (p : Positions) (k : PositionsHold opening p.order 
 
       -- the written word, up to the writer's
       pub stores_written : (l : Lent) → x.hold ≡ Out l → l.writer ≡ writer
-          → PositionsHold opening order (l.writer).written flushed down home writer
+          → PositionsHold p.first opening order (l.writer).written flushed down home writer
           (set flights id f)
           (set parts id (record x { hold = Out (record l { stored = (l.writer).written }) }))
       stores_written l is own =
@@ -290,7 +290,7 @@ module _ (opening : Opening) (p : Positions) (k : PositionsHold opening p.order 
       pub stores_flushed : (l : Lent) → x.hold ≡ Out l → l.writer ≡ writer
           → l.hard ≡ (l.writer).written → l.stored ≡ (l.writer).written
           → (y : Writing) → y.written ≡ x.written → y.flushed ≡ x.flushed → y.hold ≡ x.hold
-          → PositionsHold opening order written l.hard down home writer (set flights id f)
+          → PositionsHold p.first opening order written l.hard down home writer (set flights id f)
           (set parts id y)
       stores_flushed l is own hard stored y is_w is_f is_h =
           let same : (l.writer).written ≡ writer.written = ap (λ (w : Plain). w.written) own in
@@ -322,9 +322,9 @@ module _ (opening : Opening) (p : Positions) (k : PositionsHold opening p.order 
       pub calls : (l : Lent) → x.hold ≡ Out l → home ≡ none → (after : Plain)
           → writer.written ≤ after.written → after.written ≤ end
           → IsCopiedBelow setup.segment_size flights after.written
-          → IfSuited opening after (λ (t : Tape). ReadsBelow setup order after.written
+          → IfSuited p.first opening after (λ (t : Tape). ReadsBelow setup order after.written
           (state_now t))
-          → PositionsHold opening order written flushed down home after (set flights id f)
+          → PositionsHold p.first opening order written flushed down home after (set flights id f)
           (set parts id (record x { hold = Out (record l { writer = after }) }))
       calls l is away after rises low copied reads =
           let n : Lent = record l { writer = after } in
@@ -368,7 +368,7 @@ module _ (opening : Opening) (p : Positions) (k : PositionsHold opening p.order 
 
     pub order_grows : (id : ℕ) (c : Copy) → c.entry ≡ e → c.copied ≡ 0 → (x : Writing)
         → HasAt parts id x
-        → PositionsHold opening longer written flushed down home writer
+        → PositionsHold p.first opening longer written flushed down home writer
         (set flights id (Copying c)) (set parts id x)
     order_grows id c of_e none_yet x here =
         let begins : end ≡ end_form setup (c.entry).start =
@@ -384,7 +384,7 @@ module _ (opening : Opening) (p : Positions) (k : PositionsHold opening p.order 
           at_home = k.at_home;
           reserved = omega (arith, k.reserved, grown_end);
           copied = clear writer.written k.reserved k.copied;
-          reads = IfSome_then writer.tape k.reads (λ (t : Tape) reads suited n below.
+          reads = IfSome_then (tape_from p.first writer.calls) k.reads (λ (t : Tape) reads suited n below.
               reads suited n below ∙ sym (word_stays n (omega (arith, below, k.reserved))));
           views = λ j u there.
               let w = k.views j u (subst (λ (ps : List Writing). HasAt ps j u)

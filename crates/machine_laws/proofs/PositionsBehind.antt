@@ -17,9 +17,10 @@ use Rattle.machine_laws.proofs.PositionCalls as calls
 use Rattle.machine_laws.specs.LocksBehind.{order_behind, writer_behind}
 use Rattle.machine_laws.proofs.Frames.{Moved, moved, later, views_later, same_either, positions_stay}
 use Rattle.machine_laws.proofs.KnownViews.{now, has_now, told_here}
+use Rattle.segment_disk.specs.Tape.{DiskState}
 
-module _ (words : List ℕ) (home : Option Plain) (views : List View) (id : ℕ) (v : View)
-    (k : IsSound v.opening words home views) (here : HasAt views id v)
+module _ {first : DiskState} (words : List ℕ) (home : Option Plain) (views : List View) (id : ℕ) (v : View)
+    (k : IsSound first v.opening words home views) (here : HasAt views id v)
     (live : (v.reserving).live ≡ true) where
   abbrev setup : Setup
   setup = (v.opening).setup
@@ -30,7 +31,7 @@ module _ (words : List ℕ) (home : Option Plain) (views : List View) (id : ℕ)
 
     -- the positions over the words and views behind
     abbrev pub HasPositions : List Entry → Plain → Type 0
-    HasPositions es writer = PositionsHold v.opening es (written_word (later s))
+    HasPositions es writer = PositionsHold first v.opening es (written_word (later s))
         (flushed_word (later s)) (down_word (later s)) (home_behind v e home) writer
         (map flight_of (views_later s)) (map writing_of (views_later s))
 
@@ -38,13 +39,13 @@ module _ (words : List ℕ) (home : Option Plain) (views : List View) (id : ℕ)
     with_words : (es : List Entry) (writer : Plain) (written flushed down : ℕ)
         → written_word (later s) ≡ written → flushed_word (later s) ≡ flushed
         → down_word (later s) ≡ down
-        → PositionsHold v.opening es written flushed down (home_behind v e home) writer
+        → PositionsHold first v.opening es written flushed down (home_behind v e home) writer
         (set (map flight_of views) id (flight_of s.w))
         (set (map writing_of views) id (writing_of s.w))
         → HasPositions es writer
     with_words es writer written flushed down is_written is_flushed is_down holds =
         subst (λ (x : ℕ × ℕ × ℕ × List Flight × List Writing).
-        PositionsHold v.opening es x.0 x.1 x.2 (home_behind v e home) writer x.3 x.4)
+        PositionsHold first v.opening es x.0 x.1 x.2 (home_behind v e home) writer x.3 x.4)
         (λ j. (
           sym is_written j,
           sym is_flushed j,
@@ -58,7 +59,7 @@ module _ (words : List ℕ) (home : Option Plain) (views : List View) (id : ℕ)
 
     -- where none of them is stored
     by_law : (es : List Entry) (writer : Plain) → 13 ≢ s.i → 14 ≢ s.i → 16 ≢ s.i
-        → PositionsHold v.opening es (written_word words) (flushed_word words) (down_word words)
+        → PositionsHold first v.opening es (written_word words) (flushed_word words) (down_word words)
         (home_behind v e home) writer (set (map flight_of views) id (flight_of s.w))
         (set (map writing_of views) id (writing_of s.w))
         → HasPositions es writer
@@ -68,7 +69,7 @@ module _ (words : List ℕ) (home : Option Plain) (views : List View) (id : ℕ)
 
     -- where a load leaves all words
     by_load : (es : List Entry) (writer : Plain) → later s ≡ words
-        → PositionsHold v.opening es (written_word words) (flushed_word words) (down_word words)
+        → PositionsHold first v.opening es (written_word words) (flushed_word words) (down_word words)
         (home_behind v e home) writer (set (map flight_of views) id (flight_of s.w))
         (set (map writing_of views) id (writing_of s.w))
         → HasPositions es writer

@@ -13,6 +13,7 @@ use Rattle.wal_core.proofs.Lists.{part_added, part_at, part_set}
 use Rattle.machine_laws.specs.RingBehind.{HasRingWith, HasPagesWith}
 use Rattle.machine_laws.proofs.RingLaws as ring
 use Rattle.machine_laws.proofs.PageLaws as page
+use Rattle.segment_disk.specs.Tape.{DiskState}
 
 module _ {W : Type 0} (f : View → W) where
   -- the parts where one view is set and one added, and where two are set
@@ -26,8 +27,8 @@ module _ {W : Type 0} (f : View → W) where
   part_set_twice views other id u w = part_set f (set views other u) id w
       ∙ ap (λ (xs : List W). set xs id (f w)) (part_set f views other u)
 
-module _ (opening : Opening) (words : List ℕ) (home : Option Plain) (views : List View)
-    (s : IsSound opening words home views) (id : ℕ) (v : View) (here : HasAt views id v) where
+module _ {first : DiskState} (opening : Opening) (words : List ℕ) (home : Option Plain) (views : List View)
+    (s : IsSound first opening words home views) (id : ℕ) (v : View) (here : HasAt views id v) where
   abbrev Ring : List Flight → Type 0
   Ring fs = RingHolds opening.setup s.order s.reach s.memory fs
 

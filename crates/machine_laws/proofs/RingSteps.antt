@@ -18,9 +18,10 @@ use Rattle.machine_laws.specs.RingBehind.{memory_stored, met_by, HasRing}
 use Rattle.machine_laws.proofs.PutWords.{put_is}
 use Rattle.machine_laws.proofs.RingLaws as ring
 use Rattle.machine_laws.proofs.StoredWords.{is_mapped}
+use Rattle.segment_disk.specs.Tape.{DiskState}
 
-module _ (v : View) (words : List ℕ) (home : Option Plain) (views : List View) (id : ℕ)
-    (s : IsSound v.opening words home views) (here : HasAt views id v) where
+module _ {first : DiskState} (v : View) (words : List ℕ) (home : Option Plain) (views : List View) (id : ℕ)
+    (s : IsSound first v.opening words home views) (here : HasAt views id v) where
   abbrev setup : Setup
   setup = (v.opening).setup
 

@@ -19,6 +19,7 @@ use Rattle.wal_core.proofs.Lists.{part_at, view_from}
 use Rattle.machine_laws.proofs.CopiedWords.{copied-stored, landed-stored}
 use Rattle.machine_laws.proofs.RingLaws.{awaited-left}
 use Rattle.machine_laws.proofs.PageLaws.{end_low, not_given_up}
+use Rattle.segment_disk.specs.Tape.{DiskState}
 
 -- ---- stages
 
@@ -92,8 +93,8 @@ module _ (pages low reach initialised written : ℕ) (ring : ℕ → ℕ) where
 
 -- ---- the ring
 
-module _ (opening : Opening) (words : List ℕ) (home : Option Plain) (views : List View)
-    (s : IsSound opening words home views) where
+module _ {first : DiskState} (opening : Opening) (words : List ℕ) (home : Option Plain) (views : List View)
+    (s : IsSound first opening words home views) where
   abbrev setup : Setup
   setup = opening.setup
 

@@ -2,7 +2,7 @@
 use Rattle.std.proofs.Common.{◌≡◌, ◌≢◌, ℕ, ◌+◌, ◌<◌, ◌≤◌, Bool, true, false, Contains, List, [], ◌∷◌, ◌++◌, map, set, slice_index, refl, sym, ap, subst, ◌∙◌, ◌==◌, if◌then◌else◌, arith}
 use mathlib.Core.Option.{Option}
 use Rattle.byte_position.proofs.SegmentSizes.{segment_size_in_pages}
-use Rattle.segment_disk.specs.Tape.{create_call, sync_call, write_call}
+use Rattle.segment_disk.specs.Tape.{DiskState, create_call, sync_call, write_call}
 use Rattle.wal_types.specs.declared.record.Record.{Record}
 use Rattle.wal_page.specs.Order.{Entry}
 use Rattle.wal_core.specs.Words.{Opening, flushed_word, moment_word, down_word, written_word, write_turn}
@@ -24,8 +24,8 @@ either_told : (b : Bool) (x y : View) → receipts_of x ≡ receipts_of y
 either_told true x y same = same
 either_told false x y same = refl
 
-module _ (words : List ℕ) (home : Option Plain) (views : List View) (id : ℕ) (v : View)
-    (k : IsSound v.opening words home views) (here : HasAt views id v) where
+module _ {first : DiskState} (words : List ℕ) (home : Option Plain) (views : List View) (id : ℕ) (v : View)
+    (k : IsSound first v.opening words home views) (here : HasAt views id v) where
   abbrev o : Opening
   o = v.opening
 
@@ -48,12 +48,12 @@ module _ (words : List ℕ) (home : Option Plain) (views : List View) (id : ℕ)
       -- the words of which it speaks are these
       with_words : (f m d : ℕ) → f ≡ flushed_word (set words i n) → m ≡ moment_word (set words i n)
           → d ≡ down_word (set words i n)
-          → DurabilityHolds o order f m d elsewhere writer (set (map receipts_of views) id (receipts_of w))
-          → DurabilityHolds o order (flushed_word (set words i n)) (moment_word (set words i n))
+          → DurabilityHolds first o order f m d elsewhere writer (set (map receipts_of views) id (receipts_of w))
+          → DurabilityHolds first o order (flushed_word (set words i n)) (moment_word (set words i n))
           (down_word (set words i n)) elsewhere writer (map receipts_of (set views id w))
       with_words f m d flushed moment down h =
           subst (λ (x : ℕ × ℕ × ℕ × List Receipts).
-          DurabilityHolds o order x.0 x.1 x.2 elsewhere writer x.3)
+          DurabilityHolds first o order x.0 x.1 x.2 elsewhere writer x.3)
           (λ j. (flushed j, moment j, down j, sym (part_set receipts_of views id w) j)) h
 
       -- they are not stored
@@ -61,19 +61,19 @@ module _ (words : List ℕ) (home : Option Plain) (views : List View) (id : ℕ)
       stays j apart = sym (word_else words i n j apart)
 
       elsewhere_stored : 14 ≢ i → 15 ≢ i → 16 ≢ i
-          → DurabilityHolds o order (flushed_word words) (moment_word words) (down_word words)
+          → DurabilityHolds first o order (flushed_word words) (moment_word words) (down_word words)
           elsewhere writer (set (map receipts_of views) id (receipts_of w))
-          → DurabilityHolds o order (flushed_word (set words i n)) (moment_word (set words i n))
+          → DurabilityHolds first o order (flushed_word (set words i n)) (moment_word (set words i n))
           (down_word (set words i n)) elsewhere writer (map receipts_of (set views id w))
       elsewhere_stored flushed moment down h =
           with_words (flushed_word words) (moment_word words) (down_word words)
           (stays 14 flushed) (stays 15 moment) (stays 16 down) h
 
   -- a word is loaded
-  loaded : (i : ℕ) (w : View) → DurabilityHolds o k.order (flushed_word words) (moment_word words)
+  loaded : (i : ℕ) (w : View) → DurabilityHolds first o k.order (flushed_word words) (moment_word words)
       (down_word words) home k.writer (set (map receipts_of views) id (receipts_of w))
       → (let later = set words i (slice_index words i) in
-      DurabilityHolds o k.order (flushed_word later) (moment_word later) (down_word later) home
+      DurabilityHolds first o k.order (flushed_word later) (moment_word later) (down_word later) home
       k.writer (map receipts_of (set views id w)))
   loaded i w h =
       let later = set words i (slice_index words i) in
@@ -84,11 +84,11 @@ module _ (words : List ℕ) (home : Option Plain) (views : List View) (id : ℕ)
 
   -- nothing of which it speaks becomes another
   untouched : (i n : ℕ) (w : View) → receipts_of w ≡ receipts_of v → 14 ≢ i → 15 ≢ i → 16 ≢ i
-      → DurabilityHolds o k.order (flushed_word (set words i n)) (moment_word (set words i n))
+      → DurabilityHolds first o k.order (flushed_word (set words i n)) (moment_word (set words i n))
       (down_word (set words i n)) home k.writer (map receipts_of (set views id w))
   untouched i n w is flushed moment down =
       elsewhere_stored k.order k.writer home i n w flushed moment down
-      (subst (λ (x : Receipts). DurabilityHolds o k.order (flushed_word words) (moment_word words)
+      (subst (λ (x : Receipts). DurabilityHolds first o k.order (flushed_word words) (moment_word words)
       (down_word words) home k.writer (set (map receipts_of views) id x)) (sym is)
       (one.same o k.order (flushed_word words) (moment_word words) (down_word words) home k.writer
       (map receipts_of views) k.durable id v mine))
@@ -101,7 +101,7 @@ module _ (words : List ℕ) (home : Option Plain) (views : List View) (id : ℕ)
 
   pub durable-split : HasDurableWith o words home views k
       (set views id (after_split v) ++ split_off v ∷ [])
-  durable-split = subst (λ (parts : List Receipts). DurabilityHolds o k.order (flushed_word words)
+  durable-split = subst (λ (parts : List Receipts). DurabilityHolds first o k.order (flushed_word words)
       (moment_word words) (down_word words) home k.writer parts)
       (sym (part_added receipts_of (set views id (after_split v)) (split_off v)
       ∙ ap (λ (xs : List Receipts). xs ++ receipts_of (split_off v) ∷ [])
@@ -111,7 +111,7 @@ module _ (words : List ℕ) (home : Option Plain) (views : List View) (id : ℕ)
 
   pub durable-given_up : HasDurableWith o words home views k
       (set views id (without_work v) ++ orphan_of v ∷ [])
-  durable-given_up = subst (λ (parts : List Receipts). DurabilityHolds o k.order (flushed_word words)
+  durable-given_up = subst (λ (parts : List Receipts). DurabilityHolds first o k.order (flushed_word words)
       (moment_word words) (down_word words) home k.writer parts)
       (sym (part_added receipts_of (set views id (without_work v)) (orphan_of v)
       ∙ ap (λ (xs : List Receipts). xs ++ receipts_of (orphan_of v) ∷ [])
@@ -121,7 +121,7 @@ module _ (words : List ℕ) (home : Option Plain) (views : List View) (id : ℕ)
 
   pub durable-taken_in : (other : ℕ) (u : View) → HasAt views other u
       → HasDurableWith o words home views k (set (set views other (spent u)) id (after_join v u))
-  durable-taken_in other u there = subst (λ (parts : List Receipts). DurabilityHolds o k.order
+  durable-taken_in other u there = subst (λ (parts : List Receipts). DurabilityHolds first o k.order
       (flushed_word words) (moment_word words) (down_word words) home k.writer parts)
       (sym (part_set receipts_of (set views other (spent u)) id (after_join v u)
       ∙ ap (λ (xs : List Receipts). set xs id (receipts_of (after_join v u)))
@@ -134,7 +134,7 @@ module _ (words : List ℕ) (home : Option Plain) (views : List View) (id : ℕ)
 
   pub durable-reserved : (v.reserving).live ≡ true → (locks : List ℕ) (value : Record)
       → MayStep v (store_position locks value)
-      → HasDurable words home views id v (store_position locks value)
+      → HasDurable first words home views id v (store_position locks value)
       (k.order ++ entry_reserved (v.reserving).number (place_at v (v.reserving).place) value ∷ [])
       k.writer
   durable-reserved live locks value may =
@@ -149,7 +149,7 @@ module _ (words : List ℕ) (home : Option Plain) (views : List View) (id : ℕ)
       elsewhere_stored (k.order ++ entry (place_at v (v.reserving).place) ∷ []) k.writer home 0
       (value_behind v (store_position locks value) met) w (λ e. omega arith) (λ e. omega arith)
       (λ e. omega arith)
-      (subst (λ (p : ℕ). DurabilityHolds o (k.order ++ entry p ∷ []) (flushed_word words)
+      (subst (λ (p : ℕ). DurabilityHolds first o (k.order ++ entry p ∷ []) (flushed_word words)
       (moment_word words) (down_word words) home k.writer
       (set (map receipts_of views) id (receipts_of w))) place
       (store_position_keeps o k.order (flushed_word words) (moment_word words) (down_word words)
@@ -159,7 +159,7 @@ module _ (words : List ℕ) (home : Option Plain) (views : List View) (id : ℕ)
       k.positions is))
 
   pub durable-create : (segment : ℕ) (outcome : CallOutcome) → MayStep v (create segment outcome)
-      → HasDurable words home views id v (create segment outcome) k.order
+      → HasDurable first words home views id v (create segment outcome) k.order
       (after_create segment (create_call ((v.opening).setup).segment_size segment) outcome
       k.writer)
   durable-create segment outcome may =
@@ -173,7 +173,7 @@ module _ (words : List ℕ) (home : Option Plain) (views : List View) (id : ℕ)
 
   pub durable-write : (segment page upto : ℕ) (bytes : List ℕ) (outcome : CallOutcome)
       → MayStep v (write segment page upto bytes outcome)
-      → HasDurable words home views id v (write segment page upto bytes outcome) k.order
+      → HasDurable first words home views id v (write segment page upto bytes outcome) k.order
       (after_write segment upto
       (write_call ((v.opening).setup).segment_size segment page bytes) outcome k.writer)
   durable-write segment page upto bytes outcome may =
@@ -187,7 +187,7 @@ module _ (words : List ℕ) (home : Option Plain) (views : List View) (id : ℕ)
       (map writing_of views) k.positions segment page upto bytes outcome met may)
 
   pub durable-sync : (segment : ℕ) (outcome : CallOutcome) → MayStep v (sync segment outcome)
-      → HasDurable words home views id v (sync segment outcome) k.order
+      → HasDurable first words home views id v (sync segment outcome) k.order
       (after_sync (sync_call ((v.opening).setup).segment_size segment) outcome k.writer)
   durable-sync segment outcome may =
       let met = slice_index words 11 in
@@ -208,7 +208,7 @@ module _ (words : List ℕ) (home : Option Plain) (views : List View) (id : ℕ)
 
   pub durable-inside : (e : StepKind) → MayStep v e → IsInside e
       → LoadsStaged v k.order e (slice_index words (word_of_step v e))
-      → HasDurable words home views id v e k.order k.writer
+      → HasDurable first words home views id v e k.order k.writer
   durable-inside load_position may inside staged =
       untouched 0 _ _ refl (λ e. omega arith) (λ e. omega arith) (λ e. omega arith)
   durable-inside take_write_turn may inside staged =

@@ -11,9 +11,10 @@ use Rattle.wal_core.proofs.Lists.{part_at}
 use Rattle.machine_laws.specs.LocksBehind.{words_behind, views_behind, order_behind, stage_behind, writer_behind, StepsFrom, WorksHold, TurnsHold}
 use Rattle.machine_laws.proofs.WorkSteps.{works_behind}
 use Rattle.machine_laws.proofs.TurnSteps.{turns_behind}
+use Rattle.segment_disk.specs.Tape.{DiskState}
 
-module _ (opening : Opening) (words : List ℕ) (home : Option Plain) (views : List View)
-    (k : IsSound opening words home views) where
+module _ {first : DiskState} (opening : Opening) (words : List ℕ) (home : Option Plain) (views : List View)
+    (k : IsSound first opening words home views) where
   -- what a sound state says of locks, watches and turns
   pub works_now : WorksHold opening.setup k.order words views
   works_now = record {

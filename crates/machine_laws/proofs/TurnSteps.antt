@@ -197,7 +197,7 @@ module _ (setup : Setup) (words : List ℕ) (home : Option Plain) (stage : Stage
   mapping_behind (give_position_back value) may = mapping_stays 0 _ _ (λ e. omega arith)
       (turns_by_place after_give_back v (turns_on_give_back v)).0
   mapping_behind (load_lock lock limit) may =
-      mapping_stays (2 + lock) _ _ (λ e. let low : lock < 8 = may in omega arith) refl
+      mapping_stays (2 + lock) _ _ (λ e. let low : lock < 8 = may.0 in omega arith) refl
   mapping_behind (take_lock lock) may =
       mapping_stays (2 + lock) _ _ (λ e. let low : lock < 8 = may in omega arith)
       (turns_on_take lock (slice_index words (2 + lock)) v).0
@@ -354,7 +354,7 @@ module _ (setup : Setup) (words : List ℕ) (home : Option Plain) (stage : Stage
   writing_behind (give_position_back value) may = writing_stays 0 _ _ (λ e. omega arith)
       (turns_by_place after_give_back v (turns_on_give_back v)).1
   writing_behind (load_lock lock limit) may =
-      writing_stays (2 + lock) _ _ (λ e. let low : lock < 8 = may in omega arith) refl
+      writing_stays (2 + lock) _ _ (λ e. let low : lock < 8 = may.0 in omega arith) refl
   writing_behind (take_lock lock) may =
       writing_stays (2 + lock) _ _ (λ e. let low : lock < 8 = may in omega arith)
       (turns_on_take lock (slice_index words (2 + lock)) v).1

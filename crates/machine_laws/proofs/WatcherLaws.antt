@@ -7,9 +7,10 @@ use Rattle.wal_core.specs.Views.{HasAt, Copy, Copying, Plain, View, working_of, 
 use Rattle.wal_core.specs.Sound.{IsSound}
 use Rattle.wal_core.proofs.Lists.{part_at}
 use Rattle.machine_laws.specs.SoundWatches.{SeesCopied, WatchersSeeCopies}
+use Rattle.segment_disk.specs.Tape.{DiskState}
 
-module _ (opening : Opening) (words : List ℕ) (home : Option Plain) (views : List View)
-    (k : IsSound opening words home views) where
+module _ {first : DiskState} (opening : Opening) (words : List ℕ) (home : Option Plain) (views : List View)
+    (k : IsSound first opening words home views) where
   sees_copied : (id other : ℕ) (v w : View) (c : Copy) → HasAt views id v → HasAt views other w
       → (w.working).flight ≡ Copying c → SeesCopied (opening.setup).segment_size v c
   sees_copied id other v w c here there is lock m n under visited owned low owned_too below =

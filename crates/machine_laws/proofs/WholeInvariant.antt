@@ -22,6 +22,8 @@ use Rattle.machine_laws.proofs.Frames.{moved, later, grounded_stay, wide_stays}
 use Rattle.machine_laws.proofs.GroundBehind.{grounded_behind, down_stays}
 use Rattle.machine_laws.proofs.OrderBehind.{order_holds}
 use Rattle.machine_laws.proofs.PositionsBehind.{positions_hold}
+use Rattle.machine_laws.proofs.AlignedBehind.{aligned_behind}
+use Rattle.segment_disk.specs.Tape.{DiskState}
 
 -- how many pages are mapped behind a step, and the log's words in memory
 abbrev pub reach_behind : StepKind → ℕ → ℕ
@@ -42,8 +44,8 @@ by_moved P (Ready at written) stage f stays goes = goes tt
 by_moved P (Zeroing at count) stage f stays goes = goes tt
 by_moved P (Published at) stage f stays goes = goes tt
 
-module _ (words : List ℕ) (home : Option Plain) (views : List View) (id : ℕ) (v : View)
-    (k : IsSound v.opening words home views) (here : HasAt views id v)
+module _ {first : DiskState} (words : List ℕ) (home : Option Plain) (views : List View) (id : ℕ) (v : View)
+    (k : IsSound first v.opening words home views) (here : HasAt views id v)
     (live : (v.reserving).live ≡ true) where
   -- where the part is left, or the step adds no entry and makes no call
   ring_left : (e : StepKind) → LeavesCopies e
@@ -56,7 +58,7 @@ module _ (words : List ℕ) (home : Option Plain) (views : List View) (id : ℕ)
 
   inside : (e : StepKind) → MayStep v e → IsInside e
       → LoadsStaged v k.order e (slice_index words (word_of_step v e))
-      → HasDurable words home views id v e k.order k.writer
+      → HasDurable first words home views id v e k.order k.writer
   inside = durable.durable-inside words home views id v k here
 
   ring_holds : (e : StepKind) → MayStep v e → HasRing v words home views id e
@@ -161,7 +163,7 @@ module _ (words : List ℕ) (home : Option Plain) (views : List View) (id : ℕ)
       (write segment page upto bytes outcome) may tt
   pages_hold (sync segment outcome) may = pages_left (sync segment outcome) may tt
 
-  durable_holds : (e : StepKind) → MayStep v e → HasDurable words home views id v e
+  durable_holds : (e : StepKind) → MayStep v e → HasDurable first words home views id v e
       (order_behind v e k.order) (writer_behind v e k.writer)
   durable_holds load_position may = inside load_position may tt tt
   durable_holds take_write_turn may = inside take_write_turn may tt tt
@@ -204,7 +206,7 @@ module _ (words : List ℕ) (home : Option Plain) (views : List View) (id : ℕ)
   durable_holds
       (sync segment outcome) may = durable.durable-sync words home views id v k here segment outcome may
 
-  pub sound_behind : (e : StepKind) → MayStep v e → KeepsSound words home views id v e
+  pub sound_behind : (e : StepKind) → MayStep v e → KeepsSound first words home views id v e
   sound_behind e may =
       let s = moved words home views id v k here e in
       let behind = locks_behind v.opening words home views k id v here live e may in
@@ -230,4 +232,5 @@ module _ (words : List ℕ) (home : Option Plain) (views : List View) (id : ℕ)
         positions = positions_hold words home views id v k here live e may;
         durable = durable_holds e may;
         watching = (behind.0).watched;
+        aligned = aligned_behind words home views id v k here live e may;
       }

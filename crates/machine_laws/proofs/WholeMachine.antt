@@ -6,9 +6,10 @@ use Rattle.wal_core.specs.Views.{HasAt, Plain, View, flight_of, writer_of, writi
 use Rattle.wal_core.specs.Sound.{IsSound}
 use Rattle.wal_core.proofs.Lists.{part_at, part_set}
 use Rattle.machine_laws.specs.PositionParts.{Positions, positions_in, HasPositions, HoldAmong, HoldBehind}
+use Rattle.segment_disk.specs.Tape.{DiskState}
 
-pub has_positions : (words : List ℕ) (home : Option Plain) (views : List View) (id : ℕ) (v : View)
-    (s : IsSound v.opening words home views) → HasAt views id v
+pub has_positions : {first : DiskState} (words : List ℕ) (home : Option Plain) (views : List View) (id : ℕ) (v : View)
+    (s : IsSound first v.opening words home views) → HasAt views id v
     → HasPositions (positions_in v.opening words home views s) id v
 has_positions words home views id v s here = record {
   size = (s.setup_is).size;

@@ -1,7 +1,7 @@
 -- The end of a log: what holds once one pass has all numbers of it, and is about nothing.
 use Rattle.std.specs.Prelude.{◌≡◌, ◌≢◌, ℕ, ◌*◌, ◌/◌, ◌<◌, ◌≤◌, true, List, [], ◌∷◌, length, IfSome}
 use mathlib.Core.Option.{Option, some}
-use Rattle.segment_disk.specs.Tape.{state_now}
+use Rattle.segment_disk.specs.Tape.{DiskState, state_now}
 use Rattle.wal_page.specs.Order.{Entry, IsChained, end_position, prev_of}
 use Rattle.wal_core.specs.Words.{Opening, position_word, prev_word, lock_word, mapping_turn, write_turn, written_word, flushed_word, moment_word, down_word, word_of_ring, end_form, log_limit}
 use Rattle.wal_core.specs.Suited.{IfSuited}
@@ -60,24 +60,28 @@ module _ (opening : Opening) (order : List Entry) (words : List ℕ) where
         → word_of_ring opening.setup words (ring_place opening.setup k)
         ≡ log_word_of opening.setup order (8 * k)
 
+-- what a disk held at first, with that
+module _ (first : DiskState) (opening : Opening) (order : List Entry) (words : List ℕ) where
   -- what is durable is written, what is written is reserved, and the disk reads as the log below
   pub record PositionsAreLast (writer : Plain) : Type 0 where
-    pub begun : size ≤ flushed_word words
+    pub begun : (opening.setup).segment_size ≤ flushed_word words
     pub flushed_low : flushed_word words ≤ written_word words
     pub written_low : written_word words ≤ writer.written
     pub written_is : down_word words ≡ 0 → written_word words ≡ writer.written
-    pub reserved : writer.written ≤ end_form opening.setup (end_position size order)
-    pub reads : IfSuited opening writer
+    pub reserved : writer.written ≤ end_form opening.setup (end_position
+        (opening.setup).segment_size order)
+    pub reads : IfSuited first opening writer
         (λ t. ReadsBelow opening.setup order writer.written (state_now t))
 
   -- what a crash leaves, whenever it comes, with the promises made to this pass and to those that
   -- it took in; and what the down value tells of the disk
   pub record LogIsDurable (writer : Plain) (v : View) : Type 0 where
-    pub counted : IfSome writer.tape (λ t. writer.moment ≡ length t.calls)
+    pub counted : IfSome writer.calls (λ calls. writer.moment ≡ length calls)
     pub since : opening.moment ≤ moment_word words
     pub moment_low : moment_word words ≤ writer.moment
-    pub on_disk : IfSuited opening writer (IsOnDisk opening.setup order writer)
-    pub crashes : IfSuited opening writer (λ t. CrashesLeave opening order (flushed_word words)
+    pub on_disk : IfSuited first opening writer (IsOnDisk opening.setup order writer)
+    pub crashes : IfSuited first opening writer (λ t. CrashesLeave opening order
+        (flushed_word words)
         (moment_word words) t (receipts_of v ∷ []))
     pub down : DownTells opening (down_word words) (some writer) writer (receipts_of v ∷ [])
 
@@ -87,9 +91,9 @@ module _ (opening : Opening) (order : List Entry) (words : List ℕ) where
     pub alone : (other : ℕ) (w : View) → HasAt views other w → (w.reserving).live ≡ true
         → other ≡ id
     pub at_home : home ≡ some writer
-    pub free : WordsAreFree
-    pub accounted : OrderIsAccounted views v.reserving
+    pub free : WordsAreFree opening order words
+    pub accounted : OrderIsAccounted opening order words views v.reserving
     -- behind a fault of the disk a pass may have given up its copy
-    pub copied : down_word words ≡ 0 → AllIsCopied views
+    pub copied : down_word words ≡ 0 → AllIsCopied opening order words views
     pub positions : PositionsAreLast writer
     pub durable : LogIsDurable writer v

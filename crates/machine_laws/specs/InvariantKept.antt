@@ -1,6 +1,7 @@
 -- The invariant behind a step of one kind by the pass with a view.
 use Rattle.std.specs.Prelude.{ℕ, List, set, slice_index}
 use mathlib.Core.Option.{Option}
+use Rattle.segment_disk.specs.Tape.{DiskState}
 use Rattle.wal_core.specs.Views.{Plain, View}
 use Rattle.wal_core.specs.Steps.{StepKind, word_of_step, value_behind, home_behind, view_behind}
 use Rattle.wal_core.specs.Sound.{IsSound}
@@ -9,7 +10,7 @@ use Rattle.wal_core.specs.Sound.{IsSound}
 abbrev pub number_met : List ℕ → View → StepKind → ℕ
 number_met words v e = slice_index words (word_of_step v e)
 
-abbrev pub KeepsSound : List ℕ → Option Plain → List View → ℕ → View → StepKind → Type 0
-KeepsSound words home views id v e =
-    IsSound v.opening (set words (word_of_step v e) (value_behind v e (number_met words v e)))
+abbrev pub KeepsSound : DiskState → List ℕ → Option Plain → List View → ℕ → View → StepKind → Type 0
+KeepsSound first words home views id v e =
+    IsSound first v.opening (set words (word_of_step v e) (value_behind v e (number_met words v e)))
     (home_behind v e home) (set views id (view_behind v e (number_met words v e) home))

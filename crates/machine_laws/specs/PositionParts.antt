@@ -2,6 +2,7 @@
 use Rattle.std.specs.Prelude.{ℕ, List, map, set}
 use mathlib.Core.Option.{Option}
 use Rattle.byte_position.specs.Geometry.{IsSegmentSize}
+use Rattle.segment_disk.specs.Tape.{DiskState}
 use Rattle.wal_page.specs.Order.{Entry}
 use Rattle.wal_core.specs.Words.{Opening, down_word, flushed_word, write_turn, written_word}
 use Rattle.wal_core.specs.Views.{HasAt, Flight, Plain, Hold, Writing, View, flight_of, writer_of, writing_of}
@@ -9,10 +10,12 @@ use Rattle.wal_core.specs.Locked.{IsWriteTurn}
 use Rattle.wal_core.specs.Positioned.{PositionsHold}
 use Rattle.wal_core.specs.Sound.{IsSound}
 
--- what the positions rest on: the order; the words of the written and the flushed address, of down
--- and of the turn to write; the writer where it is at home, and wherever it is; and of all views
--- their numbers with what they hold of the turn, their flights, and what they know of positions
+-- what the positions rest on: what the disk held at first; the order; the words of the written and
+-- the flushed address, of down and of the turn to write; the writer where it is at home, and
+-- wherever it is; and of all views their numbers with what they hold of the turn, their flights,
+-- and what they know of positions
 pub record Positions : Type 0 where
+  pub first : DiskState
   pub order : List Entry
   pub written : ℕ
   pub flushed : ℕ
@@ -25,9 +28,10 @@ pub record Positions : Type 0 where
   pub parts : List Writing
 
 -- these of the whole machine
-abbrev pub positions_in : (opening : Opening) (words : List ℕ) (home : Option Plain)
-    (views : List View) → IsSound opening words home views → Positions
-positions_in opening words home views s = record {
+abbrev pub positions_in : {first : DiskState} (opening : Opening) (words : List ℕ)
+    (home : Option Plain) (views : List View) → IsSound first opening words home views → Positions
+positions_in {first} opening words home views s = record {
+  first = first;
   order = s.order;
   written = written_word words;
   flushed = flushed_word words;
@@ -42,7 +46,7 @@ positions_in opening words home views s = record {
 
 pub record HasPositions (p : Positions) (id : ℕ) (v : View) : Type 0 where
   pub size : IsSegmentSize ((v.opening).setup).segment_size
-  pub holds : PositionsHold v.opening p.order p.written p.flushed p.down p.home p.writer
+  pub holds : PositionsHold p.first v.opening p.order p.written p.flushed p.down p.home p.writer
       p.flights p.parts
   pub turns : IsWriteTurn p.turn p.home p.writer p.writers
   pub writer_here : HasAt p.writers id (writer_of v)
@@ -51,7 +55,7 @@ pub record HasPositions (p : Positions) (id : ℕ) (v : View) : Type 0 where
 
 -- the positions hold still with these flights and parts
 abbrev pub HoldAmong : Positions → View → List Flight → List Writing → Type 0
-HoldAmong p v flights parts = PositionsHold v.opening p.order p.written p.flushed p.down
+HoldAmong p v flights parts = PositionsHold p.first v.opening p.order p.written p.flushed p.down
     p.home p.writer flights parts
 
 -- and where the view has become another one

@@ -9,6 +9,7 @@ use Rattle.wal_core.specs.Paged.{PagesHold}
 use Rattle.wal_core.specs.Sound.{IsSound}
 use Rattle.wal_core.specs.Steps.{StepKind, number_of_next, next_value, word_of_step, value_behind, view_behind}
 use Rattle.machine_laws.specs.WordsPut.{put}
+use Rattle.segment_disk.specs.Tape.{DiskState}
 
 -- the log's memory behind a store of the next word of a pass's copy
 abbrev pub memory_stored : View → (ℕ → ℕ) → ℕ → ℕ
@@ -40,8 +41,9 @@ module _ (v : View) (words : List ℕ) (home : Option Plain) (views : List View)
         (word_of_ring (v.opening).setup words_behind) memory (map confirmed_of views_behind)
 
 -- the same, where of a state that keeps the invariant the views alone become others
-module _ (opening : Opening) (words : List ℕ) (home : Option Plain) (views : List View)
-    (s : IsSound opening words home views) (changed : List View) where
+module _ {first : DiskState} (opening : Opening) (words : List ℕ) (home : Option Plain)
+    (views : List View)
+    (s : IsSound first opening words home views) (changed : List View) where
   abbrev pub HasRingWith : Type 0
   HasRingWith = RingHolds opening.setup s.order s.reach s.memory (map flight_of changed)
 

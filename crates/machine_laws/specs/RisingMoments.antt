@@ -6,6 +6,7 @@ use Rattle.wal_page.specs.Order.{Entry, finish_of}
 use Rattle.wal_core.specs.Words.{Opening, flushed_word, moment_word}
 use Rattle.wal_core.specs.Views.{HasAt, FlushPromise, Joined, Plain, Hold, Idle, Turned, Out, View}
 use Rattle.wal_core.specs.Sound.{IsSound}
+use Rattle.segment_disk.specs.Tape.{DiskState}
 
 -- ---- promises of one log
 
@@ -94,7 +95,8 @@ module _ (opening : Opening) where
         → (x.hard_moment ≡ moment) × RisesForEach parts x.hard moment
 
 -- this of the whole machine
-abbrev pub MomentsKeepRising : (opening : Opening) (words : List ℕ) (home : Option Plain)
-    (views : List View) → IsSound opening words home views → Type 0
+abbrev pub MomentsKeepRising : {first : DiskState} (opening : Opening) (words : List ℕ)
+    (home : Option Plain)
+    (views : List View) → IsSound first opening words home views → Type 0
 MomentsKeepRising opening words home views s =
     RisesHold opening (flushed_word words) (moment_word words) s.writer (map promised_of views)

@@ -1,7 +1,7 @@
 -- What every sound state shows of the positions up to which the log is reserved, copied, written
 -- and durable.
 use Rattle.std.specs.Prelude.{◌≡◌, ◌⊎◌, ℕ, ◌<◌, ◌≤◌, All, List}
-use Rattle.segment_disk.specs.Tape.{state_now}
+use Rattle.segment_disk.specs.Tape.{DiskState, state_now}
 use mathlib.Core.Option.{Option, none, some}
 use Rattle.wal_page.specs.Order.{Entry, end_position}
 use Rattle.wal_page.specs.EntryWords.{address_of_word, words_owned}
@@ -33,7 +33,8 @@ pub record KnowsNoMore (words : List ℕ) (v : View) : Type 0 where
 -- what is durable is written; what is written, the one writer wrote, and is reserved and copied;
 -- and below the written word the disk reads as the log, where it tells what it holds and held at
 -- the opening what a log may begin on
-pub record PositionsAreOrdered (opening : Opening) (order : List Entry) (words : List ℕ)
+pub record PositionsAreOrdered (first : DiskState) (opening : Opening) (order : List Entry)
+    (words : List ℕ)
     (home : Option Plain) (views : List View) : Type 0 where
   pub known : (id : ℕ) (v : View) → HasAt views id v → KnowsNoMore words v
   pub flushed_low : flushed_word words ≤ written_word words
@@ -49,5 +50,5 @@ pub record PositionsAreOrdered (opening : Opening) (order : List Entry) (words :
       → (v.working).flight ≡ Copying c → c.copied ≤ n
       → n < words_owned (opening.setup).segment_size c.entry
       → written_word words ≤ address_of_word (opening.setup).segment_size c.entry n
-  pub reads : (w : Plain) → IsTheWriter home views w → IfSuited opening w
+  pub reads : (w : Plain) → IsTheWriter home views w → IfSuited first opening w
       (λ t. ReadsBelow opening.setup order (written_word words) (state_now t))

@@ -4,6 +4,7 @@
 
 ghost use Rattle.std.specs.Prelude.{◌⊎◌, ℕ, List};
 ghost use mathlib.Core.Option.{Option};
+ghost use Rattle.segment_disk.specs.Tape.{DiskState};
 ghost use Rattle.wal_core.specs.Words.{Opening};
 ghost use Rattle.wal_core.specs.Views.{HasAt, Plain, View};
 ghost use Rattle.wal_core.specs.Moves.{after_join, after_split, split_off};
@@ -19,10 +20,10 @@ ghost use Rattle.machine_laws.specs.ClosedLogs.{HasAllNumbers, IsClosed, IsLastP
 /// flight, and the ring has the log from the written address on. What crashes leave, and what was
 /// promised to this pass and to those that it took in, is told of this writer's disk.
 pub fn last_passes_close_the_log()
-    ensures closed { (opening : Opening) (words : List ℕ) (home : Option Plain)
-        (views : List View) (k : IsSound opening words home views) (id : ℕ) (v : View)
+    ensures closed { (first : DiskState) (opening : Opening) (words : List ℕ) (home : Option Plain)
+        (views : List View) (k : IsSound first opening words home views) (id : ℕ) (v : View)
         → HasAt views id v → IsLastPass opening v
-        → IsClosed opening k.order words home k.writer views id v }
+        → IsClosed first opening k.order words home k.writer views id v }
 {}
 
 /// The first pass has all numbers. No step takes one from its pass; behind a split one of both has

@@ -6,9 +6,10 @@ ghost use Rattle.std.specs.Prelude.{◌≡◌, ◌≢◌, ℕ, List, IfSome};
 ghost use Rattle.segment_disk.specs.declared.disk.Call.{Call};
 ghost use mathlib.Core.Option.{Option};
 ghost use Rattle.wal_page.specs.Order.{Entry, IsChained};
+ghost use Rattle.segment_disk.specs.Tape.{DiskState};
 ghost use Rattle.wal_core.specs.Words.{Opening};
 ghost use Rattle.wal_core.specs.Views.{HasAt, Hold, Plain, Receipts, View, writer_of};
-ghost use Rattle.wal_core.specs.Suited.{BeganSuited, IfSuited};
+ghost use Rattle.wal_core.specs.Suited.{BeganSuited, IfSuited, tape_from};
 ghost use Rattle.wal_core.specs.Locked.{IsWriteTurn};
 ghost use Rattle.wal_core.specs.Durable.{DurabilityHolds};
 ghost use Rattle.wal_core.specs.Moves.{CallOutcome, with_outcome};
@@ -21,41 +22,43 @@ ghost use Rattle.machine_laws.specs.Crashes.{CrashesLeave, DownTells};
 /// from a promise's on leaves all of the log below the address that the promise names, in pages
 /// that are there.
 pub fn crashes_leave_what_was_promised()
-    ensures lawful { (o : Opening) (order : List Entry) (flushed moment down : ℕ)
+    ensures lawful { (first : DiskState) (o : Opening) (order : List Entry)
+        (flushed moment down : ℕ)
         (home : Option Plain) (writer : Plain) (parts : List Receipts)
-        → DurabilityHolds o order flushed moment down home writer parts → IsSetup o.setup
+        → DurabilityHolds first o order flushed moment down home writer parts → IsSetup o.setup
         → IsChained (o.setup).segment_size order
-        → IfSuited o writer (λ t. CrashesLeave o order flushed moment t parts) }
+        → IfSuited first o writer (λ t. CrashesLeave o order flushed moment t parts) }
 {}
 
 /// A call of the device, however it ends, leaves what the disk held when the log was opened: what
 /// was one on which a log may begin stays one of which all this is said.
 pub fn calls_leave_what_the_log_began_on()
-    ensures { (o : Opening) (order : List Entry) (flushed moment down : ℕ)
+    ensures { (first : DiskState) (o : Opening) (order : List Entry) (flushed moment down : ℕ)
         (home : Option Plain) (writer : Plain) (parts : List Receipts) (call : Call)
         (outcome : CallOutcome)
-        → DurabilityHolds o order flushed moment down home writer parts
-        → IfSome writer.tape (BeganSuited o)
-        → IfSome (with_outcome call outcome writer).tape (BeganSuited o) }
+        → DurabilityHolds first o order flushed moment down home writer parts
+        → IfSome (tape_from first writer.calls) (BeganSuited o)
+        → IfSome (tape_from first (with_outcome call outcome writer).calls) (BeganSuited o) }
 {}
 
 /// What the down value tells; once it is not 0 it stays, and no call of the device follows.
 pub fn down_tells_of_the_fault()
-    ensures tells { (o : Opening) (order : List Entry) (flushed moment down : ℕ)
+    ensures tells { (first : DiskState) (o : Opening) (order : List Entry) (flushed moment down : ℕ)
         (home : Option Plain) (writer : Plain) (parts : List Receipts)
-        → DurabilityHolds o order flushed moment down home writer parts
+        → DurabilityHolds first o order flushed moment down home writer parts
         → DownTells o down home writer parts }
-    ensures stays { (o : Opening) (order : List Entry) (flushed moment down : ℕ)
+    ensures stays { (first : DiskState) (o : Opening) (order : List Entry) (flushed moment down : ℕ)
         (home : Option Plain) (writer : Plain) (parts : List Receipts)
         (id met : ℕ) (v : View) (turn : ℕ) (writers : List (ℕ × Hold))
-        → DurabilityHolds o order flushed moment down home writer parts → down ≢ 0
+        → DurabilityHolds first o order flushed moment down home writer parts → down ≢ 0
         → IsWriteTurn turn home writer writers → HasAt writers id (writer_of v)
         → MayStep v set_down → value_behind v set_down met ≡ down }
-    ensures no_call { (o : Opening) (order : List Entry) (flushed moment down : ℕ)
+    ensures no_call { (first : DiskState) (o : Opening) (order : List Entry)
+        (flushed moment down : ℕ)
         (home : Option Plain) (writer : Plain) (parts : List Receipts)
         (id : ℕ) (v : View) (turn : ℕ) (writers : List (ℕ × Hold))
         (segment page upto : ℕ) (bytes : List ℕ) (outcome : CallOutcome)
-        → DurabilityHolds o order flushed moment down home writer parts → down ≢ 0
+        → DurabilityHolds first o order flushed moment down home writer parts → down ≢ 0
         → IsWriteTurn turn home writer writers → HasAt writers id (writer_of v)
         → (¬ MayStep v (create segment outcome))
         × (¬ MayStep v (write segment page upto bytes outcome))

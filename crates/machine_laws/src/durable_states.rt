@@ -4,7 +4,7 @@
 
 ghost use Rattle.std.specs.Prelude.{◌≡◌, ℕ, true, List, [], ◌∷◌, ◌++◌, map, set, slice_index};
 ghost use mathlib.Core.Option.{Option};
-ghost use Rattle.segment_disk.specs.Tape.{create_call, sync_call, write_call};
+ghost use Rattle.segment_disk.specs.Tape.{DiskState, create_call, sync_call, write_call};
 ghost use Rattle.wal_types.specs.declared.record.Record.{Record};
 ghost use Rattle.wal_core.specs.Words.{Opening, down_word, flushed_word, moment_word};
 ghost use Rattle.wal_core.specs.Views.{HasAt, Plain, View, receipts_of};
@@ -18,55 +18,63 @@ ghost use Rattle.machine_laws.specs.DurableBehind.{HasDurable, HasDurableWith, I
 /// Each kind of step of a pass but that one that adds an entry and the calls of the device; the
 /// word that is loaded for a write is the ring's.
 pub fn steps_leave_a_sound_log_durable()
-    ensures inside { (words : List ℕ) (home : Option Plain) (views : List View) (id : ℕ) (v : View)
-        (s : IsSound v.opening words home views) → HasAt views id v
+    ensures inside { (first : DiskState) (words : List ℕ) (home : Option Plain) (views : List View)
+        (id : ℕ) (v : View)
+        (s : IsSound first v.opening words home views) → HasAt views id v
         → (e : StepKind) → MayStep v e → IsInside e
         → LoadsStaged v s.order e (slice_index words (word_of_step v e))
-        → HasDurable words home views id v e s.order s.writer }
-    ensures store_position { (words : List ℕ) (home : Option Plain) (views : List View) (id : ℕ)
-        (v : View) (s : IsSound v.opening words home views) → HasAt views id v
+        → HasDurable first words home views id v e s.order s.writer }
+    ensures store_position { (first : DiskState) (words : List ℕ) (home : Option Plain)
+        (views : List View) (id : ℕ)
+        (v : View) (s : IsSound first v.opening words home views) → HasAt views id v
         → (v.reserving).live ≡ true → (locks : List ℕ) (value : Record)
         → MayStep v (store_position locks value)
-        → HasDurable words home views id v (store_position locks value)
+        → HasDurable first words home views id v (store_position locks value)
         (s.order ++ entry_reserved (v.reserving).number (place_at v (v.reserving).place) value ∷ [])
         s.writer }
 {}
 
 /// Each call of the device, with each outcome.
 pub fn calls_leave_a_sound_log_durable()
-    ensures create { (words : List ℕ) (home : Option Plain) (views : List View) (id : ℕ) (v : View)
-        (s : IsSound v.opening words home views) → HasAt views id v
+    ensures create { (first : DiskState) (words : List ℕ) (home : Option Plain) (views : List View)
+        (id : ℕ) (v : View)
+        (s : IsSound first v.opening words home views) → HasAt views id v
         → (segment : ℕ) (outcome : CallOutcome) → MayStep v (create segment outcome)
-        → HasDurable words home views id v (create segment outcome) s.order
+        → HasDurable first words home views id v (create segment outcome) s.order
         (after_create segment (create_call ((v.opening).setup).segment_size segment) outcome
         s.writer) }
-    ensures write { (words : List ℕ) (home : Option Plain) (views : List View) (id : ℕ) (v : View)
-        (s : IsSound v.opening words home views) → HasAt views id v
+    ensures write { (first : DiskState) (words : List ℕ) (home : Option Plain) (views : List View)
+        (id : ℕ) (v : View)
+        (s : IsSound first v.opening words home views) → HasAt views id v
         → (segment page upto : ℕ) (bytes : List ℕ) (outcome : CallOutcome)
         → MayStep v (write segment page upto bytes outcome)
-        → HasDurable words home views id v (write segment page upto bytes outcome) s.order
+        → HasDurable first words home views id v (write segment page upto bytes outcome) s.order
         (after_write segment upto
         (write_call ((v.opening).setup).segment_size segment page bytes) outcome s.writer) }
-    ensures sync { (words : List ℕ) (home : Option Plain) (views : List View) (id : ℕ) (v : View)
-        (s : IsSound v.opening words home views) → HasAt views id v
+    ensures sync { (first : DiskState) (words : List ℕ) (home : Option Plain) (views : List View)
+        (id : ℕ) (v : View)
+        (s : IsSound first v.opening words home views) → HasAt views id v
         → (segment : ℕ) (outcome : CallOutcome) → MayStep v (sync segment outcome)
-        → HasDurable words home views id v (sync segment outcome) s.order
+        → HasDurable first words home views id v (sync segment outcome) s.order
         (after_sync (sync_call ((v.opening).setup).segment_size segment) outcome s.writer) }
 {}
 
 /// Passes are split off, taken in, and give up.
 pub fn passes_leave_a_sound_log_durable()
-    ensures split { (words : List ℕ) (home : Option Plain) (views : List View) (id : ℕ) (v : View)
-        (s : IsSound v.opening words home views) → HasAt views id v
+    ensures split { (first : DiskState) (words : List ℕ) (home : Option Plain) (views : List View)
+        (id : ℕ) (v : View)
+        (s : IsSound first v.opening words home views) → HasAt views id v
         → HasDurableWith v.opening words home views s
         (set views id (after_split v) ++ split_off v ∷ []) }
-    ensures join { (words : List ℕ) (home : Option Plain) (views : List View) (id : ℕ) (v : View)
-        (s : IsSound v.opening words home views) → HasAt views id v
+    ensures join { (first : DiskState) (words : List ℕ) (home : Option Plain) (views : List View)
+        (id : ℕ) (v : View)
+        (s : IsSound first v.opening words home views) → HasAt views id v
         → (other : ℕ) (u : View) → HasAt views other u
         → HasDurableWith v.opening words home views s
         (set (set views other (spent u)) id (after_join v u)) }
-    ensures give_up { (words : List ℕ) (home : Option Plain) (views : List View) (id : ℕ) (v : View)
-        (s : IsSound v.opening words home views) → HasAt views id v
+    ensures give_up { (first : DiskState) (words : List ℕ) (home : Option Plain) (views : List View)
+        (id : ℕ) (v : View)
+        (s : IsSound first v.opening words home views) → HasAt views id v
         → HasDurableWith v.opening words home views s
         (set views id (without_work v) ++ orphan_of v ∷ []) }
 {}
@@ -74,11 +82,13 @@ pub fn passes_leave_a_sound_log_durable()
 /// What a state that keeps the invariant shows: what each crash leaves, where the disk tells what
 /// it holds and held at the opening what a log may begin on, and what the down word tells.
 pub fn sound_logs_show_what_crashes_leave()
-    ensures crashes { (opening : Opening) (words : List ℕ) (home : Option Plain) (views : List View)
-        (s : IsSound opening words home views)
-        → IfSuited opening s.writer (λ t. CrashesLeave opening s.order (flushed_word words)
+    ensures crashes { (first : DiskState) (opening : Opening) (words : List ℕ) (home : Option Plain)
+        (views : List View)
+        (s : IsSound first opening words home views)
+        → IfSuited first opening s.writer (λ t. CrashesLeave opening s.order (flushed_word words)
         (moment_word words) t (map receipts_of views)) }
-    ensures down { (opening : Opening) (words : List ℕ) (home : Option Plain) (views : List View)
-        (s : IsSound opening words home views)
+    ensures down { (first : DiskState) (opening : Opening) (words : List ℕ) (home : Option Plain)
+        (views : List View)
+        (s : IsSound first opening words home views)
         → DownTells opening (down_word words) home s.writer (map receipts_of views) }
 {}

@@ -7,6 +7,7 @@
 ghost use Rattle.std.specs.Prelude.{◌≡◌, ℕ, ◌≤◌, List, [], ◌∷◌, ◌++◌, set};
 ghost use mathlib.Core.Option.{Option};
 ghost use Rattle.wal_page.specs.Order.{Entry};
+ghost use Rattle.segment_disk.specs.Tape.{DiskState};
 ghost use Rattle.wal_core.specs.Words.{Opening};
 ghost use Rattle.wal_core.specs.Views.{HasAt, Flight, Hold, Lent, Out, Plain, Receipts, View, Writing, receipts_of, writer_of};
 ghost use Rattle.wal_core.specs.Locked.{IsWriteTurn};
@@ -20,86 +21,94 @@ ghost use Rattle.wal_core.specs.Steps.{MayStep, home_behind, value_behind, view_
 /// ring, which is the log's as far as all is copied. What else leaves its entries and its writing,
 /// leaves this.
 pub fn loads_keep_durability()
-    ensures same { (o : Opening) (order : List Entry) (flushed moment down : ℕ)
+    ensures same { (first : DiskState) (o : Opening) (order : List Entry) (flushed moment down : ℕ)
         (home : Option Plain) (writer : Plain) (parts : List Receipts)
         (id : ℕ) (v w : View)
-        → DurabilityHolds o order flushed moment down home writer parts
+        → DurabilityHolds first o order flushed moment down home writer parts
         → HasAt parts id (receipts_of v)
         → receipts_of w ≡ receipts_of v
-        → DurabilityHolds o order flushed moment down home writer
+        → DurabilityHolds first o order flushed moment down home writer
         (set parts id (receipts_of w)) }
-    ensures load_written { (o : Opening) (order : List Entry) (flushed moment down : ℕ)
+    ensures load_written { (first : DiskState) (o : Opening) (order : List Entry)
+        (flushed moment down : ℕ)
         (home : Option Plain) (writer : Plain) (parts : List Receipts)
         (id met : ℕ) (v : View)
-        → DurabilityHolds o order flushed moment down home writer parts
+        → DurabilityHolds first o order flushed moment down home writer parts
         → HasAt parts id (receipts_of v)
-        → DurabilityHolds o order flushed moment down home writer
+        → DurabilityHolds first o order flushed moment down home writer
         (set parts id (receipts_of (view_behind v load_written met home))) }
-    ensures load_flushed { (o : Opening) (order : List Entry) (flushed moment down : ℕ)
+    ensures load_flushed { (first : DiskState) (o : Opening) (order : List Entry)
+        (flushed moment down : ℕ)
         (home : Option Plain) (writer : Plain) (parts : List Receipts)
         (id met : ℕ) (v : View)
-        → DurabilityHolds o order flushed moment down home writer parts
+        → DurabilityHolds first o order flushed moment down home writer parts
         → HasAt parts id (receipts_of v)
-        → DurabilityHolds o order flushed moment down home writer
+        → DurabilityHolds first o order flushed moment down home writer
         (set parts id (receipts_of (view_behind v load_flushed met home))) }
-    ensures load_moment { (o : Opening) (order : List Entry) (flushed moment down : ℕ)
+    ensures load_moment { (first : DiskState) (o : Opening) (order : List Entry)
+        (flushed moment down : ℕ)
         (home : Option Plain) (writer : Plain) (parts : List Receipts)
         (id : ℕ) (v : View)
-        → DurabilityHolds o order flushed moment down home writer parts
+        → DurabilityHolds first o order flushed moment down home writer parts
         → HasAt parts id (receipts_of v)
         → (v.writing).flushed ≤ flushed
-        → DurabilityHolds o order flushed moment down home writer
+        → DurabilityHolds first o order flushed moment down home writer
         (set parts id (receipts_of (view_behind v load_moment moment home))) }
-    ensures load_down { (o : Opening) (order : List Entry) (flushed moment down : ℕ)
+    ensures load_down { (first : DiskState) (o : Opening) (order : List Entry)
+        (flushed moment down : ℕ)
         (home : Option Plain) (writer : Plain) (parts : List Receipts)
         (id : ℕ) (v : View)
-        → DurabilityHolds o order flushed moment down home writer parts
+        → DurabilityHolds first o order flushed moment down home writer parts
         → HasAt parts id (receipts_of v)
-        → DurabilityHolds o order flushed moment down home writer
+        → DurabilityHolds first o order flushed moment down home writer
         (set parts id (receipts_of (view_behind v load_down down home))) }
-    ensures load_ring_word { (o : Opening) (order : List Entry) (flushed moment down : ℕ)
+    ensures load_ring_word { (first : DiskState) (o : Opening) (order : List Entry)
+        (flushed moment down : ℕ)
         (home : Option Plain) (writer : Plain) (parts : List Receipts)
         (id k met : ℕ) (v : View)
-        → DurabilityHolds o order flushed moment down home writer parts
+        → DurabilityHolds first o order flushed moment down home writer parts
         → HasAt parts id (receipts_of v)
         → ((l : Lent) → (v.writing).hold ≡ Out l → IsStaged o.setup order l.known (k, met))
-        → DurabilityHolds o order flushed moment down home writer
+        → DurabilityHolds first o order flushed moment down home writer
         (set parts id (receipts_of (view_behind v (load_ring_word k) met home))) }
 {}
 
 /// The turn to write is taken and let go, the writer taken in hand and put back.
 pub fn turns_keep_durability()
-    ensures take { (o : Opening) (order : List Entry) (flushed moment down : ℕ)
+    ensures take { (first : DiskState) (o : Opening) (order : List Entry) (flushed moment down : ℕ)
         (home : Option Plain) (writer : Plain) (parts : List Receipts)
         (id met : ℕ) (v : View)
-        → DurabilityHolds o order flushed moment down home writer parts
+        → DurabilityHolds first o order flushed moment down home writer parts
         → HasAt parts id (receipts_of v)
-        → DurabilityHolds o order flushed moment down home writer
+        → DurabilityHolds first o order flushed moment down home writer
         (set parts id (receipts_of (view_behind v take_write_turn met home))) }
-    ensures slot_out { (o : Opening) (order : List Entry) (flushed moment down : ℕ)
+    ensures slot_out { (first : DiskState) (o : Opening) (order : List Entry)
+        (flushed moment down : ℕ)
         (home : Option Plain) (writer : Plain) (parts : List Receipts)
         (id met : ℕ) (v : View) (turn : ℕ) (writers : List (ℕ × Hold))
-        → DurabilityHolds o order flushed moment down home writer parts
+        → DurabilityHolds first o order flushed moment down home writer parts
         → HasAt parts id (receipts_of v)
         → IsWriteTurn turn home writer writers → HasAt writers id (writer_of v)
         → MayStep v slot_out
-        → DurabilityHolds o order flushed moment down (home_behind v slot_out home) writer
+        → DurabilityHolds first o order flushed moment down (home_behind v slot_out home) writer
         (set parts id (receipts_of (view_behind v slot_out met home))) }
-    ensures slot_in { (o : Opening) (order : List Entry) (flushed moment down : ℕ)
+    ensures slot_in { (first : DiskState) (o : Opening) (order : List Entry)
+        (flushed moment down : ℕ)
         (home : Option Plain) (writer : Plain) (parts : List Receipts)
         (id met : ℕ) (v : View) (turn : ℕ) (writers : List (ℕ × Hold))
-        → DurabilityHolds o order flushed moment down home writer parts
+        → DurabilityHolds first o order flushed moment down home writer parts
         → HasAt parts id (receipts_of v)
         → IsWriteTurn turn home writer writers → HasAt writers id (writer_of v)
         → MayStep v slot_in
-        → DurabilityHolds o order flushed moment down (home_behind v slot_in home) writer
+        → DurabilityHolds first o order flushed moment down (home_behind v slot_in home) writer
         (set parts id (receipts_of (view_behind v slot_in met home))) }
-    ensures release { (o : Opening) (order : List Entry) (flushed moment down : ℕ)
+    ensures release { (first : DiskState) (o : Opening) (order : List Entry)
+        (flushed moment down : ℕ)
         (home : Option Plain) (writer : Plain) (parts : List Receipts)
         (id met : ℕ) (v : View)
-        → DurabilityHolds o order flushed moment down home writer parts
+        → DurabilityHolds first o order flushed moment down home writer parts
         → HasAt parts id (receipts_of v)
-        → DurabilityHolds o order flushed moment down home writer
+        → DurabilityHolds first o order flushed moment down home writer
         (set parts id (receipts_of (view_behind v release_write_turn met home))) }
 {}
 
@@ -107,66 +116,70 @@ pub fn turns_keep_durability()
 /// durable, how far it is durable, of which it is promised that it is so from that moment on, that
 /// the disk has failed.
 pub fn stores_keep_durability()
-    ensures written { (o : Opening) (order : List Entry) (flushed moment down : ℕ)
+    ensures written { (first : DiskState) (o : Opening) (order : List Entry)
+        (flushed moment down : ℕ)
         (home : Option Plain) (writer : Plain) (parts : List Receipts)
         (id met : ℕ) (v : View)
-        → DurabilityHolds o order flushed moment down home writer parts
+        → DurabilityHolds first o order flushed moment down home writer parts
         → HasAt parts id (receipts_of v)
-        → DurabilityHolds o order flushed moment down home writer
+        → DurabilityHolds first o order flushed moment down home writer
         (set parts id (receipts_of (view_behind v store_written met home))) }
-    ensures moment { (o : Opening) (order : List Entry) (flushed moment down : ℕ)
+    ensures moment { (first : DiskState) (o : Opening) (order : List Entry)
+        (flushed moment down : ℕ)
         (home : Option Plain) (writer : Plain) (parts : List Receipts)
         (id met : ℕ) (v : View) (turn : ℕ) (writers : List (ℕ × Hold))
-        → DurabilityHolds o order flushed moment down home writer parts
+        → DurabilityHolds first o order flushed moment down home writer parts
         → HasAt parts id (receipts_of v)
         → IsWriteTurn turn home writer writers → HasAt writers id (writer_of v)
         → MayStep v store_moment
-        → DurabilityHolds o order flushed (value_behind v store_moment met) down home writer
+        → DurabilityHolds first o order flushed (value_behind v store_moment met) down home writer
         (set parts id (receipts_of (view_behind v store_moment met home))) }
-    ensures flushed { (o : Opening) (order : List Entry) (flushed moment down : ℕ)
+    ensures flushed { (first : DiskState) (o : Opening) (order : List Entry)
+        (flushed moment down : ℕ)
         (home : Option Plain) (writer : Plain) (parts : List Receipts)
         (id met : ℕ) (v : View) (turn : ℕ) (writers : List (ℕ × Hold))
         (written : ℕ) (flights : List Flight) (writings : List Writing)
-        → DurabilityHolds o order flushed moment down home writer parts
+        → DurabilityHolds first o order flushed moment down home writer parts
         → HasAt parts id (receipts_of v) → IsSetup o.setup
         → IsWriteTurn turn home writer writers → HasAt writers id (writer_of v)
-        → PositionsHold o order written flushed down home writer flights writings
+        → PositionsHold first o order written flushed down home writer flights writings
         → MayStep v store_flushed
-        → DurabilityHolds o order (value_behind v store_flushed met) moment down home writer
+        → DurabilityHolds first o order (value_behind v store_flushed met) moment down home writer
         (set parts id (receipts_of (view_behind v store_flushed met home))) }
-    ensures down { (o : Opening) (order : List Entry) (flushed moment down : ℕ)
+    ensures down { (first : DiskState) (o : Opening) (order : List Entry) (flushed moment down : ℕ)
         (home : Option Plain) (writer : Plain) (parts : List Receipts)
         (id met : ℕ) (v : View) (turn : ℕ) (writers : List (ℕ × Hold))
-        → DurabilityHolds o order flushed moment down home writer parts
+        → DurabilityHolds first o order flushed moment down home writer parts
         → HasAt parts id (receipts_of v)
         → IsWriteTurn turn home writer writers → HasAt writers id (writer_of v)
         → MayStep v set_down
-        → DurabilityHolds o order flushed moment (value_behind v set_down met) home writer
+        → DurabilityHolds first o order flushed moment (value_behind v set_down met) home writer
         (set parts id (receipts_of (view_behind v set_down met home))) }
 {}
 
 /// Passes are split off, taken in, and give up.
 pub fn passes_keep_durability()
-    ensures split { (o : Opening) (order : List Entry) (flushed moment down : ℕ)
+    ensures split { (first : DiskState) (o : Opening) (order : List Entry) (flushed moment down : ℕ)
         (home : Option Plain) (writer : Plain) (parts : List Receipts)
         (id : ℕ) (v : View)
-        → DurabilityHolds o order flushed moment down home writer parts
+        → DurabilityHolds first o order flushed moment down home writer parts
         → HasAt parts id (receipts_of v)
-        → DurabilityHolds o order flushed moment down home writer
+        → DurabilityHolds first o order flushed moment down home writer
         (set parts id (receipts_of (after_split v)) ++ receipts_of (split_off v) ∷ []) }
-    ensures join { (o : Opening) (order : List Entry) (flushed moment down : ℕ)
+    ensures join { (first : DiskState) (o : Opening) (order : List Entry) (flushed moment down : ℕ)
         (home : Option Plain) (writer : Plain) (parts : List Receipts)
         (id other : ℕ) (v w : View)
-        → DurabilityHolds o order flushed moment down home writer parts
+        → DurabilityHolds first o order flushed moment down home writer parts
         → HasAt parts id (receipts_of v)
         → HasAt parts other (receipts_of w)
-        → DurabilityHolds o order flushed moment down home writer
+        → DurabilityHolds first o order flushed moment down home writer
         (set (set parts other (receipts_of (spent w))) id (receipts_of (after_join v w))) }
-    ensures give_up { (o : Opening) (order : List Entry) (flushed moment down : ℕ)
+    ensures give_up { (first : DiskState) (o : Opening) (order : List Entry)
+        (flushed moment down : ℕ)
         (home : Option Plain) (writer : Plain) (parts : List Receipts)
         (id : ℕ) (v : View)
-        → DurabilityHolds o order flushed moment down home writer parts
+        → DurabilityHolds first o order flushed moment down home writer parts
         → HasAt parts id (receipts_of v)
-        → DurabilityHolds o order flushed moment down home writer
+        → DurabilityHolds first o order flushed moment down home writer
         (set parts id (receipts_of (without_work v)) ++ receipts_of (orphan_of v) ∷ []) }
 {}

@@ -4,9 +4,10 @@
 
 ghost use Rattle.std.specs.Prelude.{◌≡◌, ℕ, true, List};
 ghost use mathlib.Core.Option.{Option};
+ghost use Rattle.segment_disk.specs.Tape.{DiskState};
 ghost use Rattle.wal_core.specs.Words.{Opening};
 ghost use Rattle.wal_core.specs.Views.{HasAt, Plain, View};
-ghost use Rattle.wal_core.specs.Steps.{StepKind, MayStep, State, Step};
+ghost use Rattle.wal_core.specs.Steps.{StepKind, MayStep, State, MachineStep};
 ghost use Rattle.wal_core.specs.Sound.{IsSound};
 ghost use Rattle.machine_laws.specs.InvariantKept.{KeepsSound};
 ghost use Rattle.machine_laws.specs.Runs.{Runs};
@@ -14,17 +15,19 @@ ghost use Rattle.machine_laws.specs.Runs.{Runs};
 /// Whatever a live pass does that its view lets it do keeps the invariant, over the words, the
 /// writer's home and the views behind. A table of shared words cites this law, one kind at a time.
 pub fn every_kind_keeps_the_invariant()
-    ensures { (words : List ℕ) (home : Option Plain) (views : List View) (id : ℕ) (v : View)
-        → IsSound v.opening words home views → HasAt views id v → (v.reserving).live ≡ true
-        → (e : StepKind) → MayStep v e → KeepsSound words home views id v e }
+    ensures { (first : DiskState) (words : List ℕ) (home : Option Plain) (views : List View)
+        (id : ℕ) (v : View)
+        → IsSound first v.opening words home views → HasAt views id v → (v.reserving).live ≡ true
+        → (e : StepKind) → MayStep v e → KeepsSound first words home views id v e }
 {}
 
 /// Every step of the machine keeps the invariant: one of a pass, and a pass that is split off, is
 /// taken in, or gives up its copy; and so does every run, however the passes' steps interleave.
 pub fn every_step_keeps_the_invariant()
-    ensures step { (opening : Opening) (s t : State) → IsSound opening s.words s.home s.views
-        → Step s t → IsSound opening t.words t.home t.views }
-    ensures run { (opening : Opening) (n : ℕ) (s t : State)
-        → IsSound opening s.words s.home s.views → Runs n s t
-        → IsSound opening t.words t.home t.views }
+    ensures step { (first : DiskState) (opening : Opening) (s t : State)
+        → IsSound first opening s.words s.home s.views
+        → MachineStep s t → IsSound first opening t.words t.home t.views }
+    ensures run { (first : DiskState) (opening : Opening) (n : ℕ) (s t : State)
+        → IsSound first opening s.words s.home s.views → Runs n s t
+        → IsSound first opening t.words t.home t.views }
 {}

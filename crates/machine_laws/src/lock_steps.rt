@@ -6,6 +6,7 @@
 ghost use Rattle.std.specs.Prelude.{◌≡◌, ◌≢◌, ℕ, true, ◌++◌, [], ◌∷◌, List, length, map, set, slice_index};
 ghost use mathlib.Core.Option.{Option};
 ghost use Rattle.wal_page.specs.Order.{Entry};
+ghost use Rattle.segment_disk.specs.Tape.{DiskState};
 ghost use Rattle.wal_core.specs.declared.setup.Setup.{Setup};
 ghost use Rattle.wal_core.specs.Words.{Opening, word_count, lock_word};
 ghost use Rattle.wal_core.specs.Views.{HasAt, Stage, Plain, View, working_of};
@@ -69,8 +70,9 @@ pub fn passes_come_and_go_with_what_they_hold()
 /// In a sound state, each step of a live view that its view lets it do keeps all that is said of
 /// locks, watches and turns.
 pub fn sound_states_keep_locks_and_turns()
-    ensures { (opening : Opening) (words : List ℕ) (home : Option Plain) (views : List View)
-        (id : ℕ) (v : View) (e : StepKind) (k : IsSound opening words home views)
+    ensures { (first : DiskState) (opening : Opening) (words : List ℕ) (home : Option Plain)
+        (views : List View)
+        (id : ℕ) (v : View) (e : StepKind) (k : IsSound first opening words home views)
         → HasAt views id v → v.reserving.live ≡ true → MayStep v e
         → WorksHold opening.setup (order_behind v e k.order) (words_behind words v e)
         (views_behind words home views id v e)

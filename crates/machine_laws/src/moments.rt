@@ -5,11 +5,12 @@
 
 ghost use Rattle.std.specs.Prelude.{List, [], ◌∷◌, ℕ};
 ghost use mathlib.Core.Option.{Option};
+ghost use Rattle.segment_disk.specs.Tape.{DiskState};
 ghost use Rattle.wal_core.specs.Words.{Opening};
 ghost use Rattle.wal_core.specs.Views.{HasAt, Plain, View};
 ghost use Rattle.wal_core.specs.Opened.{first_view};
 ghost use Rattle.wal_core.specs.Sound.{IsSound};
-ghost use Rattle.wal_core.specs.Steps.{State, Step};
+ghost use Rattle.wal_core.specs.Steps.{State, MachineStep};
 ghost use Rattle.machine_laws.specs.Runs.{Runs};
 ghost use Rattle.machine_laws.specs.RisingMoments.{LogsRise, MomentsKeepRising, promised_of};
 
@@ -19,21 +20,21 @@ ghost use Rattle.machine_laws.specs.RisingMoments.{LogsRise, MomentsKeepRising, 
 /// those before it, and a later one where it covers an entry that the log reserved since; and so it
 /// is with each pass that the view took in.
 pub fn moments_rise()
-    ensures step { (opening : Opening) (s t : State)
-        (before : IsSound opening s.words s.home s.views)
-        → MomentsKeepRising opening s.words s.home s.views before → Step s t
-        → (behind : IsSound opening t.words t.home t.views)
+    ensures step { (first : DiskState) (opening : Opening) (s t : State)
+        (before : IsSound first opening s.words s.home s.views)
+        → MomentsKeepRising opening s.words s.home s.views before → MachineStep s t
+        → (behind : IsSound first opening t.words t.home t.views)
         → MomentsKeepRising opening t.words t.home t.views behind }
-    ensures run { (opening : Opening) (n : ℕ) (s t : State)
-        (before : IsSound opening s.words s.home s.views)
+    ensures run { (first : DiskState) (opening : Opening) (n : ℕ) (s t : State)
+        (before : IsSound first opening s.words s.home s.views)
         → MomentsKeepRising opening s.words s.home s.views before → Runs n s t
-        → (behind : IsSound opening t.words t.home t.views)
+        → (behind : IsSound first opening t.words t.home t.views)
         → MomentsKeepRising opening t.words t.home t.views behind }
-    ensures first { (opening : Opening) (words : List ℕ) (home : Option Plain)
-        (sound : IsSound opening words home (first_view opening ∷ []))
+    ensures first { (first : DiskState) (opening : Opening) (words : List ℕ) (home : Option Plain)
+        (sound : IsSound first opening words home (first_view opening ∷ []))
         → MomentsKeepRising opening words home (first_view opening ∷ []) sound }
-    ensures shown { (opening : Opening) (words : List ℕ) (home : Option Plain)
-        (views : List View) (sound : IsSound opening words home views)
+    ensures shown { (first : DiskState) (opening : Opening) (words : List ℕ) (home : Option Plain)
+        (views : List View) (sound : IsSound first opening words home views)
         → MomentsKeepRising opening words home views sound
         → (id : ℕ) (v : View) → HasAt views id v → LogsRise opening (promised_of v) }
 {}

@@ -7,6 +7,7 @@ ghost use Rattle.std.specs.Prelude.{◌≡◌, ℕ, List, [], ◌∷◌, ◌++�
 ghost use mathlib.Core.Option.{Option};
 ghost use Rattle.wal_types.specs.declared.record.Record.{Record};
 ghost use Rattle.wal_page.specs.Order.{Entry, IsChained, end_position};
+ghost use Rattle.segment_disk.specs.Tape.{DiskState};
 ghost use Rattle.wal_core.specs.Words.{Opening};
 ghost use Rattle.wal_core.specs.Views.{HasAt, Flight, Plain, Stored, Receipts, View, Writing, receipts_of, writing_of};
 ghost use Rattle.wal_core.specs.Ordered.{AtPlace};
@@ -19,18 +20,19 @@ ghost use Rattle.wal_core.specs.Steps.{store_position, view_behind};
 /// A pass that has the position locked reserves an entry: what was lawful, durable or promised
 /// stays so, and nothing that was put before has a word of the entry.
 pub fn reserving_keeps_durability()
-    ensures store_position { (o : Opening) (order : List Entry) (flushed moment down : ℕ)
+    ensures store_position { (first : DiskState) (o : Opening) (order : List Entry)
+        (flushed moment down : ℕ)
         (home : Option Plain) (writer : Plain) (views : List View)
         (id met : ℕ) (locks : List ℕ) (value : Record) (v : View) (at prev : ℕ)
         (last word locked holder written : ℕ) (flights : List Flight)
-        → DurabilityHolds o order flushed moment down home writer (map receipts_of views)
+        → DurabilityHolds first o order flushed moment down home writer (map receipts_of views)
         → HasAt views id v → IsSetup o.setup → IsChained (o.setup).segment_size order
         → AtPlace (o.setup).segment_size (end_position (o.setup).segment_size order) last word
         locked holder id (v.reserving).place
-        → PositionsHold o order written flushed down home writer flights
+        → PositionsHold first o order written flushed down home writer flights
         (map writing_of views)
         → (v.reserving).place ≡ Stored at prev
-        → DurabilityHolds o (order ++ entry_reserved (v.reserving).number at value ∷ [])
+        → DurabilityHolds first o (order ++ entry_reserved (v.reserving).number at value ∷ [])
         flushed moment
         down home writer
         (set (map receipts_of views) id

@@ -8,6 +8,7 @@ ghost use Rattle.std.specs.Prelude.{◌≡◌, ◌≢◌, ℕ, ◌<◌, ◌≤�
 ghost use mathlib.Core.Option.{Option};
 ghost use Rattle.wal_types.specs.declared.record.Record.{Record};
 ghost use Rattle.wal_page.specs.Order.{Entry, IsChained, end_position};
+ghost use Rattle.segment_disk.specs.Tape.{DiskState};
 ghost use Rattle.wal_core.specs.Views.{HasAt, Free, Plain, Reserving, View};
 ghost use Rattle.wal_core.specs.Words.{Opening, end_form};
 ghost use Rattle.wal_core.specs.Steps.{StepKind, MayStep, value_behind, view_behind};
@@ -109,7 +110,7 @@ pub fn passes_fix_the_order()
 /// order holds the logs of the live passes, of the passes that they took in, what was found when
 /// the log was opened, and nothing else.
 pub fn sound_orders_are_shared()
-    ensures shared { (opening : Opening) (words : List ℕ) (home : Option Plain)
-        (views : List View) (s : IsSound opening words home views)
+    ensures shared { (first : DiskState) (opening : Opening) (words : List ℕ) (home : Option Plain)
+        (views : List View) (s : IsSound first opening words home views)
         → OrderIsShared opening s.order words views }
 {}

@@ -6,7 +6,7 @@
 
 ghost use Rattle.std.specs.Prelude.{◌≡◌, ◌≢◌, ℕ, ◌≤◌, true, List, [], ◌∷◌, ◌++◌, map, set};
 ghost use mathlib.Core.Option.{Option};
-ghost use Rattle.segment_disk.specs.Tape.{create_call, sync_call, write_call};
+ghost use Rattle.segment_disk.specs.Tape.{DiskState, create_call, sync_call, write_call};
 ghost use Rattle.wal_types.specs.declared.record.Record.{Record};
 ghost use Rattle.wal_page.specs.Order.{end_position};
 ghost use Rattle.wal_core.specs.Words.{end_form};
@@ -111,7 +111,7 @@ pub fn the_writer_goes_out_and_home()
 pub fn calls_leave_the_log_readable()
     ensures create { (p : Positions) (id : ℕ) (v : View) → HasPositions p id v
         → (moment : ℕ) (tolds : List Receipts)
-        → DurabilityHolds v.opening p.order p.flushed moment p.down p.home p.writer tolds
+        → DurabilityHolds p.first v.opening p.order p.flushed moment p.down p.home p.writer tolds
         → (met segment : ℕ) (outcome : CallOutcome) → MayStep v (create segment outcome)
         → HoldBehind (record p {
           writer = after_create segment
@@ -119,7 +119,7 @@ pub fn calls_leave_the_log_readable()
         }) id v (view_behind v (create segment outcome) met p.home) }
     ensures write { (p : Positions) (id : ℕ) (v : View) → HasPositions p id v
         → (moment : ℕ) (tolds : List Receipts)
-        → DurabilityHolds v.opening p.order p.flushed moment p.down p.home p.writer tolds
+        → DurabilityHolds p.first v.opening p.order p.flushed moment p.down p.home p.writer tolds
         → (met segment page upto : ℕ) (bytes : List ℕ) (outcome : CallOutcome)
         → HasAt tolds id (receipts_of v) → MayStep v (write segment page upto bytes outcome)
         → HoldBehind (record p {
@@ -128,7 +128,7 @@ pub fn calls_leave_the_log_readable()
         }) id v (view_behind v (write segment page upto bytes outcome) met p.home) }
     ensures sync { (p : Positions) (id : ℕ) (v : View) → HasPositions p id v
         → (moment : ℕ) (tolds : List Receipts)
-        → DurabilityHolds v.opening p.order p.flushed moment p.down p.home p.writer tolds
+        → DurabilityHolds p.first v.opening p.order p.flushed moment p.down p.home p.writer tolds
         → (met segment : ℕ) (outcome : CallOutcome) → MayStep v (sync segment outcome)
         → HoldBehind (record p {
           writer = after_sync (sync_call ((v.opening).setup).segment_size segment) outcome
@@ -155,8 +155,9 @@ pub fn passes_leave_the_positions()
 /// Each view of a sound machine has its part in the positions, and what holds behind a step of one
 /// view holds of the parts of all views.
 pub fn sound_machines_have_positions()
-    ensures has_positions { (words : List ℕ) (home : Option Plain) (views : List View) (id : ℕ)
-        (v : View) (s : IsSound v.opening words home views) → HasAt views id v
+    ensures has_positions { (first : DiskState) (words : List ℕ) (home : Option Plain)
+        (views : List View) (id : ℕ)
+        (v : View) (s : IsSound first v.opening words home views) → HasAt views id v
         → HasPositions (positions_in v.opening words home views s) id v }
     ensures holds_of_all { (p : Positions) (views : List View) (id : ℕ) (v w : View)
         → p.flights ≡ map flight_of views → p.parts ≡ map writing_of views

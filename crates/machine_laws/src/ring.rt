@@ -8,6 +8,7 @@ ghost use mathlib.Core.Option.{Option};
 ghost use Rattle.byte_position.specs.Geometry.{IsSegmentSize};
 ghost use Rattle.wal_page.specs.Order.{Entry, IsChained, end_position, prev_of};
 ghost use Rattle.wal_page.specs.EntryWords.{address_of_word, words_owned};
+ghost use Rattle.segment_disk.specs.Tape.{DiskState};
 ghost use Rattle.wal_core.specs.declared.setup.Setup.{Setup};
 ghost use Rattle.wal_core.specs.Words.{Opening};
 ghost use Rattle.wal_core.specs.Views.{HasAt, Copy, Flight, Landed, Copying, Stage, Plain, Lent, Out, Writing};
@@ -100,7 +101,7 @@ pub fn passes_keep_the_ring()
 /// What the writer's holder loads from the ring for a write is 0 or the log's word, and the log's
 /// where the word lies in what was known to be copied.
 pub fn loaded_words_are_the_logs()
-    ensures { (o : Opening) (order : List Entry) (reach : ℕ) (memory : ℕ → ℕ)
+    ensures { (first : DiskState) (o : Opening) (order : List Entry) (reach : ℕ) (memory : ℕ → ℕ)
         (flights : List Flight) (stage : Stage) (initialised written flushed down : ℕ)
         (ends ring : ℕ → ℕ) (confirmed : List ℕ) (home : Option Plain) (writer : Plain)
         (parts : List Writing) (id k : ℕ) (x : Writing) (l : Lent)
@@ -108,7 +109,7 @@ pub fn loaded_words_are_the_logs()
         → RingHolds o.setup order reach memory flights
         → PagesHold (o.setup).ring_pages reach stage initialised written ends ring memory
         confirmed
-        → PositionsHold o order written flushed down home writer flights parts
+        → PositionsHold first o order written flushed down home writer flights parts
         → HasAt parts id x → x.hold ≡ Out l → l.writer ≡ writer → IsToBeWritten k l
         → IsStaged o.setup order l.known (k, ring (ring_place o.setup k)) }
 {}

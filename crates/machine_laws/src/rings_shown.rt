@@ -3,6 +3,7 @@
 
 ghost use Rattle.std.specs.Prelude.{ℕ, List};
 ghost use mathlib.Core.Option.{Option};
+ghost use Rattle.segment_disk.specs.Tape.{DiskState};
 ghost use Rattle.wal_core.specs.Words.{Opening};
 ghost use Rattle.wal_core.specs.Views.{Plain, View};
 ghost use Rattle.wal_core.specs.Sound.{IsSound};
@@ -13,16 +14,18 @@ ghost use Rattle.wal_core.specs.Shown.{EntriesAreCopied, MappersAreNext, PagesAr
 /// is the log's; the mapped pages that are not written whole are present; and the pass that maps
 /// works on the page behind them.
 pub fn rings_hold_the_log()
-    ensures words { (opening : Opening) (words : List ℕ) (home : Option Plain) (views : List View)
-        (s : IsSound opening words home views)
+    ensures words { (first : DiskState) (opening : Opening) (words : List ℕ) (home : Option Plain)
+        (views : List View)
+        (s : IsSound first opening words home views)
         → WordsAreLogs opening.setup s.order words views }
-    ensures entries { (opening : Opening) (words : List ℕ) (home : Option Plain)
-        (views : List View) (s : IsSound opening words home views)
+    ensures entries { (first : DiskState) (opening : Opening) (words : List ℕ) (home : Option Plain)
+        (views : List View) (s : IsSound first opening words home views)
         → EntriesAreCopied opening.setup s.order words views }
-    ensures pages { (opening : Opening) (words : List ℕ) (home : Option Plain) (views : List View)
-        (s : IsSound opening words home views)
+    ensures pages { (first : DiskState) (opening : Opening) (words : List ℕ) (home : Option Plain)
+        (views : List View)
+        (s : IsSound first opening words home views)
         → PagesArePresent opening.setup s.order words views }
-    ensures mappers { (opening : Opening) (words : List ℕ) (home : Option Plain)
-        (views : List View) (s : IsSound opening words home views)
+    ensures mappers { (first : DiskState) (opening : Opening) (words : List ℕ) (home : Option Plain)
+        (views : List View) (s : IsSound first opening words home views)
         → MappersAreNext opening.setup s.order words views }
 {}

@@ -4,6 +4,7 @@
 
 ghost use Rattle.std.specs.Prelude.{ℕ, List};
 ghost use mathlib.Core.Option.{Option};
+ghost use Rattle.segment_disk.specs.Tape.{DiskState};
 ghost use Rattle.wal_core.specs.Words.{Opening};
 ghost use Rattle.wal_core.specs.Views.{Plain, View};
 ghost use Rattle.wal_core.specs.Sound.{IsSound};
@@ -17,12 +18,14 @@ ghost use Rattle.machine_laws.specs.SoundWatches.{WatchersSeeCopies};
 /// order is whole and in flight nowhere, or in flight in one view, under locks that this view
 /// holds.
 pub fn sound_locks_and_turns_have_one_holder()
-    ensures locks { (opening : Opening) (words : List ℕ) (home : Option Plain) (views : List View)
-        (k : IsSound opening words home views) → LocksHaveHolders words views }
-    ensures turns { (opening : Opening) (words : List ℕ) (home : Option Plain) (views : List View)
-        (k : IsSound opening words home views) → TurnsHaveHolders words home views }
-    ensures entries { (opening : Opening) (words : List ℕ) (home : Option Plain)
-        (views : List View) (k : IsSound opening words home views)
+    ensures locks { (first : DiskState) (opening : Opening) (words : List ℕ) (home : Option Plain)
+        (views : List View)
+        (k : IsSound first opening words home views) → LocksHaveHolders words views }
+    ensures turns { (first : DiskState) (opening : Opening) (words : List ℕ) (home : Option Plain)
+        (views : List View)
+        (k : IsSound first opening words home views) → TurnsHaveHolders words home views }
+    ensures entries { (first : DiskState) (opening : Opening) (words : List ℕ) (home : Option Plain)
+        (views : List View) (k : IsSound first opening words home views)
         → EntriesAreWholeOrInFlight opening.setup k.order words views }
 {}
 
@@ -30,8 +33,9 @@ pub fn sound_locks_and_turns_have_one_holder()
 /// lock's holder is to copy of its entry in flight, and not past the entry's end where none is
 /// left.
 pub fn sound_locks_tell_no_more_than_is_copied()
-    ensures told { (opening : Opening) (words : List ℕ) (home : Option Plain) (views : List View)
-        (k : IsSound opening words home views)
+    ensures told { (first : DiskState) (opening : Opening) (words : List ℕ) (home : Option Plain)
+        (views : List View)
+        (k : IsSound first opening words home views)
         → LocksTellCopies (opening.setup).segment_size words views }
 {}
 
@@ -42,16 +46,18 @@ pub fn sound_locks_tell_no_more_than_is_copied()
 /// disk reads as the log, where it tells what it holds and held at the opening what a log may begin
 /// on.
 pub fn sound_positions_are_ordered()
-    ensures positions { (opening : Opening) (words : List ℕ) (home : Option Plain)
-        (views : List View) (k : IsSound opening words home views)
-        → PositionsAreOrdered opening k.order words home views }
+    ensures positions { (first : DiskState) (opening : Opening) (words : List ℕ)
+        (home : Option Plain)
+        (views : List View) (k : IsSound first opening words home views)
+        → PositionsAreOrdered first opening k.order words home views }
 {}
 
 /// A pass watches for no more than it has seen reserved, and each entry in flight under a lock that
 /// it has visited, of which a word lies below the end watched for, has all its words below the
 /// bound copied.
 pub fn sound_watchers_see_copies()
-    ensures watchers { (opening : Opening) (words : List ℕ) (home : Option Plain)
-        (views : List View) (k : IsSound opening words home views)
+    ensures watchers { (first : DiskState) (opening : Opening) (words : List ℕ)
+        (home : Option Plain)
+        (views : List View) (k : IsSound first opening words home views)
         → WatchersSeeCopies opening.setup views }
 {}

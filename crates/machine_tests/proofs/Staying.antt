@@ -5,15 +5,15 @@ use lib.ListN.{get_elem?}
 use Rattle.wal_core.specs.Views.{View}
 use Rattle.wal_core.specs.Words.{Opening, down_word}
 use Rattle.wal_turns.specs.Doing.{Ask, Backend, Machine}
-use Rattle.wal_turns.specs.Turned.{Turn, Waits, can_step, event_named, fallen, looks_down, moved_on, turned, turned_by, turned_for, turned_of, word_waited}
+use Rattle.wal_turns.specs.Turned.{TurnMade, Waits, can_step, event_named, fallen, looks_down, moved_on, turned, turned_by, turned_for, turned_of, word_waited}
 use Rattle.machine_core.specs.declared.machine.Core.{Core}
 use Rattle.machine_core.specs.Cores.{core_of}
 use Rattle.machine_core.specs.Playing.{PlaysMachine}
 
-abbrev HasOpening : Opening → Turn × Machine → Type 0
+abbrev HasOpening : Opening → TurnMade × Machine → Type 0
 HasOpening opening left = (left.1).opening ≡ opening
 
-either : (opening : Opening) (b : Bool) (x y : Turn × Machine) → HasOpening opening x
+either : (opening : Opening) (b : Bool) (x y : TurnMade × Machine) → HasOpening opening x
     → HasOpening opening y → HasOpening opening (if b then x else y)
 either opening true x y p q = p
 either opening false x y p q = q
@@ -23,7 +23,7 @@ module _ (m : Machine) (number : ℕ) where
   by_turn b v ask =
       let can = can_step m v ask b.doing in
       let goes = moved_on m number b v ask (event_named m v ask b.doing) in
-      let waits : Turn × Machine = (
+      let waits : TurnMade × Machine = (
         Waits (word_waited m v ask b.doing)
             (slice_index (m.state).words (word_waited m v ask b.doing)),
         m,

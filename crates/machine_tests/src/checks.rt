@@ -2,7 +2,7 @@
 
 use crate::played::SETUP;
 use machine_checks::{BackendNow, MachineNow, Part, ReservedSpan, fault_of};
-use machine_core::{Flight, Hold, Place, PlainView, Stage, Watching};
+use machine_core::{PlainFlight, PlainHold, PlainPlace, PlainStage, PlainView, PlainWatching};
 use machine_words::is_setup;
 use std::alloc::{AllocError, Global};
 use std::test::Fail;
@@ -51,17 +51,17 @@ static WORDS: [(usize, u64); 22] = [
 
 const IDLE: PlainView = PlainView {
     number: 0,
-    place: Place::Free,
+    place: PlainPlace::Free,
     seen: 0,
     last_end: FIRST_ADDRESS,
-    flight: Flight::Landed,
-    watching: Watching {
+    flight: PlainFlight::Landed,
+    watching: PlainWatching {
         end: 0,
         visited: 0,
         bound: 0,
     },
-    stage: Stage::Away,
-    hold: Hold::Idle,
+    stage: PlainStage::Away,
+    hold: PlainHold::Idle,
 };
 
 // The first one copies the record, the second one has locked the position, the third one has both
@@ -70,7 +70,7 @@ static BACKENDS: [BackendNow; 3] = [
     BackendNow {
         view: PlainView {
             number: 1,
-            flight: Flight::Copying {
+            flight: PlainFlight::Copying {
                 start: BEGINNING,
                 prev: 0,
                 next: FIRST_ADDRESS + 64,
@@ -83,7 +83,7 @@ static BACKENDS: [BackendNow; 3] = [
     BackendNow {
         view: PlainView {
             number: 2,
-            place: Place::Locked { at: BEGINNING + 40 },
+            place: PlainPlace::Locked { at: BEGINNING + 40 },
             ..IDLE
         },
         lock: Some(4),
@@ -91,8 +91,8 @@ static BACKENDS: [BackendNow; 3] = [
     BackendNow {
         view: PlainView {
             number: 3,
-            stage: Stage::Taken,
-            hold: Hold::Turned,
+            stage: PlainStage::Taken,
+            hold: PlainHold::Turned,
             ..IDLE
         },
         lock: None,

@@ -2,7 +2,7 @@
 
 use crate::played::Played;
 use byte_position::Geometry;
-use machine_core::{Line, Script};
+use machine_core::{PlainLine, Script};
 use record_spelling::Body;
 use segment_disk::Pick;
 use std::alloc::{AllocError, Global};
@@ -46,11 +46,11 @@ impl Planned {
         matches!(self.ask, Ask::Commit | Ask::Flush)
     }
 
-    fn line(self, alloc: Global) -> Result<Line, Fail> {
+    fn line(self, alloc: Global) -> Result<PlainLine, Fail> {
         match self.ask {
-            Ask::Insert => Ok(Line::Insert(self.body(alloc)?)),
-            Ask::Commit => Ok(Line::Commit(self.body(alloc)?)),
-            Ask::Flush => Ok(Line::Flush),
+            Ask::Insert => Ok(PlainLine::Insert(self.body(alloc)?)),
+            Ask::Commit => Ok(PlainLine::Commit(self.body(alloc)?)),
+            Ask::Flush => Ok(PlainLine::Flush),
         }
     }
 }

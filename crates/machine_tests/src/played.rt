@@ -2,7 +2,7 @@
 
 ghost use Rattle.wal_core.specs.Sound.{IsSetup};
 
-use machine_core::{Core, Place, PlainView, Script, Turn, Word};
+use machine_core::{Core, PlainPlace, PlainView, Script, Turn, Word};
 use machine_words::is_setup;
 use segment_disk::{MemDisk, Memory, Pick};
 use std::alloc::{AllocError, Global};
@@ -74,7 +74,7 @@ impl Played {
     }
 
     /// How far a backend is with a reservation.
-    pub fn place(&self, backend: u32) -> Option<Place> {
+    pub fn place(&self, backend: u32) -> Option<PlainPlace> {
         Some(self.view(backend)?.place)
     }
 

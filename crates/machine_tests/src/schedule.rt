@@ -4,7 +4,7 @@ use crate::lines::{Ask, Planned, records_left, script_of};
 use crate::played::{Played, SETUP};
 use crate::reserved::Log;
 use machine_checks::{BackendNow, MachineNow, Part, fault_of};
-use machine_core::{Event, Flight, Turn};
+use machine_core::{Event, PlainFlight, Turn};
 use rand_xoshiro::SplitMix64;
 use rand_xoshiro::rand_core::{Rng, SeedableRng};
 use segment_disk::Pick;
@@ -139,10 +139,10 @@ impl Schedule {
         alloc: Global,
         backend: u32,
         line: u64,
-        flight: Flight,
+        flight: PlainFlight,
     ) -> Result<(), Fail> {
         let planned = self.planned(backend, line).ok_or("a line")?;
-        let Flight::Copying { start, prev, .. } = flight else {
+        let PlainFlight::Copying { start, prev, .. } = flight else {
             return Err(Fail::from("a record that is to be copied"));
         };
         self.log.add(alloc, planned, start, prev)?;

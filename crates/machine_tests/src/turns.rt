@@ -2,7 +2,7 @@
 
 use crate::lines::{Ask, Found, Planned, records_left, script_of};
 use crate::played::{Played, SETUP};
-use machine_core::{Event, Place, Turn};
+use machine_core::{Event, PlainPlace, Turn};
 use segment_disk::Pick;
 use std::alloc::Global;
 use std::process::Abort;
@@ -32,7 +32,7 @@ struct Step {
     told: Option<Turn>,
     // How many lines of the backend are answered, and how far it is with a reservation.
     answered: u64,
-    place: Place,
+    place: PlainPlace,
     is_full: bool,
     // What some of the shared words hold, by their numbers.
     words: &'static [(usize, u64)],
@@ -43,7 +43,7 @@ const STEP: Step = Step {
     turns: 1,
     told: None,
     answered: 0,
-    place: Place::Free,
+    place: PlainPlace::Free,
     is_full: false,
     words: &[],
 };
@@ -306,7 +306,7 @@ static ROWS: &[Row] = &[
                 told: Some(Turn::Moved {
                     event: Event::LockPosition,
                 }),
-                place: Place::Locked { at: 1_045_488 },
+                place: PlainPlace::Locked { at: 1_045_488 },
                 ..STEP
             },
             Step {
@@ -331,7 +331,7 @@ static ROWS: &[Row] = &[
                 told: Some(Turn::Moved {
                     event: Event::LockPosition,
                 }),
-                place: Place::Locked { at: 1_045_528 },
+                place: PlainPlace::Locked { at: 1_045_528 },
                 ..STEP
             },
         ],

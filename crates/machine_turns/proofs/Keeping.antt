@@ -1,5 +1,5 @@
 -- The writer's record is kept by each call, and a call ends as its number says.
-use Rattle.std.proofs.Common.{rules, ◌≡◌, ◌≢◌, ◌⊎◌, ℕ, ◌+◌, ◌-◌, ◌*◌, ◌<◌, ◌≤◌, Bool, true, false, not, ◌&&◌, ◌||◌, IsTrue, List, Option, Some, None, is_some, Result, Ok, Err, is_ok, OnErr, refl, sym, ap, subst, ◌∙◌, ◌==◌, nat_lt, if◌then◌else◌, inl, inr, arith}
+use Rattle.std.proofs.Common.{rules, [], ◌∷◌, ◌++◌, ◌≡◌, ◌≢◌, ◌⊎◌, ℕ, ◌+◌, ◌-◌, ◌*◌, ◌<◌, ◌≤◌, Bool, true, false, not, ◌&&◌, ◌||◌, IsTrue, List, Option, Some, None, is_some, Result, Ok, Err, is_ok, OnErr, refl, sym, ap, subst, ◌∙◌, ◌==◌, nat_lt, if◌then◌else◌, inl, inr, arith}
 use Rattle.std.proofs.lemmas.Bool.{eq-eqb, false≢true, ne_eqb, true≢false}
 use Rattle.std.proofs.lemmas.Bool.Decides.{eqb_tells}
 use mathlib.Core.Option.{none, some}
@@ -9,7 +9,7 @@ use Rattle.segment_disk.specs.Failing.{is_listed}
 use Rattle.segment_disk.specs.First.{first_state}
 use Rattle.segment_disk.specs.MemDisk.{IsCounted, Limits, can_create, count_behind_create, counts_next, disk_state_of, faults_of, has_segment, limits_of, moment_of, segment_count, tape_of}
 use Rattle.segment_disk.specs.Present.{MakesNone}
-use Rattle.segment_disk.specs.Tape.{Answers, DiskState, IsMade, Segment, Tape, after_call, create_call, empty_state, failed_call, segment_after, state_now, with_call, write_call}
+use Rattle.segment_disk.specs.Tape.{Answers, DiskState, IsMade, Segment, Tape, after_call, create_call, empty_state, failed_call, segment_after, state_now, write_call}
 use Rattle.segment_disk.specs.declared.disk.Call.{Call}
 use Rattle.segment_disk.specs.declared.failed.Failed.{Failed}
 use Rattle.segment_disk.specs.declared.memory.disk.MemDisk.{MemDisk}
@@ -91,19 +91,25 @@ outcome_unlisted failing faults moment e = rw e refl
 -- ---- the next call has room
 
 module _ (size end : ℕ) (disk : MemDisk) (w : Plain) (page : List ℕ) (kept : IsWriterKept size end disk w page) (g : IsGoing size end disk w) where
-  counted_by : (moment waiting calls made segments written : ℕ) → moment + waiting ≤ made + 2 * (written - size) → made ≤ segments → segments + 2 * (end - size) ≤ calls
-      → size ≤ written → written + 1 ≤ end + waiting → written ≤ end → moment < calls
+  counted_by : (moment waiting calls made segments written : ℕ) → 4 * (moment + waiting) ≤ 4 * made + (written - size) → made ≤ segments → 4 * segments + (end - size) ≤ 4 * calls
+      → size ≤ written → 4 * made + written + 4 ≤ 4 * segments + end + 4 * waiting → written ≤ end → moment < calls
   counted_by moment waiting calls made segments written few most room begun rises within = omega arith
 
-  -- where more is to be written, or a sync is waited for
-  pub counts_below_end : w.written < end → IsTrue (counts_next disk)
-  counts_below_end rises = nat_lt_true (counted_by _ _ _ _ _ _ g.calls g.few kept.room kept.begun (omega arith) kept.within)
+  -- where a segment is to be made, a word is to be written, or a sync is waited for
+  pub counts_below_room : w.made + 1 ≤ (limits_of disk).segments → IsTrue (counts_next disk)
+  counts_below_room few = nat_lt_true (counted_by _ _ _ _ _ _ g.calls g.few kept.room kept.begun (omega (arith, kept.within)) kept.within)
+    where
+      nat_lt_true : {a b : ℕ} → a < b → IsTrue (nat_lt a b)
+      nat_lt_true low = search rules
+
+  pub counts_below_end : w.written + 8 ≤ end → IsTrue (counts_next disk)
+  counts_below_end rises = nat_lt_true (counted_by _ _ _ _ _ _ g.calls g.few kept.room kept.begun (omega (arith, g.few)) kept.within)
     where
       nat_lt_true : {a b : ℕ} → a < b → IsTrue (nat_lt a b)
       nat_lt_true low = search rules
 
   pub counts_waiting : (segment : ℕ) → w.waiting ≡ some segment → IsTrue (counts_next disk)
-  counts_waiting segment waits = nat_lt_true (counted_by _ 1 _ _ _ _ (subst (λ (o : mathlib.Core.Option.Option ℕ). moment_of disk + is_waiting o ≤ w.made + 2 * (w.written - size)) waits g.calls) g.few kept.room kept.begun (omega (arith, kept.within)) kept.within)
+  counts_waiting segment waits = nat_lt_true (counted_by _ 1 _ _ _ _ (subst (λ (o : mathlib.Core.Option.Option ℕ). 4 * (moment_of disk + is_waiting o) ≤ 4 * w.made + (w.written - size)) waits g.calls) g.few kept.room kept.begun (omega (arith, g.few, kept.within)) kept.within)
     where
       nat_lt_true : {a b : ℕ} → a < b → IsTrue (nat_lt a b)
       nat_lt_true low = search rules
@@ -131,7 +137,7 @@ module _ (size end : ℕ) (old new : MemDisk) (page : List ℕ) (limits : limits
     begun = omega (arith, kept.begun);
     within = omega (arith, kept.within);
     segments = subst (λ (l : Limits). end ≤ size * (l.segments + 1)) (sym limits) kept.segments;
-    room = subst (λ (l : Limits). l.segments + 2 * (end - size) ≤ l.calls) (sym limits) kept.room;
+    room = subst (λ (l : Limits). 4 * l.segments + (end - size) ≤ 4 * l.calls) (sym limits) kept.room;
     whole = kept.whole;
     going = λ still. going_on;
   }
@@ -165,13 +171,13 @@ module _ (size end : ℕ) (old new : MemDisk) (page : List ℕ) (limits : limits
       → IsMade (tape_of old) (tape_of new) (moment_of old) (moment_of new) call
       → segment_count new ≡ segment_count old
       → w.written ≤ now.written → now.written ≤ end → now.made ≡ w.made
-      → is_waiting now.waiting + 1 + 2 * w.written ≤ is_waiting w.waiting + 2 * now.written
+      → 4 * (is_waiting now.waiting + 1) + w.written ≤ 4 * is_waiting w.waiting + now.written
       → ((s : ℕ) → now.waiting ≡ some s → (1 ≤ s) × (s ≤ w.made)) → IsWriterKept size end new now page
   kept_call call makes w now kept up made counted rises within made_is waits_less waits = record {
     begun = omega (arith, kept.begun);
     within = within;
     segments = subst (λ (l : Limits). end ≤ size * (l.segments + 1)) (sym limits) kept.segments;
-    room = subst (λ (l : Limits). l.segments + 2 * (end - size) ≤ l.calls) (sym limits) kept.room;
+    room = subst (λ (l : Limits). 4 * l.segments + (end - size) ≤ 4 * l.calls) (sym limits) kept.room;
     whole = kept.whole;
     going = λ still. going_on;
   }
@@ -216,32 +222,46 @@ can_make size end disk w page kept g behind within =
     can_by (has_segment disk (w.made + 1)) (nat_lt (segment_count disk) (limits_of disk).segments)
     (tells_lt (segment_count disk) (limits_of disk).segments (omega (arith, g.count, within_room size w.made w.written end (limits_of disk).segments behind within kept.segments)))
 
-abbrev plain_with : Option Tape → (moment written made : ℕ) → (waiting : mathlib.Core.Option.Option ℕ) → (fault : ℕ) → Plain
-plain_with tape moment written made waiting fault = record { tape = tape; moment = moment; written = written; made = made; waiting = waiting; fault = some fault }
+-- what a tape tells that the disk held at first, and its calls
+abbrev first_told : Option Tape → DiskState
+first_told None = empty_state
+first_told (Some t) = t.at_first
 
-abbrev writer_with : (size end : ℕ) (page failing : List ℕ) → Plain → WriterState
-writer_with size end page failing plain = record { size = size; plain = plain; failing = failing; end = end; page = page }
+abbrev calls_told : Option Tape → Option (List Call)
+calls_told None = None
+calls_told (Some t) = Some t.calls
 
-same_plain : (tape tape_now : Option Tape) (moment moment_now written made : ℕ) (waiting : mathlib.Core.Option.Option ℕ) (fault fault_now : ℕ) → tape_now ≡ tape → moment_now ≡ moment → fault_now ≡ fault
-    → plain_with tape_now moment_now written made waiting fault_now ≡ plain_with tape moment written made waiting fault
-same_plain tape tape_now moment moment_now written made waiting fault fault_now t m f = cc
+-- a call leaves what was there at first
+pub first_kept : (old new : MemDisk) (call : Call) → IsMade (tape_of old) (tape_of new) (moment_of old) (moment_of new) call → first_state new.first.items ≡ first_state old.first.items
+first_kept old new call made = ap first_told made.tape
 
-same_writer : (size end : ℕ) (page failing failing_now : List ℕ) (p now : Plain) → failing_now ≡ failing → now ≡ p
-    → writer_with size end page failing_now now ≡ writer_with size end page failing p
-same_writer size end page failing failing_now p now f e = cc
+abbrev plain_with : Option (List Call) → (moment written made : ℕ) → (waiting : mathlib.Core.Option.Option ℕ) → (fault : ℕ) → Plain
+plain_with calls moment written made waiting fault = record { calls = calls; moment = moment; written = written; made = made; waiting = waiting; fault = some fault }
+
+abbrev writer_with : (size : ℕ) (first : DiskState) (end : ℕ) (page failing : List ℕ) → Plain → WriterState
+writer_with size first end page failing plain = record { size = size; first = first; plain = plain; failing = failing; end = end; page = page }
+
+same_plain : (calls calls_now : Option (List Call)) (moment moment_now written made : ℕ) (waiting : mathlib.Core.Option.Option ℕ) (fault fault_now : ℕ) → calls_now ≡ calls → moment_now ≡ moment → fault_now ≡ fault
+    → plain_with calls_now moment_now written made waiting fault_now ≡ plain_with calls moment written made waiting fault
+same_plain calls calls_now moment moment_now written made waiting fault fault_now t m f = cc
+
+same_writer : (size end : ℕ) (first first_now : DiskState) (page failing failing_now : List ℕ) (p now : Plain) → first_now ≡ first → failing_now ≡ failing → now ≡ p
+    → writer_with size first_now end page failing_now now ≡ writer_with size first end page failing p
+same_writer size end first first_now page failing failing_now p now d f e = λ i. writer_with size (d i) end page (f i) (e i)
 
 -- the writer behind a call that failed, which made no segment
 pub writer_failed : (w : MachineWriter) (new : MemDisk) (call : Call) (after : CallOutcome → Plain) (kind : Bool) (waiting : mathlib.Core.Option.Option ℕ) (fault : ℕ)
     → IsMade (tape_of w.disk) (tape_of new) (moment_of w.disk) (moment_of new) (failed_call kind call) → fault ≡ 1
     → limits_of new ≡ limits_of w.disk → is_listed (limits_of w.disk).failing (moment_of w.disk + 1) ≡ true
-    → after (HasFailed 1 (some false)) ≡ plain_with (with_call (tape_of w.disk) (failed_call kind call)) (moment_of w.disk + 1) w.written w.made waiting 1
-    → writer_with w.geometry w.end w.page (limits_of new).failing (plain_with (tape_of new) (moment_of new) w.written w.made waiting fault)
-    ≡ writer_with w.geometry w.end w.page (limits_of w.disk).failing (after (call_outcome (limits_of w.disk).failing 0 (moment_of w.disk)))
+    → after (HasFailed 1 (some false)) ≡ plain_with (Some (w.disk.calls.made.items ++ failed_call kind call ∷ [])) (moment_of w.disk + 1) w.written w.made waiting 1
+    → writer_with w.geometry (first_state new.first.items) w.end w.page (limits_of new).failing (plain_with (Some new.calls.made.items) (moment_of new) w.written w.made waiting fault)
+    ≡ writer_with w.geometry (first_state w.disk.first.items) w.end w.page (limits_of w.disk).failing (after (call_outcome (limits_of w.disk).failing 0 (moment_of w.disk)))
 writer_failed w new call after kind waiting fault made one limits listed after_is =
     let outcome = outcome_listed (limits_of w.disk).failing 0 (moment_of w.disk) listed in
-    let p = same_plain (with_call (tape_of w.disk) (failed_call kind call)) (tape_of new) (moment_of w.disk + 1) (moment_of new) w.written w.made waiting 1 fault made.tape made.moment one in
-    same_writer w.geometry w.end w.page (limits_of w.disk).failing (limits_of new).failing
-    (after (call_outcome (limits_of w.disk).failing 0 (moment_of w.disk))) (plain_with (tape_of new) (moment_of new) w.written w.made waiting fault)
+    let p = same_plain (Some (w.disk.calls.made.items ++ failed_call kind call ∷ [])) (Some new.calls.made.items) (moment_of w.disk + 1) (moment_of new) w.written w.made waiting 1 fault (ap calls_told made.tape) made.moment one in
+    same_writer w.geometry w.end (first_state w.disk.first.items) (first_state new.first.items) w.page (limits_of w.disk).failing (limits_of new).failing
+    (after (call_outcome (limits_of w.disk).failing 0 (moment_of w.disk))) (plain_with (Some new.calls.made.items) (moment_of new) w.written w.made waiting fault)
+    (first_kept w.disk new (failed_call kind call) made)
     (ap (λ (l : Limits). l.failing) limits) (p ∙ sym after_is ∙ ap after (sym outcome))
 
 -- a create that failed made nothing
@@ -257,12 +277,12 @@ err_fact (Err e) P bad holds = holds
 
 -- a write named by its numbers
 pub same_write : (w : WriterState) (outcome : CallOutcome) (upto segment page segment_now page_now : ℕ) → segment_now ≡ segment → page_now ≡ page
-    → writer_with w.size w.end w.page w.failing (after_write segment_now upto (write_call w.size segment_now page_now w.page) outcome w.plain)
-    ≡ writer_with w.size w.end w.page w.failing (after_write segment upto (write_call w.size segment page w.page) outcome w.plain)
+    → writer_with w.size w.first w.end w.page w.failing (after_write segment_now upto (write_call w.size segment_now page_now w.page) outcome w.plain)
+    ≡ writer_with w.size w.first w.end w.page w.failing (after_write segment upto (write_call w.size segment page w.page) outcome w.plain)
 same_write w outcome upto segment page segment_now page_now same_segment same_page =
-    subst (λ (s : ℕ). writer_with w.size w.end w.page w.failing (after_write segment_now upto (write_call w.size segment_now page_now w.page) outcome w.plain)
-    ≡ writer_with w.size w.end w.page w.failing (after_write s upto (write_call w.size s page w.page) outcome w.plain)) same_segment
-    (ap (λ (p : ℕ). writer_with w.size w.end w.page w.failing (after_write segment_now upto (write_call w.size segment_now p w.page) outcome w.plain)) same_page)
+    subst (λ (s : ℕ). writer_with w.size w.first w.end w.page w.failing (after_write segment_now upto (write_call w.size segment_now page_now w.page) outcome w.plain)
+    ≡ writer_with w.size w.first w.end w.page w.failing (after_write s upto (write_call w.size s page w.page) outcome w.plain)) same_segment
+    (ap (λ (p : ℕ). writer_with w.size w.first w.end w.page w.failing (after_write segment_now upto (write_call w.size segment_now p w.page) outcome w.plain)) same_page)
 
 pub some_same : (a b : ℕ) → some a ≡ some b → a ≡ b
 some_same a b same = ap number same

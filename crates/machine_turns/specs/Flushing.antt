@@ -3,13 +3,13 @@ use Rattle.std.specs.Prelude.{ℕ, ◌+◌, ◌-◌, ◌%◌, Bool, true, false,
 use Rattle.byte_position.specs.Position.{position_of}
 use Rattle.wal_core.specs.declared.setup.Setup.{Setup}
 use Rattle.wal_core.specs.Words.{end_form, flushed_word, lock_word, position_word}
-use Rattle.machine_turns.specs.declared.doing.Doing.TheVariants.{Looks, LoadsPosition, LoadsFlushed, LoadsMoment, Visits, TakesTurn, LoadsDown, TakesOut, GivesWriteTurn}
-use Rattle.machine_turns.specs.declared.doing.Next.{Next}
-use Rattle.machine_turns.specs.declared.doing.Next.TheVariants.{GoesOn, Answers}
-use Rattle.machine_turns.specs.declared.doing.Purpose.{Purpose}
-use Rattle.machine_turns.specs.declared.doing.Purpose.TheVariants.{Line, Page}
+use Rattle.machine_turns.specs.declared.doing.PlainDoing.TheVariants.{Looks, LoadsPosition, LoadsFlushed, LoadsMoment, Visits, TakesTurn, LoadsDown, TakesOut, GivesWriteTurn}
+use Rattle.machine_turns.specs.declared.doing.PlainNext.{PlainNext}
+use Rattle.machine_turns.specs.declared.doing.PlainNext.TheVariants.{GoesOn, Answers}
+use Rattle.machine_turns.specs.declared.doing.PlainPurpose.{PlainPurpose}
+use Rattle.machine_turns.specs.declared.doing.PlainPurpose.TheVariants.{Line, Page}
 use Rattle.machine_turns.specs.declared.event.Event.TheVariants.{LoadPosition, TakeWriteTurn, PutWriterBack, ReleaseWriteTurn, LoadLock, LoadFlushed, LoadMoment, LoadDown}
-use Rattle.machine_turns.specs.declared.view.Hold.TheVariants.{Idle, Turned}
+use Rattle.machine_turns.specs.declared.view.PlainHold.TheVariants.{Idle, Turned}
 use Rattle.machine_turns.specs.declared.view.PlainView.{PlainView}
 use Rattle.machine_turns.specs.Left.{Left, left_going_on, left_answered}
 use Rattle.machine_turns.specs.Inserting.{watched}
@@ -19,7 +19,7 @@ abbrev pub seen_too : ℕ → PlainView → PlainView
 seen_too position view = record view { seen = max view.seen position }
 
 -- behind the writing the line is answered, or an insert goes on with its page
-abbrev pub behind_writing : Purpose → Bool → Next
+abbrev pub behind_writing : PlainPurpose → Bool → PlainNext
 behind_writing Line failed = Answers false
 behind_writing (Page lock end) true = Answers false
 behind_writing (Page lock end) false = GoesOn (Looks lock)
@@ -46,26 +46,26 @@ module _ (setup : Setup) (words : List ℕ) (view : PlainView) where
   at_loads_moment = left_answered LoadMoment view words
 
   -- a lock is loaded, to learn how far its holder is
-  abbrev pub at_visits : Purpose → ℕ → Left
+  abbrev pub at_visits : PlainPurpose → ℕ → Left
   at_visits purpose lock = left_going_on (LoadLock lock)
       (watched lock (end_form setup view.seen) (lock_word words lock) view) words
       (if lock + 1 == 8 then TakesTurn purpose else Visits purpose (lock + 1))
 
   -- the turn to write is taken; down is loaded again; the writer is put back, and the turn given
   -- back
-  abbrev pub at_takes_turn : Purpose → Left
+  abbrev pub at_takes_turn : PlainPurpose → Left
   at_takes_turn purpose = left_going_on TakeWriteTurn (record view { hold = Turned })
       (set words 11 (view.number + 1)) (LoadsDown purpose)
 
-  abbrev pub at_loads_down : Purpose → Left
+  abbrev pub at_loads_down : PlainPurpose → Left
   at_loads_down purpose = left_going_on LoadDown view words (TakesOut purpose)
 
-  abbrev pub at_puts_back : Purpose → Bool → Left
+  abbrev pub at_puts_back : PlainPurpose → Bool → Left
   at_puts_back purpose failed =
       left_going_on PutWriterBack (record view { hold = Turned }) words
       (GivesWriteTurn purpose failed)
 
-  abbrev pub at_gives_write_turn : Purpose → Bool → Left
+  abbrev pub at_gives_write_turn : PlainPurpose → Bool → Left
   at_gives_write_turn purpose failed = record {
     made = record { event = ReleaseWriteTurn; next = behind_writing purpose failed };
     view = record view { hold = Idle };

@@ -4,27 +4,27 @@ use Rattle.byte_position.specs.Position.{address_of, end_address_of}
 use Rattle.wal_core.specs.declared.setup.Setup.{Setup}
 use Rattle.wal_core.specs.Words.{end_word, lock_word, log_limit, position_word, prev_word}
 use Rattle.wal_core.specs.Steps.{ring_place}
-use Rattle.machine_turns.specs.declared.doing.Doing.TheVariants.{Begins, Tries, Reserves, Looks, Copies, Maps, Releases, FlushBegins}
-use Rattle.machine_turns.specs.declared.doing.Next.{Next}
-use Rattle.machine_turns.specs.declared.doing.Next.TheVariants.{GoesOn, Answers}
+use Rattle.machine_turns.specs.declared.doing.PlainDoing.TheVariants.{Begins, Tries, Reserves, Looks, Copies, Maps, Releases, FlushBegins}
+use Rattle.machine_turns.specs.declared.doing.PlainNext.{PlainNext}
+use Rattle.machine_turns.specs.declared.doing.PlainNext.TheVariants.{GoesOn, Answers}
 use Rattle.machine_turns.specs.declared.event.Event.TheVariants.{LockPosition, LoadPrev, StorePrev, StorePosition, GivePositionBack, LoadLock, TakeLock, ReleaseLock, LoadBufferEnd, StoreRingWord, LoadDown}
-use Rattle.machine_turns.specs.declared.view.Flight.{Flight}
-use Rattle.machine_turns.specs.declared.view.Flight.TheVariants.{Landed, Copying}
-use Rattle.machine_turns.specs.declared.view.Place.{Place}
-use Rattle.machine_turns.specs.declared.view.Place.TheVariants.{Free, Locked, Loaded, Stored}
+use Rattle.machine_turns.specs.declared.view.PlainFlight.{PlainFlight}
+use Rattle.machine_turns.specs.declared.view.PlainFlight.TheVariants.{Landed, Copying}
+use Rattle.machine_turns.specs.declared.view.PlainPlace.{PlainPlace}
+use Rattle.machine_turns.specs.declared.view.PlainPlace.TheVariants.{Free, Locked, Loaded, Stored}
 use Rattle.machine_turns.specs.declared.view.PlainView.{PlainView}
-use Rattle.machine_turns.specs.declared.view.Watching.{Watching}
+use Rattle.machine_turns.specs.declared.view.PlainWatching.{PlainWatching}
 use Rattle.machine_turns.specs.Left.{Left, left_going_on, at_place, next_in, page_end_in}
 
 -- ---- watching
 
 -- with the first lock a watch begins, for an address
-abbrev pub watch_begun : ℕ → ℕ → Watching → Watching
+abbrev pub watch_begun : ℕ → ℕ → PlainWatching → PlainWatching
 watch_begun lock end watching =
     if lock == 0 then record { end = end; visited = 0; bound = end } else watching
 
 -- the lock that comes next is visited, unless another backend holds it and tells nothing
-abbrev pub watch_visited : ℕ → ℕ → Watching → Watching
+abbrev pub watch_visited : ℕ → ℕ → PlainWatching → PlainWatching
 watch_visited lock met watching =
     if (lock == watching.visited) && not (met == 1)
     then record watching {
@@ -53,11 +53,11 @@ reserved setup view at prev room = record view {
 -- ---- copying
 
 -- one word more is copied
-abbrev pub with_one_more : Flight → Flight
+abbrev pub with_one_more : PlainFlight → PlainFlight
 with_one_more Landed = Landed
 with_one_more (Copying start prev next end) = Copying start prev (next + 8) end
 
-abbrev pub has_no_word_left : Flight → Bool
+abbrev pub has_no_word_left : PlainFlight → Bool
 has_no_word_left Landed = true
 has_no_word_left (Copying start prev next end) = next == end
 
@@ -87,7 +87,7 @@ module _ (setup : Setup) (words : List ℕ) (view : PlainView) where
   abbrev pub at_reserves : (lock room : ℕ) → Left
   at_reserves lock room = by_place view.place
     where
-      by_place : Place → Left
+      by_place : PlainPlace → Left
       by_place Free = left_going_on LockPosition (at_place (Locked (position_word words)) view)
           (set words 0 (position_word words + 1)) (Reserves lock)
       by_place (Locked at) = if nat_le (at + room) (log_limit setup)
@@ -120,7 +120,7 @@ module _ (setup : Setup) (words : List ℕ) (view : PlainView) where
       else (if next_in flight % 8192 == 0 then Looks lock else Copies lock))
 
   -- the line is an insert's or a commit's
-  abbrev pub behind_release : (full commits : Bool) → Next
+  abbrev pub behind_release : (full commits : Bool) → PlainNext
   behind_release true commits = Answers true
   behind_release false true = GoesOn FlushBegins
   behind_release false false = Answers false

@@ -8,24 +8,24 @@ use Rattle.wal_page.specs.Placed.{entry_word}
 use Rattle.wal_core.specs.declared.setup.Setup.{Setup}
 use Rattle.machine_words.specs.Numbers.{WordsState}
 use Rattle.wal_core.specs.Words.{down_word, lock_word, mapping_turn, position_word, write_turn}
-use Rattle.machine_turns.specs.declared.doing.Doing.{Doing}
-use Rattle.machine_turns.specs.declared.doing.Doing.TheVariants as doings
+use Rattle.machine_turns.specs.declared.doing.PlainDoing.{PlainDoing}
+use Rattle.machine_turns.specs.declared.doing.PlainDoing.TheVariants as doings
 use Rattle.machine_turns.specs.declared.doing.Made.{Made}
-use Rattle.machine_turns.specs.declared.doing.Next.{Next}
-use Rattle.machine_turns.specs.declared.doing.Next.TheVariants.{GoesOn, Answers}
-use Rattle.machine_turns.specs.declared.doing.Purpose.{Purpose}
-use Rattle.machine_turns.specs.declared.doing.Purpose.TheVariants.{Line, Page}
+use Rattle.machine_turns.specs.declared.doing.PlainNext.{PlainNext}
+use Rattle.machine_turns.specs.declared.doing.PlainNext.TheVariants.{GoesOn, Answers}
+use Rattle.machine_turns.specs.declared.doing.PlainPurpose.{PlainPurpose}
+use Rattle.machine_turns.specs.declared.doing.PlainPurpose.TheVariants.{Line, Page}
 use Rattle.machine_turns.specs.declared.event.Turn.{Turn}
 use Rattle.machine_turns.specs.declared.event.Turn.TheVariants.{Moved, Waits, Done, Down}
-use Rattle.machine_turns.specs.declared.lane.Lane.{Lane}
-use Rattle.machine_turns.specs.declared.script.Line.{Line as ScriptLine}
-use Rattle.machine_turns.specs.declared.script.Line.TheVariants.{Insert, Commit, Flush}
-use Rattle.machine_turns.specs.declared.view.Flight.{Flight}
-use Rattle.machine_turns.specs.declared.view.Flight.TheVariants as flights
-use Rattle.machine_turns.specs.declared.view.Place.{Place}
-use Rattle.machine_turns.specs.declared.view.Place.TheVariants as places
-use Rattle.machine_turns.specs.declared.view.Stage.{Stage}
-use Rattle.machine_turns.specs.declared.view.Stage.TheVariants as stages
+use Rattle.machine_turns.specs.declared.lane.PlainBackend.{PlainBackend}
+use Rattle.machine_turns.specs.declared.script.PlainLine.{PlainLine as ScriptLine}
+use Rattle.machine_turns.specs.declared.script.PlainLine.TheVariants.{Insert, Commit, Flush}
+use Rattle.machine_turns.specs.declared.view.PlainFlight.{PlainFlight}
+use Rattle.machine_turns.specs.declared.view.PlainFlight.TheVariants as flights
+use Rattle.machine_turns.specs.declared.view.PlainPlace.{PlainPlace}
+use Rattle.machine_turns.specs.declared.view.PlainPlace.TheVariants as places
+use Rattle.machine_turns.specs.declared.view.PlainStage.{PlainStage}
+use Rattle.machine_turns.specs.declared.view.PlainStage.TheVariants as stages
 use Rattle.machine_turns.specs.declared.view.PlainView.{PlainView}
 use Rattle.machine_turns.specs.Left.{Left, next_in}
 use Rattle.machine_turns.specs.Scripts.{room_of_line}
@@ -38,14 +38,14 @@ use Rattle.machine_turns.specs.Writing.{at_takes_out, at_loads_page, at_creates,
 -- ---- what a turn may wait for
 
 -- no position is locked
-abbrev pub is_free : Place → Bool
+abbrev pub is_free : PlainPlace → Bool
 is_free places.Free = true
 is_free (places.Locked at) = false
 is_free (places.Loaded at prev) = false
 is_free (places.Stored at prev) = false
 
 -- no page is being mapped
-abbrev pub is_away : Stage → Bool
+abbrev pub is_away : PlainStage → Bool
 is_away stages.Away = true
 is_away stages.Taken = false
 is_away (stages.Looked at) = false
@@ -54,7 +54,7 @@ is_away (stages.Zeroing at count) = false
 is_away (stages.Published at) = false
 
 -- the address that a watcher asks for
-abbrev pub asked_by : Purpose → PlainView → ℕ
+abbrev pub asked_by : PlainPurpose → PlainView → ℕ
 asked_by Line view = view.last_end
 asked_by (Page lock end) view = end
 
@@ -69,7 +69,7 @@ waits_if true on = Some on
 waits_if false on = None
 
 -- the number of the word that holds the step up
-abbrev pub word_awaited : List ℕ → PlainView → Doing → Option ℕ
+abbrev pub word_awaited : List ℕ → PlainView → PlainDoing → Option ℕ
 word_awaited words view (doings.Reserves lock) =
     waits_if (is_free view.place && not (position_word words % 2 == 0)) 0
 word_awaited words view (doings.Maps lock) =
@@ -80,7 +80,7 @@ word_awaited words view (doings.Visits purpose lock) =
 word_awaited words view other = None
 
 -- whether the step itself looks at the down word
-abbrev pub loads_down : Doing → Bool
+abbrev pub loads_down : PlainDoing → Bool
 loads_down doings.Begins = true
 loads_down doings.FlushBegins = true
 loads_down (doings.LoadsDown purpose) = true
@@ -107,12 +107,12 @@ is_commit (Commit body) = true
 is_commit Flush = false
 
 -- the next word of the record that a line inserts
-abbrev pub word_of_body : Setup → Assembled → Flight → ℕ
+abbrev pub word_of_body : Setup → Assembled → PlainFlight → ℕ
 word_of_body setup body flights.Landed = 0
 word_of_body setup body (flights.Copying start prev next end) =
     entry_word setup.segment_size setup.sysid body start prev next
 
-abbrev pub word_to_copy : Setup → Option ScriptLine → Flight → ℕ
+abbrev pub word_to_copy : Setup → Option ScriptLine → PlainFlight → ℕ
 word_to_copy setup None flight = 0
 word_to_copy setup (Some (Insert body)) flight = word_of_body setup body flight
 word_to_copy setup (Some (Commit body)) flight = word_of_body setup body flight
@@ -124,7 +124,7 @@ module _ (setup : Setup) (words : List ℕ) (writer : WriterState) (view : Plain
   abbrev same : Left → Stepped
   same left = with_same writer left
 
-  abbrev pub stepped : Doing → Stepped
+  abbrev pub stepped : PlainDoing → Stepped
   stepped doings.Begins = same (at_begins setup words view)
   stepped (doings.Tries taken) = same (at_tries setup words view taken)
   stepped (doings.Reserves lock) = same (at_reserves setup words view lock (room_of_line line))
@@ -172,7 +172,7 @@ module _ (setup : Setup) (words : List ℕ) (writer : WriterState) (view : Plain
       same (at_gives_write_turn setup words view purpose failed)
 
 -- the places of a flush, the writer's among them; the others are an insert's
-abbrev pub IsOfFlush : Doing → Type 0
+abbrev pub IsOfFlush : PlainDoing → Type 0
 IsOfFlush doings.Begins = ⊥
 IsOfFlush (doings.Tries taken) = ⊥
 IsOfFlush (doings.Reserves lock) = ⊥
@@ -185,12 +185,12 @@ IsOfFlush (doings.Releases lock full) = ⊥
 IsOfFlush other = Unit {0}
 
 -- the line whose record is copied: from a reservation on the one under way
-abbrev pub copied_behind : Doing → Lane → ℕ
+abbrev pub copied_behind : PlainDoing → PlainBackend → ℕ
 copied_behind (doings.Reserves lock) lane = lane.answered
 copied_behind other lane = lane.copied
 
 -- a step, a lane, words and a writer are what is left
-pub record LeavesLane (made : Made) (old new : Lane) (words words_now : WordsState)
+pub record LeavesLane (made : Made) (old new : PlainBackend) (words words_now : WordsState)
     (writer : WriterState) (s : Stepped) : Type 0 where
   pub made_is : made ≡ (s.left).made
   pub lane_is : new
@@ -201,37 +201,37 @@ pub record LeavesLane (made : Made) (old new : Lane) (words words_now : WordsSta
 -- ---- the turn
 
 -- where a line begins
-abbrev pub start_of_line : Option ScriptLine → Doing
+abbrev pub start_of_line : Option ScriptLine → PlainDoing
 start_of_line None = doings.Begins
 start_of_line (Some (Insert body)) = doings.Begins
 start_of_line (Some (Commit body)) = doings.Begins
 start_of_line (Some Flush) = doings.FlushBegins
 
 -- a lane whose line is answered
-abbrev pub lane_answered : Lane → Lane
+abbrev pub lane_answered : PlainBackend → PlainBackend
 lane_answered lane = record lane {
   answered = lane.answered + 1;
   doing = start_of_line (slice_get lane.script (lane.answered + 1));
 }
 
-abbrev pub lane_behind : Next → Lane → Lane
+abbrev pub lane_behind : PlainNext → PlainBackend → PlainBackend
 lane_behind (GoesOn doing) lane = record lane { doing = doing }
 lane_behind (Answers full) lane = lane_answered lane
 
-abbrev pub finds_full : Next → Bool
+abbrev pub finds_full : PlainNext → Bool
 finds_full (GoesOn doing) = false
 finds_full (Answers full) = full
 
 -- what a turn tells and leaves, and whether its line was answered that the log is full
 pub record PlayedTurn : Type 0 where
   pub turn : Turn
-  pub lane : Lane
+  pub lane : PlainBackend
   pub words : List ℕ
   pub writer : WriterState
   pub full : Bool
 
-module _ (setup : Setup) (words : List ℕ) (writer : WriterState) (lane : Lane) where
-  abbrev pub unmoved : Turn → Lane → PlayedTurn
+module _ (setup : Setup) (words : List ℕ) (writer : WriterState) (lane : PlainBackend) where
+  abbrev pub unmoved : Turn → PlainBackend → PlayedTurn
   unmoved turn lane_now = record {
     turn = turn;
     lane = lane_now;
@@ -269,13 +269,13 @@ module _ (setup : Setup) (words : List ℕ) (writer : WriterState) (lane : Lane)
 -- ---- when it may be played
 
 -- positions and addresses are far below the last of 64 bits
-abbrev pub IsLowPlace : Place → Type 0
+abbrev pub IsLowPlace : PlainPlace → Type 0
 IsLowPlace places.Free = Unit {0}
 IsLowPlace (places.Locked at) = at < 2 ^ 59
 IsLowPlace (places.Loaded at prev) = at < 2 ^ 59
 IsLowPlace (places.Stored at prev) = at < 2 ^ 59
 
-abbrev pub IsLowStage : Stage → Type 0
+abbrev pub IsLowStage : PlainStage → Type 0
 IsLowStage stages.Away = Unit {0}
 IsLowStage stages.Taken = Unit {0}
 IsLowStage (stages.Looked at) = at < 2 ^ 60
@@ -294,7 +294,7 @@ pub record IsLow (words : List ℕ) (view : PlainView) : Type 0 where
   pub stage : IsLowStage view.stage
 
 -- a record is copied, and it has a next word
-abbrev pub HasNextOf : Setup → Assembled → Flight → Type 0
+abbrev pub HasNextOf : Setup → Assembled → PlainFlight → Type 0
 HasNextOf setup body flights.Landed = ⊥
 HasNextOf setup body (flights.Copying start prev next end) =
     (start % 8 ≡ 0) × (start + assembled_room_at setup.segment_size start body < 2 ^ 60)
@@ -302,14 +302,14 @@ HasNextOf setup body (flights.Copying start prev next end) =
     × (next < end_address_of setup.segment_size
     (start + assembled_room_at setup.segment_size start body))
 
-abbrev pub HasNextWord : Setup → Option ScriptLine → Flight → Type 0
+abbrev pub HasNextWord : Setup → Option ScriptLine → PlainFlight → Type 0
 HasNextWord setup None flight = ⊥
 HasNextWord setup (Some (Insert body)) flight = HasNextOf setup body flight
 HasNextWord setup (Some (Commit body)) flight = HasNextOf setup body flight
 HasNextWord setup (Some Flush) flight = ⊥
 
 -- at each place what its step rests on
-abbrev pub IsReadyFor : Setup → List ℕ → WriterState → PlainView → Option ScriptLine → Doing
+abbrev pub IsReadyFor : Setup → List ℕ → WriterState → PlainView → Option ScriptLine → PlainDoing
     → Type 0
 IsReadyFor setup words w view copied (doings.Copies lock) = HasNextWord setup copied view.flight
 IsReadyFor setup words w view copied (doings.Tries taken) = taken < 8
@@ -327,11 +327,12 @@ IsReadyFor setup words w view copied doings.SyncsLast =
 IsReadyFor setup words w view copied other = Unit {0}
 
 -- a watcher visits one of the eight locks
-abbrev pub IsLockAwaited : Doing → Type 0
+abbrev pub IsLockAwaited : PlainDoing → Type 0
 IsLockAwaited (doings.Visits purpose lock) = lock < 8
 IsLockAwaited other = Unit {0}
 
-pub record MayPlay (setup : Setup) (words : List ℕ) (writer : WriterState) (lane : Lane) : Type 0
+pub record MayPlay (setup : Setup) (words : List ℕ) (writer : WriterState)
+    (lane : PlainBackend) : Type 0
   where
     pub size_is : writer.size ≡ setup.segment_size
     pub low : IsLow words lane.view

@@ -2,25 +2,25 @@
 use Rattle.std.specs.Prelude.{ℕ, ◌+◌, ◌-◌, ◌*◌, ◌/◌, ◌%◌, List, set, Option, Some, None, nat_lt, nat_le, if◌then◌else◌}
 use Rattle.wal_core.specs.declared.setup.Setup.{Setup}
 use Rattle.wal_core.specs.Words.{initialised_word, written_word}
-use Rattle.machine_turns.specs.declared.doing.Doing.{Doing}
-use Rattle.machine_turns.specs.declared.doing.Doing.TheVariants.{Looks, Maps, GivesTurn, Tells, Visits}
-use Rattle.machine_turns.specs.declared.doing.Purpose.TheVariants.{Page}
+use Rattle.machine_turns.specs.declared.doing.PlainDoing.{PlainDoing}
+use Rattle.machine_turns.specs.declared.doing.PlainDoing.TheVariants.{Looks, Maps, GivesTurn, Tells, Visits}
+use Rattle.machine_turns.specs.declared.doing.PlainPurpose.TheVariants.{Page}
 use Rattle.machine_turns.specs.declared.event.Event.TheVariants.{Advance, LoadWritten, TakeMappingTurn, LoadInitialisedEnd, ClearEnd, ZeroRingWord, PublishEnd, PublishInitialisedEnd, ReleaseMappingTurn}
 use Rattle.machine_turns.specs.declared.view.PlainView.{PlainView}
-use Rattle.machine_turns.specs.declared.view.Stage.{Stage}
-use Rattle.machine_turns.specs.declared.view.Stage.TheVariants.{Away, Taken, Looked, Ready, Zeroing, Published}
+use Rattle.machine_turns.specs.declared.view.PlainStage.{PlainStage}
+use Rattle.machine_turns.specs.declared.view.PlainStage.TheVariants.{Away, Taken, Looked, Ready, Zeroing, Published}
 use Rattle.machine_turns.specs.Left.{Left, left_going_on, at_stage, next_in, page_end_in}
 
 -- the page at an address is to be mapped, and this is written: the view's page is mapped already;
 -- the page that the buffer holds is to be written first; or it is mapped now
-abbrev pub behind_written : Setup → PlainView → (lock at written : ℕ) → Doing
+abbrev pub behind_written : Setup → PlainView → (lock at written : ℕ) → PlainDoing
 behind_written setup view lock at written =
     if nat_le (page_end_in view.flight) at then GivesTurn lock None
     else (if nat_lt (written + setup.ring_pages * 8192) (at + 8192)
     then GivesTurn lock (Some (at + 8192 - setup.ring_pages * 8192)) else Maps lock)
 
 -- behind the turn: the page's end is loaded again, or the copy's progress is told first
-abbrev pub behind_turn : ℕ → Option ℕ → Doing
+abbrev pub behind_turn : ℕ → Option ℕ → PlainDoing
 behind_turn lock None = Looks lock
 behind_turn lock (Some end) = Tells lock end
 
@@ -32,7 +32,7 @@ module _ (setup : Setup) (words : List ℕ) (view : PlainView) where
   abbrev pub at_maps : ℕ → Left
   at_maps lock = by_stage view.stage
     where
-      by_stage : Stage → Left
+      by_stage : PlainStage → Left
       by_stage Away = left_going_on TakeMappingTurn (at_stage Taken view)
           (set words 10 (view.number + 1)) (Maps lock)
       by_stage Taken = left_going_on LoadInitialisedEnd

@@ -4,18 +4,21 @@ use Rattle.std.specs.Int.{w64, to_le_bytes}
 use mathlib.Core.Option.{none, some}
 use Rattle.byte_position.specs.Geometry.{pages_of}
 use Rattle.segment_disk.specs.Failing.{is_listed}
-use Rattle.segment_disk.specs.MemDisk.{disk_state_of, faults_of, has_segment, limits_of, moment_of, segment_count, tape_of}
-use Rattle.segment_disk.specs.Tape.{create_call, empty_state, sync_call, write_call}
+use Rattle.segment_disk.specs.First.{first_state}
+use Rattle.segment_disk.specs.MemDisk.{disk_state_of, faults_of, has_segment, limits_of, moment_of, segment_count}
+use Rattle.segment_disk.specs.Tape.{DiskState, create_call, empty_state, sync_call, write_call}
 use Rattle.segment_disk.specs.declared.memory.disk.MemDisk.{MemDisk}
 use Rattle.machine_turns.specs.declared.writer.MachineWriter.{MachineWriter}
 use Rattle.wal_core.specs.Views.{Plain}
 use Rattle.wal_core.specs.Moves.{CallOutcome, after_create, after_sync, after_write}
 use Rattle.wal_turns.specs.Turned.{call_outcome}
 
--- a writer: the segments' size, what the machine knows of it, the counted calls that fail, the
--- address that the log will not pass, and the page that is loaded for a write
+-- a writer: the segments' size, what its disk held at first, what the machine knows of it, the
+-- counted calls that fail, the address that the log will not pass, and the page that is loaded for
+-- a write
 pub record WriterState : Type 0 where
   pub size : ℕ
+  pub first : DiskState
   pub plain : Plain
   pub failing : List ℕ
   pub end : ℕ
@@ -76,10 +79,10 @@ module _ (w : WriterState) where
     pub behind : ((w.plain).made + 1) * w.size ≤ (w.plain).written
     pub within : (w.plain).written < w.end
 
-  -- the written address is to rise, in a segment that is made
+  -- the written address is to rise by a word at least, in a segment that is made
   pub record IsWriteDue (upto : ℕ) : Type 0 where
     pub up : (w.plain).fault ≡ none
-    pub rises : (w.plain).written < upto
+    pub rises : (w.plain).written + 8 ≤ upto
     pub within : upto ≤ w.end
     pub is_made : segment_at ≤ (w.plain).made
 
@@ -96,29 +99,29 @@ is_waiting none = 0
 is_waiting (some segment) = 1
 
 -- until a call fails: the disk has just the segments made, and room for them. Each write raises the
--- written address, and at most one sync follows it, so that fewer calls were made than there is
--- room for
+-- written address by 8 bytes at least, and at most one sync follows it: two calls for 8 bytes. So
+-- fewer calls were made than there is room for
 pub record IsGoing (size end : ℕ) (disk : MemDisk) (w : Plain) : Type 0 where
   pub unfailed : faults_of disk ≡ 0
   pub there : (s : ℕ) → 1 ≤ s → s ≤ w.made → has_segment disk s ≡ true
   pub absent : (s : ℕ) → w.made < s → disk_state_of disk s ≡ None
   pub count : segment_count disk ≡ w.made
   pub few : w.made ≤ (limits_of disk).segments
-  pub calls : moment_of disk + is_waiting w.waiting ≤ w.made + 2 * (w.written - size)
+  pub calls : 4 * (moment_of disk + is_waiting w.waiting) ≤ 4 * w.made + (w.written - size)
   pub waits : (s : ℕ) → w.waiting ≡ some s → (1 ≤ s) × (s ≤ w.made)
 
 pub record IsWriterKept (size end : ℕ) (disk : MemDisk) (w : Plain) (page : List ℕ) : Type 0 where
   pub begun : size ≤ w.written
   pub within : w.written ≤ end
   pub segments : end ≤ size * ((limits_of disk).segments + 1)
-  pub room : (limits_of disk).segments + 2 * (end - size) ≤ (limits_of disk).calls
+  pub room : 4 * (limits_of disk).segments + (end - size) ≤ 4 * (limits_of disk).calls
   pub whole : length page ≡ 8192
   pub going : w.fault ≡ none → IsGoing size end disk w
 
 -- what the machine knows of a writer by its disk and its numbers
 abbrev pub plain_of : MemDisk → (written made : ℕ) → (waiting fault : Option ℕ) → Plain
 plain_of disk written made waiting fault = record {
-  tape = tape_of disk;
+  calls = Some disk.calls.made.items;
   moment = moment_of disk;
   written = written;
   made = made;
@@ -129,6 +132,7 @@ plain_of disk written made waiting fault = record {
 abbrev pub state_of : MachineWriter → WriterState
 state_of w = record {
   size = w.geometry;
+  first = first_state w.disk.first.items;
   plain = plain_of w.disk w.written w.made w.waiting w.fault;
   failing = (limits_of w.disk).failing;
   end = w.end;
@@ -143,7 +147,8 @@ pub record IsFreshWriter (size end : ℕ) (failing : List ℕ) (w : WriterState)
   pub size_is : w.size ≡ size
   pub end_is : w.end ≡ end
   pub failing_is : w.failing ≡ failing
-  pub tape : (w.plain).tape ≡ Some (record { at_first = empty_state; calls = [] })
+  pub first : w.first ≡ empty_state
+  pub calls : (w.plain).calls ≡ Some []
   pub moment : (w.plain).moment ≡ 0
   pub written : (w.plain).written ≡ size
   pub made : (w.plain).made ≡ 0

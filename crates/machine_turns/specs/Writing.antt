@@ -6,20 +6,20 @@ use Rattle.byte_position.specs.Position.{position_of}
 use Rattle.wal_core.specs.declared.setup.Setup.{Setup}
 use Rattle.wal_core.specs.Words.{word_of_ring}
 use Rattle.wal_core.specs.Steps.{ring_place}
-use Rattle.machine_turns.specs.declared.doing.Doing.{Doing}
-use Rattle.machine_turns.specs.declared.doing.Doing.TheVariants.{LoadsPage, Creates, Writes, SyncsFull, SyncsLast, StoresWritten, StoresMoment, StoresFlushed, SetsDown, PutsBack}
-use Rattle.machine_turns.specs.declared.doing.Purpose.{Purpose}
-use Rattle.machine_turns.specs.declared.doing.Purpose.TheVariants.{Line, Page}
+use Rattle.machine_turns.specs.declared.doing.PlainDoing.{PlainDoing}
+use Rattle.machine_turns.specs.declared.doing.PlainDoing.TheVariants.{LoadsPage, Creates, Writes, SyncsFull, SyncsLast, StoresWritten, StoresMoment, StoresFlushed, SetsDown, PutsBack}
+use Rattle.machine_turns.specs.declared.doing.PlainPurpose.{PlainPurpose}
+use Rattle.machine_turns.specs.declared.doing.PlainPurpose.TheVariants.{Line, Page}
 use Rattle.machine_turns.specs.declared.event.Event.TheVariants.{TakeWriterOut, LoadRingWord, StoreWritten, StoreMoment, StoreFlushed, SetDown, Create, Write, Sync}
-use Rattle.machine_turns.specs.declared.view.Hold.{Hold}
-use Rattle.machine_turns.specs.declared.view.Hold.TheVariants.{Idle, Turned, Out}
+use Rattle.machine_turns.specs.declared.view.PlainHold.{PlainHold}
+use Rattle.machine_turns.specs.declared.view.PlainHold.TheVariants.{Idle, Turned, Out}
 use Rattle.machine_turns.specs.declared.view.PlainView.{PlainView}
 use Rattle.machine_turns.specs.Flushing.{seen_too}
 use Rattle.machine_turns.specs.Left.{Left, left_going_on}
 use Rattle.machine_turns.specs.Writer.{WriterState, page_at, page_written, segment_at, succeeds, synced, with_word}
 
 -- below this address all is known to be copied
-abbrev pub known_in : Hold → ℕ
+abbrev pub known_in : PlainHold → ℕ
 known_in Idle = 0
 known_in Turned = 0
 known_in (Out known) = known
@@ -38,7 +38,7 @@ number_or_0 none = 0
 number_or_0 (some n) = n
 
 -- behind the page written last: the next one, or the end of the writing
-abbrev pub page_or_end : Purpose → (known : ℕ) → WriterState → Doing
+abbrev pub page_or_end : PlainPurpose → (known : ℕ) → WriterState → PlainDoing
 page_or_end Line known w = if nat_lt (w.plain).written known then LoadsPage Line 0
     else (if is_some_waiting (w.plain).waiting then SyncsLast else StoresWritten Line)
 page_or_end (Page lock end) known w = if nat_lt (w.plain).written known
@@ -53,7 +53,7 @@ module _ (setup : Setup) (words : List ℕ) (view : PlainView) (writer : WriterS
   known_now = if (view.watching).visited == 8 then (view.watching).bound else 0
 
   -- the writer is taken
-  abbrev pub at_takes_out : Purpose → Left
+  abbrev pub at_takes_out : PlainPurpose → Left
   at_takes_out purpose = left_going_on TakeWriterOut (record view { hold = Out known_now }) words
       (page_or_end purpose known_now writer)
 
@@ -67,7 +67,7 @@ module _ (setup : Setup) (words : List ℕ) (view : PlainView) (writer : WriterS
   word_to_load loaded = word_of_ring setup words (ring_place setup (number_to_load loaded))
 
   -- the page's next word is loaded
-  abbrev pub at_loads_page : Purpose → ℕ → Left
+  abbrev pub at_loads_page : PlainPurpose → ℕ → Left
   at_loads_page purpose loaded = left_going_on (LoadRingWord (number_to_load loaded)) view words
       (if loaded + 1 == 1024
       then (if nat_lt (writer.plain).made (segment_at writer) then Creates purpose
@@ -80,11 +80,11 @@ module _ (setup : Setup) (words : List ℕ) (view : PlainView) (writer : WriterS
   -- ---- the calls
 
   -- behind a call that fails the down word is set
-  abbrev pub behind_call : Purpose → Doing → Doing
+  abbrev pub behind_call : PlainPurpose → PlainDoing → PlainDoing
   behind_call purpose doing = if succeeds writer then doing else SetsDown purpose
 
   -- the segment is made; the page is written; a full segment is synced, and the one under way
-  abbrev pub at_creates : Purpose → Left
+  abbrev pub at_creates : PlainPurpose → Left
   at_creates purpose = left_going_on (Create ((writer.plain).made + 1) (succeeds writer)) view words
       (behind_call purpose (Writes purpose))
 
@@ -92,7 +92,7 @@ module _ (setup : Setup) (words : List ℕ) (view : PlainView) (writer : WriterS
   abbrev pub upto_next : ℕ
   upto_next = min (known_in view.hold) (page_at writer * 8192 + 8192)
 
-  abbrev pub at_writes : Purpose → Left
+  abbrev pub at_writes : PlainPurpose → Left
   at_writes purpose = left_going_on
       (Write (segment_at writer) (page_at writer % pages_of setup.segment_size) upto_next
       (succeeds writer)) view words
@@ -102,7 +102,7 @@ module _ (setup : Setup) (words : List ℕ) (view : PlainView) (writer : WriterS
   abbrev waiting : ℕ
   waiting = segment_waiting (writer.plain).waiting
 
-  abbrev pub at_syncs_full : Purpose → Left
+  abbrev pub at_syncs_full : PlainPurpose → Left
   at_syncs_full purpose = left_going_on (Sync waiting (succeeds writer)) view words
       (behind_call purpose (page_or_end purpose (known_in view.hold) (synced writer waiting)))
 
@@ -114,12 +114,12 @@ module _ (setup : Setup) (words : List ℕ) (view : PlainView) (writer : WriterS
   -- ---- the end of the writing
 
   -- behind the written address a flush stores more, and an insert puts the writer back
-  abbrev pub behind_written_word : Purpose → Doing
+  abbrev pub behind_written_word : PlainPurpose → PlainDoing
   behind_written_word Line = StoresMoment
   behind_written_word (Page lock end) = PutsBack (Page lock end) false
 
   -- what was done is stored: written, moment and flushed; or that the disk has failed
-  abbrev pub at_stores_written : Purpose → Left
+  abbrev pub at_stores_written : PlainPurpose → Left
   at_stores_written purpose =
       left_going_on StoreWritten view (set words 13 written) (behind_written_word purpose)
 
@@ -132,6 +132,6 @@ module _ (setup : Setup) (words : List ℕ) (view : PlainView) (writer : WriterS
       (seen_too (position_of setup.segment_size written) view)
       (set words 14 written) (PutsBack Line false)
 
-  abbrev pub at_sets_down : Purpose → Left
+  abbrev pub at_sets_down : PlainPurpose → Left
   at_sets_down purpose = left_going_on SetDown view
       (set words 16 (number_or_0 (writer.plain).fault)) (PutsBack purpose true)

@@ -9,7 +9,7 @@ use crate::event::Event;
 
 /// What pages are written for.
 #[derive(Clone, Copy, Debug, PartialEq, Eq)]
-pub enum Purpose {
+pub enum PlainPurpose {
     /// A line that flushes.
     Line,
     /// An insert that holds this lock, and needs the buffer of a page that ends at this address.
@@ -24,7 +24,7 @@ pub enum Purpose {
 /// page, and puts all back (PostgreSQL's xlog.c: XLogInsertRecord, GetXLogBuffer,
 /// AdvanceXLInsertBuffer, XLogFlush, XLogWrite).
 #[derive(Clone, Copy, Debug, PartialEq, Eq)]
-pub enum Doing {
+pub enum PlainDoing {
     Begins,
     Tries { taken: u32 },
     Reserves { lock: u32 },
@@ -38,31 +38,31 @@ pub enum Doing {
     LoadsPosition,
     LoadsFlushed,
     LoadsMoment,
-    Visits { purpose: Purpose, lock: u32 },
-    TakesTurn { purpose: Purpose },
-    LoadsDown { purpose: Purpose },
-    TakesOut { purpose: Purpose },
+    Visits { purpose: PlainPurpose, lock: u32 },
+    TakesTurn { purpose: PlainPurpose },
+    LoadsDown { purpose: PlainPurpose },
+    TakesOut { purpose: PlainPurpose },
     /// So many words of the page are loaded.
-    LoadsPage { purpose: Purpose, loaded: u32 },
-    Creates { purpose: Purpose },
-    Writes { purpose: Purpose },
+    LoadsPage { purpose: PlainPurpose, loaded: u32 },
+    Creates { purpose: PlainPurpose },
+    Writes { purpose: PlainPurpose },
     /// The segment is full, and is synced for that.
-    SyncsFull { purpose: Purpose },
+    SyncsFull { purpose: PlainPurpose },
     /// The segment under way is synced.
     SyncsLast,
-    StoresWritten { purpose: Purpose },
+    StoresWritten { purpose: PlainPurpose },
     StoresMoment,
     StoresFlushed,
-    SetsDown { purpose: Purpose },
-    PutsBack { purpose: Purpose, failed: bool },
-    GivesWriteTurn { purpose: Purpose, failed: bool },
+    SetsDown { purpose: PlainPurpose },
+    PutsBack { purpose: PlainPurpose, failed: bool },
+    GivesWriteTurn { purpose: PlainPurpose, failed: bool },
 }
 
 /// What comes behind a step.
 #[derive(Clone, Copy, Debug, PartialEq, Eq)]
-pub enum Next {
+pub enum PlainNext {
     /// Another step.
-    GoesOn(Doing),
+    GoesOn(PlainDoing),
     /// The line is answered, the log being full or not.
     Answers { full: bool },
 }
@@ -71,17 +71,17 @@ pub enum Next {
 #[derive(Clone, Copy, Debug, PartialEq, Eq)]
 pub struct Made {
     pub event: Event,
-    pub next: Next,
+    pub next: PlainNext,
 }
 
 impl Made {
     /// A step with another one behind it.
-    pub(crate) fn then(event: Event, doing: Doing) -> Made
-        ensures { result ≡ record { event = event; next = Next.GoesOn doing } }
+    pub(crate) fn then(event: Event, doing: PlainDoing) -> Made
+        ensures { result ≡ record { event = event; next = PlainNext.GoesOn doing } }
     {
         Made {
             event,
-            next: Next::GoesOn(doing),
+            next: PlainNext::GoesOn(doing),
         }
     }
 }

@@ -9,9 +9,9 @@ ghost use Rattle.std.specs.Prelude.{◌≡◌, ◌<◌, ◌^◌};
 ghost use Rattle.machine_turns.specs.Left.{Leaves};
 ghost use Rattle.machine_turns.specs.Flushing.{at_flush_begins, at_gives_write_turn, at_loads_down, at_loads_flushed, at_loads_moment, at_loads_position, at_puts_back, at_takes_turn, at_visits, behind_writing, seen_too};
 
-use crate::doing::{Doing, Made, Next, Purpose};
+use crate::doing::{Made, PlainDoing, PlainNext, PlainPurpose};
 use crate::event::Event;
-use crate::view::{Hold, PlainView};
+use crate::view::{PlainHold, PlainView};
 use machine_words::layout::LOCKS;
 use machine_words::{LogShape, MachineWords, Word};
 use wal_types::Lsn;
@@ -29,7 +29,7 @@ impl PlainView {
         ensures { Leaves result self.now words.now words.now
             (at_flush_begins shape.now words.now.words self.now) }
     {
-        Made::then(Event::LoadDown, Doing::LoadsPosition)
+        Made::then(Event::LoadDown, PlainDoing::LoadsPosition)
     }
 
     /// Loads the position, and has seen reserved what is below it.
@@ -40,7 +40,7 @@ impl PlainView {
         let met = words.get(Word::Position);
         // Without the lock bit.
         self.see(met - met % 2);
-        Made::then(Event::LoadPosition, Doing::LoadsFlushed)
+        Made::then(Event::LoadPosition, PlainDoing::LoadsFlushed)
     }
 
     /// Loads the flushed address: where the backend's last record ends at or below it, only the
@@ -52,10 +52,10 @@ impl PlainView {
         let met = words.get(Word::Flushed);
         self.see(shape.geometry().position_of(Lsn(met)));
         let next = if self.last_end <= met {
-            Doing::LoadsMoment
+            PlainDoing::LoadsMoment
         } else {
-            Doing::Visits {
-                purpose: Purpose::Line,
+            PlainDoing::Visits {
+                purpose: PlainPurpose::Line,
                 lock: 0,
             }
         };
@@ -69,7 +69,7 @@ impl PlainView {
     {
         Made {
             event: Event::LoadMoment,
-            next: Next::Answers { full: false },
+            next: PlainNext::Answers { full: false },
         }
     }
 
@@ -79,7 +79,7 @@ impl PlainView {
         &mut self,
         shape: &LogShape,
         words: &MachineWords,
-        purpose: Purpose,
+        purpose: PlainPurpose,
         lock: u32,
     ) -> Made
         requires lock { lock < 8 }
@@ -91,9 +91,9 @@ impl PlainView {
         let end = shape.geometry().to_end_lsn(self.seen).0;
         self.watch(lock, end, met);
         let next = if lock + 1 == LOCKS {
-            Doing::TakesTurn { purpose }
+            PlainDoing::TakesTurn { purpose }
         } else {
-            Doing::Visits {
+            PlainDoing::Visits {
                 purpose,
                 lock: lock + 1,
             }
@@ -106,15 +106,15 @@ impl PlainView {
         &mut self,
         shape: &LogShape,
         words: &mut MachineWords,
-        purpose: Purpose,
+        purpose: PlainPurpose,
     ) -> Made
         requires { self.old.number < 65536 }
         ensures { Leaves result self.new words.old words.new
             (at_takes_turn shape.now words.old.words self.old purpose) }
     {
         words.set(Word::WriteTurn, u64::from(self.number) + 1);
-        self.hold = Hold::Turned;
-        Made::then(Event::TakeWriteTurn, Doing::LoadsDown { purpose })
+        self.hold = PlainHold::Turned;
+        Made::then(Event::TakeWriteTurn, PlainDoing::LoadsDown { purpose })
     }
 
     /// Loads the down word, with the turn to write had.
@@ -122,12 +122,12 @@ impl PlainView {
         &self,
         shape: &LogShape,
         words: &MachineWords,
-        purpose: Purpose,
+        purpose: PlainPurpose,
     ) -> Made
         ensures { Leaves result self.now words.now words.now
             (at_loads_down shape.now words.now.words self.now purpose) }
     {
-        Made::then(Event::LoadDown, Doing::TakesOut { purpose })
+        Made::then(Event::LoadDown, PlainDoing::TakesOut { purpose })
     }
 
     /// Puts the writer back: what it has written is stored, or down is set.
@@ -135,16 +135,16 @@ impl PlainView {
         &mut self,
         shape: &LogShape,
         words: &MachineWords,
-        purpose: Purpose,
+        purpose: PlainPurpose,
         failed: bool,
     ) -> Made
         ensures { Leaves result self.new words.now words.now
             (at_puts_back shape.now words.now.words self.old purpose failed) }
     {
-        self.hold = Hold::Turned;
+        self.hold = PlainHold::Turned;
         Made::then(
             Event::PutWriterBack,
-            Doing::GivesWriteTurn { purpose, failed },
+            PlainDoing::GivesWriteTurn { purpose, failed },
         )
     }
 
@@ -153,14 +153,14 @@ impl PlainView {
         &mut self,
         shape: &LogShape,
         words: &mut MachineWords,
-        purpose: Purpose,
+        purpose: PlainPurpose,
         failed: bool,
     ) -> Made
         ensures { Leaves result self.new words.old words.new
             (at_gives_write_turn shape.now words.old.words self.old purpose failed) }
     {
         words.set(Word::WriteTurn, 0);
-        self.hold = Hold::Idle;
+        self.hold = PlainHold::Idle;
         Made {
             event: Event::ReleaseWriteTurn,
             next: behind_writing(purpose, failed),
@@ -169,11 +169,11 @@ impl PlainView {
 }
 
 // Behind the writing the line is answered, or an insert goes on with its page.
-fn behind_writing(purpose: Purpose, failed: bool) -> Next
+fn behind_writing(purpose: PlainPurpose, failed: bool) -> PlainNext
     ensures { result ≡ behind_writing purpose failed }
 {
     match purpose {
-        Purpose::Page { lock, .. } if !failed => Next::GoesOn(Doing::Looks { lock }),
-        _ => Next::Answers { full: false },
+        PlainPurpose::Page { lock, .. } if !failed => PlainNext::GoesOn(PlainDoing::Looks { lock }),
+        _ => PlainNext::Answers { full: false },
     }
 }

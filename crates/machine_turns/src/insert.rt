@@ -1,11 +1,11 @@
 //! The turns of an insert but for those that map a page (PostgreSQL's xlog.c, XLogInsertRecord,
 //! WALInsertLockAcquire, ReserveXLogInsertLocation, CopyXLogRecordToWAL, WALInsertLockRelease).
 //! Each function named for a place makes the step of that place on words and view, and tells it
-//! with the place behind it (`Leaves`). `Lane::turn` calls it only where the step can be made now.
-//! In order: down, a lock that is free, the position and the last start, the position behind the
-//! record; then under that lock word by word, each page looked up before its first word; then the
-//! lock is given back. Nobody else stores into the lock, nor into words 0 and 1 while this backend
-//! has word 0 locked.
+//! with the place behind it (`Leaves`). `PlainBackend::turn` calls it only where the step can be
+//! made now. In order: down, a lock that is free, the position and the last start, the position
+//! behind the record; then under that lock word by word, each page looked up before its first word;
+//! then the lock is given back. Nobody else stores into the lock, nor into words 0 and 1 while this
+//! backend has word 0 locked.
 
 ghost use Rattle.std.specs.Prelude.{◌≡◌, ◌+◌, ◌*◌, ◌%◌, ◌<◌, ◌≤◌, ◌^◌, ◌==◌, false, if◌then◌else◌};
 ghost use Rattle.wal_page.specs.Placed.{placed_end, placed_word};
@@ -15,10 +15,10 @@ ghost use Rattle.machine_turns.specs.Left.{Leaves, next_in, page_end_in};
 ghost use Rattle.machine_turns.specs.Inserting.{at_begins, at_copies, at_looks, at_releases, at_reserves, at_tries, has_no_word_left, reserved, watch_visited, watched, with_one_more};
 ghost use Rattle.machine_turns.specs.Lanes.{HasNextOf, HasNextWord, IsLowPlace, line_behind, word_of_body, word_to_copy};
 
-use crate::doing::{Doing, Made, Next};
+use crate::doing::{Made, PlainDoing, PlainNext};
 use crate::event::Event;
-use crate::script::Line;
-use crate::view::{Flight, Place, PlainView, Watching};
+use crate::script::PlainLine;
+use crate::view::{PlainFlight, PlainPlace, PlainView, PlainWatching};
 use byte_position::{PAGE_SIZE, PAGE_WORDS, WORD};
 use machine_words::layout::LOCKS;
 use machine_words::{LogShape, MachineWords, Word};
@@ -26,14 +26,14 @@ use record_spelling::Body;
 use wal_page::Placed;
 use wal_types::Lsn;
 
-impl Flight {
+impl PlainFlight {
     /// The address of the next word to copy, 0 where nothing is copied.
     pub(crate) fn next(&self) -> u64
         ensures { result ≡ next_in self.now }
     {
         match *self {
-            Flight::Landed => 0,
-            Flight::Copying { next, .. } => next,
+            PlainFlight::Landed => 0,
+            PlainFlight::Copying { next, .. } => next,
         }
     }
 }
@@ -54,7 +54,7 @@ impl PlainView {
         ensures { self.new ≡ watched lock end met self.old }
     {
         if lock == 0 {
-            self.watching = Watching {
+            self.watching = PlainWatching {
                 end,
                 visited: 0,
                 bound: end,
@@ -83,7 +83,7 @@ impl PlainView {
         ensures { Leaves result self.now words.now words.now
             (at_begins shape.now words.now.words self.now) }
     {
-        Made::then(Event::LoadDown, Doing::Tries { taken: 0 })
+        Made::then(Event::LoadDown, PlainDoing::Tries { taken: 0 })
     }
 
     /// Takes the next lock where it is free: the first one tried is that of the pass's number. Else
@@ -98,7 +98,7 @@ impl PlainView {
         let met = words.get(Word::Lock(lock));
         if met == 0 {
             words.set(Word::Lock(lock), 1);
-            return Made::then(Event::TakeLock { lock }, Doing::Reserves { lock });
+            return Made::then(Event::TakeLock { lock }, PlainDoing::Reserves { lock });
         }
         self.watch(lock, 0, met);
         Made::then(Event::LoadLock { lock }, behind_taken(taken))
@@ -122,22 +122,22 @@ impl PlainView {
             (at_reserves shape.now words.old.words self.old lock room) }
     {
         match self.place {
-            Place::Free => {
+            PlainPlace::Free => {
                 let at = words.get(Word::Position);
                 words.set(Word::Position, at + 1);
-                self.place = Place::Locked { at };
-                Made::then(Event::LockPosition, Doing::Reserves { lock })
+                self.place = PlainPlace::Locked { at };
+                Made::then(Event::LockPosition, PlainDoing::Reserves { lock })
             }
-            Place::Locked { at } => self.reserves_if_fits(shape, words, lock, at, room),
-            Place::Loaded { at, prev } => {
+            PlainPlace::Locked { at } => self.reserves_if_fits(shape, words, lock, at, room),
+            PlainPlace::Loaded { at, prev } => {
                 words.set(Word::LastStart, shape.geometry().to_lsn(at).0);
-                self.place = Place::Stored { at, prev };
-                Made::then(Event::StorePrev, Doing::Reserves { lock })
+                self.place = PlainPlace::Stored { at, prev };
+                Made::then(Event::StorePrev, PlainDoing::Reserves { lock })
             }
-            Place::Stored { at, prev } => {
+            PlainPlace::Stored { at, prev } => {
                 words.set(Word::Position, at + room);
                 self.reserve(shape, at, prev, room);
-                Made::then(Event::StorePosition, Doing::Looks { lock })
+                Made::then(Event::StorePosition, PlainDoing::Looks { lock })
             }
         }
     }
@@ -152,7 +152,7 @@ impl PlainView {
         at: u64,
         room: u64,
     ) -> Made
-        requires place { self.old.place ≡ Place.Locked at }
+        requires place { self.old.place ≡ PlainPlace.Locked at }
         requires low { at < 2 ^ 59 }
         requires room { room ≤ 1048576 }
         ensures { Leaves result self.new words.old words.new
@@ -160,15 +160,15 @@ impl PlainView {
     {
         if at + room > shape.limit() {
             words.set(Word::Position, at);
-            self.place = Place::Free;
+            self.place = PlainPlace::Free;
             return Made::then(
                 Event::GivePositionBack,
-                Doing::Releases { lock, full: true },
+                PlainDoing::Releases { lock, full: true },
             );
         }
         let prev = words.get(Word::LastStart);
-        self.place = Place::Loaded { at, prev };
-        Made::then(Event::LoadPrev, Doing::Reserves { lock })
+        self.place = PlainPlace::Loaded { at, prev };
+        Made::then(Event::LoadPrev, PlainDoing::Reserves { lock })
     }
 
     // A record of so many bytes is reserved at a byte position.
@@ -179,10 +179,10 @@ impl PlainView {
     {
         let geometry = shape.geometry();
         let end = geometry.to_end_lsn(at + room).0;
-        self.place = Place::Free;
+        self.place = PlainPlace::Free;
         self.seen = at + room;
         self.last_end = end;
-        self.flight = Flight::Copying {
+        self.flight = PlainFlight::Copying {
             start: at,
             prev,
             next: geometry.to_end_lsn(at).0,
@@ -202,9 +202,9 @@ impl PlainView {
         let met = words.get(Word::BufferEnd(buffer));
         let event = Event::LoadBufferEnd { buffer };
         if met == self.page_end() {
-            Made::then(event, Doing::Copies { lock })
+            Made::then(event, PlainDoing::Copies { lock })
         } else {
-            Made::then(event, Doing::Maps { lock })
+            Made::then(event, PlainDoing::Maps { lock })
         }
     }
 
@@ -215,7 +215,7 @@ impl PlainView {
         shape: &LogShape,
         words: &mut MachineWords,
         lock: u32,
-        copied: Option<&Line>,
+        copied: Option<&PlainLine>,
     ) -> Made
         // The record in flight has a next word.
         requires pages { words.old.pages ≡ shape.now.ring_pages }
@@ -247,11 +247,11 @@ impl PlainView {
             (at_releases shape.now words.old.words self.old lock full commits) }
     {
         words.set(Word::Lock(lock), 0);
-        self.flight = Flight::Landed;
+        self.flight = PlainFlight::Landed;
         let next = if full || !commits {
-            Next::Answers { full }
+            PlainNext::Answers { full }
         } else {
-            Next::GoesOn(Doing::FlushBegins)
+            PlainNext::GoesOn(PlainDoing::FlushBegins)
         };
         Made {
             event: Event::ReleaseLock { lock },
@@ -260,9 +260,9 @@ impl PlainView {
     }
 }
 
-impl Flight {
+impl PlainFlight {
     // The record's next word.
-    fn word(&self, shape: &LogShape, copied: Option<&Line>) -> u64
+    fn word(&self, shape: &LogShape, copied: Option<&PlainLine>) -> u64
         requires { HasNextWord shape.now (line_behind copied) self.now }
         ensures { result ≡ word_to_copy shape.now (line_behind copied.entry) self.now }
     {
@@ -277,8 +277,8 @@ impl Flight {
         ensures { result ≡ word_of_body shape.now body.now self.now }
     {
         match *self {
-            Flight::Landed => 0,
-            Flight::Copying {
+            PlainFlight::Landed => 0,
+            PlainFlight::Copying {
                 start,
                 prev,
                 next,
@@ -302,25 +302,26 @@ impl Flight {
         requires { next_in self.old < 2 ^ 60 }
         ensures { self.new ≡ with_one_more self.old }
     {
-        if let Flight::Copying { next, .. } = self {
+        if let PlainFlight::Copying { next, .. } = self {
             *next += WORD;
         }
     }
 
     // What comes behind a word that was copied.
-    fn behind_word(&self, lock: u32) -> Doing
-        ensures { result ≡ (if has_no_word_left self.now then Doing.Releases lock false
-            else (if next_in self.now % 8192 == 0 then Doing.Looks lock else Doing.Copies lock)) }
+    fn behind_word(&self, lock: u32) -> PlainDoing
+        ensures { result ≡ (if has_no_word_left self.now then PlainDoing.Releases lock false
+            else (if next_in self.now % 8192 == 0 then PlainDoing.Looks lock else PlainDoing.Copies
+            lock)) }
     {
         match *self {
-            Flight::Copying { next, end, .. } if next != end => {
+            PlainFlight::Copying { next, end, .. } if next != end => {
                 if next % PAGE_SIZE == 0 {
-                    Doing::Looks { lock }
+                    PlainDoing::Looks { lock }
                 } else {
-                    Doing::Copies { lock }
+                    PlainDoing::Copies { lock }
                 }
             }
-            _ => Doing::Releases { lock, full: false },
+            _ => PlainDoing::Releases { lock, full: false },
         }
     }
 }
@@ -346,13 +347,14 @@ pub(crate) fn ring_place(shape: &LogShape, number: u64) -> u32
 }
 
 // What comes behind so many locks that were found taken, and one more.
-fn behind_taken(taken: u32) -> Doing
+fn behind_taken(taken: u32) -> PlainDoing
     requires { taken < 8 }
-    ensures { result ≡ (if taken + 1 == 8 then Doing.Begins else Doing.Tries (taken + 1)) }
+    ensures { result ≡ (if taken + 1 == 8 then PlainDoing.Begins else PlainDoing.Tries
+        (taken + 1)) }
 {
     if taken + 1 == LOCKS {
-        Doing::Begins
+        PlainDoing::Begins
     } else {
-        Doing::Tries { taken: taken + 1 }
+        PlainDoing::Tries { taken: taken + 1 }
     }
 }

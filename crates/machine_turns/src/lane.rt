@@ -10,25 +10,25 @@ ghost use Rattle.machine_words.specs.Numbers.{IsWord, number_of_word};
 ghost use Rattle.machine_turns.specs.Writer.{HasCallRoom, state_of};
 ghost use Rattle.machine_turns.specs.Lanes.{IsLockAwaited, IsOfFlush, LeavesLane, MayPlay, asked_by, finds_full, holds_back, is_away, is_free, lane_answered, lane_behind, loads_down, played, stepped, waits_if, word_awaited};
 
-use crate::doing::{Doing, Made, Next, Purpose};
+use crate::doing::{Made, PlainDoing, PlainNext, PlainPurpose};
 use crate::event::Turn;
-use crate::script::{Line, Script};
-use crate::view::{Place, PlainView, Stage};
+use crate::script::{PlainLine, Script};
+use crate::view::{PlainPlace, PlainStage, PlainView};
 use crate::writer::MachineWriter;
 use machine_words::{LogShape, MachineWords, Word};
 
 /// A backend: its lines, how many are answered, its next step, what it knows, and which line's
 /// record it copies.
 #[derive(Debug, Drop)]
-pub struct Lane {
+pub struct PlainBackend {
     pub view: PlainView,
     pub script: Script,
     pub copied: usize,
     pub answered: usize,
-    pub doing: Doing,
+    pub doing: PlainDoing,
 }
 
-impl Lane {
+impl PlainBackend {
     /// One turn: the step that the order names, by this backend's pass. What it may wait for is one
     /// word; where the disk has failed, its line is answered by that. A line that is answered that
     /// the log is full sets `full`.
@@ -97,7 +97,7 @@ impl Lane {
         ensures kept { HasCallRoom writer.new }
         ensures script { self.new.script ≡ self.old.script }
         ensures answered { self.new.answered ≡ self.old.answered }
-        ensures left { (line : Line) → slice_get self.old.script self.old.answered ≡ Some line
+        ensures left { (line : PlainLine) → slice_get self.old.script self.old.answered ≡ Some line
             → LeavesLane result self.old self.new words.old words.new (state_of writer.new)
             (stepped shape.now words.old.words (state_of writer.old) self.old.view line
             (slice_get self.old.script self.old.copied) self.old.doing) }
@@ -106,18 +106,18 @@ impl Lane {
         let copied = self.script.lines().get(self.copied);
         let view = &mut self.view;
         match self.doing {
-            Doing::Begins => view.begins(shape, words),
-            Doing::Tries { taken } => view.tries(shape, words, taken),
-            Doing::Reserves { lock } => {
+            PlainDoing::Begins => view.begins(shape, words),
+            PlainDoing::Tries { taken } => view.tries(shape, words, taken),
+            PlainDoing::Reserves { lock } => {
                 self.copied = self.answered;
                 view.reserves(shape, words, lock, line.room())
             }
-            Doing::Looks { lock } => view.looks(shape, words, lock),
-            Doing::Copies { lock } => view.copies(shape, words, lock, copied),
-            Doing::Maps { lock } => view.maps(shape, words, lock),
-            Doing::GivesTurn { lock, end } => view.gives_turn(shape, words, lock, end),
-            Doing::Tells { lock, end } => view.tells(shape, words, lock, end),
-            Doing::Releases { lock, full } => {
+            PlainDoing::Looks { lock } => view.looks(shape, words, lock),
+            PlainDoing::Copies { lock } => view.copies(shape, words, lock, copied),
+            PlainDoing::Maps { lock } => view.maps(shape, words, lock),
+            PlainDoing::GivesTurn { lock, end } => view.gives_turn(shape, words, lock, end),
+            PlainDoing::Tells { lock, end } => view.tells(shape, words, lock, end),
+            PlainDoing::Releases { lock, full } => {
                 view.releases(shape, words, lock, full, line.is_commit())
             }
             _ => self.step_of_flush(shape, words, writer),
@@ -139,36 +139,40 @@ impl Lane {
         ensures kept { HasCallRoom writer.new }
         ensures script { self.new.script ≡ self.old.script }
         ensures answered { self.new.answered ≡ self.old.answered }
-        ensures left { (line : Line) → slice_get self.old.script self.old.answered ≡ Some line
+        ensures left { (line : PlainLine) → slice_get self.old.script self.old.answered ≡ Some line
             → LeavesLane result self.old self.new words.old words.new (state_of writer.new)
             (stepped shape.now words.old.words (state_of writer.old) self.old.view line
             (slice_get self.old.script self.old.copied) self.old.doing) }
     {
         let view = &mut self.view;
         match self.doing {
-            Doing::FlushBegins => view.flush_begins(shape, words),
-            Doing::LoadsPosition => view.loads_position(shape, words),
-            Doing::LoadsFlushed => view.loads_flushed(shape, words),
-            Doing::LoadsMoment => view.loads_moment(shape, words),
-            Doing::Visits { purpose, lock } => view.visits(shape, words, purpose, lock),
-            Doing::TakesTurn { purpose } => view.takes_turn(shape, words, purpose),
-            Doing::LoadsDown { purpose } => view.loads_down(shape, words, purpose),
-            Doing::PutsBack { purpose, failed } => view.puts_back(shape, words, purpose, failed),
-            Doing::GivesWriteTurn { purpose, failed } => {
+            PlainDoing::FlushBegins => view.flush_begins(shape, words),
+            PlainDoing::LoadsPosition => view.loads_position(shape, words),
+            PlainDoing::LoadsFlushed => view.loads_flushed(shape, words),
+            PlainDoing::LoadsMoment => view.loads_moment(shape, words),
+            PlainDoing::Visits { purpose, lock } => view.visits(shape, words, purpose, lock),
+            PlainDoing::TakesTurn { purpose } => view.takes_turn(shape, words, purpose),
+            PlainDoing::LoadsDown { purpose } => view.loads_down(shape, words, purpose),
+            PlainDoing::PutsBack { purpose, failed } => view.puts_back(
+                shape, words, purpose, failed,
+            ),
+            PlainDoing::GivesWriteTurn { purpose, failed } => {
                 view.gives_write_turn(shape, words, purpose, failed)
             }
-            Doing::TakesOut { purpose } => view.takes_out(shape, words, writer, purpose),
-            Doing::LoadsPage { purpose, loaded } => {
+            PlainDoing::TakesOut { purpose } => view.takes_out(shape, words, writer, purpose),
+            PlainDoing::LoadsPage { purpose, loaded } => {
                 view.loads_page(shape, words, writer, purpose, loaded)
             }
-            Doing::Creates { purpose } => view.creates(shape, words, writer, purpose),
-            Doing::Writes { purpose } => view.writes(shape, words, writer, purpose),
-            Doing::SyncsFull { purpose } => view.syncs_full(shape, words, writer, purpose),
-            Doing::SyncsLast => view.syncs_last(shape, words, writer),
-            Doing::StoresWritten { purpose } => view.stores_written(shape, words, writer, purpose),
-            Doing::StoresMoment => view.stores_moment(shape, words, writer),
-            Doing::StoresFlushed => view.stores_flushed(shape, words, writer),
-            Doing::SetsDown { purpose } => view.sets_down(shape, words, writer, purpose),
+            PlainDoing::Creates { purpose } => view.creates(shape, words, writer, purpose),
+            PlainDoing::Writes { purpose } => view.writes(shape, words, writer, purpose),
+            PlainDoing::SyncsFull { purpose } => view.syncs_full(shape, words, writer, purpose),
+            PlainDoing::SyncsLast => view.syncs_last(shape, words, writer),
+            PlainDoing::StoresWritten { purpose } => view.stores_written(
+                shape, words, writer, purpose,
+            ),
+            PlainDoing::StoresMoment => view.stores_moment(shape, words, writer),
+            PlainDoing::StoresFlushed => view.stores_flushed(shape, words, writer),
+            PlainDoing::SetsDown { purpose } => view.sets_down(shape, words, writer, purpose),
             _ => unreachable!(),
         }
     }
@@ -188,12 +192,12 @@ impl Lane {
         ensures there { IfSome result (IsWord words.now.pages) }
     {
         match self.doing {
-            Doing::Reserves { .. } => self.view.place_awaited(words),
-            Doing::Maps { .. } => self.view.mapping_turn_awaited(words),
-            Doing::TakesTurn { .. } => {
+            PlainDoing::Reserves { .. } => self.view.place_awaited(words),
+            PlainDoing::Maps { .. } => self.view.mapping_turn_awaited(words),
+            PlainDoing::TakesTurn { .. } => {
                 (words.get(Word::WriteTurn) != 0).then_some(Word::WriteTurn)
             }
-            Doing::Visits { purpose, lock } => self.view.lock_awaited(words, purpose, lock),
+            PlainDoing::Visits { purpose, lock } => self.view.lock_awaited(words, purpose, lock),
             _ => None,
         }
     }
@@ -206,21 +210,21 @@ impl Lane {
         let lines = self.script.lines();
         let next = next_number(self.answered, lines);
         self.doing = match lines.get(next) {
-            Some(Line::Flush) => Doing::FlushBegins,
-            _ => Doing::Begins,
+            Some(PlainLine::Flush) => PlainDoing::FlushBegins,
+            _ => PlainDoing::Begins,
         };
         self.answered = next;
     }
 
     // What comes behind a step.
-    fn follow(&mut self, next: Next, full: &mut bool)
+    fn follow(&mut self, next: PlainNext, full: &mut bool)
         requires line { self.old.answered < length self.old.script }
         ensures lane { self.new ≡ lane_behind next self.old }
         ensures full { full.new ≡ full.old || finds_full next }
     {
         match next {
-            Next::GoesOn(doing) => self.doing = doing,
-            Next::Answers { full: found } => {
+            PlainNext::GoesOn(doing) => self.doing = doing,
+            PlainNext::Answers { full: found } => {
                 *full = *full || found;
                 self.answer();
             }
@@ -228,14 +232,14 @@ impl Lane {
     }
 }
 
-impl Doing {
+impl PlainDoing {
     // Whether the step itself looks at the down word.
     fn loads_down(&self) -> bool
         ensures { result ≡ loads_down self.now }
     {
         matches!(
             self,
-            Doing::Begins | Doing::FlushBegins | Doing::LoadsDown { .. }
+            PlainDoing::Begins | PlainDoing::FlushBegins | PlainDoing::LoadsDown { .. }
         )
     }
 }
@@ -247,7 +251,7 @@ impl PlainView {
             ≡ waits_if (is_free self.now.place && not (position_word words.now.words % 2 == 0)) 0 }
         ensures there { IfSome result (IsWord words.now.pages) }
     {
-        let is_free = matches!(self.place, Place::Free);
+        let is_free = matches!(self.place, PlainPlace::Free);
         (is_free && words.get(Word::Position) % 2 != 0).then_some(Word::Position)
     }
 
@@ -257,12 +261,12 @@ impl PlainView {
             ≡ waits_if (is_away self.now.stage && not (mapping_turn words.now.words == 0)) 10 }
         ensures there { IfSome result (IsWord words.now.pages) }
     {
-        let is_away = matches!(self.stage, Stage::Away);
+        let is_away = matches!(self.stage, PlainStage::Away);
         (is_away && words.get(Word::MappingTurn) != 0).then_some(Word::MappingTurn)
     }
 
     // A lock's holder tells nothing, or less than the address asked for.
-    fn lock_awaited(&self, words: &MachineWords, purpose: Purpose, lock: u32) -> Option<Word>
+    fn lock_awaited(&self, words: &MachineWords, purpose: PlainPurpose, lock: u32) -> Option<Word>
         requires { lock < 8 }
         ensures number { option_map (number_of_word words.now.pages) result
             ≡ waits_if (holds_back (asked_by purpose self.now) (lock_word words.now.words lock))
@@ -270,8 +274,8 @@ impl PlainView {
         ensures there { IfSome result (IsWord words.now.pages) }
     {
         let asked = match purpose {
-            Purpose::Line => self.last_end,
-            Purpose::Page { end, .. } => end,
+            PlainPurpose::Line => self.last_end,
+            PlainPurpose::Page { end, .. } => end,
         };
         let met = words.get(Word::Lock(lock));
         (met != 0 && met <= asked).then_some(Word::Lock(lock))
@@ -279,7 +283,7 @@ impl PlainView {
 }
 
 // The number of the line behind one that is there.
-fn next_number(answered: usize, lines: &[Line]) -> usize
+fn next_number(answered: usize, lines: &[PlainLine]) -> usize
     requires { answered < length lines.now }
     ensures { result ≡ answered + 1 }
 {

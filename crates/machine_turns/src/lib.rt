@@ -16,9 +16,9 @@ mod view;
 mod writer;
 mod writing;
 
-pub use doing::{Doing, Made, Next, Purpose};
+pub use doing::{Made, PlainDoing, PlainNext, PlainPurpose};
 pub use event::{Event, Turn};
-pub use lane::Lane;
-pub use script::{Line, Script};
-pub use view::{Flight, Hold, Place, PlainView, Stage, Watching};
+pub use lane::PlainBackend;
+pub use script::{PlainLine, Script};
+pub use view::{PlainFlight, PlainHold, PlainPlace, PlainStage, PlainView, PlainWatching};
 pub use writer::MachineWriter;

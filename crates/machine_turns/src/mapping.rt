@@ -11,9 +11,9 @@ ghost use Rattle.machine_turns.specs.Left.{Leaves, next_in};
 ghost use Rattle.machine_turns.specs.Mapping.{at_gives_turn, at_maps, at_tells, behind_turn, behind_written};
 ghost use Rattle.machine_turns.specs.Lanes.{IsLowStage};
 
-use crate::doing::{Doing, Made, Purpose};
+use crate::doing::{Made, PlainDoing, PlainPurpose};
 use crate::event::Event;
-use crate::view::{PlainView, Stage};
+use crate::view::{PlainStage, PlainView};
 use byte_position::PAGE_SIZE;
 use machine_words::{LogShape, MachineWords, Word};
 
@@ -32,34 +32,34 @@ impl PlainView {
             (at_maps shape.now words.old.words self.old lock) }
     {
         match self.stage {
-            Stage::Away => {
+            PlainStage::Away => {
                 words.set(Word::MappingTurn, u64::from(self.number) + 1);
-                self.stage = Stage::Taken;
-                Made::then(Event::TakeMappingTurn, Doing::Maps { lock })
+                self.stage = PlainStage::Taken;
+                Made::then(Event::TakeMappingTurn, PlainDoing::Maps { lock })
             }
-            Stage::Taken => {
+            PlainStage::Taken => {
                 let at = words.get(Word::InitialisedEnd);
-                self.stage = Stage::Looked { at };
-                Made::then(Event::LoadInitialisedEnd, Doing::Maps { lock })
+                self.stage = PlainStage::Looked { at };
+                Made::then(Event::LoadInitialisedEnd, PlainDoing::Maps { lock })
             }
-            Stage::Looked { at } => {
+            PlainStage::Looked { at } => {
                 let written = words.get(Word::Written);
-                self.stage = Stage::Ready { at };
+                self.stage = PlainStage::Ready { at };
                 Made::then(
                     Event::LoadWritten,
                     self.behind_written(shape, lock, at, written),
                 )
             }
-            Stage::Ready { at } => {
+            PlainStage::Ready { at } => {
                 words.set(Word::BufferEnd(buffer_at(shape, at)), 0);
-                self.stage = Stage::Zeroing { at, count: 0 };
-                Made::then(Event::ClearEnd, Doing::Maps { lock })
+                self.stage = PlainStage::Zeroing { at, count: 0 };
+                Made::then(Event::ClearEnd, PlainDoing::Maps { lock })
             }
-            Stage::Zeroing { at, count } => self.zeroes(shape, words, lock, at, count),
-            Stage::Published { at } => {
+            PlainStage::Zeroing { at, count } => self.zeroes(shape, words, lock, at, count),
+            PlainStage::Published { at } => {
                 words.set(Word::InitialisedEnd, at + PAGE_SIZE);
-                self.stage = Stage::Taken;
-                let next = Doing::GivesTurn { lock, end: None };
+                self.stage = PlainStage::Taken;
+                let next = PlainDoing::GivesTurn { lock, end: None };
                 Made::then(Event::PublishInitialisedEnd, next)
             }
         }
@@ -76,7 +76,7 @@ impl PlainView {
     ) -> Made
         // The buffer's end word is cleared, and so many of its words are zeroed.
         requires pages { words.old.pages ≡ shape.now.ring_pages }
-        requires stage { self.old.stage ≡ Stage.Zeroing at count }
+        requires stage { self.old.stage ≡ PlainStage.Zeroing at count }
         requires low { at < 2 ^ 60 }
         requires few { count ≤ 1024 }
         ensures { Leaves result self.new words.old words.new
@@ -85,19 +85,19 @@ impl PlainView {
         let buffer = buffer_at(shape, at);
         if count < PAGE_WORDS {
             words.set(Word::Ring(buffer * PAGE_WORDS + count), 0);
-            self.stage = Stage::Zeroing {
+            self.stage = PlainStage::Zeroing {
                 at,
                 count: count + 1,
             };
-            return Made::then(Event::ZeroRingWord, Doing::Maps { lock });
+            return Made::then(Event::ZeroRingWord, PlainDoing::Maps { lock });
         }
         words.set(Word::BufferEnd(buffer), at + PAGE_SIZE);
-        self.stage = Stage::Published { at };
-        Made::then(Event::PublishEnd, Doing::Maps { lock })
+        self.stage = PlainStage::Published { at };
+        Made::then(Event::PublishEnd, PlainDoing::Maps { lock })
     }
 
     // The page at an address is to be mapped, and so far the log is written.
-    fn behind_written(&self, shape: &LogShape, lock: u32, at: u64, written: u64) -> Doing
+    fn behind_written(&self, shape: &LogShape, lock: u32, at: u64, written: u64) -> PlainDoing
         requires at { at < 2 ^ 60 }
         requires written { written < 2 ^ 60 }
         requires next { next_in self.now.flight < 2 ^ 60 }
@@ -105,14 +105,14 @@ impl PlainView {
     {
         let ring = u64::from(shape.ring_pages()) * PAGE_SIZE;
         if self.page_end() <= at {
-            Doing::GivesTurn { lock, end: None }
+            PlainDoing::GivesTurn { lock, end: None }
         } else if written + ring < at + PAGE_SIZE {
-            Doing::GivesTurn {
+            PlainDoing::GivesTurn {
                 lock,
                 end: Some(at + PAGE_SIZE - ring),
             }
         } else {
-            Doing::Maps { lock }
+            PlainDoing::Maps { lock }
         }
     }
 
@@ -129,7 +129,7 @@ impl PlainView {
             (at_gives_turn shape.now words.old.words self.old lock end) }
     {
         words.set(Word::MappingTurn, 0);
-        self.stage = Stage::Away;
+        self.stage = PlainStage::Away;
         Made::then(Event::ReleaseMappingTurn, behind_turn(lock, end))
     }
 
@@ -149,10 +149,10 @@ impl PlainView {
     {
         let upto = self.flight.next();
         words.set(Word::Lock(lock), upto + 1);
-        let purpose = Purpose::Page { lock, end };
+        let purpose = PlainPurpose::Page { lock, end };
         Made::then(
             Event::Advance { lock, upto },
-            Doing::Visits { purpose, lock: 0 },
+            PlainDoing::Visits { purpose, lock: 0 },
         )
     }
 }
@@ -167,11 +167,11 @@ fn buffer_at(shape: &LogShape, at: u64) -> u32
 }
 
 // What comes behind the turn to map a page.
-fn behind_turn(lock: u32, end: Option<u64>) -> Doing
+fn behind_turn(lock: u32, end: Option<u64>) -> PlainDoing
     ensures { result ≡ behind_turn lock end }
 {
     match end {
-        None => Doing::Looks { lock },
-        Some(end) => Doing::Tells { lock, end },
+        None => PlainDoing::Looks { lock },
+        Some(end) => PlainDoing::Tells { lock, end },
     }
 }

@@ -11,7 +11,7 @@ use std::marker::Model;
 
 /// What a line asks for, with its record assembled.
 #[derive(Debug, Drop)]
-pub enum Line {
+pub enum PlainLine {
     /// Insert this record.
     Insert(Body),
     /// Insert this commit's record, then flush to its end.
@@ -20,14 +20,14 @@ pub enum Line {
     Flush,
 }
 
-impl Line {
+impl PlainLine {
     /// The record that it inserts.
     pub(crate) fn body(&self) -> Option<&Body>
         ensures { option_map (λ body. body.now) result ≡ body_of self.now }
     {
         match self {
-            Line::Insert(body) | Line::Commit(body) => Some(body),
-            Line::Flush => None,
+            PlainLine::Insert(body) | PlainLine::Commit(body) => Some(body),
+            PlainLine::Flush => None,
         }
     }
 
@@ -35,7 +35,7 @@ impl Line {
     pub(crate) fn is_commit(&self) -> bool
         ensures { result ≡ is_commit self.now }
     {
-        matches!(self, Line::Commit(_))
+        matches!(self, PlainLine::Commit(_))
     }
 
     /// How many bytes of the log its record takes up; 0 where it inserts none.
@@ -46,8 +46,8 @@ impl Line {
         ensures known { IfSome (body_of self.now) RecordOf }
     {
         match self {
-            Line::Insert(body) | Line::Commit(body) => u64::from(body.room()),
-            Line::Flush => 0,
+            PlainLine::Insert(body) | PlainLine::Commit(body) => u64::from(body.room()),
+            PlainLine::Flush => 0,
         }
     }
 }
@@ -55,26 +55,26 @@ impl Line {
 /// The lines of one backend, in order; contracts see the list of them.
 #[derive(Debug, Drop)]
 pub struct Script {
-    lines: Vec<Line>,
+    lines: Vec<PlainLine>,
 }
 
 impl Model for Script {
     ghost use Rattle.std.specs.Prelude.{List};
-    ghost use Rattle.machine_turns.specs.declared.script.Line.{Line};
+    ghost use Rattle.machine_turns.specs.declared.script.PlainLine.{PlainLine};
 
-    ghost Value = { List Line };
+    ghost Value = { List PlainLine };
 
     ghost view = { λ s. s.lines.items };
 }
 
 impl Script {
-    pub fn of(lines: Vec<Line>) -> Script
+    pub fn of(lines: Vec<PlainLine>) -> Script
         ensures { result ≡ lines.items }
     {
         Script { lines }
     }
 
-    pub fn lines(&self) -> &[Line]
+    pub fn lines(&self) -> &[PlainLine]
         ensures { result.now ≡ self.now }
     {
         &self.lines

@@ -1,12 +1,12 @@
 //! What a backend knows and is about, as plain numbers: what the machine's view has of it (`View`
 //! of wal_core), as far as the next steps rest on it. It changes in the backend's own turns alone.
-//! Which insertion lock a backend holds stands in its place (`Doing`), and the writer is one for
-//! all.
+//! Which insertion lock a backend holds stands in its place (`PlainDoing`), and the writer is one
+//! for all.
 
 /// How far a backend is with a reservation. `at` is the byte position that it locked, `prev` the
 /// address at which the record before starts.
 #[derive(Clone, Copy, Debug, PartialEq, Eq)]
-pub enum Place {
+pub enum PlainPlace {
     Free,
     Locked { at: u64 },
     Loaded { at: u64, prev: u64 },
@@ -16,7 +16,7 @@ pub enum Place {
 /// The record that a backend copies: the byte position of its start, the address at which the one
 /// before starts, the address of the next word to copy, and the address at which the record ends.
 #[derive(Clone, Copy, Debug, PartialEq, Eq)]
-pub enum Flight {
+pub enum PlainFlight {
     Landed,
     Copying {
         start: u64,
@@ -29,7 +29,7 @@ pub enum Flight {
 /// What a backend watches for: an address, how many locks it has visited, and the address below
 /// which all is copied of what they guard.
 #[derive(Clone, Copy, Debug, PartialEq, Eq)]
-pub struct Watching {
+pub struct PlainWatching {
     pub end: u64,
     pub visited: u32,
     pub bound: u64,
@@ -37,7 +37,7 @@ pub struct Watching {
 
 /// How far a backend is with mapping the page at an address, and how many of its words it zeroed.
 #[derive(Clone, Copy, Debug, PartialEq, Eq)]
-pub enum Stage {
+pub enum PlainStage {
     Away,
     Taken,
     Looked { at: u64 },
@@ -49,7 +49,7 @@ pub enum Stage {
 /// What a backend has of the turn to write: nothing, the turn, or the writer too, where all below
 /// an address is known to be copied.
 #[derive(Clone, Copy, Debug, PartialEq, Eq)]
-pub enum Hold {
+pub enum PlainHold {
     Idle,
     Turned,
     Out { known: u64 },
@@ -60,13 +60,13 @@ pub enum Hold {
 pub struct PlainView {
     /// Its pass's number.
     pub number: u32,
-    pub place: Place,
+    pub place: PlainPlace,
     /// A byte position that it has seen reserved.
     pub seen: u64,
     /// The address at which its last record ends; the log's start where it has none.
     pub last_end: u64,
-    pub flight: Flight,
-    pub watching: Watching,
-    pub stage: Stage,
-    pub hold: Hold,
+    pub flight: PlainFlight,
+    pub watching: PlainWatching,
+    pub stage: PlainStage,
+    pub hold: PlainHold,
 }

@@ -11,6 +11,7 @@ ghost use Rattle.segment_disk.specs.MemDisk.{first_image, tape_of};
 ghost use Rattle.segment_disk.specs.DiskImage.{LeftAt};
 ghost use Rattle.segment_disk.specs.Picks.{IsPicked, choice_of};
 ghost use Rattle.segment_disk.specs.Tape.{state_at};
+ghost use Rattle.wal_core.specs.Suited.{tape_from};
 ghost use Rattle.machine_turns.specs.Writer.{IsCreateDue, IsFreshWriter, HasCallRoom, IsSyncDue, IsWriteDue, created, maybe, page_at, page_written, segment_at, state_of, succeeds, synced, with_word};
 ghost use Rattle.machine_turns.specs.Writing.{segment_waiting};
 
@@ -24,9 +25,9 @@ const WORD: usize = byte_position::WORD as usize;
 /// What is written of a log, on a disk in memory that has room for all calls which the log can
 /// need, and the page that is loaded for a write (PostgreSQL's xlog.c, XLogWrite).
 ///
-/// `end` is the address that the log will not pass. Each write raises the written address, and at
-/// most one sync follows it: so there are at most two calls for each byte of the log, and one for
-/// each segment.
+/// `end` is the address that the log will not pass. Each write raises the written address by a word
+/// at least, and at most one sync follows it: so there are at most two calls for each 8 bytes of
+/// the log, and one for each segment.
 #[derive(Drop)]
 pub struct MachineWriter {
     disk: MemDisk,
@@ -199,10 +200,12 @@ impl MachineWriter {
 
     /// The disk that a crash leaves now, with the words that the pick says.
     pub fn crash(&self, alloc: Global, pick: Pick) -> Result<MemDisk, Memory>
-        ensures left { IfOk result (λ disk. IfSome (state_of self.now).plain.tape (λ tape.
-            LeftAt tape (state_of self.now).plain.moment (first_image disk))) }
-        ensures picked { IfOk result (λ disk. IfSome (state_of self.now).plain.tape (λ tape.
-            IsPicked (choice_of pick) (state_at tape (state_of self.now).plain.moment)
+        ensures left { IfOk result (λ disk. IfSome (tape_from (state_of self.now).first
+            (state_of self.now).plain.calls) (λ tape. LeftAt tape (state_of self.now).plain.moment
+            (first_image disk))) }
+        ensures picked { IfOk result (λ disk. IfSome (tape_from (state_of self.now).first
+            (state_of self.now).plain.calls) (λ tape. IsPicked (choice_of pick) (state_at tape
+            (state_of self.now).plain.moment)
             (first_image disk))) }
         ensures tape { IfOk result (λ disk. tape_of disk
             ≡ Some (record { at_first = first_state disk.first.items; calls = [] })) }
@@ -216,10 +219,11 @@ fn room_for(geometry: Geometry, end: u64) -> Result<(u32, u32), Memory>
     requires begun { geometry ≤ end }
     requires low { end < 2 ^ 45 }
     ensures segments { IfOk result (λ room. end ≤ geometry * (room.0 + 1)) }
-    ensures calls { IfOk result (λ room. room.0 + 2 * (end - geometry) ≤ room.1) }
+    ensures calls { IfOk result (λ room. 4 * room.0 + (end - geometry) ≤ 4 * room.1) }
 {
     let segments = end / geometry.segment_size();
-    let calls = segments + 2 * (end - geometry.segment_size());
+    let words = (end - geometry.segment_size()).div_ceil(WORD as u64);
+    let calls = segments + 2 * words;
     if calls > u64::from(u32::MAX) {
         return Err(Memory);
     }

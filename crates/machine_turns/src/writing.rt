@@ -11,24 +11,24 @@ ghost use Rattle.machine_turns.specs.Left.{Leaves};
 ghost use Rattle.machine_turns.specs.Writer.{IsCreateDue, HasCallRoom, IsSyncDue, IsWriteDue, created, page_written, state_of, synced};
 ghost use Rattle.machine_turns.specs.Writing.{at_creates, at_loads_page, at_sets_down, at_stores_flushed, at_stores_moment, at_stores_written, at_syncs_full, at_syncs_last, at_takes_out, at_writes, known_in, page_or_end, segment_waiting, upto_next, writer_at_loads_page};
 
-use crate::doing::{Doing, Made, Purpose};
+use crate::doing::{Made, PlainDoing, PlainPurpose};
 use crate::event::Event;
 use crate::insert::ring_place;
-use crate::view::{Hold, PlainView};
+use crate::view::{PlainHold, PlainView};
 use crate::writer::MachineWriter;
 use byte_position::{PAGE_SIZE, PAGE_WORDS};
 use machine_words::layout::LOCKS;
 use machine_words::{LogShape, MachineWords, Word};
 use wal_types::Lsn;
 
-impl Hold {
+impl PlainHold {
     // Below this address all is known to be copied.
     fn known(&self) -> u64
         ensures { result ≡ known_in self.now }
     {
         match *self {
-            Hold::Out { known } => known,
-            Hold::Idle | Hold::Turned => 0,
+            PlainHold::Out { known } => known,
+            PlainHold::Idle | PlainHold::Turned => 0,
         }
     }
 }
@@ -41,7 +41,7 @@ impl PlainView {
         shape: &LogShape,
         words: &MachineWords,
         writer: &MachineWriter,
-        purpose: Purpose,
+        purpose: PlainPurpose,
     ) -> Made
         ensures { Leaves result self.new words.now words.now
             (at_takes_out shape.now words.now.words self.old (state_of writer.now) purpose) }
@@ -51,7 +51,7 @@ impl PlainView {
         } else {
             0
         };
-        self.hold = Hold::Out { known };
+        self.hold = PlainHold::Out { known };
         Made::then(Event::TakeWriterOut, page_or_end(purpose, known, writer))
     }
 
@@ -62,7 +62,7 @@ impl PlainView {
         shape: &LogShape,
         words: &MachineWords,
         writer: &mut MachineWriter,
-        purpose: Purpose,
+        purpose: PlainPurpose,
         loaded: u32,
     ) -> Made
         requires pages { words.now.pages ≡ shape.now.ring_pages }
@@ -79,14 +79,14 @@ impl PlainView {
         let word = words.get(Word::Ring(ring_place(shape, number)));
         writer.load(loaded, word);
         let next = if u64::from(loaded) + 1 < PAGE_WORDS {
-            Doing::LoadsPage {
+            PlainDoing::LoadsPage {
                 purpose,
                 loaded: loaded + 1,
             }
         } else if writer.made() < writer.segment() {
-            Doing::Creates { purpose }
+            PlainDoing::Creates { purpose }
         } else {
-            Doing::Writes { purpose }
+            PlainDoing::Writes { purpose }
         };
         Made::then(Event::LoadRingWord { number }, next)
     }
@@ -97,7 +97,7 @@ impl PlainView {
         shape: &LogShape,
         words: &MachineWords,
         writer: &mut MachineWriter,
-        purpose: Purpose,
+        purpose: PlainPurpose,
     ) -> Made
         requires due { IsCreateDue (state_of writer.old) }
         requires kept { HasCallRoom writer.old }
@@ -108,7 +108,7 @@ impl PlainView {
     {
         let segment = writer.made() + 1;
         let done = writer.create();
-        let next = behind_call(done, purpose, Doing::Writes { purpose });
+        let next = behind_call(done, purpose, PlainDoing::Writes { purpose });
         Made::then(Event::Create { segment, done }, next)
     }
 
@@ -118,7 +118,7 @@ impl PlainView {
         shape: &LogShape,
         words: &MachineWords,
         writer: &mut MachineWriter,
-        purpose: Purpose,
+        purpose: PlainPurpose,
     ) -> Made
         // The written address is to rise, in a segment that is made, and no call has failed.
         requires size { (state_of writer.old).size ≡ shape.now.segment_size }
@@ -139,7 +139,7 @@ impl PlainView {
         let upto = known.min(page * PAGE_SIZE + PAGE_SIZE);
         let done = writer.write_page(upto);
         let next = if upto % shape.geometry().segment_size() == 0 {
-            Doing::SyncsFull { purpose }
+            PlainDoing::SyncsFull { purpose }
         } else {
             page_or_end(purpose, known, writer)
         };
@@ -158,7 +158,7 @@ impl PlainView {
         shape: &LogShape,
         words: &MachineWords,
         writer: &mut MachineWriter,
-        purpose: Purpose,
+        purpose: PlainPurpose,
     ) -> Made
         // Writes to that segment wait for it, and no call has failed.
         requires due { IsSyncDue (state_of writer.old)
@@ -196,10 +196,10 @@ impl PlainView {
             ≡ synced (state_of writer.old) (segment_waiting (state_of writer.old).plain.waiting) }
         ensures kept { HasCallRoom writer.new }
     {
-        let purpose = Purpose::Line;
+        let purpose = PlainPurpose::Line;
         let segment = writer.segment_waiting();
         let done = writer.sync(segment);
-        let next = behind_call(done, purpose, Doing::StoresWritten { purpose });
+        let next = behind_call(done, purpose, PlainDoing::StoresWritten { purpose });
         Made::then(Event::Sync { segment, done }, next)
     }
 
@@ -209,15 +209,15 @@ impl PlainView {
         shape: &LogShape,
         words: &mut MachineWords,
         writer: &MachineWriter,
-        purpose: Purpose,
+        purpose: PlainPurpose,
     ) -> Made
         ensures { Leaves result self.now words.old words.new
             (at_stores_written shape.now words.old.words self.now (state_of writer.now) purpose) }
     {
         words.set(Word::Written, writer.written());
         let next = match purpose {
-            Purpose::Line => Doing::StoresMoment,
-            Purpose::Page { .. } => Doing::PutsBack {
+            PlainPurpose::Line => PlainDoing::StoresMoment,
+            PlainPurpose::Page { .. } => PlainDoing::PutsBack {
                 purpose,
                 failed: false,
             },
@@ -236,7 +236,7 @@ impl PlainView {
             (at_stores_moment shape.now words.old.words self.now (state_of writer.now)) }
     {
         words.set(Word::Moment, writer.moment());
-        Made::then(Event::StoreMoment, Doing::StoresFlushed)
+        Made::then(Event::StoreMoment, PlainDoing::StoresFlushed)
     }
 
     /// Stores as flushed what is written, behind the moment from which on it is durable.
@@ -252,8 +252,8 @@ impl PlainView {
         let written = writer.written();
         words.set(Word::Flushed, written);
         self.see(shape.geometry().position_of(Lsn(written)));
-        let next = Doing::PutsBack {
-            purpose: Purpose::Line,
+        let next = PlainDoing::PutsBack {
+            purpose: PlainPurpose::Line,
             failed: false,
         };
         Made::then(Event::StoreFlushed, next)
@@ -265,13 +265,13 @@ impl PlainView {
         shape: &LogShape,
         words: &mut MachineWords,
         writer: &MachineWriter,
-        purpose: Purpose,
+        purpose: PlainPurpose,
     ) -> Made
         ensures { Leaves result self.now words.old words.new
             (at_sets_down shape.now words.old.words self.now (state_of writer.now) purpose) }
     {
         words.set(Word::Down, writer.fault().unwrap_or(0));
-        let next = Doing::PutsBack {
+        let next = PlainDoing::PutsBack {
             purpose,
             failed: true,
         };
@@ -280,25 +280,25 @@ impl PlainView {
 }
 
 // Behind the page written last: the next one, or the end of the writing.
-fn page_or_end(purpose: Purpose, known: u64, writer: &MachineWriter) -> Doing
+fn page_or_end(purpose: PlainPurpose, known: u64, writer: &MachineWriter) -> PlainDoing
     ensures { result ≡ page_or_end purpose known (state_of writer.now) }
 {
     if writer.written() < known {
-        return Doing::LoadsPage { purpose, loaded: 0 };
+        return PlainDoing::LoadsPage { purpose, loaded: 0 };
     }
     match purpose {
-        Purpose::Line if writer.waiting().is_some() => Doing::SyncsLast,
-        _ => Doing::StoresWritten { purpose },
+        PlainPurpose::Line if writer.waiting().is_some() => PlainDoing::SyncsLast,
+        _ => PlainDoing::StoresWritten { purpose },
     }
 }
 
 // Behind a call of the device: what comes next, or the disk has failed.
-fn behind_call(done: bool, purpose: Purpose, next: Doing) -> Doing
-    ensures { result ≡ (if done then next else Doing.SetsDown purpose) }
+fn behind_call(done: bool, purpose: PlainPurpose, next: PlainDoing) -> PlainDoing
+    ensures { result ≡ (if done then next else PlainDoing.SetsDown purpose) }
 {
     if done {
         next
     } else {
-        Doing::SetsDown { purpose }
+        PlainDoing::SetsDown { purpose }
     }
 }

@@ -1,120 +1,49 @@
--- Each call of the device: when it may be made, and what it leaves where it succeeds.
-use Rattle.std.specs.Prelude.{Result}
-use Rattle.std.proofs.Common.{◌≡◌, ◌⊎◌, ℕ, ◌+◌, ◌*◌, ◌/◌, ◌<◌, ◌≤◌, List, length, refl, sym, subst, arith}
-use mathlib.Core.Option.{none, some}
-use Rattle.segment_disk.specs.Tape.{empty_state}
-use Rattle.byte_position.specs.Geometry.{pages_of}
-use Rattle.flush_core.specs.declared.writer.DiskFault.{DiskFault}
+-- What a pass with the writer in hand may do: load a word of a page, and each call of the device.
+use Rattle.std.proofs.Common.{◌≡◌, ℕ, List, sym, subst}
+use Rattle.segment_disk.specs.Tape.{Tape}
+use Rattle.wal_core.specs.Moves.{Done}
+use Rattle.wal_core.specs.Steps.{IsNextCreate, IsNextSync, IsNextWrite, IsToBeWritten, MayStep, create, load_ring_word, sync, write}
+use Rattle.wal_core.specs.Views.{Lent, Out}
 use Rattle.wal_core.specs.Words.{Opening}
-use Rattle.wal_core.specs.Moves.{Done, CallOutcome}
-use Rattle.wal_core.specs.Steps.{IsPageLoaded, create, sync, write}
-use Rattle.wal_rule.specs.Called.{creates, step_of_call, syncs, writes}
-use Rattle.wal_rule.specs.Seats.{SeatView, behind, lent_on}
-use Rattle.wal_rule.specs.Slotted.{EndsAs}
-use Rattle.wal_rule.specs.Stepping.{MaySeat}
-use Rattle.page_writing.specs.InHand.{EndsInHand, lent_in, writer_in}
-use Rattle.page_writing.specs.Written.{IsSegmentMade, IsPagePut, IsSegmentSynced}
-use Rattle.page_writing.proofs.HandLaws.{HasLent, ended, out_is}
+use Rattle.wal_rule.specs.declared.seated.SeatedPass.{SeatedPass}
+use Rattle.wal_rule.specs.SeatedPasses.{setup_of, view_of}
+use Rattle.page_writing.specs.InHand.{HasHand, lent_in}
+use Rattle.page_writing.proofs.HandLaws.{has_lent, hold_is}
 
-module _ (v : SeatView) (has : HasLent v) (opening : Opening) (own : v.opening ≡ opening)
-    (up : (writer_in v).fault ≡ none) where
-  pub may_create : (segment : ℕ) → segment ≡ (writer_in v).made + 1
-      → segment * (opening.setup).segment_size ≤ (writer_in v).written
-      → segment * (opening.setup).segment_size < (lent_in v.hold).known
-      → (writer_in v).waiting ≡ none → MaySeat v (create segment Done)
-  may_create segment next begun asked alone = (
+module _ {D : Type 0} (tape : D → Rattle.std.specs.Prelude.Option Tape) (moment faults : D → ℕ)
+    (p : SeatedPass D) (hand : HasHand tape moment faults p) where
+  abbrev lent : Lent
+  lent = lent_in ((view_of p).writing).hold
+
+  out : ((view_of p).writing).hold ≡ Out lent
+  out = hold_is (view_of p) (has_lent tape moment faults p hand)
+
+  pub may_load : (k : ℕ) → IsToBeWritten k lent → MayStep (view_of p) (load_ring_word k)
+  may_load k next = (lent, out, next)
+
+  pub may_create : (segment : ℕ) → IsNextCreate (setup_of p) segment lent
+      → MayStep (view_of p) (create segment Done)
+  may_create segment next = (
     (
-      lent_on empty_state (lent_in v.hold),
-      out_is v has,
-      record {
-        up = up;
-        next = next;
-        behind = subst
-            (λ (o : Opening). segment * (o.setup).segment_size ≤ (writer_in v).written)
-            (sym own) begun;
-        asked = subst
-            (λ (o : Opening). segment * (o.setup).segment_size < (lent_in v.hold).known)
-            (sym own) asked;
-        alone = alone;
-      },
+      lent,
+      out,
+      subst (λ (o : Opening). IsNextCreate o.setup segment lent) (sym (p.seated).own) next,
     ),
     tt,
   )
 
   pub may_write : (segment page upto : ℕ) (bytes : List ℕ)
-      → segment * pages_of (opening.setup).segment_size + page ≡ (writer_in v).written / 8192
-      → page < pages_of (opening.setup).segment_size → segment ≤ (writer_in v).made
-      → ((writer_in v).waiting ≡ none) ⊎ ((writer_in v).waiting ≡ some segment)
-      → (writer_in v).written < upto
-      → upto ≤ ((writer_in v).written / 8192 + 1) * 8192 → upto ≤ (lent_in v.hold).known
-      → length bytes ≡ 8192
-      → IsPageLoaded ((writer_in v).written / 8192) bytes (lent_in v.hold).staged
-      → MaySeat v (write segment page upto bytes Done)
-  may_write segment page upto bytes is inside made alone rises within copied whole loaded = (
+      → IsNextWrite (setup_of p) segment page upto bytes lent
+      → MayStep (view_of p) (write segment page upto bytes Done)
+  may_write segment page upto bytes next = (
     (
-      lent_on empty_state (lent_in v.hold),
-      out_is v has,
-      record {
-        up = up;
-        page_is = subst (λ (o : Opening).
-            segment * pages_of (o.setup).segment_size + page ≡ (writer_in v).written / 8192)
-            (sym own) is;
-        on_segment = subst (λ (o : Opening). page < pages_of (o.setup).segment_size)
-            (sym own) inside;
-        is_made = made;
-        alone = alone;
-        rises = omega (arith, rises);
-        behind_start = omega (arith, rises);
-        within = within;
-        copied = copied;
-        whole = whole;
-        loaded = loaded;
-      },
+      lent,
+      out,
+      subst (λ (o : Opening). IsNextWrite o.setup segment page upto bytes lent)
+          (sym (p.seated).own) next,
     ),
     tt,
   )
 
-  pub may_sync : (segment : ℕ) → (writer_in v).waiting ≡ some segment
-      → MaySeat v (sync segment Done)
-  may_sync segment waits = (
-    (
-      lent_on empty_state (lent_in v.hold),
-      out_is v has,
-      record {
-        up = up;
-        waits = waits;
-      },
-    ),
-    tt,
-  )
-
-  module _ (w : SeatView) (outcome : CallOutcome) (result : Result Unit DiskFault)
-      (ends : EndsAs result outcome) where
-    pub created : (segment : ℕ) → w ≡ behind (step_of_call (creates segment) outcome) 0 none v
-        → EndsInHand (IsSegmentMade segment) result v w
-    created segment is = ended v w has (creates segment) outcome is (IsSegmentMade segment) (record {
-      up = up;
-      written = refl;
-      made = refl;
-      waiting = refl;
-    }) result ends
-
-    pub put : (segment page upto : ℕ) (bytes : List ℕ)
-        → w ≡ behind (step_of_call (writes segment page upto bytes) outcome) 0 none v
-        → EndsInHand (IsPagePut segment upto) result v w
-    put segment page upto bytes is = ended v w has (writes segment page upto bytes) outcome is
-        (IsPagePut segment upto) (record {
-          up = up;
-          written = refl;
-          made = refl;
-          waiting = refl;
-        }) result ends
-
-    pub synced : (segment : ℕ) → w ≡ behind (step_of_call (syncs segment) outcome) 0 none v
-        → EndsInHand IsSegmentSynced result v w
-    synced segment is = ended v w has (syncs segment) outcome is IsSegmentSynced (record {
-      up = up;
-      written = refl;
-      made = refl;
-      waiting = refl;
-    }) result ends
+  pub may_sync : (segment : ℕ) → IsNextSync segment lent → MayStep (view_of p) (sync segment Done)
+  may_sync segment next = ((lent, out, next), tt)

@@ -1,12 +1,17 @@
 -- Pages and segments of the written address.
-use Rattle.std.proofs.Common.{◌≡◌, ℕ, ◌+◌, ◌*◌, ◌/◌, ◌%◌, ◌<◌, ◌≤◌, refl, sym, ap, ◌∙◌, subst, arith}
-use Rattle.std.proofs.Math.Nat.{add-mul, div-mul-le_self, le_of_mul-le-mul_right, le_trans, mul_assoc, mul_comm}
+use Rattle.std.proofs.Common.{◌≡◌, ℕ, ◌+◌, ◌*◌, ◌/◌, ◌%◌, ◌<◌, ◌≤◌, List, length, min, refl, sym, ap, ◌∙◌, subst, arith}
+use Rattle.std.proofs.Math.Nat.{add-mul, div-mul-le_self, le_of_mul-le-mul_right, le_trans, mod-lt, mul_assoc, mul_comm}
 use Rattle.std.proofs.lemmas.Nat.{div-add-mod'}
 use Rattle.byte_position.specs.Geometry.{pages_of}
-use Rattle.wal_core.specs.declared.setup.Setup.{Setup}
+use Rattle.wal_core.specs.Steps.{IsNextWrite, IsPageLoaded}
+use Rattle.wal_core.specs.Views.{Plain, View}
 use Rattle.wal_core.specs.Words.{Opening}
-use Rattle.wal_rule.specs.Seats.{SeatView}
-use Rattle.page_writing.specs.InHand.{writer_in}
+use Rattle.wal_core.specs.declared.setup.Setup.{Setup}
+use Rattle.wal_rule.specs.declared.seated.SeatedPass.{SeatedPass}
+use Rattle.wal_rule.specs.SeatedPasses.{setup_of, view_of}
+use Rattle.page_writing.specs.InHand.{lent_in, writer_in}
+use Rattle.page_writing.specs.Written.{IsSegmentThere}
+use Rattle.page_writing.proofs.Bounds.{IsInBounds}
 
 -- the segment of a page begins at or before it
 pub segment_begun : (size pages page written segment : ℕ) → 8192 * pages ≡ size
@@ -26,21 +31,19 @@ segment_next size written made segment some begun reached =
     let product : (made + 1) * size ≡ made * size + 1 * size = add-mul made 1 size in
     le_of_mul-le-mul_right (le_trans begun (omega (arith, product, reached))) some
 
--- the same of a view, where the table's log has this setup
-pub next_of_log : (setup : Setup) (opening : Opening) (v : SeatView) → setup ≡ opening.setup
-    → v.opening ≡ opening → (page pages : ℕ) → 8192 * pages ≡ setup.segment_size → 0 < pages
-    → page ≡ (writer_in v).written / 8192
-    → (writer_in v).written ≤ (writer_in v).made * ((v.opening).setup).segment_size
-    + ((v.opening).setup).segment_size
-    → page / pages ≤ (writer_in v).made + 1
-next_of_log setup opening v is own page pages whole some here reached =
-    let same : (v.opening).setup ≡ setup = ap (λ (o : Opening). o.setup) own ∙ sym is in
-    segment_next setup.segment_size (writer_in v).written (writer_in v).made (page / pages)
+-- the same of a pass
+pub next_of_log : {D : Type 0} (p : SeatedPass D) → IsInBounds (view_of p) → (page pages : ℕ)
+    → 8192 * pages ≡ (setup_of p).segment_size → 0 < pages
+    → page ≡ (writer_in (view_of p)).written / 8192
+    → page / pages ≤ (writer_in (view_of p)).made + 1
+next_of_log p bounds page pages whole some here =
+    let w : Plain = writer_in (view_of p) in
+    segment_next (setup_of p).segment_size w.written w.made (page / pages)
     (omega (arith, whole, some))
-    (segment_begun setup.segment_size pages page (writer_in v).written (page / pages) whole here
-    refl)
-    (subst (λ (s : Setup).
-    (writer_in v).written ≤ (writer_in v).made * s.segment_size + s.segment_size) same reached)
+    (segment_begun (setup_of p).segment_size pages page w.written (page / pages) whole here refl)
+    (subst (λ (o : Opening).
+    w.written ≤ w.made * (o.setup).segment_size + (o.setup).segment_size) (p.seated).own
+    bounds.reached)
 
 -- a page by its segment, and its number there
 pub page_again : (size pages count page at : ℕ) → count ≡ pages → pages ≡ pages_of size
@@ -48,3 +51,33 @@ pub page_again : (size pages count page at : ℕ) → count ≡ pages → pages 
 page_again size pages count page at same whole is =
     ap (λ (n : ℕ). page / count * n + page % count) (sym (same ∙ whole))
     ∙ div-add-mod' page count ∙ is
+
+-- the page under way may be written, where its segment is there and its words are loaded
+pub next_write : (setup : Setup) (v : View) (old : Plain) (page count known upto : ℕ)
+    (bytes : List ℕ) → count ≡ pages_of setup.segment_size → 0 < count
+    → page ≡ old.written / 8192 → old.written < known
+    → known ≡ (lent_in (v.writing).hold).known
+    → (lent_in (v.writing).hold).known % 8 ≡ 0
+    → upto ≡ min known ((page + 1) * 8192)
+    → IsSegmentThere (page / count) old (writer_in v) → length bytes ≡ 8192
+    → IsPageLoaded page bytes (lent_in (v.writing).hold).staged
+    → IsNextWrite setup (page / count) (page % count) upto bytes (lent_in (v.writing).hold)
+next_write setup v old page count known upto bytes whole some is left known_is aligned upto_is there
+    long loaded =
+    let here = there.written in
+    let at : page ≡ (writer_in v).written / 8192 = is ∙ ap (λ (n : ℕ). n / 8192) (sym here) in
+    record {
+      up = there.up;
+      page_is = page_again setup.segment_size count count page _ refl whole at;
+      on_segment = subst (λ (n : ℕ). page % count < n) whole (mod-lt page some);
+      is_made = there.made;
+      alone = there.alone;
+      rises = omega (arith, is, left, here, upto_is);
+      behind_start = omega (arith, is, left, here, upto_is);
+      within = omega (arith, is, here, upto_is);
+      copied = omega (arith, known_is, upto_is);
+      aligned = omega (arith, known_is, aligned, upto_is);
+      whole = long;
+      loaded = subst (λ (n : ℕ). IsPageLoaded n bytes (lent_in (v.writing).hold).staged) at
+          loaded;
+    }

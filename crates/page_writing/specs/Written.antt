@@ -1,56 +1,56 @@
 -- What the calls of the device leave of the writer where they succeed.
 use Rattle.std.specs.Prelude.{◌≡◌, ◌⊎◌, ℕ, ◌+◌, ◌*◌, ◌/◌, ◌%◌, ◌<◌, ◌≤◌, max, min}
 use mathlib.Core.Option.{none, some}
-use Rattle.wal_rule.specs.Seats.{SeatWriter}
+use Rattle.wal_core.specs.Views.{Plain}
 
 -- the log is written up to what is known to be copied, and where it got so to a segment's end, no
 -- write waits for a sync
-pub record IsWrittenOut (size known : ℕ) (old new : SeatWriter) : Type 0 where
+pub record IsWrittenOut (size known : ℕ) (old new : Plain) : Type 0 where
   pub up : new.fault ≡ none
   pub written : new.written ≡ max old.written known
   pub ended : old.written < new.written → new.written % size ≡ 0 → new.waiting ≡ none
 
 -- the page under way is written up to its end, or to what is known to be copied
-pub record IsPageWritten (size known : ℕ) (old new : SeatWriter) : Type 0 where
+pub record IsPageWritten (size known : ℕ) (old new : Plain) : Type 0 where
   pub up : new.fault ≡ none
   pub written : new.written ≡ min known ((old.written / 8192 + 1) * 8192)
   pub ended : new.written % size ≡ 0 → new.waiting ≡ none
 
 -- no write waits for a sync, or only those to this segment, which is there
-abbrev pub IsAlone : ℕ → SeatWriter → Type 0
+abbrev pub IsAlone : ℕ → Plain → Type 0
 IsAlone segment w =
     (w.waiting ≡ none) ⊎ ((w.waiting ≡ some segment) × (segment ≤ w.made))
 
 -- the same behind a call or none
-pub record LeavesAlone (segment : ℕ) (old new : SeatWriter) : Type 0 where
+pub record LeavesAlone (segment : ℕ) (old new : Plain) : Type 0 where
   pub up : new.fault ≡ none
   pub written : new.written ≡ old.written
   pub made : new.made ≡ old.made
   pub alone : IsAlone segment new
 
 -- a segment is there, and no write to another one waits
-pub record IsSegmentThere (segment : ℕ) (old new : SeatWriter) : Type 0 where
+pub record IsSegmentThere (segment : ℕ) (old new : Plain) : Type 0 where
   pub up : new.fault ≡ none
   pub written : new.written ≡ old.written
   pub made : segment ≤ new.made
   pub alone : (new.waiting ≡ none) ⊎ (new.waiting ≡ some segment)
 
 -- a segment was made
-pub record IsSegmentMade (segment : ℕ) (old new : SeatWriter) : Type 0 where
+pub record IsSegmentMade (segment : ℕ) (old new : Plain) : Type 0 where
   pub up : new.fault ≡ none
   pub written : new.written ≡ old.written
   pub made : new.made ≡ segment
   pub waiting : new.waiting ≡ old.waiting
 
 -- a page of a segment was written up to an address
-pub record IsPagePut (segment upto : ℕ) (old new : SeatWriter) : Type 0 where
+pub record IsPagePut (segment upto : ℕ) (old new : Plain) : Type 0 where
   pub up : new.fault ≡ none
   pub written : new.written ≡ upto
   pub made : new.made ≡ old.made
   pub waiting : new.waiting ≡ some segment
 
 -- as much is written as before, and no write waits for a sync
-pub record IsSegmentSynced (old new : SeatWriter) : Type 0 where
+pub record IsSegmentSynced (old new : Plain) : Type 0 where
   pub up : new.fault ≡ none
   pub written : new.written ≡ old.written
   pub made : new.made ≡ old.made

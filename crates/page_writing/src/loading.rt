@@ -5,51 +5,48 @@
 // below what is known are the log's. One above may be under way, and is loaded as 0 or as the
 // log's; either may go to the disk, since the word does not count as written. The view keeps what
 // was loaded, so that the write can show whose words its bytes are.
-ghost use Rattle.std.specs.Prelude.{◌≡◌, ℕ, List, ◌∷◌, ◌+◌, ◌*◌, ◌/◌, ◌<◌, ◌^◌};
+ghost use Rattle.std.specs.Prelude.{◌≡◌, ℕ, List, ◌∷◌, ◌+◌, ◌*◌, ◌<◌, ◌^◌};
 ghost use Rattle.std.specs.Int.{w64, to_le_bytes};
 ghost use Rattle.page_writing.specs.InHand.{HasHand, Loads, known_copied, lent_in, writer_in};
 ghost use Rattle.segment_disk.specs.DiskImage.{word_of};
-ghost use Rattle.wal_core.specs.Steps.{IsPageLoaded, ring_number, ring_place};
-ghost use Rattle.wal_rule.specs.Tables.{opening_of_table};
+ghost use Rattle.wal_core.specs.Steps.{IsPageLoaded, IsToBeWritten, ring_number, ring_place};
+ghost use Rattle.wal_rule.specs.SeatedPasses.{setup_of, view_of};
 
 use byte_position::{PAGE_SIZE, PAGE_WORDS};
 use machine_words::LogShape;
 use machine_words::layout::BUFFER_ENDS;
 use segment_disk::Disk;
-use wal_rule::{LogSeat, LogTable};
+use wal_rule::SeatedPass;
 
 const WORD: usize = byte_position::WORD as usize;
 
 /// Loads the words of a page, which is counted from the log's address 0, begins below what is known
 /// to be copied, and is not written whole.
-pub fn load_page<D: Disk>(
-    table: &LogTable<D>,
-    seat: &mut LogSeat<D>,
-    shape: &LogShape,
+pub fn load_page<'p, D: Disk>(
+    seated: &mut SeatedPass<'p, D>,
     page: u64,
     bytes: &mut [u8; PAGE_SIZE as usize],
 )
-    requires hand { HasHand D.tape D.moment D.faults table.now seat.old }
-    requires shape { shape.now ≡ (opening_of_table table.now).setup }
-    requires unwritten { (writer_in seat.old.me.0).written < (page + 1) * 8192 }
-    requires copied { page * 8192 < known_copied seat.old.me.0 }
-    // Of the view only what is loaded has changed, and the bytes are those words'.
-    ensures loads { (staged : List (ℕ × ℕ)) × Loads seat.old.me.0 seat.new.me.0 staged
+    requires hand { HasHand D.tape D.moment D.faults seated.old }
+    requires unwritten { (writer_in (view_of seated.old)).written < (page + 1) * 8192 }
+    requires copied { page * 8192 < known_copied (view_of seated.old) }
+    // Of the pass only what is loaded has changed, and the bytes are those words'.
+    ensures loads { (staged : List (ℕ × ℕ))
+        × Loads D.tape D.moment D.faults staged seated.old seated.new
         × IsPageLoaded page bytes.new staged }
-    ensures hand { HasHand D.tape D.moment D.faults table.now seat.new }
 {
-    let first = first_word(table, seat, page);
-    let place = place_of_page(shape, page);
+    let first = first_word(seated, page);
+    let place = place_of_page(seated.shape(), page);
     for n in 0..PAGE_WORDS {
-        let word = load_word(table, seat, shape, first + n, place + n as usize);
+        let word = load_word(seated, first + n, place + n as usize);
         put_word(bytes, n as usize, word);
     }
 }
 
 // The number of the first word of a page. It is low, since all that is copied is within the log.
-fn first_word<D: Disk>(_table: &LogTable<D>, seat: &LogSeat<D>, page: u64) -> u64
-    requires hand { HasHand D.tape D.moment D.faults _table.now seat.now }
-    requires copied { page * 8192 < known_copied seat.now.me.0 }
+fn first_word<'p, D: Disk>(_seated: &SeatedPass<'p, D>, page: u64) -> u64
+    requires hand { HasHand D.tape D.moment D.faults _seated.now }
+    requires copied { page * 8192 < known_copied (view_of _seated.now) }
     ensures first { result ≡ page * 1024 }
     ensures low { result < 2 ^ 50 }
 {
@@ -57,24 +54,16 @@ fn first_word<D: Disk>(_table: &LogTable<D>, seat: &LogSeat<D>, page: u64) -> u6
 }
 
 // Loads the log's k-th word, from its place in the ring. It lies on a page that is not written
-// whole and begins below what is known to be copied. Of the view only what is loaded has changed.
-fn load_word<D: Disk>(
-    table: &LogTable<D>,
-    seat: &mut LogSeat<D>,
-    _shape: &LogShape,
-    k: u64,
-    place: usize,
-) -> u64
-    requires hand { HasHand D.tape D.moment D.faults table.now seat.old }
-    requires shape { _shape.now ≡ (opening_of_table table.now).setup }
-    requires unwritten { (writer_in seat.old.me.0).written < (k / 1024 + 1) * 8192 }
-    requires copied { k / 1024 * 8192 < known_copied seat.old.me.0 }
-    requires place { place ≡ ring_number _shape.now (ring_place _shape.now k) }
-    ensures loads { Loads seat.old.me.0 seat.new.me.0
-        ((k, result) ∷ (lent_in seat.old.me.0.hold).staged) }
-    ensures hand { HasHand D.tape D.moment D.faults table.now seat.new }
+// whole and begins below what is known to be copied. Of the pass only what is loaded has changed.
+fn load_word<'p, D: Disk>(seated: &mut SeatedPass<'p, D>, k: u64, place: usize) -> u64
+    requires hand { HasHand D.tape D.moment D.faults seated.old }
+    requires next { IsToBeWritten k (lent_in (view_of seated.old).writing.hold) }
+    requires place { place ≡ ring_number (setup_of seated.old)
+        (ring_place (setup_of seated.old) k) }
+    ensures loads { Loads D.tape D.moment D.faults
+        ((k, result) ∷ (lent_in (view_of seated.old).writing.hold).staged) seated.old seated.new }
 {
-    table.load_ring_word(seat, k, place)
+    seated.load_ring_word(k, place)
 }
 
 // The number, among all words, of the place of a page's first word. Those of its other words

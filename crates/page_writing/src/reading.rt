@@ -1,11 +1,11 @@
 // The numbers of the writer in hand (PostgreSQL's xlog.c, XLogCtl->LogwrtResult). They are not
 // shared words: who has the writer in hand has them alone. The words that all may load (13 to 15)
 // are stored from them by wal_log, behind the calls.
-ghost use Rattle.std.specs.Prelude.{◌≡◌};
-ghost use Rattle.page_writing.specs.InHand.{HasHand, IsReadOff, writer_in};
+ghost use Rattle.page_writing.specs.InHand.{HasHand, IsReadOff, IsSame, writer_in};
+ghost use Rattle.wal_rule.specs.SeatedPasses.{view_of};
 
 use segment_disk::Disk;
-use wal_rule::{LogSeat, LogTable};
+use wal_rule::SeatedPass;
 
 /// What the writer in hand has done.
 #[derive(Clone, Copy, Debug, PartialEq, Eq)]
@@ -23,12 +23,12 @@ pub struct WriterNow {
 }
 
 /// Reads the writer in hand. Nothing is changed by it, and no call is made.
-pub fn writer_now<D: Disk>(table: &LogTable<D>, seat: &mut LogSeat<D>) -> WriterNow
-    requires hand { HasHand D.tape D.moment D.faults table.now seat.old }
-    ensures read { IsReadOff (writer_in seat.old.me.0) result }
-    ensures same { seat.new ≡ seat.old }
+pub fn writer_now<'p, D: Disk>(seated: &mut SeatedPass<'p, D>) -> WriterNow
+    requires hand { HasHand D.tape D.moment D.faults seated.old }
+    ensures read { IsReadOff (writer_in (view_of seated.old)) result }
+    ensures same { IsSame seated.old seated.new }
 {
-    let writer = seat.slot_mut(&table.table.shared, 0);
+    let writer = seated.seat.slot_mut(&seated.table.table.shared, 0);
     WriterNow {
         written: writer.written(),
         made: writer.made(),

@@ -5,153 +5,130 @@
 // made unless it is there, its words are loaded, it is written, and behind a segment's last page
 // that segment is synced. So at most one segment waits for a sync. A call that fails is the last.
 ghost use Rattle.std.specs.Prelude.{◌≡◌, ◌+◌, ◌*◌, ◌/◌, ◌<◌, ◌≤◌};
-ghost use mathlib.Core.Option.{none};
-ghost use Rattle.page_writing.specs.InHand.{EndsInHand, HasHand, IsReady, known_copied, writer_in};
+ghost use Rattle.page_writing.specs.InHand.{CallsEnd, IsReady, known_copied, writer_in};
 ghost use Rattle.page_writing.specs.Written.{IsAlone, IsPageWritten, IsSegmentThere, LeavesAlone, IsSegmentSynced, IsWrittenOut};
-ghost use Rattle.wal_rule.specs.Tables.{opening_of_table};
+ghost use Rattle.wal_rule.specs.SeatedPasses.{setup_of, view_of};
 
 use crate::calling::{create_segment, put_page, sync_segment};
 use crate::loading::load_page;
 use crate::reading::writer_now;
 use byte_position::PAGE_SIZE;
 use flush_core::DiskFault;
-use machine_words::LogShape;
 use segment_disk::Disk;
-use wal_rule::{LogSeat, LogTable};
+use wal_rule::SeatedPass;
 
 /// Writes out what is known to be copied, page by page, by way of `bytes`. A segment is made before
 /// its first page and synced behind its last. At a fault the writer keeps its count, and no further
 /// call is made.
-pub fn write_out<D: Disk>(
-    table: &LogTable<D>,
-    seat: &mut LogSeat<D>,
-    shape: &LogShape,
+pub fn write_out<'p, D: Disk>(
+    seated: &mut SeatedPass<'p, D>,
     known: u64,
     bytes: &mut [u8; PAGE_SIZE as usize],
 ) -> Result<(), DiskFault>
-    requires ready { IsReady D.tape D.moment D.faults table.now seat.old }
-    requires shape { shape.now ≡ (opening_of_table table.now).setup }
-    requires known { known ≡ known_copied seat.old.me.0 }
+    requires ready { IsReady D.tape D.moment D.faults seated.old }
+    requires known { known ≡ known_copied (view_of seated.old) }
     // The writer has written up to what is known, or as far as before if that is more. At a fault
     // nothing is said of how far it came. In both cases it stays in hand, and nothing else of the
     // view has changed but what is loaded.
-    ensures ends { EndsInHand (IsWrittenOut shape.now.segment_size known) result seat.old.me.0
-        seat.new.me.0 }
-    ensures hand { HasHand D.tape D.moment D.faults table.now seat.new }
+    ensures ends { CallsEnd D.tape D.moment D.faults
+        (IsWrittenOut (setup_of seated.old).segment_size known) result seated.old seated.new }
 {
-    let written = writer_now(table, seat).written;
+    let written = writer_now(seated).written;
     if known <= written {
         return Ok(());
     }
-    write_pages(table, seat, shape, known, written / PAGE_SIZE, bytes)
+    write_pages(seated, known, written / PAGE_SIZE, bytes)
 }
 
 // Writes the pages from the one under way on, `first`, which holds the next byte to be written: a
 // byte that is known to be copied.
-fn write_pages<D: Disk>(
-    table: &LogTable<D>,
-    seat: &mut LogSeat<D>,
-    shape: &LogShape,
+fn write_pages<'p, D: Disk>(
+    seated: &mut SeatedPass<'p, D>,
     known: u64,
     first: u64,
     bytes: &mut [u8; PAGE_SIZE as usize],
 ) -> Result<(), DiskFault>
-    requires ready { IsReady D.tape D.moment D.faults table.now seat.old }
-    requires shape { shape.now ≡ (opening_of_table table.now).setup }
-    requires known { known ≡ known_copied seat.old.me.0 }
-    requires first { first ≡ (writer_in seat.old.me.0).written / 8192 }
-    requires left { (writer_in seat.old.me.0).written < known }
-    ensures ends { EndsInHand (IsWrittenOut shape.now.segment_size known) result seat.old.me.0
-        seat.new.me.0 }
-    ensures hand { HasHand D.tape D.moment D.faults table.now seat.new }
+    requires ready { IsReady D.tape D.moment D.faults seated.old }
+    requires known { known ≡ known_copied (view_of seated.old) }
+    requires first { first ≡ (writer_in (view_of seated.old)).written / 8192 }
+    requires left { (writer_in (view_of seated.old)).written < known }
+    ensures ends { CallsEnd D.tape D.moment D.faults
+        (IsWrittenOut (setup_of seated.old).segment_size known) result seated.old seated.new }
 {
     for page in first..known.div_ceil(PAGE_SIZE) {
-        write_next(table, seat, shape, known, page, bytes)?;
+        write_next(seated, known, page, bytes)?;
     }
     Ok(())
 }
 
 // Writes the page under way, up to its end or to what is known to be copied. It holds the next byte
 // to be written, which is known to be copied.
-fn write_next<D: Disk>(
-    table: &LogTable<D>,
-    seat: &mut LogSeat<D>,
-    shape: &LogShape,
+fn write_next<'p, D: Disk>(
+    seated: &mut SeatedPass<'p, D>,
     known: u64,
     page: u64,
     bytes: &mut [u8; PAGE_SIZE as usize],
 ) -> Result<(), DiskFault>
-    requires ready { IsReady D.tape D.moment D.faults table.now seat.old }
-    requires shape { shape.now ≡ (opening_of_table table.now).setup }
-    requires known { known ≡ known_copied seat.old.me.0 }
-    requires page { page ≡ (writer_in seat.old.me.0).written / 8192 }
-    requires left { (writer_in seat.old.me.0).written < known }
-    ensures ends { EndsInHand (IsPageWritten shape.now.segment_size known) result seat.old.me.0
-        seat.new.me.0 }
-    ensures hand { HasHand D.tape D.moment D.faults table.now seat.new }
+    requires ready { IsReady D.tape D.moment D.faults seated.old }
+    requires known { known ≡ known_copied (view_of seated.old) }
+    requires page { page ≡ (writer_in (view_of seated.old)).written / 8192 }
+    requires left { (writer_in (view_of seated.old)).written < known }
+    ensures ends { CallsEnd D.tape D.moment D.faults
+        (IsPageWritten (setup_of seated.old).segment_size known) result seated.old seated.new }
 {
+    let shape = seated.shape();
     let pages = u64::from(shape.geometry().pages());
     let segment = page / pages;
-    settle(table, seat, segment)?;
-    make_segment(table, seat, shape, segment)?;
-    load_page(table, seat, shape, page, bytes);
+    settle(seated, segment)?;
+    make_segment(seated, segment)?;
+    load_page(seated, page, bytes);
     let upto = known.min((page + 1) * PAGE_SIZE);
-    put_page(table, seat, segment, (page % pages) as u32, upto, bytes)?;
+    put_page(seated, segment, (page % pages) as u32, upto, bytes)?;
     if upto % shape.geometry().segment_size() == 0 {
-        sync_segment(table, seat, segment)?;
+        sync_segment(seated, segment)?;
     }
     Ok(())
 }
 
 // Syncs what waits, unless it is this segment, which is there. Behind it no write to another one
 // waits.
-fn settle<D: Disk>(
-    table: &LogTable<D>,
-    seat: &mut LogSeat<D>,
-    segment: u64,
-) -> Result<(), DiskFault>
-    requires ready { IsReady D.tape D.moment D.faults table.now seat.old }
-    ensures ends { EndsInHand (LeavesAlone segment) result seat.old.me.0 seat.new.me.0 }
-    ensures hand { HasHand D.tape D.moment D.faults table.now seat.new }
+fn settle<'p, D: Disk>(seated: &mut SeatedPass<'p, D>, segment: u64) -> Result<(), DiskFault>
+    requires ready { IsReady D.tape D.moment D.faults seated.old }
+    ensures ends { CallsEnd D.tape D.moment D.faults (LeavesAlone segment) result seated.old
+        seated.new }
 {
-    let now = writer_now(table, seat);
+    let now = writer_now(seated);
     if now.waiting == Some(segment) && segment <= now.made {
         return Ok(());
     }
-    sync_written(table, seat)
+    sync_written(seated)
 }
 
 // Makes the segment where the next byte is to be written, unless it is there. It is at most the one
 // behind the last that was made, and no write to another one waits for a sync.
-fn make_segment<D: Disk>(
-    table: &LogTable<D>,
-    seat: &mut LogSeat<D>,
-    shape: &LogShape,
-    segment: u64,
-) -> Result<(), DiskFault>
-    requires ready { IsReady D.tape D.moment D.faults table.now seat.old }
-    requires shape { shape.now ≡ (opening_of_table table.now).setup }
-    requires here { segment * shape.now.segment_size ≤ (writer_in seat.old.me.0).written }
-    requires next { segment ≤ (writer_in seat.old.me.0).made + 1 }
-    requires left { (writer_in seat.old.me.0).written < known_copied seat.old.me.0 }
-    requires alone { IsAlone segment (writer_in seat.old.me.0) }
-    ensures ends { EndsInHand (IsSegmentThere segment) result seat.old.me.0 seat.new.me.0 }
-    ensures hand { HasHand D.tape D.moment D.faults table.now seat.new }
+fn make_segment<'p, D: Disk>(seated: &mut SeatedPass<'p, D>, segment: u64) -> Result<(), DiskFault>
+    requires ready { IsReady D.tape D.moment D.faults seated.old }
+    requires here { segment * (setup_of seated.old).segment_size
+        ≤ (writer_in (view_of seated.old)).written }
+    requires next { segment ≤ (writer_in (view_of seated.old)).made + 1 }
+    requires left { (writer_in (view_of seated.old)).written < known_copied (view_of seated.old) }
+    requires alone { IsAlone segment (writer_in (view_of seated.old)) }
+    ensures ends { CallsEnd D.tape D.moment D.faults (IsSegmentThere segment) result seated.old
+        seated.new }
 {
-    if segment <= writer_now(table, seat).made {
+    if segment <= writer_now(seated).made {
         return Ok(());
     }
-    create_segment(table, seat, segment)
+    create_segment(seated, segment)
 }
 
 /// Makes the writes that wait for it durable, by one call or none: they are all of one segment.
-pub fn sync_written<D: Disk>(table: &LogTable<D>, seat: &mut LogSeat<D>) -> Result<(), DiskFault>
-    requires ready { IsReady D.tape D.moment D.faults table.now seat.old }
-    ensures ends { EndsInHand IsSegmentSynced result seat.old.me.0 seat.new.me.0 }
-    ensures hand { HasHand D.tape D.moment D.faults table.now seat.new }
+pub fn sync_written<'p, D: Disk>(seated: &mut SeatedPass<'p, D>) -> Result<(), DiskFault>
+    requires ready { IsReady D.tape D.moment D.faults seated.old }
+    ensures ends { CallsEnd D.tape D.moment D.faults IsSegmentSynced result seated.old seated.new }
 {
-    match writer_now(table, seat).waiting {
-        Some(segment) => sync_segment(table, seat, segment),
+    match writer_now(seated).waiting {
+        Some(segment) => sync_segment(seated, segment),
         None => Ok(()),
     }
 }

@@ -14,8 +14,9 @@ use Rattle.record_decode.specs.declared.head.BlockHead.{BlockHead}
 use Rattle.record_spelling.specs.Record.{is_free_manager}
 use Rattle.record_spelling.specs.Numbers.{number_at}
 use Rattle.record_spelling.specs.Checks.{first_fault}
-use Rattle.record_decode.specs.Reading.{◌>>=◌, ItemRead, Checks, GivesReading, Headers, HeaderCursor, begins_block, begins_with, has_header, items_of, main_item, payload_len, reading_of, record_of}
-use Rattle.record_decode.specs.Spells.{Items, Spells, SpellsHeads, SpellsItems, StandsBehind, head_text, item_text}
+use Rattle.record_decode.specs.Reading.{◌>>=◌, ItemRead, Checks, GivesReading, HeadersRead, HeaderCursor, begins_block, begins_with, has_header, items_of, main_item, payload_len, reading_of, record_of}
+use Rattle.record_decode.specs.Spells.{Spells}
+use Rattle.record_decode.specs.Items.{Items, SpellsHeads, SpellsItems, StandsBehind, head_text, item_text}
 use Rattle.record_decode.specs.Fails.{BreaksItem, EndsHeaders, FailsAt, TellsFirstFault, HasLength, IsMainHead, LeavesFill, NextBlock, NextOrigin, NextTopXid, ReachesItem, item_rows, last_of}
 use Rattle.record_decode.proofs.ItemTables.{StandsIn, item_checks, item_same}
 use Rattle.record_spelling.proofs.Bytes.{IsBytes, IsBytes-drop, IsBytes-from_All, wide16, wide32}
@@ -104,10 +105,10 @@ finish_fails blocks origin top end e gives =
       | inr some ↦ (eqb-false _ _ some, error_is _ e (rw some at gives))
     ]
   where
-    ok_no_error : (h : Headers) (e : RecErr) → (let x : Result Headers RecErr = Ok h in x ≡ Err e) → ⊥
+    ok_no_error : (h : HeadersRead) (e : RecErr) → (let x : Result HeadersRead RecErr = Ok h in x ≡ Err e) → ⊥
     ok_no_error h e k = cc
 
-    error_is : (d e : RecErr) → (let x : Result Headers RecErr = Err d in x ≡ Err e) → e ≡ d
+    error_is : (d e : RecErr) → (let x : Result HeadersRead RecErr = Err d in x ≡ Err e) → e ≡ d
     error_is d e k = cc
 
 leaves_fill : (bytes : List ℕ) (items : Items) (s end : HeaderCursor) (text : List ℕ) (promised : ℕ) (e : RecErr) (blocks : List BlockHead) (origin top : Option ℕ) → ReachesItem bytes items s → IsBehind s text promised end → EndsHeaders items text promised (length end.rest) (s.owed + promised) → finish blocks origin top end ≡ Err e → LeavesFill bytes e
@@ -149,7 +150,7 @@ fails_from (suc k) bytes items s e r fits short resumes =
           (λ (on : ReachesItem bytes more_items g.next). fails_from k bytes more_items g.next e on g.behind.fits (omega (arith, short, ap length g.item.spelled, ap length g.behind.rest_is, length-append g.text g.next.rest)) g.resumes)
     ]
   where
-    same_error : (d e : RecErr) → (let x : Result Headers RecErr = Err e in x ≡ Err d) → d ≡ e
+    same_error : (d e : RecErr) → (let x : Result HeadersRead RecErr = Err e in x ≡ Err d) → d ≡ e
     same_error d e k = cc
 
 -- ---- the first cause is what the reading tells
@@ -201,31 +202,31 @@ main_begins q at owed len text rest short long (inr h) = rw h.1 (and_right _ _ (
 over_is : (owed left : ℕ) → left ≤ owed → ltb owed left ≡ false
 over_is owed left le = le-ltb owed left le
 
-main_told : (blocks : List BlockHead) (origin top : Option ℕ) (at owed promised : ℕ) (text rest : List ℕ) (r : Result Headers RecErr) → has_header (standing_at at owed (text ++ rest)) ≡ true → (length rest ≡ owed + promised → ⊥) → IsMainHead text promised → Resumes blocks origin top (standing_at at owed (text ++ rest)) r → r ≡ Err (Malformed (at + length text) kinds.Fill)
+main_told : (blocks : List BlockHead) (origin top : Option ℕ) (at owed promised : ℕ) (text rest : List ℕ) (r : Result HeadersRead RecErr) → has_header (standing_at at owed (text ++ rest)) ≡ true → (length rest ≡ owed + promised → ⊥) → IsMainHead text promised → Resumes blocks origin top (standing_at at owed (text ++ rest)) r → r ≡ Err (Malformed (at + length text) kinds.Fill)
 main_told blocks origin top at owed promised text rest r more wrong main resumes =
     let s = standing_at at owed (text ++ rest) in
     let gives = to_top blocks origin top s r (main_begins begins_block at owed promised text rest (λ xs. refl) (λ xs. refl) main) (main_begins (begins_with 253) at owed promised text rest (λ xs. refl) (λ xs. refl) main) (main_begins (begins_with 252) at owed promised text rest (λ xs. refl) (λ xs. refl) main) resumes in
     sym gives ∙ ap (λ (x : Result HeaderCursor RecErr). x >>= finish blocks origin top) (main_here at owed promised text rest more main) ∙ finish_wrong blocks origin top (standing_at (at + length text) (owed + promised) rest) wrong
 
 -- behind an item no header stands any more
-ended_told : (blocks : List BlockHead) (origin top : Option ℕ) (at owed : ℕ) (rest : List ℕ) (r : Result Headers RecErr) → length rest ≤ owed → (length rest ≡ owed → ⊥) → Resumes blocks origin top (standing_at at owed rest) r → r ≡ Err (Malformed at kinds.Fill)
+ended_told : (blocks : List BlockHead) (origin top : Option ℕ) (at owed : ℕ) (rest : List ℕ) (r : Result HeadersRead RecErr) → length rest ≤ owed → (length rest ≡ owed → ⊥) → Resumes blocks origin top (standing_at at owed rest) r → r ≡ Err (Malformed at kinds.Fill)
 ended_told blocks origin top at owed rest r few wrong resumes = sym (to_finish blocks origin top (standing_at at owed rest) r (over_is owed (length rest) few) resumes) ∙ finish_wrong blocks origin top (standing_at at owed rest) wrong
 
-block_told : (blocks : List BlockHead) (same : Bool) (h : BlockHead) (at owed : ℕ) (rest : List ℕ) (r : Result Headers RecErr) → has_header (standing_at at owed (head_text same h ++ rest)) ≡ true → StandsBehind (last_of None blocks) same h → length rest ≤ owed + payload_len h → (length rest ≡ owed + payload_len h → ⊥)
+block_told : (blocks : List BlockHead) (same : Bool) (h : BlockHead) (at owed : ℕ) (rest : List ℕ) (r : Result HeadersRead RecErr) → has_header (standing_at at owed (head_text same h ++ rest)) ≡ true → StandsBehind (last_of None blocks) same h → length rest ≤ owed + payload_len h → (length rest ≡ owed + payload_len h → ⊥)
     → Resumes blocks None None (standing_at at owed (head_text same h ++ rest)) r → r ≡ Err (Malformed (at + length (head_text same h)) kinds.Fill)
 block_told blocks same h at owed rest r more stands few wrong resumes =
     let begins : begins_block (head_text same h ++ rest) ≡ true = le-leb h.id 32 stands.id in
     let on = resumes_block blocks (standing_at at owed (head_text same h ++ rest)) (record { value = h; next = standing_at (at + length (head_text same h)) (owed + payload_len h) rest }) r (and_from _ _ more begins) (block_again at owed (last_of None blocks) same h rest stands) resumes in
     ended_told (blocks ++ h ∷ []) None None (at + length (head_text same h)) (owed + payload_len h) rest r few wrong on
 
-origin_told : (blocks : List BlockHead) (n at owed : ℕ) (rest : List ℕ) (r : Result Headers RecErr) → has_header (standing_at at owed (253 ∷ (to_le_bytes w16 n ++ rest))) ≡ true → n < 2 ^ 16 → length rest ≤ owed → (length rest ≡ owed → ⊥) → Resumes blocks None None (standing_at at owed (253 ∷ (to_le_bytes w16 n ++ rest))) r → r ≡ Err (Malformed (at + 3) kinds.Fill)
+origin_told : (blocks : List BlockHead) (n at owed : ℕ) (rest : List ℕ) (r : Result HeadersRead RecErr) → has_header (standing_at at owed (253 ∷ (to_le_bytes w16 n ++ rest))) ≡ true → n < 2 ^ 16 → length rest ≤ owed → (length rest ≡ owed → ⊥) → Resumes blocks None None (standing_at at owed (253 ∷ (to_le_bytes w16 n ++ rest))) r → r ≡ Err (Malformed (at + 3) kinds.Fill)
 origin_told blocks n at owed rest r more fits few wrong resumes =
     let s = standing_at at owed (253 ∷ (to_le_bytes w16 n ++ rest)) in
     let gives = no_block blocks s r (and_right (has_header s) _ refl) resumes in
     let on = ap (λ (x : Result (ItemRead (Option ℕ)) RecErr). x >>= λ (o : ItemRead (Option ℕ)). after_origin blocks o.value o.next) (sym (item_some_here 253 w16 (2 ^ 16) wide16 at owed n rest fits more)) ∙ gives in
     ended_told blocks (Some n) None (at + 3) owed rest r few wrong on
 
-top_told : (blocks : List BlockHead) (origin : Option ℕ) (n at owed : ℕ) (rest : List ℕ) (r : Result Headers RecErr) → has_header (standing_at at owed (252 ∷ (to_le_bytes w32 n ++ rest))) ≡ true → n < 2 ^ 32 → length rest ≤ owed → (length rest ≡ owed → ⊥) → Resumes blocks origin None (standing_at at owed (252 ∷ (to_le_bytes w32 n ++ rest))) r → r ≡ Err (Malformed (at + 5) kinds.Fill)
+top_told : (blocks : List BlockHead) (origin : Option ℕ) (n at owed : ℕ) (rest : List ℕ) (r : Result HeadersRead RecErr) → has_header (standing_at at owed (252 ∷ (to_le_bytes w32 n ++ rest))) ≡ true → n < 2 ^ 32 → length rest ≤ owed → (length rest ≡ owed → ⊥) → Resumes blocks origin None (standing_at at owed (252 ∷ (to_le_bytes w32 n ++ rest))) r → r ≡ Err (Malformed (at + 5) kinds.Fill)
 top_told blocks origin n at owed rest r more fits few wrong resumes =
     let s = standing_at at owed (252 ∷ (to_le_bytes w32 n ++ rest)) in
     let gives = to_origin blocks origin s r (and_right (has_header s) _ refl) (and_right (has_header s) _ refl) resumes in
@@ -236,7 +237,7 @@ top_told blocks origin n at owed rest r more fits few wrong resumes =
 place_is : (s : HeaderCursor) (text rest : List ℕ) → s.rest ≡ text ++ rest → s ≡ standing_at s.at s.owed (text ++ rest)
 place_is s text rest e = ap (λ (l : List ℕ). standing_at s.at s.owed l) e
 
-block_end : (items : Items) (at owed promised : ℕ) (text rest : List ℕ) (r : Result Headers RecErr) → has_header (standing_at at owed (text ++ rest)) ≡ true → (length rest ≡ owed + promised → ⊥) → length rest ≤ owed + promised → NextBlock items text promised → Resumes items.blocks items.origin items.top_xid (standing_at at owed (text ++ rest)) r → r ≡ Err (Malformed (at + length text) kinds.Fill)
+block_end : (items : Items) (at owed promised : ℕ) (text rest : List ℕ) (r : Result HeadersRead RecErr) → has_header (standing_at at owed (text ++ rest)) ≡ true → (length rest ≡ owed + promised → ⊥) → length rest ≤ owed + promised → NextBlock items text promised → Resumes items.blocks items.origin items.top_xid (standing_at at owed (text ++ rest)) r → r ≡ Err (Malformed (at + length text) kinds.Fill)
 block_end items at owed promised text rest r more wrong few n resumes =
     let same = head_text n.same n.head in
     let shown : has_header (standing_at at owed (same ++ rest)) ≡ true = ap (λ (l : List ℕ). has_header (standing_at at owed (l ++ rest))) (sym n.spelled) ∙ more in
@@ -245,7 +246,7 @@ block_end items at owed promised text rest r more wrong few n resumes =
     let spelled = subst (λ (l : List ℕ). Resumes items.blocks None None (standing_at at owed (l ++ rest)) r) n.spelled bare in
     block_told items.blocks n.same n.head at owed rest r shown n.stands (omega (arith, p)) (λ (e : length rest ≡ owed + payload_len n.head). wrong (e ∙ ap (λ (k : ℕ). owed + k) (sym p))) spelled ∙ ap (λ (l : List ℕ). Err (Malformed (at + length l) kinds.Fill)) (sym n.spelled)
 
-origin_end : (items : Items) (at owed promised : ℕ) (text rest : List ℕ) (r : Result Headers RecErr) → has_header (standing_at at owed (text ++ rest)) ≡ true → (length rest ≡ owed + promised → ⊥) → length rest ≤ owed + promised → NextOrigin items text promised → Resumes items.blocks items.origin items.top_xid (standing_at at owed (text ++ rest)) r → r ≡ Err (Malformed (at + length text) kinds.Fill)
+origin_end : (items : Items) (at owed promised : ℕ) (text rest : List ℕ) (r : Result HeadersRead RecErr) → has_header (standing_at at owed (text ++ rest)) ≡ true → (length rest ≡ owed + promised → ⊥) → length rest ≤ owed + promised → NextOrigin items text promised → Resumes items.blocks items.origin items.top_xid (standing_at at owed (text ++ rest)) r → r ≡ Err (Malformed (at + length text) kinds.Fill)
 origin_end items at owed promised text rest r more wrong few n resumes =
     let same = 253 ∷ to_le_bytes w16 n.number in
     let shown : has_header (standing_at at owed (same ++ rest)) ≡ true = ap (λ (l : List ℕ). has_header (standing_at at owed (l ++ rest))) (sym n.spelled) ∙ more in
@@ -254,7 +255,7 @@ origin_end items at owed promised text rest r more wrong few n resumes =
     let spelled = subst (λ (l : List ℕ). Resumes items.blocks None None (standing_at at owed (l ++ rest)) r) n.spelled bare in
     origin_told items.blocks n.number at owed rest r shown n.fits (omega (arith, p)) (λ (e : length rest ≡ owed). wrong (omega (arith, e, p))) spelled ∙ ap (λ (l : List ℕ). Err (Malformed (at + length l) kinds.Fill)) (sym n.spelled)
 
-top_end : (items : Items) (at owed promised : ℕ) (text rest : List ℕ) (r : Result Headers RecErr) → has_header (standing_at at owed (text ++ rest)) ≡ true → (length rest ≡ owed + promised → ⊥) → length rest ≤ owed + promised → NextTopXid items text promised → Resumes items.blocks items.origin items.top_xid (standing_at at owed (text ++ rest)) r → r ≡ Err (Malformed (at + length text) kinds.Fill)
+top_end : (items : Items) (at owed promised : ℕ) (text rest : List ℕ) (r : Result HeadersRead RecErr) → has_header (standing_at at owed (text ++ rest)) ≡ true → (length rest ≡ owed + promised → ⊥) → length rest ≤ owed + promised → NextTopXid items text promised → Resumes items.blocks items.origin items.top_xid (standing_at at owed (text ++ rest)) r → r ≡ Err (Malformed (at + length text) kinds.Fill)
 top_end items at owed promised text rest r more wrong few n resumes =
     let same = 252 ∷ to_le_bytes w32 n.number in
     let shown : has_header (standing_at at owed (same ++ rest)) ≡ true = ap (λ (l : List ℕ). has_header (standing_at at owed (l ++ rest))) (sym n.spelled) ∙ more in
@@ -273,7 +274,7 @@ fill_told bytes e f =
     let resumes = subst (λ (p : HeaderCursor). Resumes items.blocks items.origin items.top_xid p r) place (reaches_resumes bytes items s f.reaches) in
     fill_so items s.at s.owed f.promised f.text f.rest r more f.wrong f.ends resumes ∙ ap (λ (d : RecErr). Err d) (sym f.told)
   where
-    fill_so : (items : Items) (at owed promised : ℕ) (text rest : List ℕ) (r : Result Headers RecErr) → has_header (standing_at at owed (text ++ rest)) ≡ true → (length rest ≡ owed + promised → ⊥) → EndsHeaders items text promised (length rest) (owed + promised) → Resumes items.blocks items.origin items.top_xid (standing_at at owed (text ++ rest)) r → r ≡ Err (Malformed (at + length text) kinds.Fill)
+    fill_so : (items : Items) (at owed promised : ℕ) (text rest : List ℕ) (r : Result HeadersRead RecErr) → has_header (standing_at at owed (text ++ rest)) ≡ true → (length rest ≡ owed + promised → ⊥) → EndsHeaders items text promised (length rest) (owed + promised) → Resumes items.blocks items.origin items.top_xid (standing_at at owed (text ++ rest)) r → r ≡ Err (Malformed (at + length text) kinds.Fill)
     fill_so items at owed promised text rest r more wrong ends resumes =
         elim ends [
           | inl main ↦ main_told items.blocks items.origin items.top_xid at owed promised text rest r more wrong main resumes
@@ -304,7 +305,7 @@ wrong_length bytes e h = both_ways _ (length_passes bytes h) e
 length_fails : (bytes : List ℕ) → (HasLength bytes → ⊥) → length_test bytes ≡ true
 length_fails bytes no_length = true_from_ne_false _ (λ e. no_length (has_length bytes e))
 
-record_ok : (bytes : List ℕ) (r : Result Headers RecErr) (e : RecErr) → (r >>= λ h. Ok (record_of bytes h)) ≡ Err e → r ≡ Err e
+record_ok : (bytes : List ℕ) (r : Result HeadersRead RecErr) (e : RecErr) → (r >>= λ h. Ok (record_of bytes h)) ≡ Err e → r ≡ Err e
 record_ok bytes (Ok h) e k = absurd (ok_no_error (record_of bytes h) e k)
   where
     ok_no_error : (x : Record) (e : RecErr) → (let y : Result Record RecErr = Ok x in y ≡ Err e) → ⊥
@@ -316,7 +317,7 @@ record_ok bytes (Err d) e k = ap (λ (x : RecErr). Err x) (error_is d e k)
 
 items_told : (bytes : List ℕ) (e : RecErr) → reads_headers bytes ≡ Err e → items_of bytes ≡ Err e
 unfolding items_of
-items_told bytes e k = ap (λ (r : Result Headers RecErr). r >>= λ (h : Headers). Ok (record_of bytes h)) k
+items_told bytes e k = ap (λ (r : Result HeadersRead RecErr). r >>= λ (h : HeadersRead). Ok (record_of bytes h)) k
 
 items_fail : (bytes : List ℕ) (e : RecErr) → items_of bytes ≡ Err e → reads_headers bytes ≡ Err e
 unfolding items_of

@@ -8,7 +8,7 @@ use Rattle.record_decode.specs.declared.fault.RecErr.{RecErr}
 use Rattle.record_decode.specs.declared.head.BlockHead.{BlockHead}
 use Rattle.record_decode.specs.Reading.{ItemRead, HeaderCursor, begins_block, block_item, block_items, has_header, payload_len}
 use Rattle.record_decode.specs.Fails.{last_of}
-use Rattle.record_decode.specs.Spells.{head_text, SpellsHeads, StandsBehind}
+use Rattle.record_decode.specs.Items.{head_text, SpellsHeads, StandsBehind}
 use Rattle.record_spelling.proofs.Bytes.{IsBytes}
 use Rattle.record_decode.proofs.Steps.{bind_ok, ok_is}
 use Rattle.record_decode.proofs.BlockHeadSteps.{block_items-more}

@@ -6,22 +6,22 @@ use Rattle.std.specs.Int.{Width, w16, w32, to_le_bytes}
 use Rattle.std.proofs.lemmas.Bool.{eqb-true, eq-eqb, le-ltb, and_left, and_right}
 use Rattle.std.proofs.lemmas.List.{length-append}
 use Rattle.record_decode.specs.declared.head.BlockHead.{BlockHead}
-use Rattle.record_decode.specs.Reading.{Headers, HeaderCursor, begins_block, begins_with, block_items, has_header, headers_of, main_item, optional_item, payload_len}
+use Rattle.record_decode.specs.Reading.{HeadersRead, HeaderCursor, begins_block, begins_with, block_items, has_header, headers_of, main_item, optional_item, payload_len}
 use Rattle.record_decode.specs.Fails.{last_of}
-use Rattle.record_decode.specs.Spells.{Items, SpellsHeads, SpellsItems, SpellsMainHead, item_text}
+use Rattle.record_decode.specs.Items.{Items, SpellsHeads, SpellsItems, item_text}
 use Rattle.record_spelling.proofs.Bytes.{IsBytes, IsWide, wide16, wide32}
 use Rattle.record_decode.proofs.Steps.{accepted, bind_ok}
 use Rattle.record_decode.proofs.BlockHeadSteps.{block_items-ends}
 use Rattle.record_decode.proofs.HeadsAgain.{standing_at}
 use Rattle.record_decode.proofs.HeadLists.{heads_taken, heads_again}
-use Rattle.record_decode.proofs.Items.{optional_takes, item_some_again, item_none_again, main_takes, main_again}
+use Rattle.record_decode.proofs.Items.{SpellsMainHead, optional_takes, item_some_again, item_none_again, main_takes, main_again}
 
-abbrev pub items_read : Headers → Items
+abbrev pub items_read : HeadersRead → Items
 items_read h = record { blocks = h.blocks; origin = h.origin; top_xid = h.top_xid }
 
 -- ---- what is read is spelled so
 
-pub record HeadersTaken (s : HeaderCursor) (h : Headers) : Type 0 where
+pub record HeadersTaken (s : HeaderCursor) (h : HeadersRead) : Type 0 where
   pub text : List ℕ
   pub main_head : List ℕ
   pub len : ℕ
@@ -31,7 +31,7 @@ pub record HeadersTaken (s : HeaderCursor) (h : Headers) : Type 0 where
   pub owed_is : length h.payload ≡ s.owed + sum_by payload_len h.blocks + len
   pub fits : IsBytes h.payload
 
-pub headers_taken : (s : HeaderCursor) (h : Headers) → IsBytes s.rest → headers_of s ≡ Ok h → HeadersTaken s h
+pub headers_taken : (s : HeaderCursor) (h : HeadersRead) → IsBytes s.rest → headers_of s ≡ Ok h → HeadersTaken s h
 unfolding headers_of
 headers_taken s h fits e =
     let a = bind_ok (block_items (length s.rest) None [] s) _ h e in

@@ -13,7 +13,7 @@ use Rattle.record_decode.specs.declared.head.ImageHead.{ImageHead}
 use Rattle.record_spelling.specs.Spelling.{flag, relation_bytes}
 use Rattle.record_spelling.specs.Numbers.{number_at}
 use Rattle.record_decode.specs.Reading.{ItemRead, HeaderCursor, fork_flags, fork_item, image_head_of, image_item, is_wrong_hole, relation_item, number_item, block_item, least_id, payload_len}
-use Rattle.record_decode.specs.Spells.{image_flag, image_head_text, head_text, IsPageImage, HasRelation, StandsBehind}
+use Rattle.record_decode.specs.Items.{image_flag, image_head_text, head_text, IsPageImage, HasRelation, StandsBehind}
 use Rattle.record_spelling.proofs.Bytes.{IsWide, wide16, wide32}
 use Rattle.record_decode.proofs.Flags.{fork_byte, fork_byte-again, info-again}
 

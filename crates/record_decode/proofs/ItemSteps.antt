@@ -8,8 +8,8 @@ use Rattle.record_decode.specs.declared.fault.RecErr.TheVariants.{Malformed}
 use Rattle.record_decode.specs.declared.fault.RecKind.TheVariants as kinds
 use Rattle.record_decode.specs.declared.head.BlockHead.{BlockHead}
 use Rattle.record_spelling.specs.Numbers.{number_at}
-use Rattle.record_decode.specs.Reading.{◌>>=◌, ItemRead, Headers, HeaderCursor, begins_block, begins_with, block_item, block_items, has_header, main_item, optional_item, payload_len, owing_more, skip}
-use Rattle.record_decode.specs.Spells.{Items, head_text}
+use Rattle.record_decode.specs.Reading.{◌>>=◌, ItemRead, HeadersRead, HeaderCursor, begins_block, begins_with, block_item, block_items, has_header, main_item, optional_item, payload_len, owing_more, skip}
+use Rattle.record_decode.specs.Items.{Items, head_text}
 use Rattle.record_spelling.specs.Checks.{first_fault}
 use Rattle.record_decode.specs.Fails.{IsMainHead, NextBlock, NextOrigin, NextTopXid, last_of}
 use Rattle.record_decode.proofs.ItemTables.{block_checks, item_checks}
@@ -69,12 +69,12 @@ pub record IsBehind (s : HeaderCursor) (text : List ℕ) (promised : ℕ) (behin
 abbrev pub items_so : List BlockHead → Option ℕ → Option ℕ → Items
 items_so blocks origin top = record { blocks = blocks; origin = origin; top_xid = top }
 
-pub record Broken (items : Items) (s : HeaderCursor) (r : Result Headers RecErr) : Type 0 where
+pub record Broken (items : Items) (s : HeaderCursor) (r : Result HeadersRead RecErr) : Type 0 where
   pub error : RecErr
   pub fails : first_fault (item_checks items s) ≡ Some error
   pub gives : r ≡ Err error
 
-pub record Ended (items : Items) (s : HeaderCursor) (r : Result Headers RecErr) : Type 0 where
+pub record Ended (items : Items) (s : HeaderCursor) (r : Result HeadersRead RecErr) : Type 0 where
   pub passes : first_fault (item_checks items s) ≡ None
   pub text : List ℕ
   pub promised : ℕ
@@ -83,7 +83,7 @@ pub record Ended (items : Items) (s : HeaderCursor) (r : Result Headers RecErr) 
   pub behind : IsBehind s text promised end
   pub gives : finish items.blocks items.origin items.top_xid end ≡ r
 
-pub record GoesBlock (items : Items) (s : HeaderCursor) (r : Result Headers RecErr) : Type 0 where
+pub record GoesBlock (items : Items) (s : HeaderCursor) (r : Result HeadersRead RecErr) : Type 0 where
   pub passes : first_fault (item_checks items s) ≡ None
   pub text : List ℕ
   pub promised : ℕ
@@ -92,7 +92,7 @@ pub record GoesBlock (items : Items) (s : HeaderCursor) (r : Result Headers RecE
   pub behind : IsBehind s text promised next
   pub resumes : Resumes (items.blocks ++ item.head ∷ []) None None next r
 
-pub record GoesOrigin (items : Items) (s : HeaderCursor) (r : Result Headers RecErr) : Type 0 where
+pub record GoesOrigin (items : Items) (s : HeaderCursor) (r : Result HeadersRead RecErr) : Type 0 where
   pub passes : first_fault (item_checks items s) ≡ None
   pub text : List ℕ
   pub promised : ℕ
@@ -101,7 +101,7 @@ pub record GoesOrigin (items : Items) (s : HeaderCursor) (r : Result Headers Rec
   pub behind : IsBehind s text promised next
   pub resumes : Resumes items.blocks (Some item.number) None next r
 
-pub record GoesTop (items : Items) (s : HeaderCursor) (r : Result Headers RecErr) : Type 0 where
+pub record GoesTop (items : Items) (s : HeaderCursor) (r : Result HeadersRead RecErr) : Type 0 where
   pub passes : first_fault (item_checks items s) ≡ None
   pub text : List ℕ
   pub promised : ℕ
@@ -110,7 +110,7 @@ pub record GoesTop (items : Items) (s : HeaderCursor) (r : Result Headers RecErr
   pub behind : IsBehind s text promised next
   pub resumes : Resumes items.blocks items.origin (Some item.number) next r
 
-abbrev pub Step : Items → HeaderCursor → Result Headers RecErr → Type 0
+abbrev pub Step : Items → HeaderCursor → Result HeadersRead RecErr → Type 0
 Step items s r = Broken items s r ⊎ (Ended items s r ⊎ (GoesBlock items s r ⊎ (GoesOrigin items s r ⊎ GoesTop items s r)))
 
 -- ---- an item out of its order, and one that begins with none of the bytes
@@ -123,12 +123,12 @@ main_unknown : (s : HeaderCursor) → has_header s ≡ true → Begins false fal
 unfolding main_item
 main_unknown s more b = rw (more, b.short_is, b.long_is, b.origin_is, b.top_is, b.block_is) refl
 
-main_fails : (blocks : List BlockHead) (origin top : Option ℕ) (s : HeaderCursor) (r : Result Headers RecErr) (e : RecErr) → first_fault (item_checks (items_so blocks origin top) s) ≡ Some e → main_item s ≡ Err e → after_top blocks origin top s ≡ r → Step (items_so blocks origin top) s r
+main_fails : (blocks : List BlockHead) (origin top : Option ℕ) (s : HeaderCursor) (r : Result HeadersRead RecErr) (e : RecErr) → first_fault (item_checks (items_so blocks origin top) s) ≡ Some e → main_item s ≡ Err e → after_top blocks origin top s ≡ r → Step (items_so blocks origin top) s r
 main_fails blocks origin top s r e fails read gives = inl (record { error = e; fails = fails; gives = sym gives ∙ ap (λ (x : Result HeaderCursor RecErr). x >>= finish blocks origin top) read })
 
 -- ---- main data
 
-main_ends : (blocks : List BlockHead) (origin top : Option ℕ) (s end : HeaderCursor) (r : Result Headers RecErr) → first_fault (item_checks (items_so blocks origin top) s) ≡ None → main_item s ≡ Ok end → (text : List ℕ) (promised : ℕ) → IsMainHead text promised → IsBehind s text promised end → after_top blocks origin top s ≡ r → Step (items_so blocks origin top) s r
+main_ends : (blocks : List BlockHead) (origin top : Option ℕ) (s end : HeaderCursor) (r : Result HeadersRead RecErr) → first_fault (item_checks (items_so blocks origin top) s) ≡ None → main_item s ≡ Ok end → (text : List ℕ) (promised : ℕ) → IsMainHead text promised → IsBehind s text promised end → after_top blocks origin top s ≡ r → Step (items_so blocks origin top) s r
 main_ends blocks origin top s end r passes read text promised main behind gives = inr (inl (record { passes = passes; text = text; promised = promised; end = end; main = main; behind = behind; gives = ap (λ (x : Result HeaderCursor RecErr). x >>= finish blocks origin top) (sym read) ∙ gives }))
 
 short_cut : (s : HeaderCursor) → has_header s ≡ true → begins_with 255 s.rest ≡ true → ltb (length s.rest) 2 ≡ true → main_item s ≡ Err (Malformed (s.at + 1) kinds.Short)
@@ -147,14 +147,14 @@ long_whole : (s : HeaderCursor) → has_header s ≡ true → begins_with 255 s.
 unfolding main_item
 long_whole s more other begins long = rw (more, other, begins, long) refl
 
-step_short : (blocks : List BlockHead) (origin top : Option ℕ) (s : HeaderCursor) (r : Result Headers RecErr) → has_header s ≡ true → IsBytes s.rest → Begins false false false true false s.rest → after_top blocks origin top s ≡ r → Step (items_so blocks origin top) s r
+step_short : (blocks : List BlockHead) (origin top : Option ℕ) (s : HeaderCursor) (r : Result HeadersRead RecErr) → has_header s ≡ true → IsBytes s.rest → Begins false false false true false s.rest → after_top blocks origin top s ≡ r → Step (items_so blocks origin top) s r
 step_short blocks origin top s r more fits b gives =
     elim (cases_Bool (ltb (length s.rest) 2)) [
       | inl cut ↦ main_fails blocks origin top s r (Malformed (s.at + 1) kinds.Short) (rw (b.block_is, b.origin_is, b.top_is, b.short_is, cut) refl) (short_cut s more b.short_is cut) gives
       | inr long ↦ main_ends blocks origin top s (owing_more (get_or s.rest 1 0) (skip 2 s)) r (rw (b.block_is, b.origin_is, b.top_is, b.short_is, long) refl) (short_whole s more b.short_is long) (255 ∷ get_or s.rest 1 0 ∷ []) (get_or s.rest 1 0) (inl (fits 1, refl)) (record { rest_is = begins_true 255 s.rest b.short_is ∙ ap (λ (l : List ℕ). 255 ∷ l) (drop_more s.rest 1 0 (omega (arith, ltb-false _ _ long))); at_is = refl; owed_is = refl; fits = IsBytes-drop 2 s.rest fits }) gives
     ]
 
-step_long : (blocks : List BlockHead) (origin top : Option ℕ) (s : HeaderCursor) (r : Result Headers RecErr) → has_header s ≡ true → IsBytes s.rest → Begins false false false false true s.rest → after_top blocks origin top s ≡ r → Step (items_so blocks origin top) s r
+step_long : (blocks : List BlockHead) (origin top : Option ℕ) (s : HeaderCursor) (r : Result HeadersRead RecErr) → has_header s ≡ true → IsBytes s.rest → Begins false false false false true s.rest → after_top blocks origin top s ≡ r → Step (items_so blocks origin top) s r
 step_long blocks origin top s r more fits b gives =
     elim (cases_Bool (ltb (length s.rest) 5)) [
       | inl cut ↦ main_fails blocks origin top s r (Malformed (s.at + 1) kinds.Short) (rw (b.block_is, b.origin_is, b.top_is, b.short_is, b.long_is, cut) refl) (long_cut s more b.short_is b.long_is cut) gives
@@ -179,10 +179,10 @@ item_behind tag w limit wide s fits begins long = record {
   fits = IsBytes-drop (1 + byte_len w) s.rest fits;
 }
 
-step_origin : (blocks : List BlockHead) (origin top : Option ℕ) (s : HeaderCursor) (r : Result Headers RecErr) → has_header s ≡ true → IsBytes s.rest → Begins false true false false false s.rest → Resumes blocks origin top s r → Step (items_so blocks origin top) s r
+step_origin : (blocks : List BlockHead) (origin top : Option ℕ) (s : HeaderCursor) (r : Result HeadersRead RecErr) → has_header s ≡ true → IsBytes s.rest → Begins false true false false false s.rest → Resumes blocks origin top s r → Step (items_so blocks origin top) s r
 step_origin blocks None None s r more fits b resumes =
     let gives = no_block blocks s r (and_right (has_header s) _ b.block_is) resumes in
-    let bind : Result (ItemRead (Option ℕ)) RecErr → Result Headers RecErr = λ x. x >>= λ (o : ItemRead (Option ℕ)). after_origin blocks o.value o.next in
+    let bind : Result (ItemRead (Option ℕ)) RecErr → Result HeadersRead RecErr = λ x. x >>= λ (o : ItemRead (Option ℕ)). after_origin blocks o.value o.next in
     elim (cases_Bool (ltb (length s.rest) 3)) [
       | inl cut ↦ inl (record { error = Malformed (s.at + 1) kinds.Short; fails = rw (b.block_is, b.origin_is, cut) refl; gives = sym gives ∙ ap bind (item_cut 253 w16 s more b.origin_is cut) })
       | inr long ↦ inr (inr (inr (inl (record {
@@ -199,10 +199,10 @@ step_origin blocks (Some o) None s r more fits b resumes = main_fails blocks (So
 step_origin blocks None (Some t) s r more fits b resumes = main_fails blocks None (Some t) s r (Malformed s.at kinds.Order) (rw (b.block_is, b.origin_is) refl) (main_order s more b.short_is b.long_is (or_left _ _ (or_left _ _ b.origin_is))) resumes
 step_origin blocks (Some o) (Some t) s r more fits b resumes = main_fails blocks (Some o) (Some t) s r (Malformed s.at kinds.Order) (rw (b.block_is, b.origin_is) refl) (main_order s more b.short_is b.long_is (or_left _ _ (or_left _ _ b.origin_is))) resumes
 
-step_top : (blocks : List BlockHead) (origin top : Option ℕ) (s : HeaderCursor) (r : Result Headers RecErr) → has_header s ≡ true → IsBytes s.rest → Begins false false true false false s.rest → Resumes blocks origin top s r → Step (items_so blocks origin top) s r
+step_top : (blocks : List BlockHead) (origin top : Option ℕ) (s : HeaderCursor) (r : Result HeadersRead RecErr) → has_header s ≡ true → IsBytes s.rest → Begins false false true false false s.rest → Resumes blocks origin top s r → Step (items_so blocks origin top) s r
 step_top blocks origin None s r more fits b resumes =
     let gives = to_origin blocks origin s r (and_right (has_header s) _ b.block_is) (and_right (has_header s) _ b.origin_is) resumes in
-    let bind : Result (ItemRead (Option ℕ)) RecErr → Result Headers RecErr = λ x. x >>= λ (t : ItemRead (Option ℕ)). after_top blocks origin t.value t.next in
+    let bind : Result (ItemRead (Option ℕ)) RecErr → Result HeadersRead RecErr = λ x. x >>= λ (t : ItemRead (Option ℕ)). after_top blocks origin t.value t.next in
     elim (cases_Bool (ltb (length s.rest) 5)) [
       | inl cut ↦ inl (record { error = Malformed (s.at + 1) kinds.Short; fails = rw (b.block_is, b.origin_is, b.top_is, cut) refl; gives = sym gives ∙ ap bind (item_cut 252 w32 s more b.top_is cut) })
       | inr long ↦ inr (inr (inr (inr (record {
@@ -223,22 +223,22 @@ pub last_of-push : (before : Option BlockHead) (heads : List BlockHead) (h : Blo
 last_of-push before [] h = refl
 last_of-push before (x ∷ xs) h = last_of-push (Some x) xs h
 
-pub resumes_block : (blocks : List BlockHead) (s : HeaderCursor) (x : ItemRead BlockHead) (r : Result Headers RecErr) → (has_header s && begins_block s.rest) ≡ true → block_item (last_of None blocks) s ≡ Ok x → Resumes blocks None None s r → Resumes (blocks ++ x.value ∷ []) None None x.next r
+pub resumes_block : (blocks : List BlockHead) (s : HeaderCursor) (x : ItemRead BlockHead) (r : Result HeadersRead RecErr) → (has_header s && begins_block s.rest) ≡ true → block_item (last_of None blocks) s ≡ Ok x → Resumes blocks None None s r → Resumes (blocks ++ x.value ∷ []) None None x.next r
 resumes_block blocks s x r more read resumes =
     let on = goes_on resumes.0 (last_of None blocks) blocks s x (block_items resumes.0 (last_of None blocks) blocks s) resumes.1.0 refl more read in
-    let bind : Result (ItemRead (List BlockHead)) RecErr → Result Headers RecErr = λ y. y >>= λ (b : ItemRead (List BlockHead)). after_blocks b.value b.next in
+    let bind : Result (ItemRead (List BlockHead)) RecErr → Result HeadersRead RecErr = λ y. y >>= λ (b : ItemRead (List BlockHead)). after_blocks b.value b.next in
     (on.0, (on.1.0, ap (λ (before : Option BlockHead). bind (block_items on.0 before (blocks ++ x.value ∷ []) x.next)) (last_of-push None blocks x.value) ∙ ap bind on.1.1 ∙ resumes.1.1))
 
-block_breaks : (blocks : List BlockHead) (s : HeaderCursor) (e : RecErr) (r : Result Headers RecErr) → (has_header s && begins_block s.rest) ≡ true → block_item (last_of None blocks) s ≡ Err e → Resumes blocks None None s r → r ≡ Err e
+block_breaks : (blocks : List BlockHead) (s : HeaderCursor) (e : RecErr) (r : Result HeadersRead RecErr) → (has_header s && begins_block s.rest) ≡ true → block_item (last_of None blocks) s ≡ Err e → Resumes blocks None None s r → r ≡ Err e
 block_breaks blocks s e r more read resumes =
-    let bind : Result (ItemRead (List BlockHead)) RecErr → Result Headers RecErr = λ y. y >>= λ (b : ItemRead (List BlockHead)). after_blocks b.value b.next in
+    let bind : Result (ItemRead (List BlockHead)) RecErr → Result HeadersRead RecErr = λ y. y >>= λ (b : ItemRead (List BlockHead)). after_blocks b.value b.next in
     sym resumes.1.1 ∙ ap bind (fails_so resumes.0 (last_of None blocks) blocks s e (block_items resumes.0 (last_of None blocks) blocks s) resumes.1.0 refl more read)
 
 either : {A : Type 0} (x : Result A RecErr) → ((y : A) × (x ≡ Ok y)) ⊎ ((e : RecErr) × (x ≡ Err e))
 either (Ok y) = inl (y, refl)
 either (Err e) = inr (e, refl)
 
-step_block : (blocks : List BlockHead) (origin top : Option ℕ) (s : HeaderCursor) (r : Result Headers RecErr) → has_header s ≡ true → IsBytes s.rest → BeforeFits (last_of None blocks) → Begins true false false false false s.rest → Resumes blocks origin top s r → Step (items_so blocks origin top) s r
+step_block : (blocks : List BlockHead) (origin top : Option ℕ) (s : HeaderCursor) (r : Result HeadersRead RecErr) → has_header s ≡ true → IsBytes s.rest → BeforeFits (last_of None blocks) → Begins true false false false false s.rest → Resumes blocks origin top s r → Step (items_so blocks origin top) s r
 step_block blocks None None s r more fits before b resumes =
     let both = and_from _ _ more b.block_is in
     let table = block_table (last_of None blocks) s in
@@ -262,7 +262,7 @@ step_block blocks (Some o) (Some t) s r more fits before b resumes = main_fails 
 
 -- ---- any item
 
-pub step : (items : Items) (s : HeaderCursor) (r : Result Headers RecErr) → has_header s ≡ true → IsBytes s.rest → BeforeFits (last_of None items.blocks) → Resumes items.blocks items.origin items.top_xid s r → Step items s r
+pub step : (items : Items) (s : HeaderCursor) (r : Result HeadersRead RecErr) → has_header s ≡ true → IsBytes s.rest → BeforeFits (last_of None items.blocks) → Resumes items.blocks items.origin items.top_xid s r → Step items s r
 step items s r more fits before resumes =
     elim (any_begins s.rest (omega (arith, ltb-true s.owed (length s.rest) more))) [
       | inl b ↦ step_block items.blocks items.origin items.top_xid s r more fits before b resumes

@@ -10,7 +10,7 @@ use Rattle.record_decode.specs.declared.fault.RecErr.TheVariants.{Malformed, Com
 use Rattle.record_decode.specs.declared.fault.RecKind.TheVariants as kinds
 use Rattle.record_decode.specs.declared.head.BlockHead.{BlockHead}
 use Rattle.record_decode.specs.Reading.{Checks, HeaderCursor, begins_block, begins_with, fork_checks, fork_flags, image_checks, cut_row, least_id, skip}
-use Rattle.record_decode.specs.Spells.{Items}
+use Rattle.record_decode.specs.Items.{Items}
 use Rattle.record_decode.specs.Fails.{block_rows, fork_rows, image_rows, is_cut_at, item_rows, last_of, relation_rows}
 
 -- ---- the checks at the cursor

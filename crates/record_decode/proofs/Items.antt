@@ -1,13 +1,14 @@
 -- The items of a record that are no blocks: what is read is spelled so, and what is spelled so is read.
-use Rattle.std.proofs.Common.{◌≡◌, ℕ, ◌+◌, ◌^◌, ◌<◌, ◌≤◌, true, false, ◌&&◌, not, eqb, ltb, List, [], ◌∷◌, ◌++◌, length, get_or, drop, Option, Some, None, Result, Ok, refl, sym, ap, subst, ◌∙◌, arith, inl, inr}
+use Rattle.std.proofs.Common.{◌≡◌, ℕ, ◌+◌, ◌^◌, ◌<◌, ◌≤◌, ◌⊎◌, true, false, ◌&&◌, not, eqb, ltb, List, [], ◌∷◌, ◌++◌, length, get_or, drop, Option, Some, None, Result, Ok, refl, sym, ap, subst, ◌∙◌, arith, inl, inr}
 use Rattle.std.specs.Prelude.{IfSome}
 use Rattle.std.specs.Int.{Width, w32, byte_len, to_le_bytes}
 use Rattle.std.proofs.lemmas.Bool.{eqb-true, eq-eqb, ltb-false, le-ltb, lt-ltb, and_parts, and_from}
 use Rattle.std.proofs.lemmas.List.{drop_more, length-append, drop-drop, drop_at}
 use Rattle.record_decode.specs.declared.fault.RecErr.{RecErr}
 use Rattle.record_spelling.specs.Numbers.{number_at}
+use Rattle.record_spelling.specs.Spelling.{main_header}
 use Rattle.record_decode.specs.Reading.{ItemRead, HeaderCursor, begins_with, has_header, main_item, optional_item, owing_more, skip}
-use Rattle.record_decode.specs.Spells.{item_text, SpellsMainHead}
+use Rattle.record_decode.specs.Items.{item_text}
 use Rattle.record_spelling.proofs.Bytes.{IsBytes, IsBytes-drop, IsWide, wide32}
 use Rattle.record_decode.proofs.Steps.{not_refused, both_refuse, chosen, ok_is}
 use Rattle.record_decode.proofs.HeadsTaken.{Passes, number_back, number_below, passes_skip}
@@ -61,6 +62,10 @@ unfolding optional_item
 item_none_again tag w s e = rw e refl
 
 -- ---- the main data's header
+
+-- nothing where there is none, the short form or the long form, whichever has room for its length
+abbrev pub SpellsMainHead : List ℕ → ℕ → Type 0
+SpellsMainHead text len = ((text ≡ []) × (len ≡ 0)) ⊎ (((len < 256) × (text ≡ main_header true len)) ⊎ ((len < 2 ^ 32) × (text ≡ main_header false len)))
 
 pub record MainTaken (s next : HeaderCursor) : Type 0 where
   pub text : List ℕ

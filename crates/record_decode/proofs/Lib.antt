@@ -14,5 +14,6 @@ pub mod Items
 pub mod HeaderLists
 pub mod Readings
 pub mod BlockHeadSteps
+pub mod BlockHeads
 pub mod Payload
 pub mod SpelledBlocks

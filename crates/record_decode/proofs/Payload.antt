@@ -9,7 +9,7 @@ use Rattle.record_decode.specs.declared.head.BlockHead.{BlockHead}
 use Rattle.record_decode.specs.declared.head.ImageHead.{ImageHead}
 use Rattle.record_spelling.specs.Spelling.{block_payload, image_bytes}
 use Rattle.record_decode.specs.Reading.{block_of, blocks_read, image_len, image_read, main_of, payload_len}
-use Rattle.record_decode.specs.Spells.{head_of, image_head}
+use Rattle.record_decode.proofs.BlockHeads.{head_of, image_head}
 
 -- what the loop over the headers keeps, where these headers are still to come
 pub record StillToCome (whole : List Block) (last : List ℕ) (heads : List BlockHead) (blocks : List Block) (rest : List ℕ) : Type 0 where

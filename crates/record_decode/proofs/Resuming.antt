@@ -9,8 +9,8 @@ use Rattle.record_decode.specs.declared.fault.RecErr.{RecErr}
 use Rattle.record_decode.specs.declared.fault.RecErr.TheVariants.{Malformed}
 use Rattle.record_decode.specs.declared.fault.RecKind.TheVariants as kinds
 use Rattle.record_decode.specs.declared.head.BlockHead.{BlockHead}
-use Rattle.record_decode.specs.Reading.{◌>>=◌, ItemRead, Headers, HeaderCursor, begins_block, begins_with, block_items, has_header, headers_of, main_item, optional_item, payload_len}
-use Rattle.record_decode.specs.Spells.{Items, SpellsHeads, item_text}
+use Rattle.record_decode.specs.Reading.{◌>>=◌, ItemRead, HeadersRead, HeaderCursor, begins_block, begins_with, block_items, has_header, headers_of, main_item, optional_item, payload_len}
+use Rattle.record_decode.specs.Items.{Items, SpellsHeads, item_text}
 use Rattle.record_decode.specs.Fails.{ReachesItem, last_of}
 use Rattle.record_spelling.proofs.Bytes.{wide16, wide32}
 use Rattle.record_decode.proofs.BlockHeadSteps.{block_items-ends}
@@ -21,44 +21,44 @@ use Rattle.record_decode.proofs.Items.{item_none_again, item_some_again}
 
 -- ---- the stages of the reading
 
-abbrev pub finish : List BlockHead → Option ℕ → Option ℕ → HeaderCursor → Result Headers RecErr
+abbrev pub finish : List BlockHead → Option ℕ → Option ℕ → HeaderCursor → Result HeadersRead RecErr
 finish blocks origin top end = cond (eqb (length end.rest) end.owed) (Ok (record { blocks = blocks; origin = origin; top_xid = top; payload = end.rest })) (Err (Malformed end.at kinds.Fill))
 
-abbrev pub after_top : List BlockHead → Option ℕ → Option ℕ → HeaderCursor → Result Headers RecErr
+abbrev pub after_top : List BlockHead → Option ℕ → Option ℕ → HeaderCursor → Result HeadersRead RecErr
 after_top blocks origin top s = main_item s >>= finish blocks origin top
 
-abbrev pub after_origin : List BlockHead → Option ℕ → HeaderCursor → Result Headers RecErr
+abbrev pub after_origin : List BlockHead → Option ℕ → HeaderCursor → Result HeadersRead RecErr
 after_origin blocks origin s = optional_item 252 w32 s >>= λ t. after_top blocks origin t.value t.next
 
-abbrev pub after_blocks : List BlockHead → HeaderCursor → Result Headers RecErr
+abbrev pub after_blocks : List BlockHead → HeaderCursor → Result HeadersRead RecErr
 after_blocks blocks s = optional_item 253 w16 s >>= λ o. after_origin blocks o.value o.next
 
-abbrev pub from_blocks : ℕ → Option BlockHead → List BlockHead → HeaderCursor → Result Headers RecErr
+abbrev pub from_blocks : ℕ → Option BlockHead → List BlockHead → HeaderCursor → Result HeadersRead RecErr
 from_blocks n before blocks s = block_items n before blocks s >>= λ b. after_blocks b.value b.next
 
 -- behind these items the reading goes on here, and gives r
-abbrev pub Resumes : List BlockHead → Option ℕ → Option ℕ → HeaderCursor → Result Headers RecErr → Type 0
+abbrev pub Resumes : List BlockHead → Option ℕ → Option ℕ → HeaderCursor → Result HeadersRead RecErr → Type 0
 Resumes blocks origin (Some t) s r = after_top blocks origin (Some t) s ≡ r
 Resumes blocks (Some o) None s r = after_origin blocks (Some o) s ≡ r
 Resumes blocks None None s r = (n : ℕ) × ((length s.rest ≤ n) × (from_blocks n (last_of None blocks) blocks s ≡ r))
 
 -- ---- an item that does not stand here is passed over
 
-pub no_block : (blocks : List BlockHead) (s : HeaderCursor) (r : Result Headers RecErr) → (has_header s && begins_block s.rest) ≡ false → Resumes blocks None None s r → after_blocks blocks s ≡ r
+pub no_block : (blocks : List BlockHead) (s : HeaderCursor) (r : Result HeadersRead RecErr) → (has_header s && begins_block s.rest) ≡ false → Resumes blocks None None s r → after_blocks blocks s ≡ r
 no_block blocks s r over resumes = ap (λ (x : Result (ItemRead (List BlockHead)) RecErr). x >>= λ (b : ItemRead (List BlockHead)). after_blocks b.value b.next) (sym (block_items-ends resumes.0 (last_of None blocks) blocks s over)) ∙ resumes.1.1
 
-pub no_origin : (blocks : List BlockHead) (s : HeaderCursor) (r : Result Headers RecErr) → (has_header s && begins_with 253 s.rest) ≡ false → after_blocks blocks s ≡ r → after_origin blocks None s ≡ r
+pub no_origin : (blocks : List BlockHead) (s : HeaderCursor) (r : Result HeadersRead RecErr) → (has_header s && begins_with 253 s.rest) ≡ false → after_blocks blocks s ≡ r → after_origin blocks None s ≡ r
 no_origin blocks s r over e = ap (λ (x : Result (ItemRead (Option ℕ)) RecErr). x >>= λ (o : ItemRead (Option ℕ)). after_origin blocks o.value o.next) (sym (item_none_again 253 w16 s over)) ∙ e
 
-pub no_top : (blocks : List BlockHead) (origin : Option ℕ) (s : HeaderCursor) (r : Result Headers RecErr) → (has_header s && begins_with 252 s.rest) ≡ false → after_origin blocks origin s ≡ r → after_top blocks origin None s ≡ r
+pub no_top : (blocks : List BlockHead) (origin : Option ℕ) (s : HeaderCursor) (r : Result HeadersRead RecErr) → (has_header s && begins_with 252 s.rest) ≡ false → after_origin blocks origin s ≡ r → after_top blocks origin None s ≡ r
 no_top blocks origin s r over e = ap (λ (x : Result (ItemRead (Option ℕ)) RecErr). x >>= λ (t : ItemRead (Option ℕ)). after_top blocks origin t.value t.next) (sym (item_none_again 252 w32 s over)) ∙ e
 
 -- neither of them stands here
-pub to_origin : (blocks : List BlockHead) (origin : Option ℕ) (s : HeaderCursor) (r : Result Headers RecErr) → (has_header s && begins_block s.rest) ≡ false → (has_header s && begins_with 253 s.rest) ≡ false → Resumes blocks origin None s r → after_origin blocks origin s ≡ r
+pub to_origin : (blocks : List BlockHead) (origin : Option ℕ) (s : HeaderCursor) (r : Result HeadersRead RecErr) → (has_header s && begins_block s.rest) ≡ false → (has_header s && begins_with 253 s.rest) ≡ false → Resumes blocks origin None s r → after_origin blocks origin s ≡ r
 to_origin blocks None s r a b resumes = no_origin blocks s r b (no_block blocks s r a resumes)
 to_origin blocks (Some o) s r a b resumes = resumes
 
-pub to_top : (blocks : List BlockHead) (origin top : Option ℕ) (s : HeaderCursor) (r : Result Headers RecErr) → (has_header s && begins_block s.rest) ≡ false → (has_header s && begins_with 253 s.rest) ≡ false → (has_header s && begins_with 252 s.rest) ≡ false → Resumes blocks origin top s r → after_top blocks origin top s ≡ r
+pub to_top : (blocks : List BlockHead) (origin top : Option ℕ) (s : HeaderCursor) (r : Result HeadersRead RecErr) → (has_header s && begins_block s.rest) ≡ false → (has_header s && begins_with 253 s.rest) ≡ false → (has_header s && begins_with 252 s.rest) ≡ false → Resumes blocks origin top s r → after_top blocks origin top s ≡ r
 to_top blocks None None s r a b c resumes = no_top blocks None s r c (to_origin blocks None s r a b resumes)
 to_top blocks (Some o) None s r a b c resumes = no_top blocks (Some o) s r c resumes
 to_top blocks None (Some t) s r a b c resumes = resumes
@@ -69,7 +69,7 @@ unfolding main_item
 no_main s over = rw over refl
 
 -- where no header stands any more
-pub to_finish : (blocks : List BlockHead) (origin top : Option ℕ) (s : HeaderCursor) (r : Result Headers RecErr) → has_header s ≡ false → Resumes blocks origin top s r → finish blocks origin top s ≡ r
+pub to_finish : (blocks : List BlockHead) (origin top : Option ℕ) (s : HeaderCursor) (r : Result HeadersRead RecErr) → has_header s ≡ false → Resumes blocks origin top s r → finish blocks origin top s ≡ r
 to_finish blocks origin top s r over resumes =
     ap (λ (x : Result HeaderCursor RecErr). x >>= finish blocks origin top) (sym (no_main s over)) ∙ to_top blocks origin top s r (and_left _ _ over) (and_left _ _ over) (and_left _ _ over) resumes
 
@@ -127,7 +127,7 @@ reach blocks origin (Some t) heads rest spelled fits top_fits more =
     ap (λ (k : ℕ). after_top blocks origin (Some t) (standing_at k (sum_by payload_len blocks) rest)) len ∙ reach_top blocks origin t heads rest spelled fits top_fits more ∙ ap (λ (l : List ℕ). headers_of (standing_at 24 0 l)) bytes
 
 -- the reading of these bytes' headers
-abbrev pub reads_headers : List ℕ → Result Headers RecErr
+abbrev pub reads_headers : List ℕ → Result HeadersRead RecErr
 reads_headers bytes = headers_of (standing_at 24 0 (drop 24 bytes))
 
 pub reaches_resumes : (bytes : List ℕ) (items : Items) (s : HeaderCursor) → ReachesItem bytes items s → Resumes items.blocks items.origin items.top_xid s (reads_headers bytes)

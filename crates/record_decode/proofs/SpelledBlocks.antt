@@ -1,24 +1,28 @@
 -- The blocks of a record that is spelled.
-use Rattle.std.proofs.Common.{ℕ, ◌≤◌, List, [], ◌∷◌, ◌++◌, length, map, All, Option, Some, None, ap, arith}
+use Rattle.std.proofs.Common.{◌≡◌, ℕ, ◌+◌, ◌≤◌, true, List, [], ◌∷◌, ◌++◌, length, All, ap, arith}
 use Rattle.std.specs.Int.{w32, to_le_bytes}
 use Rattle.std.specs.List.{flat_map, sum_by}
+use Rattle.std.proofs.lemmas.Bool.{and_parts}
 use Rattle.std.proofs.lemmas.List.{length-append}
 use Rattle.std.proofs.lemmas.List.Elements.{All-cons, All-nil}
 use Rattle.std.proofs.lemmas.List.Sums.{sum_by-cons}
 use Rattle.wal_types.specs.declared.record.Block.{Block}
 use Rattle.wal_types.specs.declared.record.Record.{Record}
-use Rattle.record_decode.specs.declared.head.BlockHead.{BlockHead}
-use Rattle.record_spelling.specs.Spelling.{block_payload, image_bytes}
-use Rattle.record_decode.specs.Spells.{Spells, SpellsHeads, head_of}
+use Rattle.record_spelling.specs.Record.{are_right_blocks, is_right_block}
+use Rattle.record_spelling.specs.Spelling.{block_payload, image_bytes, origin_item, top_xid_item}
+use Rattle.record_spelling.proofs.RightBlocks.{right_parts}
+use Rattle.record_decode.specs.Spells.{Spells}
 
 -- ---- their forks
 
-forks_of_heads : (before : Option BlockHead) (blocks : List Block) (text : List ℕ) → SpellsHeads before (map head_of blocks) text → All (λ b. b.fork ≤ 3) blocks
-forks_of_heads before [] text spelled = All-nil (λ b. b.fork ≤ 3)
-forks_of_heads before (b ∷ blocks) text spelled = All-cons (λ b. b.fork ≤ 3) b blocks spelled.1.1.1.0.fork (forks_of_heads (Some (head_of b)) blocks spelled.1.0 spelled.1.1.1.1)
+forks_of_right : (floor : ℕ) (blocks : List Block) → are_right_blocks floor blocks ≡ true → All (λ b. b.fork ≤ 3) blocks
+forks_of_right floor [] right = All-nil (λ b. b.fork ≤ 3)
+forks_of_right floor (b ∷ blocks) right =
+    let both = and_parts (is_right_block floor b) (are_right_blocks (b.id + 1) blocks) right in
+    All-cons (λ b. b.fork ≤ 3) b blocks (right_parts floor b both.0).fork_le (forks_of_right (b.id + 1) blocks both.1)
 
 pub forks_spelled : (bytes : List ℕ) (r : Record) → Spells bytes r → All (λ b. b.fork ≤ 3) r.blocks
-forks_spelled bytes r s = forks_of_heads None r.blocks s.items_spelled.heads s.items_spelled.heads_spelled
+forks_spelled bytes r s = forks_of_right 0 r.blocks s.blocks
 
 -- ---- their images
 
@@ -33,6 +37,6 @@ part-le-whole front part behind = omega (arith, length-append (front ++ part) be
 
 pub images_spelled : (bytes : List ℕ) (r : Record) → Spells bytes r → sum_by (λ (b : Block). length (image_bytes b.image)) r.blocks ≤ length bytes
 images_spelled bytes r s =
-    let front = to_le_bytes w32 (length bytes) ++ to_le_bytes w32 r.xid.0 ++ s.prev ++ (r.info ∷ r.rmid ∷ s.spare) ++ s.crc ++ s.items ++ s.main_head in
+    let front = to_le_bytes w32 (length bytes) ++ to_le_bytes w32 r.xid.0 ++ s.prev ++ (r.info ∷ r.rmid ∷ s.spare) ++ s.crc ++ s.headers ++ origin_item r.origin ++ top_xid_item r.top_xid ++ s.main_head in
     let whole = part-le-whole front (flat_map block_payload r.blocks) r.main in
     omega (arith, ap length s.spelled, images-le-payload r.blocks)

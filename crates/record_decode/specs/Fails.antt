@@ -16,8 +16,9 @@ use Rattle.record_spelling.specs.Checks.{first_fault}
 use Rattle.record_spelling.specs.Layout.{data_page_size, last_block_id, last_fork, long_main_tag, manager_offset, origin_tag, record_header_size, short_main_tag, size_offset, top_xid_tag}
 use Rattle.record_spelling.specs.Record.{is_free_manager}
 use Rattle.record_spelling.specs.Numbers.{number_at}
+use Rattle.record_spelling.specs.Spelling.{main_header}
 use Rattle.record_decode.specs.Reading.{Checks, HeaderCursor, least_id, payload_len}
-use Rattle.record_decode.specs.Spells.{Items, SpellsItems, StandsBehind, head_text}
+use Rattle.record_decode.specs.Items.{Items, SpellsItems, StandsBehind, head_text}
 
 -- ---- the checks of one item, in their order; `at` is its offset in the record's bytes
 
@@ -161,8 +162,8 @@ pub record NextTopXid (items : Items) (text : List ℕ) (promised : ℕ) : Type 
 -- the header of main data, in either form
 abbrev pub IsMainHead : List ℕ → ℕ → Type 0
 IsMainHead text len =
-    ((len < 256) × (text ≡ short_main_tag ∷ len ∷ []))
-    ⊎ ((len < 2 ^ 32) × (text ≡ long_main_tag ∷ to_le_bytes w32 len))
+    ((len < 256) × (text ≡ main_header true len))
+    ⊎ ((len < 2 ^ 32) × (text ≡ main_header false len))
 
 -- the headers end behind this item: it is that of main data, or no more is left than is owed
 abbrev pub EndsHeaders : Items → List ℕ → ℕ → ℕ → ℕ → Type 0

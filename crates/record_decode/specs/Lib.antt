@@ -1,5 +1,6 @@
 pub mod Reading
 pub mod Unread
 pub mod Headers
+pub mod Items
 pub mod Spells
 pub mod Fails

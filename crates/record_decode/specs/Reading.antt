@@ -260,21 +260,22 @@ main_of (h ∷ hs) payload = main_of hs (drop (payload_len h) payload)
 
 -- what a record's headers say: those of its blocks, its origin, its top-level transaction; and the
 -- payload behind them
-pub record Headers : Type 0 where
+pub record HeadersRead : Type 0 where
   pub blocks : List BlockHead
   pub origin : Option ℕ
   pub top_xid : Option ℕ
   pub payload : List ℕ
 
 -- what the headers say that end here: just the payload is left that they owe
-abbrev pub headers_to : HeaderCursor → List BlockHead → Option ℕ → Option ℕ → Result Headers RecErr
+abbrev pub headers_to : HeaderCursor → List BlockHead → Option ℕ → Option ℕ
+    → Result HeadersRead RecErr
 headers_to end blocks origin top =
     if length end.rest == end.owed then
     Ok (record { blocks = blocks; origin = origin; top_xid = top; payload = end.rest })
     else Err (Malformed end.at kinds.Fill)
 
 -- the headers behind the record's own
-unfoldable pub headers_of : HeaderCursor → Result Headers RecErr
+unfoldable pub headers_of : HeaderCursor → Result HeadersRead RecErr
 headers_of s = do
   blocks ← block_items (length s.rest) None [] s
   origin ← optional_item origin_tag w16 blocks.next
@@ -283,7 +284,7 @@ headers_of s = do
   headers_to end blocks.value origin.value top.value
 
 -- the record of these headers
-abbrev pub record_of : List ℕ → Headers → Record
+abbrev pub record_of : List ℕ → HeadersRead → Record
 record_of bytes h = record {
   xid = record { 0 = number_at w32 bytes xid_offset };
   rmid = slice_index bytes manager_offset;

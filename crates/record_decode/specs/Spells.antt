@@ -1,165 +1,46 @@
 -- All spellings of a record that a reader accepts.
-use Rattle.std.specs.Prelude.{◌≡◌, ℕ, ◌+◌, ◌^◌, ◌<◌, ◌≤◌, Bool, List, [], ◌∷◌, ◌++◌, length, map, IsTrue, not, Option, Some, None, IfSome, option_map, ◌⊎◌, nat_lt, if◌then◌else◌}
-use Rattle.std.specs.Bool.{MatchBool, OnTrue}
-use Rattle.std.specs.Int.{Width, w16, w32, to_le_bytes}
+use Rattle.std.specs.Prelude.{◌≡◌, ℕ, ◌^◌, ◌<◌, Bool, true, false, List, [], ◌∷◌, ◌++◌, length, IsTrue, not, Option, Some, None, ◌⊎◌}
+use Rattle.std.specs.Bool.{OnTrue}
+use Rattle.std.specs.Int.{w32, to_le_bytes}
 use Rattle.std.specs.List.{flat_map}
 use Rattle.wal_types.specs.declared.record.Record.{Record}
 use Rattle.wal_types.specs.declared.record.Block.{Block}
-use Rattle.wal_types.specs.declared.record.Image.{Image}
 use Rattle.wal_types.specs.declared.record.Rel.{Rel}
-use Rattle.wal_types.specs.declared.record.Xid.{Xid}
-use Rattle.record_decode.specs.declared.head.BlockHead.{BlockHead}
-use Rattle.record_decode.specs.declared.head.ImageHead.{ImageHead}
-use Rattle.record_spelling.specs.Record.{Fits, is_free_manager}
-use Rattle.record_spelling.specs.Layout.{data_page_size, last_block_id, last_fork, long_main_tag, origin_tag, short_main_tag, top_xid_tag}
-use Rattle.record_spelling.specs.Spelling.{flag, relation_bytes, block_payload}
-use Rattle.record_decode.specs.Reading.{least_id}
+use Rattle.record_spelling.specs.Record.{Fits, are_right_blocks, is_free_manager}
+use Rattle.record_spelling.specs.Spelling.{block_header, block_payload, is_same_relation, main_header, origin_item, top_xid_item}
 
--- ---- a block's header
-
--- what a block's header says of it
-abbrev pub image_head : Option Image → Option ImageHead
-image_head None = None
-image_head (Some i) = Some (record {
-  apply = i.apply;
-  hole_offset = i.hole_offset;
-  hole_len = i.hole_len;
-  len = length i.bytes;
-})
-
-abbrev pub head_of : Block → BlockHead
-head_of b = record {
-  id = b.id;
-  rel = b.rel;
-  fork = b.fork;
-  blk = b.blk;
-  will_init = b.will_init;
-  image = image_head b.image;
-  content_len = length b.content;
-}
-
--- the bit of a fork byte that tells an image
-abbrev pub image_flag : Option ImageHead → ℕ
-image_flag None = 0
-image_flag (Some i) = 16
-
-abbrev pub image_head_text : Option ImageHead → List ℕ
-image_head_text None = []
-image_head_text (Some i) =
-    to_le_bytes w16 i.len
-    ++ to_le_bytes w16 i.hole_offset
-    ++ (flag (nat_lt 0 i.hole_len) 1 + flag i.apply 2) ∷ []
-
--- the fork with its flags
-abbrev pub flagged_fork : Bool → BlockHead → ℕ
-flagged_fork same h =
-    h.fork
-    + image_flag h.image
-    + flag (nat_lt 0 h.content_len) 32
-    + flag h.will_init 64
-    + flag same 128
-
--- a block's header, with its relation left out (as that of the block before) or spelled
-abbrev pub head_text : Bool → BlockHead → List ℕ
-head_text same h =
-    h.id ∷ flagged_fork same h ∷ to_le_bytes w16 h.content_len
-    ++ image_head_text h.image
-    ++ (if same then [] else relation_bytes h.rel)
-    ++ to_le_bytes w32 h.blk
-
--- an image is that of a page; a hole is not at the page's start
-pub record IsPageImage (i : ImageHead) : Type 0 where
-  pub page : i.len + i.hole_len ≡ data_page_size
-  pub hole :
-      MatchBool (nat_lt 0 i.hole_len)
-      ((0 < i.hole_offset) × (i.hole_offset + i.hole_len ≤ data_page_size))
-      (i.hole_offset ≡ 0)
-
--- the relation may be left out just where the block before has it
-abbrev pub HasRelation : Option BlockHead → Rel → Type 0
-HasRelation None rel = ⊥
-HasRelation (Some before) rel = before.rel ≡ rel
-
--- a block's header may stand behind another
-pub record StandsBehind (before : Option BlockHead) (same : Bool) (h : BlockHead) : Type 0 where
-  pub above : least_id before ≤ h.id
-  pub id : h.id ≤ last_block_id
-  pub fork : h.fork ≤ last_fork
-  pub content : h.content_len < 2 ^ 16
-  pub image : IfSome h.image IsPageImage
-  pub tablespace : h.rel.spc < 2 ^ 32
-  pub database : h.rel.db < 2 ^ 32
-  pub relation : h.rel.rel < 2 ^ 32
-  pub number : h.blk < 2 ^ 32
-  pub relation_before : OnTrue same (HasRelation before h.rel)
-
--- these bytes spell headers of blocks, behind the one before
-abbrev pub SpellsHeads : Option BlockHead → List BlockHead → List ℕ → Type 0
-SpellsHeads before [] text = text ≡ []
-SpellsHeads before (h ∷ hs) text =
+-- these bytes are the headers of blocks, behind a block of the relation `before`; each may leave
+-- out its relation if the block before has the same
+abbrev pub SpellsBlockHeaders : Option Rel → List Block → List ℕ → Type 0
+SpellsBlockHeaders before [] text = text ≡ []
+SpellsBlockHeaders before (b ∷ bs) text =
     (same : Bool)
+    × (OnTrue same (IsTrue (is_same_relation before b.rel))
     × ((rest : List ℕ)
-    × ((text ≡ head_text same h ++ rest)
-    × (StandsBehind before same h × SpellsHeads (Some h) hs rest)))
+    × ((text ≡ block_header b same ++ rest) × SpellsBlockHeaders (Some b.rel) bs rest)))
 
--- ---- the items
-
--- an item of a tag and a number
-abbrev pub item_text : ℕ → Width → Option ℕ → List ℕ
-item_text tag w None = []
-item_text tag w (Some n) = tag ∷ to_le_bytes w n
-
--- whole items, none of them a header of main data
-pub record Items : Type 0 where
-  pub blocks : List BlockHead
-  pub origin : Option ℕ
-  pub top_xid : Option ℕ
-
-pub record SpellsItems (items : Items) (text : List ℕ) : Type 0 where
-  pub heads : List ℕ
-  pub heads_spelled : SpellsHeads None items.blocks heads
-  pub origin : IfSome items.origin (λ n. n < 2 ^ 16)
-  pub top_xid : IfSome items.top_xid (λ n. n < 2 ^ 32)
-  pub spelled :
-      text
-      ≡ heads
-      ++ item_text origin_tag w16 items.origin
-      ++ item_text top_xid_tag w32 items.top_xid
-
--- what a record's items say
-abbrev pub items_in : Record → Items
-items_in r = record {
-  blocks = map head_of r.blocks;
-  origin = r.origin;
-  top_xid = option_map (λ (x : Xid). x.0) r.top_xid;
-}
-
--- the header of main data: nothing where there is none, the short form or the long form, whichever
--- has room for its length
-abbrev pub SpellsMainHead : List ℕ → ℕ → Type 0
-SpellsMainHead text len =
-    ((text ≡ []) × (len ≡ 0))
-    ⊎ (((len < 256) × (text ≡ short_main_tag ∷ len ∷ []))
-    ⊎ ((len < 2 ^ 32) × (text ≡ long_main_tag ∷ to_le_bytes w32 len)))
-
--- ---- a record
-
--- these bytes are the record: its size and fields, then its items and the payload that they owe;
--- the start of the record before, two bytes behind the manager and the CRC are not looked at
+-- these bytes are the record: its size and fields, the headers of its items, and the payload; the
+-- start of the record before, two bytes behind the manager and the CRC are not looked at
 pub record Spells (bytes : List ℕ) (r : Record) : Type 0 where
   pub fits : Fits r
   pub size : length bytes < 2 ^ 32
   pub manager : IsTrue (not (is_free_manager r.rmid))
+  pub blocks : IsTrue (are_right_blocks 0 r.blocks)
   pub prev : List ℕ
   pub prev_length : length prev ≡ 8
   pub spare : List ℕ
   pub spare_length : length spare ≡ 2
   pub crc : List ℕ
   pub crc_length : length crc ≡ 4
-  pub items : List ℕ
-  pub items_spelled : SpellsItems (items_in r) items
+  pub headers : List ℕ
+  pub headers_spelled : SpellsBlockHeaders None r.blocks headers
+  -- no header of main data if there is none, a short one if it has room for the length, or a long
+  -- one
   pub main_head : List ℕ
-  pub main_spelled : SpellsMainHead main_head (length r.main)
+  pub main_spelled :
+      ((main_head ≡ []) × (length r.main ≡ 0))
+      ⊎ (((length r.main < 256) × (main_head ≡ main_header true (length r.main)))
+      ⊎ (main_head ≡ main_header false (length r.main)))
   pub spelled :
       bytes
       ≡ to_le_bytes w32 (length bytes)
@@ -167,7 +48,9 @@ pub record Spells (bytes : List ℕ) (r : Record) : Type 0 where
       ++ prev
       ++ (r.info ∷ r.rmid ∷ spare)
       ++ crc
-      ++ items
+      ++ headers
+      ++ origin_item r.origin
+      ++ top_xid_item r.top_xid
       ++ main_head
       ++ flat_map block_payload r.blocks
       ++ r.main

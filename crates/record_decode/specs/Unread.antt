@@ -1,5 +1,5 @@
 -- The bytes that are not read yet as the place where a reader of the headers stands.
-use Rattle.std.specs.Prelude.{List, Result}
+use Rattle.std.specs.Prelude.{Result}
 use Rattle.record_decode.specs.declared.decoding.unread.Unread.{Unread}
 use Rattle.record_decode.specs.declared.fault.RecErr.{RecErr}
 use Rattle.record_decode.specs.Reading.{ItemRead, GivesAs, HeaderCursor}

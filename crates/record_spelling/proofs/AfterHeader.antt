@@ -1,6 +1,6 @@
 -- What a record carries is bytes.
 use Rattle.std.proofs.Common.{◌≡◌, ℕ, ◌+◌, ◌<◌, ◌≤◌, Bool, true, false, ◌&&◌, cond, List, [], ◌∷◌, ◌++◌, length, eqb, ltb, leb, Option, Some, None, All, arith}
-use Rattle.std.specs.Prelude.{IfSome}
+use Rattle.std.specs.Prelude.{IfSome, is_some}
 use Rattle.std.specs.Int.{w16, w32, w64, to_le_bytes}
 use Rattle.std.specs.List.{flat_map, AllByRecursion}
 use Rattle.std.proofs.lemmas.Bool.{and_parts, leb-true, ltb-true, cond_both}
@@ -10,8 +10,8 @@ use Rattle.wal_types.specs.declared.record.Block.{Block}
 use Rattle.wal_types.specs.declared.record.Image.{Image}
 use Rattle.wal_types.specs.declared.record.Rel.{Rel}
 use Rattle.wal_types.specs.declared.record.Xid.{Xid}
-use Rattle.record_spelling.specs.Record.{BlockFits, ImageFits, are_right_blocks, is_right_block, is_right_option}
-use Rattle.record_spelling.specs.Spelling.{flag, has_image, image_header, image_bytes, is_same_relation, relation_bytes, block_header, block_headers, block_payload, origin_item, top_xid_item, main_header, after_header}
+use Rattle.record_spelling.specs.Record.{BlockFits, ImageFits, are_right_blocks, is_right_block, is_right_image}
+use Rattle.record_spelling.specs.Spelling.{flag, image_header, image_bytes, is_same_relation, relation_bytes, block_header, block_headers, block_payload, origin_item, top_xid_item, main_header, after_header}
 
 -- each element is a byte; a record, so that the lists are found from the facts
 pub record AreBytes (bytes : List ℕ) : Type 0 where
@@ -49,11 +49,10 @@ image_header_bytes (Some i) =
 relation_is_bytes : (rel : Rel) → AreBytes (relation_bytes rel)
 relation_is_bytes rel = bytes_and (bytes_and (bytes32 rel.spc) (bytes32 rel.db)) (bytes32 rel.rel)
 
-block_header_bytes : (before : Option Rel) (b : Block) → b.fork ≤ 3 → BlockFits b → AreBytes (block_header before b)
-block_header_bytes before b fork fits =
-    let same = is_same_relation before b.rel in
-    let flags = b.fork + flag (has_image b.image) 16 + flag (ltb 0 (length b.content)) 32 + flag b.will_init 64 + flag same 128 in
-    let flags_fit : flags < 256 = omega (arith, flag_le (has_image b.image) 16, flag_le (ltb 0 (length b.content)) 32, flag_le b.will_init 64, flag_le same 128) in
+block_header_bytes : (b : Block) (same : Bool) → b.fork ≤ 3 → BlockFits b → AreBytes (block_header b same)
+block_header_bytes b same fork fits =
+    let flags = b.fork + flag (is_some b.image) 16 + flag (ltb 0 (length b.content)) 32 + flag b.will_init 64 + flag same 128 in
+    let flags_fit : flags < 256 = omega (arith, flag_le (is_some b.image) 16, flag_le (ltb 0 (length b.content)) 32, flag_le b.will_init 64, flag_le same 128) in
     let front = byte_and b.id (flags ∷ to_le_bytes w16 (length b.content)) fits.numbers.id (byte_and flags (to_le_bytes w16 (length b.content)) flags_fit (bytes16 (length b.content))) in
     let relation : AreBytes (cond same [] (relation_bytes b.rel)) = cond_both same [] (relation_bytes b.rel) AreBytes (λ _. no_bytes) (λ _. relation_is_bytes b.rel) in
     bytes_and (bytes_and (bytes_and front (image_header_bytes b.image)) relation) (bytes32 b.blk)
@@ -62,10 +61,10 @@ block_headers_bytes : (before : Option Rel) (floor : ℕ) (bs : List Block) → 
 block_headers_bytes before floor [] right fits = no_bytes
 block_headers_bytes before floor (b ∷ bs) right fits =
     let both = and_parts (is_right_block floor b) (are_right_blocks (b.id + 1) bs) right in
-    let to_content = and_parts (leb floor b.id && leb b.id 32 && leb b.fork 3 && leb (length b.content) 65535) (is_right_option b.image) both.0 in
+    let to_content = and_parts (leb floor b.id && leb b.id 32 && leb b.fork 3 && leb (length b.content) 65535) (is_right_image b.image) both.0 in
     let to_fork = and_parts (leb floor b.id && leb b.id 32 && leb b.fork 3) (leb (length b.content) 65535) to_content.0 in
     let fork = and_parts (leb floor b.id && leb b.id 32) (leb b.fork 3) to_fork.0 in
-    bytes_and (block_header_bytes before b (leb-true b.fork 3 fork.1) fits.0) (block_headers_bytes (Some b.rel) (b.id + 1) bs both.1 fits.1)
+    bytes_and (block_header_bytes b (is_same_relation before b.rel) (leb-true b.fork 3 fork.1) fits.0) (block_headers_bytes (Some b.rel) (b.id + 1) bs both.1 fits.1)
 
 image_is_bytes : (image : Option Image) → IfSome image ImageFits → AreBytes (image_bytes image)
 image_is_bytes None fits = no_bytes
@@ -85,7 +84,7 @@ top_xid_bytes : (top : Option Xid) → AreBytes (top_xid_item top)
 top_xid_bytes None = no_bytes
 top_xid_bytes (Some x) = byte_and 252 (to_le_bytes w32 x.0) (omega arith) (bytes32 x.0)
 
-main_header_bytes : (main : List ℕ) → AreBytes (main_header main)
+main_header_bytes : (main : List ℕ) → AreBytes (cond (eqb (length main) 0) [] (main_header (ltb (length main) 256) (length main)))
 main_header_bytes main =
     cond_both (eqb (length main) 0) _ _ AreBytes (λ _. no_bytes) (λ _.
     cond_both (ltb (length main) 256) _ _ AreBytes (λ few. byte_and 255 (length main ∷ []) (omega arith) (byte_and (length main) [] (ltb-true _ _ few) no_bytes)) (λ _. byte_and 254 (to_le_bytes w32 (length main)) (omega arith) (bytes32 (length main))))

@@ -9,7 +9,7 @@ use Rattle.std.proofs.lemmas.List.Elements.{All-nil, All-cons}
 use Rattle.wal_types.specs.declared.record.Block.{Block}
 use Rattle.wal_types.specs.declared.record.Image.{Image}
 use Rattle.wal_types.specs.declared.record.Rel.{Rel}
-use Rattle.record_spelling.specs.Record.{are_right_blocks, is_right_block, is_right_option}
+use Rattle.record_spelling.specs.Record.{are_right_blocks, is_right_block, is_right_image}
 use Rattle.record_spelling.specs.Refusal.{first_bad_block}
 use Rattle.record_spelling.specs.Spelling.{block_header, block_headers, block_payload, image_bytes, image_header, is_same_relation, relation_bytes}
 
@@ -20,11 +20,11 @@ pub record IsRight (floor : ℕ) (b : Block) : Type 0 where
   pub id_le : b.id ≤ 32
   pub fork_le : b.fork ≤ 3
   pub content_le : length b.content ≤ 65535
-  pub image : is_right_option b.image ≡ true
+  pub image : is_right_image b.image ≡ true
 
 pub right_parts : (floor : ℕ) (b : Block) → is_right_block floor b ≡ true → IsRight floor b
 right_parts floor b right =
-    let to_content = and_parts (leb floor b.id && leb b.id 32 && leb b.fork 3 && leb (length b.content) 65535) (is_right_option b.image) right in
+    let to_content = and_parts (leb floor b.id && leb b.id 32 && leb b.fork 3 && leb (length b.content) 65535) (is_right_image b.image) right in
     let to_fork = and_parts (leb floor b.id && leb b.id 32 && leb b.fork 3) (leb (length b.content) 65535) to_content.0 in
     let to_id = and_parts (leb floor b.id && leb b.id 32) (leb b.fork 3) to_fork.0 in
     let of_id = and_parts (leb floor b.id) (leb b.id 32) to_id.0 in
@@ -49,7 +49,7 @@ each_right floor (b ∷ bs) right =
 
 -- ---- their length
 
-image_len_le : (image : Option Image) → is_right_option image ≡ true → length (image_header image) + length (image_bytes image) ≤ 8197
+image_len_le : (image : Option Image) → is_right_image image ≡ true → length (image_header image) + length (image_bytes image) ≤ 8197
 image_len_le None right = omega arith
 image_len_le (Some i) right =
     let page = and_parts (eqb (length i.bytes + i.hole_len) 8192) _ right in
@@ -59,7 +59,7 @@ relation_len_le : (same : Bool) (rel : Rel) → length (cond same [] (relation_b
 relation_len_le true rel = omega arith
 relation_len_le false rel = omega arith
 
-pub block_len_le : (before : Option Rel) (floor : ℕ) (b : Block) → is_right_block floor b ≡ true → length (block_header before b) + length (block_payload b) ≤ 73752
+pub block_len_le : (before : Option Rel) (floor : ℕ) (b : Block) → is_right_block floor b ≡ true → length (block_header b (is_same_relation before b.rel)) + length (block_payload b) ≤ 73752
 block_len_le before floor b right =
     let parts = right_parts floor b right in
     let relation = cond (is_same_relation before b.rel) [] (relation_bytes b.rel) in
@@ -72,7 +72,7 @@ blocks_len_le before floor (b ∷ bs) few right =
     let parts = right_parts floor b both.0 in
     let here = block_len_le before floor b both.0 in
     let rest = blocks_len_le (Some b.rel) (b.id + 1) bs (omega (arith, parts.id_le)) both.1 in
-    omega (arith, here, rest, parts.floor_le, parts.id_le, length-append (block_header before b) (block_headers (Some b.rel) bs), length-append (block_payload b) (flat_map block_payload bs))
+    omega (arith, here, rest, parts.floor_le, parts.id_le, length-append (block_header b (is_same_relation before b.rel)) (block_headers (Some b.rel) bs), length-append (block_payload b) (flat_map block_payload bs))
 
 -- ---- that none is bad
 

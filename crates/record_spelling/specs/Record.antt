@@ -13,16 +13,13 @@ is_free_manager rmid = nat_le first_free_manager rmid && nat_le rmid last_free_m
 abbrev pub is_switch : Record → Bool
 is_switch r = (r.rmid == 0) && (r.info / 16 % 16 == 4)
 
--- whether an image is that of a page; a hole is not at the page's start
-abbrev pub is_right_image : Image → Bool
-is_right_image i =
+-- whether an image, where there is one, is that of a page; a hole is not at the page's start
+abbrev pub is_right_image : Option Image → Bool
+is_right_image None = true
+is_right_image (Some i) =
     (length i.bytes + i.hole_len == data_page_size)
     && (if i.hole_len == 0 then i.hole_offset == 0
     else nat_lt 0 i.hole_offset && nat_le (i.hole_offset + i.hole_len) data_page_size)
-
-abbrev pub is_right_option : Option Image → Bool
-is_right_option None = true
-is_right_option (Some i) = is_right_image i
 
 -- whether a block may stand where the next number is at least `floor`
 abbrev pub is_right_block : ℕ → Block → Bool
@@ -31,7 +28,7 @@ is_right_block floor b =
     && nat_le b.id last_block_id
     && nat_le b.fork last_fork
     && nat_le (length b.content) longest_content
-    && is_right_option b.image
+    && is_right_image b.image
 
 -- whether blocks have rising numbers up to 32, and each is right
 abbrev pub are_right_blocks : ℕ → List Block → Bool

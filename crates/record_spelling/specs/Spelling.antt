@@ -11,7 +11,7 @@
 --   the main data's header, where there is any: 255 and a byte of length, or 254 and four
 --   the payload: for each block its image and its data, and then the main data
 -- The CRC runs over all that stands behind the header, and then over the header's first 20 bytes.
-use Rattle.std.specs.Prelude.{◌≡◌, ℕ, ◌+◌, ◌-◌, ◌*◌, ◌/◌, ◌^◌, ◌<◌, ◌≤◌, Bool, true, false, ◌&&◌, All, List, [], ◌∷◌, ◌++◌, length, take, drop, replicate, Option, Some, None, ◌==◌, nat_lt, if◌then◌else◌}
+use Rattle.std.specs.Prelude.{◌≡◌, ℕ, ◌+◌, ◌-◌, ◌*◌, ◌/◌, ◌^◌, ◌<◌, ◌≤◌, Bool, false, ◌&&◌, All, List, [], ◌∷◌, ◌++◌, length, take, drop, replicate, Option, Some, None, is_some, ◌==◌, nat_lt, if◌then◌else◌}
 use Rattle.std.specs.List.{flat_map}
 use Rattle.std.specs.Int.{w16, w32, w64, to_le_bytes, from_le_bytes}
 use Rattle.wal_crc32c.specs.Crc32c.{crc32c}
@@ -35,10 +35,6 @@ image_header (Some i) =
     ++ to_le_bytes w16 i.hole_offset
     ++ (flag (nat_lt 0 i.hole_len) 1 + flag i.apply 2) ∷ []
 
-abbrev pub has_image : Option Image → Bool
-has_image None = false
-has_image (Some i) = true
-
 -- whether a block's relation is that of the block just before it, which is then not spelled again
 abbrev pub is_same_relation : Option Rel → Rel → Bool
 is_same_relation None rel = false
@@ -53,23 +49,24 @@ relation_bytes rel = to_le_bytes w32 rel.spc ++ to_le_bytes w32 rel.db ++ to_le_
 abbrev pub fork_byte : Block → Bool → ℕ
 fork_byte b same =
     b.fork
-    + flag (has_image b.image) 16
+    + flag (is_some b.image) 16
     + flag (nat_lt 0 (length b.content)) 32
     + flag b.will_init 64
     + flag same 128
 
--- a block's header, behind a block of the relation `before`
-abbrev pub block_header : Option Rel → Block → List ℕ
-block_header before b =
-    let same = is_same_relation before b.rel in
+-- a block's header, without its relation if that is to be the one of the block before
+abbrev pub block_header : Block → Bool → List ℕ
+block_header b same =
     b.id ∷ fork_byte b same ∷ to_le_bytes w16 (length b.content)
     ++ image_header b.image
     ++ (if same then [] else relation_bytes b.rel)
     ++ to_le_bytes w32 b.blk
 
+-- the headers of blocks, behind a block of the relation `before`
 abbrev pub block_headers : Option Rel → List Block → List ℕ
 block_headers before [] = []
-block_headers before (b ∷ bs) = block_header before b ++ block_headers (Some b.rel) bs
+block_headers before (b ∷ bs) =
+    block_header b (is_same_relation before b.rel) ++ block_headers (Some b.rel) bs
 
 -- what a block carries: its image, then its data
 abbrev pub image_bytes : Option Image → List ℕ
@@ -89,20 +86,20 @@ abbrev pub top_xid_item : Option Xid → List ℕ
 top_xid_item None = []
 top_xid_item (Some x) = top_xid_tag ∷ to_le_bytes w32 x.0
 
--- the main data's header: none, a short one, or above 255 bytes a long one
-abbrev pub main_header : List ℕ → List ℕ
-main_header main =
-    if length main == 0 then []
-    else (if nat_lt (length main) 256 then short_main_tag ∷ length main ∷ []
-    else long_main_tag ∷ to_le_bytes w32 (length main))
+-- the main data's header: a short one, with one byte of length, or a long one
+abbrev pub main_header : Bool → ℕ → List ℕ
+main_header short len =
+    if short then short_main_tag ∷ len ∷ [] else long_main_tag ∷ to_le_bytes w32 len
 
--- what stands behind a record's header
+-- what stands behind a record's header; main data has a header of its own unless it is empty, a
+-- short one below 256 bytes
 abbrev pub after_header : Record → List ℕ
 after_header r =
     block_headers None r.blocks
     ++ origin_item r.origin
     ++ top_xid_item r.top_xid
-    ++ main_header r.main
+    ++ (if length r.main == 0 then []
+    else main_header (nat_lt (length r.main) 256) (length r.main))
     ++ flat_map block_payload r.blocks
     ++ r.main
 
@@ -113,12 +110,14 @@ pub record Assembled : Type 0 where
   pub info : ℕ
   pub after_header : List ℕ
 
+abbrev pub assembled : Record → Assembled
+assembled r =
+    record { xid = r.xid.0; rmid = r.rmid; info = r.info; after_header = after_header r }
+
+-- the same of its four parts, as a body keeps them
 abbrev pub assembled_of : ℕ → ℕ → ℕ → List ℕ → Assembled
 assembled_of xid rmid info bytes =
     record { xid = xid; rmid = rmid; info = info; after_header = bytes }
-
-abbrev pub assembled : Record → Assembled
-assembled r = assembled_of r.xid.0 r.rmid r.info (after_header r)
 
 -- how many bytes it is spelled in, and how many it takes up: the next multiple of 8
 abbrev pub assembled_size : Assembled → ℕ

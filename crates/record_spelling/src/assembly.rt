@@ -1,6 +1,6 @@
 //! What a record carries behind its header (PostgreSQL's XLogRecordAssemble of xloginsert.c).
 
-ghost use Rattle.std.specs.Prelude.{◌≡◌, ◌+◌, ◌^◌, ◌<◌, ◌++◌, length, All, IfOk, IfSome, IsTrue, OnOk};
+ghost use Rattle.std.specs.Prelude.{◌≡◌, ◌+◌, ◌^◌, ◌<◌, ◌++◌, ◌==◌, [], length, nat_lt, if◌then◌else◌, All, IfOk, IfSome, IsTrue, OnOk};
 ghost use Rattle.wal_types.specs.declared.record.Record.{Record};
 ghost use Rattle.record_spelling.specs.Fitting.{FitsAfterHeader};
 ghost use Rattle.record_spelling.specs.Record.{are_right_blocks};
@@ -69,7 +69,8 @@ fn put_top_xid(out: &mut Vec<u8>, top_xid: Option<Xid>) -> Result<(), AllocError
 
 fn put_main_header(out: &mut Vec<u8>, main: &[u8]) -> Result<(), AllocError>
     requires { length main.now < 2 ^ 32 }
-    ensures { OnOk result (out.new.items ≡ out.old.items ++ main_header main.now) }
+    ensures { OnOk result (out.new.items ≡ out.old.items ++ (if length main.now == 0 then []
+        else main_header (nat_lt (length main.now) 256) (length main.now))) }
 {
     match main.len() {
         0 => Ok(()),

@@ -4,7 +4,7 @@
 ghost use Rattle.std.specs.Prelude.{◌≡◌, ◌+◌, ◌^◌, ◌<◌, ◌≤◌, ◌++◌, length, All, IfSome, IsTrue, OnOk, if◌then◌else◌, nat_lt, None, []};
 ghost use Rattle.std.specs.List.{flat_map};
 ghost use Rattle.record_spelling.specs.Fitting.{HeaderFits, PayloadFits};
-ghost use Rattle.record_spelling.specs.Record.{are_right_blocks, is_right_block, is_right_option};
+ghost use Rattle.record_spelling.specs.Record.{are_right_blocks, is_right_block, is_right_image};
 ghost use Rattle.record_spelling.specs.Spelling.{block_header, block_headers, block_payload, flag, fork_byte, image_bytes, image_header, is_same_relation, relation_bytes};
 
 use crate::layout::*;
@@ -29,7 +29,9 @@ pub(crate) fn blocks_len(blocks: &[Block]) -> usize
 
 fn block_len(before: Option<Rel>, block: &Block) -> usize
     requires { IsTrue (is_right_block 0 block.now) }
-    ensures { result ≡ length (block_header before block.now) + length (block_payload block.now) }
+    ensures { result
+        ≡ length (block_header block.now (is_same_relation before block.now.rel))
+        + length (block_payload block.now) }
 {
     let relation = if is_same_relation(before, block.rel) {
         0
@@ -58,7 +60,8 @@ pub(crate) fn put_block_headers(out: &mut Vec<u8>, blocks: &[Block]) -> Result<(
 
 fn put_block_header(out: &mut Vec<u8>, before: Option<Rel>, block: &Block) -> Result<(), AllocError>
     requires { IsTrue (is_right_block 0 block.now) }
-    ensures ok { OnOk result (out.new.items ≡ out.old.items ++ block_header before block.now) }
+    ensures ok { OnOk result (out.new.items
+        ≡ out.old.items ++ block_header block.now (is_same_relation before block.now.rel)) }
     ensures fits { OnOk result (HeaderFits block.now) }
 {
     let Block { id, rel, blk, .. } = *block;
@@ -96,7 +99,7 @@ fn flag(is: bool, worth: u8) -> u8
 }
 
 fn put_image_header(out: &mut Vec<u8>, image: &Option<Image>) -> Result<(), AllocError>
-    requires { IsTrue (is_right_option image.now) }
+    requires { IsTrue (is_right_image image.now) }
     ensures ok { OnOk result (out.new.items ≡ out.old.items ++ image_header image.now) }
     ensures fits { IfSome image.now (λ i. (i.hole_offset < 2 ^ 16) × (i.hole_len < 2 ^ 16)) }
 {

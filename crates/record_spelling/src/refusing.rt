@@ -1,8 +1,8 @@
 //! Which records are refused (PostgreSQL's XLogRecordAssemble of xloginsert.c).
 
-ghost use Rattle.std.specs.Prelude.{◌≡◌};
+ghost use Rattle.std.specs.Prelude.{◌≡◌, Some};
 ghost use Rattle.wal_types.specs.declared.record.Record.{Record};
-ghost use Rattle.record_spelling.specs.Record.{is_right_block, is_right_image, is_right_option, is_switch};
+ghost use Rattle.record_spelling.specs.Record.{is_right_block, is_right_image, is_switch};
 ghost use Rattle.record_spelling.specs.Refusal.{first_bad_block, refusal_of};
 
 use crate::assembly::after_header_len;
@@ -69,7 +69,7 @@ fn is_right_block(floor: u8, block: &Block) -> bool
 }
 
 fn is_right_image(image: &Image) -> bool
-    ensures { result ≡ is_right_image image.now }
+    ensures { result ≡ is_right_image (Some image.now) }
 {
     let hole_offset = usize::from(image.hole_offset);
     let hole_len = usize::from(image.hole_len);

@@ -6,28 +6,26 @@ use Rattle.record_spelling.specs.Spelling.{Assembled, IsWritable, assembled}
 use Rattle.wal_page.specs.Order.{assembled_room_at}
 use Rattle.wal_core.specs.declared.setup.Setup.{Setup}
 use Rattle.wal_core.specs.Words.{log_limit}
-use Rattle.wal_core.specs.Views.{AreSomeOf, Landed, Loaded, Locked, Stored, Working}
+use Rattle.wal_core.specs.Views.{AreSomeOf, Landed, Loaded, Locked, Stored, Working, View}
 use Rattle.wal_core.specs.Moves.{entry_reserved}
-use Rattle.wal_core.specs.Steps.{StepKind, load_prev, store_position, store_prev}
-use Rattle.wal_rule.specs.Seats.{SeatView, behind}
-use Rattle.wal_rule.specs.Stepping.{MaySeat}
+use Rattle.wal_core.specs.Steps.{StepKind, load_prev, store_position, store_prev, view_behind, MayStep}
 use Rattle.reserve_lock.specs.Reserved.{IsEntryReserved, reserved_view}
 use Rattle.reserve_lock.proofs.Steps.{behind_load_prev, behind_store_position, behind_store_prev, place_view}
 
-module _ (v : SeatView) (at : ℕ) (setup : Setup) (own : (v.opening).setup ≡ setup)
+module _ (v : View) (at : ℕ) (setup : Setup) (own : (v.opening).setup ≡ setup)
     (place : (v.reserving).place ≡ Locked at) where
-  module _ (prev : ℕ) (x : SeatView) (load : x ≡ behind load_prev prev none v) where
+  module _ (prev : ℕ) (x : View) (load : x ≡ view_behind v load_prev prev none) where
     loaded : x ≡ place_view (Loaded at prev) v
     loaded = load ∙ behind_load_prev at v place prev
 
-    pub may_store_prev : MaySeat x store_prev
-    may_store_prev = (at, prev, ap (λ (y : SeatView). (y.reserving).place) loaded)
+    pub may_store_prev : MayStep x store_prev
+    may_store_prev = (at, prev, ap (λ (y : View). (y.reserving).place) loaded)
 
-    module _ (y : SeatView) (store : y ≡ behind store_prev 0 none x) (lock : ℕ) (body : Assembled)
+    module _ (y : View) (store : y ≡ view_behind x store_prev 0 none) (lock : ℕ) (body : Assembled)
         (value : Record) (writable : IsWritable value) (same : assembled value ≡ body)
         (e : StepKind) (is : e ≡ store_position (lock ∷ []) value) where
       stored : y ≡ place_view (Stored at prev) v
-      stored = store ∙ ap (λ (z : SeatView). behind store_prev 0 none z) loaded
+      stored = store ∙ ap (λ (z : View). view_behind z store_prev 0 none) loaded
           ∙ behind_store_prev at prev lock v
 
       some_lock : v.working ≡ record { locks = lock ∷ []; flight = Landed }
@@ -45,9 +43,9 @@ module _ (v : SeatView) (at : ℕ) (setup : Setup) (own : (v.opening).setup ≡ 
           ≤ log_limit setup) (sym same) fits)
 
       pub may_reserve : v.working ≡ record { locks = lock ∷ []; flight = Landed }
-          → at + assembled_room_at setup.segment_size at body ≤ log_limit setup → MaySeat y e
-      may_reserve holds fits = subst (λ (k : StepKind). MaySeat y k) (sym is)
-          (subst (λ (z : SeatView). MaySeat z (store_position (lock ∷ []) value)) (sym stored) (
+          → at + assembled_room_at setup.segment_size at body ≤ log_limit setup → MayStep y e
+      may_reserve holds fits = subst (λ (k : StepKind). MayStep y k) (sym is)
+          (subst (λ (z : View). MayStep z (store_position (lock ∷ []) value)) (sym stored) (
             at,
             prev,
             refl,
@@ -57,14 +55,14 @@ module _ (v : SeatView) (at : ℕ) (setup : Setup) (own : (v.opening).setup ≡ 
             ap (λ (w : Working). w.flight) holds,
           ))
 
-      pub has_entry : (z : SeatView) → z ≡ behind e 0 none y
+      pub has_entry : (z : View) → z ≡ view_behind y e 0 none
           → IsEntryReserved setup body at prev lock v z
       has_entry z reserved = record {
         value = value;
         writable = writable;
         of_body = same;
-        new_is = reserved ∙ ap (λ (k : StepKind). behind k 0 none y) is
-            ∙ ap (λ (w : SeatView). behind (store_position (lock ∷ []) value) 0 none w) stored
+        new_is = reserved ∙ ap (λ (k : StepKind). view_behind y k 0 none) is
+            ∙ ap (λ (w : View). view_behind w (store_position (lock ∷ []) value) 0 none) stored
             ∙ behind_store_position at prev lock v value
             ∙ ap (λ (s : Setup). reserved_view s.segment_size
             (entry_reserved (v.reserving).number at value) prev lock v) own;

@@ -1,43 +1,55 @@
 -- What the machine's invariant says of a view that has the position locked.
 use Rattle.std.proofs.Common.{◌≡◌, ℕ, ◌%◌, ◌≤◌, true, List, map, sym, subst, arith}
+use Rattle.std.proofs.Math.Logic.{∥∥₁_elim}
+use Rattle.std.specs.Coded.{Coded-set, coded_ℕ, le_prop}
 use Rattle.atomic_table.proofs.Lists.{at_map}
 use Rattle.wal_page.specs.Order.{Entry, end_position, prev_of}
 use Rattle.wal_page.proofs.OwnerLaws.{rooms_of-whole}
 use Rattle.wal_page.proofs.WordPositions.{first_position-whole}
 use Rattle.wal_core.specs.Words.{log_limit, prev_word}
-use Rattle.wal_core.specs.Views.{HasAt, Locked, Place, reserving_of}
+use Rattle.wal_core.specs.Views.{HasAt, Locked, Place, reserving_of, View}
 use Rattle.wal_core.specs.Ordered.{AtPlace}
-use Rattle.wal_rule.specs.Seats.{SeatView, view_on}
 use Rattle.wal_rule.specs.Stepping.{Stands}
 
-module _ (v : SeatView) (at : ℕ) (stands : Stands v) (live : (v.reserving).live ≡ true)
+module _ (v : View) (at : ℕ) (live : (v.reserving).live ≡ true)
     (place : (v.reserving).place ≡ Locked at) where
   abbrev size : ℕ
   size = ((v.opening).setup).segment_size
 
-  abbrev order : List Entry
-  order = (stands.sound).order
+  module _ (stands : Stands v) where
+    abbrev order : List Entry
+    order = (stands.sound).order
 
-  here : HasAt (map reserving_of stands.views) stands.id v.reserving
-  here = at_map reserving_of stands.views stands.id (view_on stands.first v) stands.here
+    here : HasAt (map reserving_of stands.views) stands.id v.reserving
+    here = at_map reserving_of stands.views stands.id v stands.here
 
-  is_end : at ≡ end_position size order
-  is_end =
-      let o = (stands.sound).reserved in
-      (subst (λ (p : Place). AtPlace size (end_position size order) (prev_of size 0 order)
-      (prev_word stands.words) o.locked o.holder stands.id p) place
-      (o.places stands.id v.reserving here live)).2
+    is_end : at ≡ end_position size order
+    is_end =
+        let o = (stands.sound).reserved in
+        (subst (λ (p : Place). AtPlace size (end_position size order) (prev_of size 0 order)
+        (prev_word stands.words) o.locked o.holder stands.id p) place
+        (o.places stands.id v.reserving here live)).2
 
-  pub locked_behind_seen : (v.reserving).seen ≤ at
-  locked_behind_seen = subst (λ (n : ℕ). (v.reserving).seen ≤ n) (sym is_end)
-      (((stands.sound).reserved).views stands.id v.reserving here live).seen
+    behind_seen : (v.reserving).seen ≤ at
+    behind_seen = subst (λ (n : ℕ). (v.reserving).seen ≤ n) (sym is_end)
+        (((stands.sound).reserved).views stands.id v.reserving here live).seen
 
-  pub locked_within : at ≤ log_limit (v.opening).setup
-  locked_within = subst (λ (n : ℕ). n ≤ log_limit (v.opening).setup) (sym is_end)
-      ((stands.sound).reserved).within
+    within : at ≤ log_limit (v.opening).setup
+    within = subst (λ (n : ℕ). n ≤ log_limit (v.opening).setup) (sym is_end)
+        ((stands.sound).reserved).within
 
-  pub locked_whole : at % 8 ≡ 0
-  locked_whole =
-      let rooms = rooms_of-whole size order in
-      let start = first_position-whole size (((stands.sound).setup_is).size) in
-      omega (arith, rooms, start, is_end)
+    whole : at % 8 ≡ 0
+    whole =
+        let rooms = rooms_of-whole size order in
+        let start = first_position-whole size (((stands.sound).setup_is).size) in
+        omega (arith, rooms, start, is_end)
+
+  module _ (stands : ∥ Stands v ∥₁) where
+    pub locked_behind_seen : (v.reserving).seen ≤ at
+    locked_behind_seen = ∥∥₁_elim stands le_prop behind_seen
+
+    pub locked_within : at ≤ log_limit (v.opening).setup
+    locked_within = ∥∥₁_elim stands le_prop within
+
+    pub locked_whole : at % 8 ≡ 0
+    locked_whole = ∥∥₁_elim stands (Coded-set coded_ℕ _ _) whole

@@ -1,66 +1,62 @@
 -- The views behind the steps of a reservation, as plain updates of the view before.
 use Rattle.std.specs.Prelude.{if◌then◌else◌, ◌==◌}
-use Rattle.std.proofs.Common.{◌≡◌, ℕ, Bool, false, [], ◌∷◌, sym, ap, ◌∙◌, subst}
+use Rattle.std.proofs.Common.{◌≡◌, ℕ, Bool, false, [], ◌∷◌, sym, ap, subst, refl}
 use Rattle.std.proofs.lemmas.Bool.{eq-eqb}
 use mathlib.Core.Option.{none}
-use Rattle.segment_disk.specs.Tape.{empty_state}
 use Rattle.wal_types.specs.declared.record.Record.{Record}
-use Rattle.wal_core.specs.Views.{Loaded, Locked, Place, Stored}
-use Rattle.wal_core.specs.Moves.{entry_reserved, unlocked, with_place}
-use Rattle.wal_core.specs.Steps.{load_position, load_prev, lock_position, store_position, store_prev}
-use Rattle.wal_rule.specs.Seats.{SeatHold, SeatView, behind, seat_view, view_on}
-use Rattle.wal_rule.proofs.SeatLaws.{same_hold}
+use Rattle.wal_core.specs.Views.{Loaded, Locked, Place, Stored, Hold, View}
+use Rattle.wal_core.specs.Moves.{entry_reserved, unlocked, with_place, with_hold}
+use Rattle.wal_core.specs.Steps.{load_position, load_prev, lock_position, store_position, store_prev, view_behind}
+use Rattle.wal_rule.specs.declared.seated.SeatedPass.{SeatedPass}
+use Rattle.wal_rule.specs.SeatedPasses.{HasView, view_of}
 use Rattle.reserve_lock.specs.Reserved.{reserved_view, seen_view}
 
--- what a seat knows, of what it has
-pub known_in : {C : Type 0} (me : SeatView × C) (v : SeatView) (slots : C) → me ≡ (v, slots)
-    → me.0 ≡ v
-known_in {C} me v slots is = ap (λ (m : SeatView × C). m.0) is
+-- what a pass knows
+pub known_in : {D : Type 0} {v : View} {old new : SeatedPass D} → HasView v old new
+    → view_of new ≡ v
+known_in is = ap (λ me. me.0) is.me_is
 
-abbrev with_held : SeatView → SeatHold → SeatView
-with_held v h = record v { hold = h }
+abbrev with_held : View → Hold → View
+with_held v h = with_hold h v
 
-abbrev pub place_view : Place → SeatView → SeatView
+abbrev pub place_view : Place → View → View
 place_view p v = record v { reserving = record v.reserving { place = p } }
 
 -- ---- the position is loaded and locked
 
-pub behind_load : (met : ℕ) (v : SeatView)
-    → behind load_position met none v ≡ seen_view (unlocked met) v
-behind_load met v = ap (with_held (seen_view (unlocked met) v)) (same_hold v.hold)
+pub behind_load : (met : ℕ) (v : View)
+    → view_behind v load_position met none ≡ seen_view (unlocked met) v
+behind_load met v = refl
 
-module _ (expected met : ℕ) (v : SeatView) where
-  abbrev tried : Bool → SeatView
-  tried b = seat_view
-      (if b then with_place (Locked expected) (view_on empty_state v) else view_on empty_state v)
+module _ (expected met : ℕ) (v : View) where
+  abbrev tried : Bool → View
+  tried b = (if b then with_place (Locked expected) v else v)
 
   pub behind_lock : met ≡ expected
-      → behind (lock_position expected) met none v ≡ place_view (Locked expected) v
+      → view_behind v (lock_position expected) met none ≡ place_view (Locked expected) v
   behind_lock is = ap tried (eq-eqb met expected is)
-      ∙ ap (with_held (place_view (Locked expected) v)) (same_hold v.hold)
 
   pub behind_vain_lock : (met == expected) ≡ false
-      → behind (lock_position expected) met none v ≡ v
-  behind_vain_lock is = ap tried is ∙ ap (with_held v) (same_hold v.hold)
+      → view_behind v (lock_position expected) met none ≡ v
+  behind_vain_lock is = ap tried is
 
 -- ---- a place is reserved
 
-module _ (at : ℕ) (v : SeatView) (place : (v.reserving).place ≡ Locked at) where
+module _ (at : ℕ) (v : View) (place : (v.reserving).place ≡ Locked at) where
   pub behind_load_prev : (prev : ℕ)
-      → behind load_prev prev none v ≡ place_view (Loaded at prev) v
+      → view_behind v load_prev prev none ≡ place_view (Loaded at prev) v
   behind_load_prev prev = subst
-      (λ (p : Place). behind load_prev prev none (place_view p v) ≡ place_view (Loaded at prev) v)
-      (sym place) (ap (with_held (place_view (Loaded at prev) v)) (same_hold v.hold))
+      (λ (p : Place). view_behind (place_view p v) load_prev prev none
+      ≡ place_view (Loaded at prev) v)
+      (sym place) (refl)
 
-module _ (at prev lock : ℕ) (v : SeatView) where
-  pub behind_store_prev : behind store_prev 0 none (place_view (Loaded at prev) v)
+module _ (at prev lock : ℕ) (v : View) where
+  pub behind_store_prev : view_behind (place_view (Loaded at prev) v) store_prev 0 none
       ≡ place_view (Stored at prev) v
-  behind_store_prev = ap (with_held (place_view (Stored at prev) v)) (same_hold v.hold)
+  behind_store_prev = refl
 
   pub behind_store_position : (value : Record)
-      → behind (store_position (lock ∷ []) value) 0 none (place_view (Stored at prev) v)
+      → view_behind (place_view (Stored at prev) v) (store_position (lock ∷ []) value) 0 none
       ≡ reserved_view ((v.opening).setup).segment_size
       (entry_reserved (v.reserving).number at value) prev lock v
-  behind_store_position value = ap
-      (with_held (reserved_view ((v.opening).setup).segment_size
-      (entry_reserved (v.reserving).number at value) prev lock v)) (same_hold v.hold)
+  behind_store_position value = refl

@@ -6,16 +6,15 @@ use Rattle.std.proofs.Math.Nat.{le-max_left, max-eq_right}
 use mathlib.Core.Option.{none}
 use Rattle.wal_core.specs.declared.setup.Setup.{Setup}
 use Rattle.wal_core.specs.Words.{log_limit}
-use Rattle.wal_core.specs.Views.{Locked}
+use Rattle.wal_core.specs.Views.{Locked, View}
 use Rattle.wal_core.specs.Moves.{unlocked}
-use Rattle.wal_core.specs.Steps.{load_position, lock_position}
-use Rattle.wal_rule.specs.Seats.{SeatView, behind}
+use Rattle.wal_core.specs.Steps.{load_position, lock_position, view_behind}
 use Rattle.wal_rule.specs.Stepping.{Meets, Stands}
 use Rattle.reserve_lock.specs.Reserved.{IsPositionBusy, IsPositionLocked, locked_view, seen_view}
 use Rattle.reserve_lock.proofs.Standing.{locked_behind_seen, locked_whole, locked_within}
 use Rattle.reserve_lock.proofs.Steps.{behind_load, behind_lock, behind_vain_lock, place_view}
 
-module _ (loaded : ℕ) (v w : SeatView) (load : w ≡ behind load_position loaded none v)
+module _ (loaded : ℕ) (v w : View) (load : w ≡ view_behind v load_position loaded none)
     (met_loaded : Meets v load_position loaded) where
   pub found_locked : loaded % 2 ≡ 1 → IsPositionBusy loaded v w
   found_locked odd = record {
@@ -25,7 +24,7 @@ module _ (loaded : ℕ) (v w : SeatView) (load : w ≡ behind load_position load
     new_is = load ∙ behind_load loaded v;
   }
 
-  module _ (met : ℕ) (x : SeatView) (lock : x ≡ behind (lock_position loaded) met none w)
+  module _ (met : ℕ) (x : View) (lock : x ≡ view_behind w (lock_position loaded) met none)
       (even : loaded % 2 ≡ 0) where
     pub found_moved : met ≢ loaded → Meets w (lock_position loaded) met → IsPositionBusy met v x
     found_moved apart found =
@@ -36,13 +35,13 @@ module _ (loaded : ℕ) (v w : SeatView) (load : w ≡ behind load_position load
           found = inr (
             even,
             apart,
-            subst (λ (y : SeatView). Meets y (lock_position loaded) met) (sym vain) found,
+            subst (λ (y : View). Meets y (lock_position loaded) met) (sym vain) found,
           );
           new_is = vain ∙ load ∙ behind_load loaded v;
         }
 
-    module _ (setup : Setup) (met_is : met ≡ loaded) (stands : Stands x)
-        (live : (x.reserving).live ≡ true) (own : (x.opening).setup ≡ setup) where
+    module _ (setup : Setup) (own : (v.opening).setup ≡ setup) (met_is : met ≡ loaded)
+        (live : (x.reserving).live ≡ true) (stands : ∥ Stands x ∥₁) where
       whole_word : unlocked loaded ≡ loaded
       whole_word = omega (arith, even)
 
@@ -52,11 +51,11 @@ module _ (loaded : ℕ) (v w : SeatView) (load : w ≡ behind load_position load
           ∙ ap (λ (n : ℕ). seen_view n v) whole_word)
 
       place : (x.reserving).place ≡ Locked loaded
-      place = ap (λ (y : SeatView). (y.reserving).place) locked
+      place = ap (λ (y : View). (y.reserving).place) locked
 
       both_seen : max (v.reserving).seen loaded ≤ loaded
-      both_seen = subst (λ (n : ℕ). n ≤ loaded) (ap (λ (y : SeatView). (y.reserving).seen) locked)
-          (locked_behind_seen x loaded stands live place)
+      both_seen = subst (λ (n : ℕ). n ≤ loaded) (ap (λ (y : View). (y.reserving).seen) locked)
+          (locked_behind_seen x loaded live place stands)
 
       seen : (v.reserving).seen ≤ loaded
       seen =
@@ -67,9 +66,10 @@ module _ (loaded : ℕ) (v w : SeatView) (load : w ≡ behind load_position load
       pub is_locked : IsPositionLocked setup loaded v x
       is_locked = record {
         behind_seen = seen;
-        within = subst (λ (s : Setup). loaded ≤ log_limit s) own
-            (locked_within x loaded stands live place);
-        whole = locked_whole x loaded stands live place;
+        within = subst (λ (s : Setup). loaded ≤ log_limit s)
+            (ap (λ (y : View). (y.opening).setup) locked ∙ own)
+            (locked_within x loaded live place stands);
+        whole = locked_whole x loaded live place stands;
         new_is = locked ∙ ap
             (λ (n : ℕ). record (locked_view loaded v)
             { reserving = record (locked_view loaded v).reserving { seen = n } })

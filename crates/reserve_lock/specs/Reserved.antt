@@ -7,10 +7,9 @@ use Rattle.wal_page.specs.Order.{Entry, assembled_room_at, position_behind}
 use Rattle.wal_page.specs.Placed.{PlacedState}
 use Rattle.wal_core.specs.declared.setup.Setup.{Setup}
 use Rattle.wal_core.specs.Words.{log_limit}
-use Rattle.wal_core.specs.Views.{Copying, Free, Locked}
+use Rattle.wal_core.specs.Views.{Copying, Free, Locked, View}
 use Rattle.wal_core.specs.Moves.{entry_reserved, unlocked}
 use Rattle.wal_core.specs.Steps.{load_position, lock_position}
-use Rattle.wal_rule.specs.Seats.{SeatView}
 use Rattle.wal_rule.specs.Stepping.{Meets}
 use Rattle.reserve_lock.specs.declared.reserving.ReserveErr.{ReserveErr}
 use Rattle.reserve_lock.specs.declared.reserving.ReserveErr.TheVariants.{Busy, Full}
@@ -18,16 +17,16 @@ use Rattle.reserve_lock.specs.declared.reserving.ReserveErr.TheVariants.{Busy, F
 -- ---- a pass's view behind steps: all that is not named is as it was
 
 -- a pass has seen so much reserved
-abbrev pub seen_view : ℕ → SeatView → SeatView
+abbrev pub seen_view : ℕ → View → View
 seen_view position v =
     record v { reserving = record v.reserving { seen = max (v.reserving).seen position } }
 
 -- a pass has the position locked, and has seen all before that reserved
-abbrev pub locked_view : ℕ → SeatView → SeatView
+abbrev pub locked_view : ℕ → View → View
 locked_view at v = record v { reserving = record v.reserving { seen = at; place = Locked at } }
 
 -- a pass notes that the log was full at a position, which is no longer locked
-abbrev pub full_view : ℕ → SeatView → SeatView
+abbrev pub full_view : ℕ → View → View
 full_view at v = record v {
   reserving = record v.reserving {
     filled = (v.reserving).filled
@@ -37,7 +36,7 @@ full_view at v = record v {
 }
 
 -- an entry is the last of its log, and in flight under one lock with no word copied
-abbrev pub reserved_view : ℕ → Entry → ℕ → ℕ → SeatView → SeatView
+abbrev pub reserved_view : ℕ → Entry → ℕ → ℕ → View → View
 reserved_view size entry prev lock v = record v {
   reserving = record v.reserving {
     entries = (v.reserving).entries ++ entry ∷ [];
@@ -52,7 +51,7 @@ reserved_view size entry prev lock v = record v {
 -- ---- the position
 
 -- the position was locked: the pass has seen nothing reserved behind it, and it lies within the log
-pub record IsPositionLocked (setup : Setup) (at : ℕ) (old new : SeatView) : Type 0 where
+pub record IsPositionLocked (setup : Setup) (at : ℕ) (old new : View) : Type 0 where
   pub behind_seen : (old.reserving).seen ≤ at
   pub within : at ≤ log_limit setup
   pub whole : at % 8 ≡ 0
@@ -60,7 +59,7 @@ pub record IsPositionLocked (setup : Setup) (at : ℕ) (old new : SeatView) : Ty
 
 -- the position was not locked: the word loaded was locked already and is told, or it was not and
 -- the one exchange found another word, which is told
-pub record IsPositionBusy (told : ℕ) (old new : SeatView) : Type 0 where
+pub record IsPositionBusy (told : ℕ) (old new : View) : Type 0 where
   pub loaded : ℕ
   pub met : Meets old load_position loaded
   pub found : ((loaded % 2 ≡ 1) × (told ≡ loaded))
@@ -71,7 +70,7 @@ pub record IsPositionBusy (told : ℕ) (old new : SeatView) : Type 0 where
 
 -- fewer bytes are left behind a position than the record takes up, and the pass notes that the log
 -- is full there
-pub record IsLogFull (setup : Setup) (body : Assembled) (free : ℕ) (old new : SeatView) : Type 0
+pub record IsLogFull (setup : Setup) (body : Assembled) (free : ℕ) (old new : View) : Type 0
   where
     pub at : ℕ
     pub behind_seen : (old.reserving).seen ≤ at
@@ -83,7 +82,7 @@ pub record IsLogFull (setup : Setup) (body : Assembled) (free : ℕ) (old new : 
 -- an entry of the pass was reserved at a position, of the record that the body was made of, behind
 -- a record that starts at the address `prev`
 pub record IsEntryReserved (setup : Setup) (body : Assembled) (at prev lock : ℕ)
-    (old new : SeatView) : Type 0 where
+    (old new : View) : Type 0 where
   pub value : Record
   pub writable : IsWritable value
   pub of_body : assembled value ≡ body
@@ -103,7 +102,7 @@ placed_first setup body start prev = record {
 
 -- an entry was reserved, behind all that the pass had seen and before the log's end; it is given at
 -- its place, which starts at this address
-pub record IsPlaceReserved (setup : Setup) (body : Assembled) (lock : ℕ) (old new : SeatView)
+pub record IsPlaceReserved (setup : Setup) (body : Assembled) (lock : ℕ) (old new : View)
     (start : ℕ) (placed : PlacedState) : Type 0 where
   pub at : ℕ
   pub prev : ℕ
@@ -114,6 +113,6 @@ pub record IsPlaceReserved (setup : Setup) (body : Assembled) (lock : ℕ) (old 
   pub start_is : start ≡ address_of setup.segment_size at
 
 -- why nothing was reserved
-abbrev pub TellsWhy : Setup → Assembled → SeatView → SeatView → ReserveErr → Type 0
+abbrev pub TellsWhy : Setup → Assembled → View → View → ReserveErr → Type 0
 TellsWhy setup body old new (Busy seen) = IsPositionBusy seen old new
 TellsWhy setup body old new (Full free) = IsLogFull setup body free old new

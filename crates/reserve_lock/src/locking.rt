@@ -5,28 +5,27 @@
 // With the bit set the position is this pass's to store, and so is the last start (places.rt).
 ghost use Rattle.std.specs.Prelude.{◌≡◌, IfErr, IfOk};
 ghost use Rattle.wal_core.specs.Views.{Free};
-ghost use Rattle.wal_rule.specs.Tables.{IsSeatOn, opening_of_table};
+ghost use Rattle.wal_rule.specs.SeatedPasses.{StaysSeated, setup_of, view_of};
 ghost use Rattle.reserve_lock.specs.Reserved.{IsPositionBusy, IsPositionLocked};
 
 use segment_disk::Disk;
-use wal_rule::{LogSeat, LogTable};
+use wal_rule::SeatedPass;
 
 // The position that was locked; an error tells what was found in its place.
-pub(crate) fn lock_seen<D: Disk>(table: &LogTable<D>, seat: &mut LogSeat<D>) -> Result<u64, u64>
-    requires seat { IsSeatOn table.now seat.old }
-    requires place { seat.old.me.0.reserving.place ≡ Free }
+pub(crate) fn lock_seen<'p, D: Disk>(seated: &mut SeatedPass<'p, D>) -> Result<u64, u64>
+    requires place { (view_of seated.old).reserving.place ≡ Free }
     // It is locked at a multiple of 8 behind all that the pass had seen, and within the log.
-    ensures locked { IfOk result (λ at. IsPositionLocked (opening_of_table table.now).setup at
-        seat.old.me.0 seat.new.me.0) }
+    ensures locked { IfOk result (λ at. IsPositionLocked (setup_of seated.old) at
+        (view_of seated.old) (view_of seated.new)) }
     // It is not locked by this pass, which has seen reserved what it loaded, and knows no more.
-    ensures busy { IfErr result (λ seen. IsPositionBusy seen seat.old.me.0 seat.new.me.0) }
-    ensures slots { seat.new.me.1 ≡ seat.old.me.1 }
-    ensures seat { IsSeatOn table.now seat.new }
+    ensures busy { IfErr result (λ seen. IsPositionBusy seen (view_of seated.old)
+        (view_of seated.new)) }
+    ensures stays { StaysSeated seated.old seated.new }
 {
-    let loaded = table.load_position(seat);
+    let loaded = seated.load_position();
     if loaded % 2 == 1 {
         return Err(loaded);
     }
-    let met = table.lock_position(seat, loaded);
+    let met = seated.lock_position(loaded);
     if met == loaded { Ok(loaded) } else { Err(met) }
 }

@@ -12,66 +12,56 @@ ghost use Rattle.wal_page.specs.Order.{assembled_room_at};
 ghost use Rattle.wal_core.specs.Views.{Landed, Locked};
 ghost use Rattle.wal_core.specs.Words.{log_limit};
 ghost use Rattle.wal_core.specs.Steps.{give_position_back, store_position};
-ghost use Rattle.wal_rule.specs.Tables.{IsSeatOn, opening_of_table};
+ghost use Rattle.wal_rule.specs.SeatedPasses.{HasView, StaysSeated, setup_of, view_of};
 ghost use Rattle.reserve_lock.specs.Reserved.{IsEntryReserved, full_view};
 
-use machine_words::LogShape;
 use record_spelling::Body;
 use segment_disk::Disk;
-use wal_rule::{LogSeat, LogTable, OfKind};
+use wal_rule::{OfKind, SeatedPass};
 
 // Gives the position back as it was, where too few bytes are left for the record.
-pub(crate) fn give_back<D: Disk, K: OfKind>(
-    table: &LogTable<D>,
-    seat: &mut LogSeat<D>,
-    shape: &LogShape,
+pub(crate) fn give_back<'p, D: Disk, K: OfKind>(
+    seated: &mut SeatedPass<'p, D>,
     body: &Body,
     at: u64,
 )
-    requires seat { IsSeatOn table.now seat.old }
-    requires shape { shape.now ≡ (opening_of_table table.now).setup }
     // The position is locked, and the record would end behind the log's end.
     requires kind { (value : Record) × (assembled value ≡ body.now)
         × (K.kind ≡ give_position_back value) }
-    requires place { seat.old.me.0.reserving.place ≡ Locked at }
-    requires short { log_limit shape.now
-        < at + assembled_room_at shape.now.segment_size at body.now }
+    requires place { (view_of seated.old).reserving.place ≡ Locked at }
+    requires short { log_limit (setup_of seated.old)
+        < at + assembled_room_at (setup_of seated.old).segment_size at body.now }
     // The pass notes that the log was full there, and has the position locked no longer.
-    ensures view { seat.new.me ≡ (full_view at seat.old.me.0, seat.old.me.1) }
-    ensures seat { IsSeatOn table.now seat.new }
+    ensures view { HasView (full_view at (view_of seated.old)) seated.old seated.new }
 {
-    table.give_position_back::<K>(seat, at);
+    seated.give_position_back::<K>(at);
 }
 
 // Reserves the record's place at the locked position, and tells where the record before starts.
-pub(crate) fn reserve_at<D: Disk, K: OfKind>(
-    table: &LogTable<D>,
-    seat: &mut LogSeat<D>,
-    shape: &LogShape,
+pub(crate) fn reserve_at<'p, D: Disk, K: OfKind>(
+    seated: &mut SeatedPass<'p, D>,
     body: &Body,
     lock: u32,
     at: u64,
 ) -> u64
-    requires seat { IsSeatOn table.now seat.old }
-    requires shape { shape.now ≡ (opening_of_table table.now).setup }
     // The position is locked, the record ends within the log, and the pass holds this one insertion
     // lock with nothing in flight.
     requires kind { (value : Record) × IsWritable value × (assembled value ≡ body.now)
         × (K.kind ≡ store_position (lock ∷ []) value) }
-    requires place { seat.old.me.0.reserving.place ≡ Locked at }
-    requires holds { seat.old.me.0.working ≡ record { locks = lock ∷ []; flight = Landed } }
-    requires fits { at + assembled_room_at shape.now.segment_size at body.now
-        ≤ log_limit shape.now }
+    requires place { (view_of seated.old).reserving.place ≡ Locked at }
+    requires holds { (view_of seated.old).working
+        ≡ record { locks = lock ∷ []; flight = Landed } }
+    requires fits { at + assembled_room_at (setup_of seated.old).segment_size at body.now
+        ≤ log_limit (setup_of seated.old) }
     requires low { at < 2 ^ 60 }
     // The entry is the last of the pass's log and in flight under the lock, with no word copied;
     // the position is locked no longer.
-    ensures entry { IsEntryReserved shape.now body.now at result lock
-        seat.old.me.0 seat.new.me.0 }
-    ensures slots { seat.new.me.1 ≡ seat.old.me.1 }
-    ensures seat { IsSeatOn table.now seat.new }
+    ensures entry { IsEntryReserved (setup_of seated.old) body.now at result lock
+        (view_of seated.old) (view_of seated.new) }
+    ensures stays { StaysSeated seated.old seated.new }
 {
-    let prev = table.load_prev(seat);
-    table.store_prev(seat, shape.geometry().to_lsn(at).0);
-    table.store_position::<K>(seat, at + u64::from(body.room()));
+    let prev = seated.load_prev();
+    seated.store_prev(seated.shape().geometry().to_lsn(at).0);
+    seated.store_position::<K>(at + u64::from(body.room()));
     prev
 }

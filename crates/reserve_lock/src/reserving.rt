@@ -7,17 +7,16 @@
 ghost use Rattle.std.specs.Prelude.{◌≡◌, [], ◌∷◌, IfErr, IfOk};
 ghost use Rattle.wal_core.specs.Views.{Free, Landed};
 ghost use Rattle.wal_page.specs.Placed.{placed_end};
-ghost use Rattle.wal_rule.specs.Tables.{IsSeatOn, opening_of_table};
+ghost use Rattle.wal_rule.specs.SeatedPasses.{StaysSeated, setup_of, view_of};
 ghost use Rattle.reserve_lock.specs.Reserved.{IsPlaceReserved, TellsWhy};
 
 use crate::locking::lock_seen;
 use crate::places::{give_back, reserve_at};
-use machine_words::LogShape;
 use record_spelling::Body;
 use segment_disk::Disk;
 use std::marker::Brand;
 use wal_page::Placed;
-use wal_rule::{LogSeat, LogTable};
+use wal_rule::SeatedPass;
 use wal_types::Lsn;
 
 /// Why nothing was reserved.
@@ -41,38 +40,36 @@ pub struct Reserved<'a> {
 /// Reserves a record's place under one insertion lock, which the pass holds (PostgreSQL's xlog.c,
 /// ReserveXLogInsertLocation). It tries once and never waits: where another pass has the position
 /// locked, or has moved it, the caller tries again. The lock stays held at each exit.
-pub fn try_reserve<'a, D: Disk>(
-    table: &LogTable<D>,
-    seat: &mut LogSeat<D>,
-    shape: &LogShape,
+pub fn try_reserve<'a, 'p, D: Disk>(
+    seated: &mut SeatedPass<'p, D>,
     body: &'a Body,
     lock: u32,
 ) -> Result<Reserved<'a>, ReserveErr>
-    requires seat { IsSeatOn table.now seat.old }
-    requires shape { shape.now ≡ (opening_of_table table.now).setup }
     // The pass holds this one insertion lock, copies nothing, and has not locked the position.
-    requires holds { seat.old.me.0.working ≡ record { locks = lock ∷ []; flight = Landed } }
-    requires place { seat.old.me.0.reserving.place ≡ Free }
+    requires holds { (view_of seated.old).working
+        ≡ record { locks = lock ∷ []; flight = Landed } }
+    requires place { (view_of seated.old).reserving.place ≡ Free }
     // The entry stands behind all that the pass had seen and ends within the log; it is in flight
     // under the lock, and all its words are left to copy.
-    ensures reserved { IfOk result (λ r. IsPlaceReserved shape.now body.now lock seat.old.me.0
-        seat.new.me.0 r.start.0 r.placed) }
+    ensures reserved { IfOk result (λ r. IsPlaceReserved (setup_of seated.old) body.now lock
+        (view_of seated.old) (view_of seated.new) r.start.0 r.placed) }
     ensures end { IfOk result (λ r. r.end.0 ≡ placed_end r.placed) }
     // Nothing was reserved, and the pass has the position locked no longer.
-    ensures why { IfErr result (λ e. TellsWhy shape.now body.now seat.old.me.0 seat.new.me.0 e) }
-    ensures slots { seat.new.me.1 ≡ seat.old.me.1 }
-    ensures seat { IsSeatOn table.now seat.new }
+    ensures why { IfErr result (λ e. TellsWhy (setup_of seated.old) body.now (view_of seated.old)
+        (view_of seated.new) e) }
+    ensures stays { StaysSeated seated.old seated.new }
 {
-    let at = match lock_seen(table, seat) {
+    let shape = seated.shape();
+    let at = match lock_seen(seated) {
         Ok(at) => at,
         Err(seen) => return Err(ReserveErr::Busy { seen }),
     };
     let free = shape.limit() - at;
     if free < u64::from(body.room()) {
-        give_back::<D, Brand>(table, seat, shape, body, at);
+        give_back::<D, Brand>(seated, body, at);
         return Err(ReserveErr::Full { free });
     }
-    let prev = reserve_at::<D, Brand>(table, seat, shape, body, lock, at);
+    let prev = reserve_at::<D, Brand>(seated, body, lock, at);
     Ok(Reserved {
         start: shape.geometry().to_lsn(at),
         end: shape.geometry().to_end_lsn(at + u64::from(body.room())),

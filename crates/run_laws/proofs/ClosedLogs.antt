@@ -7,10 +7,11 @@ use Rattle.segment_disk.specs.Tape.{Tape}
 use Rattle.wal_page.specs.Order.{Entry, rooms_of}
 use Rattle.told_lines.proofs.Capacities.{capacity_of-le}
 use Rattle.wal_core.specs.Durable.{IsPromised, IsToldRightly}
-use Rattle.wal_core.specs.Suited.{BeganSuited}
+use Rattle.wal_core.specs.Suited.{BeganSuited, tape_from}
 use Rattle.wal_core.specs.Views.{FlushPromise, Joined, View, receipts_of}
 use Rattle.wal_core.specs.Words.{Opening, down_word, flushed_word, moment_word}
 use Rattle.closed_log.specs.Closed.{IsClosedOn}
+use Rattle.closed_log.proofs.Closing.{told_from}
 use Rattle.closed_log.proofs.Promises.{told_rightly}
 use Rattle.run_laws.specs.Ended.{IsClosedLog}
 use Rattle.run_laws.specs.Latest.{NoneIsLater}
@@ -28,7 +29,7 @@ rose_by begun (suc d) faults fault is up met =
 
 module _ (opening : Opening) (order : List Entry) (v : View)
     (c : IsClosedLog opening order v) where
-  right : IsToldRightly opening (c.sound).order (flushed_word c.words) (moment_word c.words)
+  right : IsToldRightly c.first opening (c.sound).order (flushed_word c.words) (moment_word c.words)
       (down_word c.words) (c.sound).writer (receipts_of v)
   right = told_rightly opening c.words (some c.writer) c.views c.sound c.id v c.here
 
@@ -79,18 +80,20 @@ module _ (opening : Opening) (order : List Entry) (v : View)
       )
 
   -- it is closed on the disk's tape, where that is told
-  pub closed_on : (opening.setup).sysid < 2 ^ 64 → (t : Tape) → (c.writer).tape ≡ Some t
-      → BeganSuited opening t → IsClosedOn opening order t v
-  closed_on narrow t is began = record {
-    words = c.words;
-    writer = c.writer;
-    views = c.views;
-    id = c.id;
-    sound = c.sound;
-    order_is = c.order_is;
-    here = c.here;
-    closed = c.closed;
-    narrow = narrow;
-    tape_is = is;
-    began = began;
-  }
+  pub closed_on : (opening.setup).sysid < 2 ^ 64 → (t : Tape)
+      → tape_from c.first (c.writer).calls ≡ Some t → BeganSuited opening t
+      → IsClosedOn opening order t v
+  closed_on narrow t is = told_from (λ (t : Tape). BeganSuited opening t
+      → IsClosedOn opening order t v) c.first (c.writer).calls t is (λ calls told began. record {
+        words = c.words;
+        writer = c.writer;
+        views = c.views;
+        id = c.id;
+        sound = c.sound;
+        order_is = c.order_is;
+        here = c.here;
+        closed = c.closed;
+        narrow = narrow;
+        calls_is = told;
+        began = began;
+      })

@@ -12,14 +12,14 @@ use Rattle.told_lines.specs.declared.told.Told.{Told}
 use Rattle.told_lines.specs.Told.{IsFullAnswer, IsRefused, SomeTold, TellsAll}
 use Rattle.told_lines.specs.Crash.{EachIsTimely, SurvivesCrashes}
 use Rattle.told_lines.specs.Whole.{IsWhole}
-use Rattle.wal_core.specs.Suited.{BeganSuited}
+use Rattle.wal_core.specs.Suited.{BeganSuited, tape_from}
 use Rattle.wal_core.specs.Views.{View}
 use Rattle.wal_core.specs.Words.{Opening}
 use Rattle.wal_core.proofs.Tapes.{at_told, told_as}
 use Rattle.closed_log.specs.Closed.{IsClosedOn}
-use Rattle.wal_rule.specs.Seats.{SeatView, view_on}
 use Rattle.wal_rule.specs.Slotted.{first_on, slot_disk, slot_plain}
 use Rattle.wal_rule.specs.declared.writer.LogWriter.{LogWriter}
+use Rattle.wal_rule.proofs.SlotTapes.{tape_on_first}
 use Rattle.wal_rule.proofs.OpeningTold.{began_suited}
 use Rattle.run_laws.specs.Counted.{all_reserved_count}
 use Rattle.run_laws.specs.Ended.{IsClosedLog, logged_at_end}
@@ -42,20 +42,21 @@ none_unless none never = refl
 none_unless (some faults) never = absurd (never faults refl)
 
 module _ {D : Type 0} (tape : D → Option Tape) (moment faults : D → ℕ) (began : Option Tape)
-    (opening : Opening) (v : SeatView) (w : LogWriter D) (position : ℕ)
+    (opening : Opening) (v : View) (w : LogWriter D) (position : ℕ)
     (script : List (List AskedLine)) (lists : List (List Told))
     (r : IsRunClosed tape moment faults began opening v w position script lists) where
   abbrev size : ℕ
   size = (opening.setup).segment_size
 
   abbrev last_view : View
-  last_view = view_on (first_on began) v
+  last_view = v
 
   abbrev order : List Entry
   order = ((r.closes).sound).order
 
-  abbrev closed : IsClosedLog opening ((r.closes).sound).order (view_on (first_on began) v)
+  abbrev closed : IsClosedLog opening ((r.closes).sound).order v
   closed = record {
+    first = first_on began;
     words = (r.closes).words;
     writer = slot_plain tape moment w;
     views = (r.closes).views;
@@ -77,13 +78,17 @@ module _ {D : Type 0} (tape : D → Option Tape) (moment faults : D → ℕ) (be
 
   -- ---- on a disk that held nothing
 
+  -- the disk's tape, by what it held at first
+  own : tape_from (first_on began) (slot_plain tape moment w).calls ≡ tape (slot_disk w)
+  own = tape_on_first (first_on began) (tape (slot_disk w)) ((r.closes).of_log).on_first
+
   began_on : HoldsNothing began → IfSome (tape (slot_disk w)) (BeganSuited opening)
   began_on nothing = began_suited opening began (tape (slot_disk w)) nothing r.counted
       ((r.closes).of_log).on_first ((r.closes).of_log).goes_on
 
   closed_there : HoldsNothing began → (t : Tape) → tape (slot_disk w) ≡ Some t
       → IsClosedOn opening order t last_view
-  closed_there nothing t is = closed_on opening order last_view closed r.narrow t is
+  closed_there nothing t is = closed_on opening order last_view closed r.narrow t (own ∙ is)
       (at_told (BeganSuited opening) (tape (slot_disk w)) t is (began_on nothing))
 
   crash : HoldsNothing began → IfSome (tape (slot_disk w))
@@ -144,8 +149,9 @@ module _ {D : Type 0} (tape : D → Option Tape) (moment faults : D → ℕ) (be
   whole : (slot_plain tape moment w).fault ≡ none → HoldsNothing began
       → HasFlushedAll (opening.setup).segment_size lists v
       → IsWhole (opening.setup).segment_size (tape (slot_disk w)) order
-  whole up nothing (inl p) = left_whole opening order last_view closed script lists r.taken up
-      p.0 p.1 p.2 r.narrow (began_on nothing)
+  whole up nothing (inl p) = subst (λ (t : Option Tape). IsWhole size t order) own
+      (left_whole opening order last_view closed script lists r.taken up p.0 p.1 p.2 r.narrow
+      (subst (λ (t : Option Tape). IfSome t (BeganSuited opening)) (sym own) (began_on nothing)))
   whole up nothing (inr f) = absurd (knows_no_fault opening order last_view closed up f.0 f.1)
 
   pub flushed_whole : HasFlushedAll (opening.setup).segment_size lists v

@@ -2,6 +2,7 @@
 use Rattle.std.proofs.Common.{◌≡◌, ℕ, ◌+◌, ◌^◌, ◌<◌, ◌≤◌, All, Contains, cond, Bool, true, false, leb, List, [], ◌∷◌, Option, Some, None, option_to_list, refl, subst, IfSome, arith}
 use Rattle.std.proofs.lemmas.List.Elements.{All-append, All-cons, All-contains, All-head, All-nil, All-tail}
 use mathlib.Core.Option.{none, some}
+use Rattle.segment_disk.specs.declared.disk.Call.{Call}
 use Rattle.segment_disk.specs.Tape.{Tape}
 use Rattle.byte_position.specs.Position.{end_address_of, first_position}
 use Rattle.byte_position.proofs.EndAddresses.{end_address_of-le}
@@ -10,7 +11,7 @@ use Rattle.wal_page.specs.Order.{Entry, FollowsFrom, end_position, finish_of, po
 use Rattle.wal_page.proofs.OrderLaws.{rooms_of_cons}
 use Rattle.wal_script.specs.Asked.{Asked, AskedLine, Insert, Commit, Flush}
 use Rattle.wal_core.specs.Words.{Opening, flushed_word, moment_word}
-use Rattle.wal_core.specs.Suited.{BeganSuited}
+use Rattle.wal_core.specs.Suited.{BeganSuited, tape_from}
 use Rattle.wal_core.specs.Views.{FlushPromise, View}
 use Rattle.wal_core.specs.Durable.{IsPromised}
 use Rattle.closed_log.specs.Closed.{IsClosedOn}
@@ -147,10 +148,12 @@ module _ (opening : Opening) (order : List Entry) (v : View) (c : IsClosedLog op
       (omega (arith, begun, reaches.begun)) in
       omega (arith, ended, promised.upto_low)
 
-  whole_of : (opening.setup).sysid < 2 ^ 64 → (tape : Option Tape) → (c.writer).tape ≡ tape
-      → IfSome tape (BeganSuited opening) → IsWhole (opening.setup).segment_size tape order
+  whole_of : (opening.setup).sysid < 2 ^ 64 → (calls : Option (List Call)) → (c.writer).calls ≡ calls
+      → IfSome (tape_from c.first calls) (BeganSuited opening)
+      → IsWhole (opening.setup).segment_size (tape_from c.first calls) order
   whole_of narrow None is began = tt
-  whole_of narrow (Some t) is began =
+  whole_of narrow (Some calls) is began =
+      let t : Tape = record { at_first = c.first; calls = calls } in
       let on : IsClosedOn opening order t v = record {
         words = c.words;
         writer = c.writer;
@@ -161,13 +164,13 @@ module _ (opening : Opening) (order : List Entry) (v : View) (c : IsClosedLog op
         here = c.here;
         closed = c.closed;
         narrow = narrow;
-        tape_is = is;
+        calls_is = is;
         began = began;
       } in
       let holds = whole opening order t v on flush_reaches in
       (holds.left, holds.read)
 
   pub left_whole : (opening.setup).sysid < 2 ^ 64
-      → IfSome (c.writer).tape (BeganSuited opening)
-      → IsWhole (opening.setup).segment_size (c.writer).tape order
-  left_whole narrow began = whole_of narrow (c.writer).tape refl began
+      → IfSome (tape_from c.first (c.writer).calls) (BeganSuited opening)
+      → IsWhole (opening.setup).segment_size (tape_from c.first (c.writer).calls) order
+  left_whole narrow began = whole_of narrow (c.writer).calls refl began

@@ -11,6 +11,7 @@ use Rattle.wal_core.specs.Moves.{joined_of}
 use Rattle.told_lines.specs.declared.told.Told.{Told}
 use Rattle.told_lines.specs.Crash.{EachIsTimely, SaysDurable, SurvivesCrashes}
 use Rattle.told_lines.specs.Told.{SomeTold}
+use Rattle.told_lines.proofs.AnswerLoops.{some_told}
 use Rattle.closed_log.specs.Closed.{IsClosedOn, WasPromised}
 use Rattle.closed_log.specs.Timely.{IsTimely}
 use Rattle.closed_log.proofs.Fronts.{survive}
@@ -106,7 +107,8 @@ module _ (opening : Opening) (order : List Entry) (t : Tape) (v : View)
         told = λ n e is says.
             let p = all_promised (WasPromised v) size (log_limit opening.setup) 1 moment
             (finish_of size e) script lists taken.others taken.played
-            (of_others (WasPromised v) (λ es p was. was)) says in
+            (of_others (WasPromised v) (λ es p was. was))
+            (some_told (SaysDurable moment (finish_of size e)) lists says) in
             f.promised p.0 p.1 p.2 p.3 n e is p.4;
       }
 

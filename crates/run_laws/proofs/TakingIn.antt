@@ -14,6 +14,7 @@ use Rattle.machine_laws.proofs.ClosingLaws.{closed}
 use Rattle.told_lines.specs.declared.told.Told.{Told}
 use Rattle.run_laws.specs.Played.{KnowsFault, PlaysLines, state_at_first, pass_state_of}
 use Rattle.run_laws.specs.Ended.{HasTakenIn, IsClosedLog, IsKnownTo, KnowsAtLeast, PlayedAll}
+use Rattle.segment_disk.specs.Tape.{DiskState}
 
 -- one pass more that played its lines
 played_push : (size limit pass : ℕ) (script : List (List AskedLine)) (lists : List (List Told))
@@ -133,15 +134,16 @@ one_more_taken_in opening v w script lists lines told taken number alone plays r
           taken.others lines told w taken.played number plays;
     }
 
-module _ (opening : Opening) (words : List ℕ) (views : List View) (id : ℕ) (v : View)
+module _ (first : DiskState) (opening : Opening) (words : List ℕ) (views : List View) (id : ℕ) (v : View)
     (none : opening.found ≡ []) (here : HasAt views id v) where
   -- the writer at home is the one that the state speaks of
   closed_at_home : (writer : Plain) (home : Option Plain) → some writer ≡ home
-      → (k : IsSound opening words home views)
-      → IsClosed opening k.order words home writer views id v → IsClosedLog opening k.order v
+      → (k : IsSound first opening words home views)
+      → IsClosed first opening k.order words home writer views id v → IsClosedLog opening k.order v
   closed_at_home writer home is = subst (λ (home : Option Plain).
-      (k : IsSound opening words home views) → IsClosed opening k.order words home writer views id v
+      (k : IsSound first opening words home views) → IsClosed first opening k.order words home writer views id v
       → IsClosedLog opening k.order v) is (λ k closed_so. record {
+        first = first;
         words = words;
         writer = writer;
         views = views;
@@ -153,9 +155,9 @@ module _ (opening : Opening) (words : List ℕ) (views : List View) (id : ℕ) (
         closed = closed_so;
       })
 
-pub last_closes : (opening : Opening) (words : List ℕ) (home : Option Plain) (views : List View)
-    (k : IsSound opening words home views) (id : ℕ) (v : View) → HasAt views id v
+pub last_closes : {first : DiskState} (opening : Opening) (words : List ℕ) (home : Option Plain) (views : List View)
+    (k : IsSound first opening words home views) (id : ℕ) (v : View) → HasAt views id v
     → IsLastPass opening v → opening.found ≡ [] → IsClosedLog opening k.order v
-last_closes opening words home views k id v here last none =
+last_closes {first} opening words home views k id v here last none =
     let c = closed opening words home views k id v here last in
-    closed_at_home opening words views id v none here k.writer home (sym c.at_home) k c
+    closed_at_home first opening words views id v none here k.writer home (sym c.at_home) k c

@@ -3,6 +3,7 @@
 use Rattle.std.specs.Prelude.{◌≡◌, ℕ, ◌+◌, ◌≤◌, All, List, [], ◌∷◌, map}
 use mathlib.Core.Option.{some}
 use Rattle.segment_disk.specs.Cause.{Rose}
+use Rattle.segment_disk.specs.Tape.{DiskState}
 use Rattle.wal_page.specs.Order.{Entry}
 use Rattle.wal_script.specs.Asked.{AskedLine}
 use Rattle.told_lines.specs.declared.told.Told.{Told}
@@ -16,17 +17,18 @@ use Rattle.machine_laws.specs.ClosedLogs.{IsClosed}
 use Rattle.run_laws.specs.Played.{KnowsFault, PassState, PlaysLines, state_at_first, pass_state_of}
 
 -- a log that held nothing at the opening was closed with this order, in a sound state in which this
--- was the last pass, with its writer at home
+-- was the last pass, with its writer at home, on a disk that held this at first
 pub record IsClosedLog (opening : Opening) (order : List Entry) (v : View) : Type 0 where
+  pub first : DiskState
   pub words : List ℕ
   pub writer : Plain
   pub views : List View
   pub id : ℕ
   pub none_found : opening.found ≡ []
-  pub sound : IsSound opening words (some writer) views
+  pub sound : IsSound first opening words (some writer) views
   pub order_is : sound.order ≡ order
   pub here : HasAt views id v
-  pub closed : IsClosed opening order words (some writer) writer views id v
+  pub closed : IsClosed first opening order words (some writer) writer views id v
 
 -- each pass, from this number on, played its backend's lines
 abbrev pub PlayedAll : ℕ → ℕ → ℕ → List (List AskedLine) → List (List Told) → List View → Type 0

@@ -7,7 +7,7 @@ ghost use Rattle.segment_disk.specs.Tape.{Tape};
 ghost use Rattle.flush_core.specs.Pages.{HoldsNothing};
 ghost use Rattle.wal_page.specs.Order.{end_position, rooms_of};
 ghost use Rattle.wal_core.specs.Words.{Opening};
-ghost use Rattle.wal_rule.specs.Seats.{SeatView};
+ghost use Rattle.wal_core.specs.Views.{View};
 ghost use Rattle.wal_rule.specs.Slotted.{slot_disk, slot_plain};
 ghost use Rattle.wal_rule.specs.declared.writer.LogWriter.{LogWriter};
 ghost use Rattle.wal_script.specs.Asked.{AskedLine};
@@ -21,7 +21,7 @@ ghost use Rattle.run_laws.specs.ClosedRuns.{HasFlushedAll, IsRunClosed};
 /// All that is assured of a run that opened its log, whether its disk failed or not.
 pub fn closed_runs_assure<D>()
     ensures assure { (tape : D → Option Tape) (moment faults : D → ℕ) (began : Option Tape)
-        (opening : Opening) (v : SeatView) (w : LogWriter D) (position : ℕ)
+        (opening : Opening) (v : View) (w : LogWriter D) (position : ℕ)
         (script : List (List AskedLine)) (lists : List (List Told))
         → IsRunClosed tape moment faults began opening v w position script lists
         → RunAssures opening began (tape (slot_disk w)) (moment (slot_disk w))
@@ -32,13 +32,13 @@ pub fn closed_runs_assure<D>()
 /// refused only where some line found the log full. Where it met one the count rose.
 pub fn faults_are_counted<D>()
     ensures up { (tape : D → Option Tape) (moment faults : D → ℕ) (began : Option Tape)
-        (opening : Opening) (v : SeatView) (w : LogWriter D) (position : ℕ)
+        (opening : Opening) (v : View) (w : LogWriter D) (position : ℕ)
         (script : List (List AskedLine)) (lists : List (List Told))
         → IsRunClosed tape moment faults began opening v w position script lists
         → (slot_plain tape moment w).fault ≡ none → (faults (slot_disk w) ≡ opening.faults)
         × (SomeTold IsRefused lists → SomeTold IsFullAnswer lists) }
     ensures down { (tape : D → Option Tape) (moment faults : D → ℕ) (began : Option Tape)
-        (opening : Opening) (v : SeatView) (w : LogWriter D) (position : ℕ)
+        (opening : Opening) (v : View) (w : LogWriter D) (position : ℕ)
         (script : List (List AskedLine)) (lists : List (List Told))
         → IsRunClosed tape moment faults began opening v w position script lists
         → (count : ℕ) → (slot_plain tape moment w).fault ≡ some count
@@ -49,7 +49,7 @@ pub fn faults_are_counted<D>()
 /// holds, all of the order is there for good.
 pub fn flushed_runs_are_whole<D>()
     ensures whole { (tape : D → Option Tape) (moment faults : D → ℕ) (began : Option Tape)
-        (opening : Opening) (v : SeatView) (w : LogWriter D) (position : ℕ)
+        (opening : Opening) (v : View) (w : LogWriter D) (position : ℕ)
         (script : List (List AskedLine)) (lists : List (List Told))
         → IsRunClosed tape moment faults began opening v w position script lists
         → HasFlushedAll (opening.setup).segment_size lists v
@@ -63,17 +63,17 @@ pub fn flushed_runs_are_whole<D>()
 /// position at which the log was closed.
 pub fn closed_runs_are_summed_up<D>()
     ensures records { (tape : D → Option Tape) (moment faults : D → ℕ) (began : Option Tape)
-        (opening : Opening) (v : SeatView) (w : LogWriter D) (position : ℕ)
+        (opening : Opening) (v : View) (w : LogWriter D) (position : ℕ)
         (script : List (List AskedLine)) (lists : List (List Told))
         → IsRunClosed tape moment faults began opening v w position script lists
         → length (order_told opening script lists) ≡ all_reserved_count lists }
     ensures position { (tape : D → Option Tape) (moment faults : D → ℕ) (began : Option Tape)
-        (opening : Opening) (v : SeatView) (w : LogWriter D) (position : ℕ)
+        (opening : Opening) (v : View) (w : LogWriter D) (position : ℕ)
         (script : List (List AskedLine)) (lists : List (List Told))
         → IsRunClosed tape moment faults began opening v w position script lists
         → position ≡ end_position (opening.setup).segment_size (order_told opening script lists) }
     ensures within { (tape : D → Option Tape) (moment faults : D → ℕ) (began : Option Tape)
-        (opening : Opening) (v : SeatView) (w : LogWriter D) (position : ℕ)
+        (opening : Opening) (v : View) (w : LogWriter D) (position : ℕ)
         (script : List (List AskedLine)) (lists : List (List Told))
         → IsRunClosed tape moment faults began opening v w position script lists
         → rooms_of (opening.setup).segment_size (order_told opening script lists) ≤ 2 ^ 42 }

@@ -12,7 +12,7 @@ ghost use Rattle.told_lines.specs.Rooms.{all_rooms_asked, capacity_of};
 ghost use Rattle.told_lines.specs.Whole.{IsWhole};
 ghost use Rattle.wal_core.specs.Words.{Opening, flushed_word};
 ghost use Rattle.wal_core.specs.Views.{FlushPromise, View};
-ghost use Rattle.wal_core.specs.Suited.{BeganSuited};
+ghost use Rattle.wal_core.specs.Suited.{BeganSuited, tape_from};
 ghost use Rattle.run_laws.specs.Ended.{HasTakenIn, IsClosedLog};
 ghost use Rattle.run_laws.specs.Reached.{ReachesAll};
 
@@ -56,6 +56,6 @@ pub fn runs_leave_whole_logs()
         → (c.writer).fault ≡ none → (p : FlushPromise) → Contains (v.writing).promises p
         → ReachesAll (opening.setup).segment_size p.upto lists
         → (opening.setup).sysid < 2 ^ 64
-        → IfSome (c.writer).tape (BeganSuited opening)
-        → IsWhole (opening.setup).segment_size (c.writer).tape order }
+        → IfSome (tape_from c.first (c.writer).calls) (BeganSuited opening)
+        → IsWhole (opening.setup).segment_size (tape_from c.first (c.writer).calls) order }
 {}

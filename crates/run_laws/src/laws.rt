@@ -12,6 +12,7 @@ ghost use Rattle.wal_script.specs.Asked.{AskedLine};
 ghost use Rattle.told_lines.specs.declared.told.Told.{Told};
 ghost use Rattle.told_lines.specs.Counts.{reserved_count};
 ghost use Rattle.told_lines.specs.Told.{entries_of, order_from, AllDown, EachStaysDown, Logged, MayBeFull, RiseInLineOrder, StaysDown, TellsAll};
+ghost use Rattle.segment_disk.specs.Tape.{DiskState};
 ghost use Rattle.wal_core.specs.Words.{Opening, log_limit};
 ghost use Rattle.wal_core.specs.Views.{HasAt, Plain, View};
 ghost use Rattle.wal_core.specs.Moves.{after_join};
@@ -58,8 +59,8 @@ pub fn passes_are_taken_in()
 /// Where one pass is left of a log that held nothing at first, has all numbers and is about
 /// nothing, the log is closed.
 pub fn last_passes_close_logs()
-    ensures close { (opening : Opening) (words : List ℕ) (home : Option Plain)
-        (views : List View) (k : IsSound opening words home views) (id : ℕ) (v : View)
+    ensures close { (first : DiskState) (opening : Opening) (words : List ℕ) (home : Option Plain)
+        (views : List View) (k : IsSound first opening words home views) (id : ℕ) (v : View)
         → HasAt views id v → IsLastPass opening v → opening.found ≡ []
         → IsClosedLog opening k.order v }
 {}

@@ -6,7 +6,7 @@ use std::alloc::{AllocError, Global};
 use std::io;
 use std::os::unix::fs::FileExt;
 
-const PAGE_SIZE: usize = 8192;
+const PAGE_SIZE: usize = byte_position::PAGE_SIZE as usize;
 
 // How many pages are kept at most.
 const MOST_PAGES: usize = 32;

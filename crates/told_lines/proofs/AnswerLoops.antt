@@ -1,5 +1,7 @@
 -- Loops over answers: a count's step, and whether an answer so far is of a kind.
-use Rattle.std.proofs.Common.{◌≡◌, ℕ, zero, suc, inl, inr, ◌+◌, ◌<◌, ◌⊎◌, true, false, List, [], ◌∷◌, ◌++◌, length, get_or, take, Some, None, refl, subst, arith}
+use Rattle.std.proofs.Common.{◌≡◌, ℕ, zero, suc, inl, inr, ◌+◌, ◌<◌, ◌⊎◌, true, false, List, [], ◌∷◌, ◌++◌, length, get_or, take, Some, None, refl, sym, subst, arith}
+use Rattle.std.specs.Prelude.{slice_index_or}
+use Rattle.std.specs.List.{Any}
 use Rattle.std.specs.Option.{is_some}
 use Rattle.std.proofs.lemmas.List.{take_more}
 use Rattle.told_lines.specs.declared.told.Told.{Told}
@@ -54,3 +56,16 @@ module _ (P : Told → Type 0) where
 pub SomeTold-one : (P : Told → Type 0) (told : List Told) → SomeTold P (told ∷ []) → SomeAnswer P told
 SomeTold-one P told (inl some) = some
 SomeTold-one P told (inr none) = absurd none
+
+-- an answer by its place, in a list and in one of several lists
+any_at : {X : Type 0} (P : X → Type 0) (first : X) (others : List X) (k : ℕ) (x : X) → k < length (first ∷ others) → slice_index_or (first ∷ others) k x ≡ x → P x → P first ⊎ Any P others
+any_at P first others zero x within is holds = inl (subst P (sym is) holds)
+any_at P first others (suc k) x within is holds = inr (k, x, omega arith, is, holds)
+
+some_answer : (P : Told → Type 0) (told : List Told) → Any P told → SomeAnswer P told
+some_answer P [] any = absurd (omega (arith, any.2))
+some_answer P (answer ∷ told) any = elim (any_at P answer told any.0 any.1 any.2 any.3 any.4) [ inl here ↦ inl here | inr later ↦ inr (some_answer P told later) ]
+
+pub some_told : (P : Told → Type 0) (lists : List (List Told)) → Any (Any P) lists → SomeTold P lists
+some_told P [] any = absurd (omega (arith, any.2))
+some_told P (told ∷ lists) any = elim (any_at (Any P) told lists any.0 any.1 any.2 any.3 any.4) [ inl here ↦ inl (some_answer P told here) | inr later ↦ inr (some_told P lists later) ]

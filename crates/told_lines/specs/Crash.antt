@@ -1,6 +1,7 @@
 -- What a crash at any moment leaves of what was told, and how late receipts may be. Everywhere
 -- `size` is the size of a segment in bytes, `opening` the disk's moment at the opening.
 use Rattle.std.specs.Prelude.{◌≡◌, ℕ, ◌+◌, ◌*◌, ◌<◌, ◌≤◌, All, List, [], ◌∷◌, drop, length, take, Option, Some, None, IfSome, slice_get}
+use Rattle.std.specs.List.{Any}
 use Rattle.segment_disk.specs.declared.disk.Call.{Call}
 use Rattle.segment_disk.specs.declared.disk.CallKind.{CallKind}
 use Rattle.segment_disk.specs.declared.disk.CallKind.TheVariants.{Create, Write, Sync}
@@ -14,11 +15,11 @@ use Rattle.wal_reader.specs.declared.found.FoundRecord.{FoundRecord}
 use Rattle.wal_reader.specs.Pages.{pages_in}
 use Rattle.wal_reader.specs.Decodes.{Decodes}
 use Rattle.written_log.specs.Torn.{NoTornPass}
-use Rattle.written_log.specs.Written.{found_of}
+use Rattle.written_log.specs.Written.{found_from}
 use Rattle.wal_script.specs.Asked.{AskedLine}
 use Rattle.told_lines.specs.declared.told.Told.{Told}
 use Rattle.told_lines.specs.declared.told.Told.TheVariants.{Wrote, Hard, Flushed, Refused}
-use Rattle.told_lines.specs.Told.{SomeTold, entries_of}
+use Rattle.told_lines.specs.Told.{entries_of}
 
 -- ---- what was told is there
 
@@ -35,9 +36,9 @@ SaysDurable moment address (Refused cause reserved) = ⊥
 pub record IsFrontWithTold (size moment : ℕ) (order : List Entry) (lists : List (List Told))
     (found : List FoundRecord) : Type 0 where
   pub count : ℕ
-  pub front : found ≡ found_of size (take count order)
+  pub front : found ≡ found_from size 0 (take count order)
   pub told : (n : ℕ) (e : Entry) → slice_get order n ≡ Some e
-      → SomeTold (SaysDurable moment (finish_of size e)) lists → n < count
+      → Any (Any (SaysDurable moment (finish_of size e))) lists → n < count
 
 -- from the opening on, whatever a crash at a moment leaves decodes, from segment 1's start, to a
 -- front of the order with all that was told durable by then; the premise is that no torn record

@@ -13,7 +13,7 @@ use Rattle.segment_disk.specs.declared.disk.CallKind.{CallKind}
 use Rattle.segment_disk.specs.declared.disk.CallKind.TheVariants.{Create, Write, Sync}
 use Rattle.segment_disk.specs.Cause.{Rose}
 use Rattle.segment_disk.specs.DiskImage.{word_of}
-use Rattle.segment_disk.specs.Tape.{Tape, state_now}
+use Rattle.segment_disk.specs.Tape.{DiskState, Tape, state_now}
 use Rattle.segment_disk.specs.Assured.{IsMadeUpto, IsNowhere, SegmentAssures, TapeAssures}
 use Rattle.byte_position.specs.Geometry.{pages_of}
 use Rattle.wal_page.specs.Order.{Entry, finish_of}
@@ -79,13 +79,15 @@ AreKept opening order tape entries promises =
 
 -- with the writer in hand: what was loaded is lawful, and below which address all is durable from
 -- the moment on that was stored, where one was
-pub record IsInHand (opening : Opening) (order : List Entry) (moment : ℕ) (writer : Plain)
+pub record IsInHand (first : DiskState) (opening : Opening) (order : List Entry) (moment : ℕ)
+    (writer : Plain)
     (l : Lent) : Type 0 where
   pub staged : All (IsStaged opening.setup order l.known) l.staged
   pub hard_low : l.hard ≤ writer.written
   pub moment_low : l.hard_moment ≤ moment
   pub since : l.hard ≢ 0 → opening.moment ≤ l.hard_moment
-  pub firm : l.hard ≢ 0 → IfSuited opening writer (IsFirm opening.setup order l.hard l.hard_moment)
+  pub firm : l.hard ≢ 0
+      → IfSuited first opening writer (IsFirm opening.setup order l.hard l.hard_moment)
 
 -- what a promise names is not above what the words say now
 pub record IsPromised (flushed moment : ℕ) (p : FlushPromise) : Type 0 where
@@ -93,15 +95,17 @@ pub record IsPromised (flushed moment : ℕ) (p : FlushPromise) : Type 0 where
   pub moment_low : p.moment ≤ moment
 
 -- what is said of one view
-pub record IsToldRightly (opening : Opening) (order : List Entry) (flushed moment down : ℕ)
+pub record IsToldRightly (first : DiskState) (opening : Opening) (order : List Entry)
+    (flushed moment down : ℕ)
     (writer : Plain) (x : Receipts) : Type 0 where
   pub own_promised : All (IsPromised flushed moment) (x.writing).promises
   pub joined_promised : All (λ (j : Joined). All (IsPromised flushed moment) j.promises) x.joined
-  pub own : IfSuited opening writer (λ t. AreKept opening order t x.entries (x.writing).promises)
-  pub joined : IfSuited opening writer (λ t.
+  pub own : IfSuited first opening writer (λ t. AreKept opening order t x.entries
+      (x.writing).promises)
+  pub joined : IfSuited first opening writer (λ t.
       All (λ (j : Joined). AreKept opening order t j.entries j.promises) x.joined)
   pub in_hand : (l : Lent) → (x.writing).hold ≡ Out l
-      → IsInHand opening order moment writer l
+      → IsInHand first opening order moment writer l
   pub down_met : (x.writing).down_met ≢ 0 → (x.writing).down_met ≡ down
   pub down_set : (x.writing).down_set ≢ 0 → (x.writing).down_set ≡ down
 
@@ -115,20 +119,20 @@ pub record IsOnDisk (setup : Setup) (order : List Entry) (writer : Plain) (tape 
     pub there : (segment : ℕ) → 1 ≤ segment → segment ≤ writer.made
         → IsSomeAnd (state_now tape segment) (λ s. s.pages ≡ pages_of setup.segment_size)
 
-pub record DurabilityHolds (opening : Opening) (order : List Entry)
+pub record DurabilityHolds (first : DiskState) (opening : Opening) (order : List Entry)
     (flushed moment down : ℕ) (home : Option Plain) (writer : Plain) (parts : List Receipts)
     : Type 0 where
-  pub counted : IfSome writer.tape (λ t. writer.moment ≡ length t.calls)
+  pub counted : IfSome writer.calls (λ calls. writer.moment ≡ length calls)
   pub moment_low : moment ≤ writer.moment
   pub begun : opening.moment ≤ moment
   pub reached : writer.written ≤ writer.made * opening.setup.segment_size
       + opening.setup.segment_size
-  pub lawful : IfSuited opening writer (TapeAssures opening.setup.segment_size IsNowhere
+  pub lawful : IfSuited first opening writer (TapeAssures opening.setup.segment_size IsNowhere
       (IsLawfulAt opening.setup order) opening.moment)
-  pub firm : IfSuited opening writer (IsFirm opening.setup order flushed moment)
-  pub on_disk : IfSuited opening writer (IsOnDisk opening.setup order writer)
+  pub firm : IfSuited first opening writer (IsFirm opening.setup order flushed moment)
+  pub on_disk : IfSuited first opening writer (IsOnDisk opening.setup order writer)
   pub down_is : down ≢ 0 → writer.fault ≡ some down
   pub down_at_home : home ≡ some writer → down ≡ 0 → writer.fault ≡ none
   pub fault_rose : (f : ℕ) → writer.fault ≡ some f → Rose opening.faults f
   pub views : (id : ℕ) (x : Receipts) → HasAt parts id x
-      → IsToldRightly opening order flushed moment down writer x
+      → IsToldRightly first opening order flushed moment down writer x

@@ -8,6 +8,7 @@ pub mod Watched
 pub mod Suited
 pub mod Positioned
 pub mod Durable
+pub mod Aligned
 pub mod Sound
 pub mod Moves
 pub mod Steps

@@ -1,11 +1,11 @@
 -- What a pass knows behind each kind of step: a function of what it knew before, of the step's
 -- operands, and of the number that it met. Nothing of other views or words comes in: so what a pass
 -- knows is what it did and what it met, and stays so while others step.
-use Rattle.std.specs.Prelude.{ℕ, ◌+◌, ◌-◌, ◌%◌, Bool, true, false, ◌&&◌, ◌||◌, not, List, [], ◌∷◌, ◌++◌, length, max, min, ◌==◌, nat_lt, if◌then◌else◌, Some}
+use Rattle.std.specs.Prelude.{ℕ, ◌+◌, ◌-◌, ◌%◌, Bool, true, false, ◌&&◌, ◌||◌, not, List, [], ◌∷◌, ◌++◌, length, max, min, ◌==◌, nat_lt, if◌then◌else◌, None, Some}
 use Rattle.std.specs.List.{filter}
 use Rattle.byte_position.specs.Position.{position_of}
 use Rattle.segment_disk.specs.declared.disk.Call.{Call}
-use Rattle.segment_disk.specs.Tape.{with_call, failed_call}
+use Rattle.segment_disk.specs.Tape.{failed_call}
 use mathlib.Core.Option.{Option, none, some}
 use Rattle.wal_types.specs.declared.record.Record.{Record}
 use Rattle.wal_page.specs.Order.{Entry, position_behind}
@@ -380,9 +380,15 @@ pub data CallOutcome : Type 0 where
   Done : CallOutcome
   Failed : ℕ → Option Bool → CallOutcome
 
+-- the calls with one more, where they are told
+abbrev pub one_call_more : Call → Rattle.std.specs.Prelude.Option (List Call)
+    → Rattle.std.specs.Prelude.Option (List Call)
+one_call_more call None = None
+one_call_more call (Some calls) = Some (calls ++ call ∷ [])
+
 abbrev pub counted : Call → Plain → Plain
 counted call writer = record writer {
-  tape = with_call writer.tape call;
+  calls = one_call_more call writer.calls;
   moment = writer.moment + 1;
 }
 

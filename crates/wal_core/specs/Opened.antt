@@ -35,7 +35,7 @@ pub record AreFirstWords (opening : Opening) (words : List ℕ) : Type 0 where
 -- a writer that has written nothing, on any disk
 pub record IsFirstWriter (opening : Opening) (writer : Plain) : Type 0 where
   pub moment_is : writer.moment ≡ opening.moment
-  pub counted : IfSome writer.tape (λ t. writer.moment ≡ length t.calls)
+  pub counted : IfSome writer.calls (λ calls. writer.moment ≡ length calls)
   pub written : writer.written ≡ (opening.setup).segment_size
   pub made : writer.made ≡ 0
   pub waiting : writer.waiting ≡ none

@@ -39,7 +39,8 @@ pub record IsWithin (size end written flushed : ℕ) (flights : List Flight) (x 
 
 -- `written`, `flushed` and `down` are the words, `writer` the writer wherever it is, which
 -- is `home` where it is at home
-pub record PositionsHold (opening : Opening) (order : List Entry) (written flushed down : ℕ)
+pub record PositionsHold (first : DiskState) (opening : Opening) (order : List Entry)
+    (written flushed down : ℕ)
     (home : Option Plain) (writer : Plain) (flights : List Flight) (parts : List Writing) : Type 0
   where
     pub begun : opening.setup.segment_size ≤ flushed
@@ -49,7 +50,7 @@ pub record PositionsHold (opening : Opening) (order : List Entry) (written flush
     pub reserved : writer.written
         ≤ end_form opening.setup (end_position opening.setup.segment_size order)
     pub copied : IsCopiedBelow opening.setup.segment_size flights writer.written
-    pub reads : IfSuited opening writer
+    pub reads : IfSuited first opening writer
         (λ t. ReadsBelow opening.setup order writer.written (state_now t))
     pub views : (id : ℕ) (x : Writing) → HasAt parts id x
         → IsWithin opening.setup.segment_size

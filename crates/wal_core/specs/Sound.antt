@@ -4,6 +4,7 @@
 -- not touch. docs/COMMIT.md tells why each part is kept.
 use Rattle.std.specs.Prelude.{◌≡◌, ◌≢◌, ◌≤◌, ◌⊎◌, ℕ, true, false, List, [], length, map}
 use mathlib.Core.Option.{Option}
+use Rattle.segment_disk.specs.Tape.{DiskState}
 use Rattle.byte_position.specs.Geometry.{IsSegmentSize}
 use Rattle.wal_page.specs.Order.{Entry, end_position}
 use Rattle.wal_core.specs.declared.setup.Setup.{Setup}
@@ -16,6 +17,7 @@ use Rattle.wal_core.specs.Paged.{PagesHold}
 use Rattle.wal_core.specs.Watched.{WatchHolds}
 use Rattle.wal_core.specs.Positioned.{PositionsHold}
 use Rattle.wal_core.specs.Durable.{DurabilityHolds}
+use Rattle.wal_core.specs.Aligned.{AlignmentHolds}
 
 -- the setup is one that a log can have: 4 to 64 pages of ring, 1 to 4,096 segments, 1 to 65,536
 -- passes
@@ -42,7 +44,8 @@ pub record IsGrounded (opening : Opening) (down : ℕ) (v : View) : Type 0 where
 
 -- the parts, all over one reserved order, one memory of the log's words and one writer, wherever it
 -- is
-pub record IsSound (opening : Opening) (words : List ℕ) (home : Option Plain) (views : List View)
+pub record IsSound (first : DiskState) (opening : Opening) (words : List ℕ) (home : Option Plain)
+    (views : List View)
     : Type 0 where
   pub order : List Entry
   pub memory : ℕ → ℕ
@@ -69,12 +72,15 @@ pub record IsSound (opening : Opening) (words : List ℕ) (home : Option Plain) 
       (written_word words) (end_word words) (word_of_ring opening.setup words) memory
       (map confirmed_of views)
   -- flushed, written, copied, reserved: each is at most the next one
-  pub positions : PositionsHold opening order (written_word words) (flushed_word words)
+  pub positions : PositionsHold first opening order (written_word words) (flushed_word words)
       (down_word words) home writer (map flight_of views) (map writing_of views)
   -- what crashes leave, and what was promised of it
-  pub durable : DurabilityHolds opening order (flushed_word words) (moment_word words)
+  pub durable : DurabilityHolds first opening order (flushed_word words) (moment_word words)
       (down_word words) home writer (map receipts_of views)
   -- what watchers have found to be copied is so
   pub watching : WatchHolds opening.setup.segment_size
       (end_form opening.setup (end_position opening.setup.segment_size order))
       (map working_of views) (map watching_of views)
+  -- addresses that passes learn are multiples of 8
+  pub aligned : AlignmentHolds (lock_word words) (written_word words) (flushed_word words) writer
+      views

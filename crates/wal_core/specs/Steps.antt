@@ -62,6 +62,7 @@ pub record IsNextWrite (setup : Setup) (segment page upto : ℕ) (bytes : List �
     pub behind_start : (l.writer).written / 8192 * 8192 < upto
     pub within : upto ≤ ((l.writer).written / 8192 + 1) * 8192
     pub copied : upto ≤ l.known
+    pub aligned : upto % 8 ≡ 0
     pub whole : length bytes ≡ 8192
     pub loaded : IsPageLoaded ((l.writer).written / 8192) bytes l.staged
 
@@ -275,7 +276,8 @@ module _ (v : View) where
   -- ---- what the pass must know for the step (`MayStep`)
   -- Reserving: each step needs the one before it; the entry can be written and fits, nothing is in
   -- flight, and it is to stand under locks that are held. Locks: only a holder tells or releases;
-  -- it tells at most up to its next word, and releases what is copied whole. Words of the ring: a
+  -- it tells at most up to its next word, and releases what is copied whole; addresses that are
+  -- told, asked for or written up to are multiples of 8 (Aligned). Words of the ring: a
   -- copy's next one, below an end that was met; for a write, those of a page that is not written
   -- whole and begins where all is copied. With the writer in hand alone: the calls of the device,
   -- and the stores of what it did. The moment is stored where no fault was met and nothing waits
@@ -311,11 +313,11 @@ module _ (v : View) where
       × AreSomeOf locks (v.working).locks × ((v.working).flight ≡ Landed)
   MayStep (give_position_back value) = (at : ℕ) × ((v.reserving).place ≡ Locked at)
       × (log_limit setup_of < at + room_at (setup_of).segment_size at value)
-  MayStep (load_lock lock limit) = lock < 8
+  MayStep (load_lock lock limit) = (lock < 8) × (limit % 8 ≡ 0)
   MayStep (take_lock lock) = lock < 8
   MayStep (advance lock upto) = Contains (v.working).locks lock
       × IsCopying (λ c. Contains c.locks lock
-      × (upto ≤ address_of_word (setup_of).segment_size c.entry c.copied))
+      × (upto ≤ address_of_word (setup_of).segment_size c.entry c.copied) × (upto % 8 ≡ 0))
   MayStep (release lock) = Contains (v.working).locks lock
       × ((c : Copy) → (v.working).flight ≡ Copying c → Contains c.locks lock
       → c.copied ≡ words_owned (setup_of).segment_size c.entry)
@@ -483,8 +485,8 @@ pub record GivesUp (id : ℕ) (s t : State) : Type 0 where
   pub home : t.home ≡ s.home
   pub views : t.views ≡ set s.views id (without_work view) ++ orphan_of view ∷ []
 
-pub data Step (s t : State) : Type 0 where
-  Moves : (id : ℕ) (e : StepKind) (met : ℕ) → Makes id e met s t → Step s t
-  SplitsOff : (id : ℕ) → Splits id s t → Step s t
-  TakesIn : (id other : ℕ) → Joins id other s t → Step s t
-  Abandons : (id : ℕ) → GivesUp id s t → Step s t
+pub data MachineStep (s t : State) : Type 0 where
+  Moves : (id : ℕ) (e : StepKind) (met : ℕ) → Makes id e met s t → MachineStep s t
+  SplitsOff : (id : ℕ) → Splits id s t → MachineStep s t
+  TakesIn : (id other : ℕ) → Joins id other s t → MachineStep s t
+  Abandons : (id : ℕ) → GivesUp id s t → MachineStep s t

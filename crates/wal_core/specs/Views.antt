@@ -7,7 +7,7 @@ use Rattle.std.specs.Prelude.{◌≡◌, ℕ, ◌+◌, ◌≤◌, Bool, List, []
 use Rattle.std.specs.List.{list_any}
 use mathlib.Core.Option.{Option, some}
 use lib.ListN.{get_elem?}
-use Rattle.segment_disk.specs.Tape.{Tape}
+use Rattle.segment_disk.specs.declared.disk.Call.{Call}
 use Rattle.wal_page.specs.Order.{Entry}
 use Rattle.wal_core.specs.Words.{Opening}
 
@@ -113,11 +113,12 @@ pub record Mapping : Type 0 where
 
 -- ---- writing
 
--- the writer as plain data: its disk's tape and moment, up to where the log is written, the last
--- segment made, the segment of which writes wait for a sync, and the disk's count of faults when it
--- failed
+-- the writer as plain data: the counted calls of its disk, where they are told, and its moment; up
+-- to where the log is written, the last segment made, the segment of which writes wait for a sync,
+-- and the disk's count of faults when it failed. What the disk held at first is a function, and no
+-- pass can know it: it is a parameter of the invariant
 pub record Plain : Type 0 where
-  pub tape : Rattle.std.specs.Prelude.Option Tape
+  pub calls : Rattle.std.specs.Prelude.Option (List Call)
   pub moment : ℕ
   pub written : ℕ
   pub made : ℕ

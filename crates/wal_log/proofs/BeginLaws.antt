@@ -1,34 +1,40 @@
 -- What one try to reserve a place leaves of its pass, and what holds of it since an earlier view.
-use Rattle.std.proofs.Common.{◌≡◌, ℕ, ◌≤◌, refl, sym, ap, ◌∙◌, subst, arith}
+use Rattle.std.specs.Prelude.{Result, Ok, Err}
+use Rattle.std.proofs.Common.{◌≡◌, ℕ, ◌<◌, ◌≤◌, List, [], ◌∷◌, ◌++◌, refl, sym, ap, ◌∙◌, subst, arith}
 use Rattle.std.proofs.Math.Nat.{le-max_left, le-max_right}
 use mathlib.Core.Option.{none}
-use Rattle.record_spelling.specs.Spelling.{Assembled}
+use Rattle.record_spelling.specs.Spelling.{Assembled, assembled}
 use Rattle.wal_page.specs.Order.{Entry, position_behind}
-use Rattle.wal_page.specs.Placed.{PlacedState}
+use Rattle.wal_types.specs.declared.lsn.Lsn.{Lsn}
+use Rattle.wal_page.specs.Placed.{PlacedState, placed_end}
 use Rattle.wal_core.specs.declared.setup.Setup.{Setup}
 use Rattle.wal_core.specs.Moves.{entry_reserved, unlocked}
-use Rattle.wal_core.specs.Steps.{load_down, release}
+use Rattle.wal_core.specs.Steps.{load_down, release, IsResting, view_behind, MayStep}
 use Rattle.wal_rule.specs.Downs.{KnowsDown}
-use Rattle.wal_rule.specs.Seats.{IsAtRest, SeatView, behind}
-use Rattle.wal_rule.specs.Stepping.{MaySeat}
+use Rattle.wal_core.specs.Views.{Copy, Copying, Flight, View, Working}
+use Rattle.wal_rule.specs.declared.seated.SeatedPass.{SeatedPass}
+use Rattle.wal_rule.specs.SeatedPasses.{HasView, StandsAtRest, Steps, view_of}
 use Rattle.reserve_lock.specs.declared.reserving.ReserveErr.{ReserveErr}
 use Rattle.reserve_lock.specs.declared.reserving.ReserveErr.TheVariants.{Busy, Full}
 use Rattle.insert_locks.specs.Taking.{with_lock}
-use Rattle.reserve_lock.specs.Reserved.{IsPlaceReserved, TellsWhy, full_view, reserved_view, seen_view}
+use Rattle.reserve_lock.specs.Reserved.{IsPlaceReserved, TellsWhy, full_view, placed_first, reserved_view, seen_view}
+use Rattle.word_ring.specs.Copied.{rest_of}
+use Rattle.wal_log.specs.declared.beginning.Begun.{Begun}
 use Rattle.wal_log.specs.declared.beginning.TryErr.{TryErr}
 use Rattle.wal_log.specs.declared.beginning.TryErr.TheVariants as tries
-use Rattle.wal_log.specs.Beginning.{IsPlaceBegun, TellsBeginTry, try_err_of_reserve}
+use Rattle.wal_log.specs.Beginning.{AnswersBeginTry, IsPlaceBegun, TellsBeginTry, try_err_of_reserve}
 use Rattle.wal_log.specs.Downs.{KnowsNoFault}
 use Rattle.wal_log.specs.Inserting.{FindsLogFull, HasReserved}
 use Rattle.wal_log.specs.PassLogs.{log_of_pass, log_with_entry, log_with_full}
-use Rattle.wal_log.specs.Standing.{HoldsOneLock, KeepsPass}
+use Rattle.wal_log.specs.Standing.{CopiesUnderOneLock, HasOneLock, HoldsOneLock, KeepsPass}
 use Rattle.wal_log.proofs.Keeping.{down_met_keeps, meets_since, none_loaded}
 use Rattle.wal_log.proofs.Plain.{down_loaded}
+use Rattle.wal_log.proofs.Seated.{hand_is, view_is}
 use Rattle.wal_log.proofs.Unlocking.{may_unlock, rested, rested_keeps, unlocked_rests, unlocked_view}
 
 -- ---- the place was reserved
 
-module _ (setup : Setup) (body : Assembled) (old new : SeatView) (lock start : ℕ)
+module _ (setup : Setup) (body : Assembled) (old new : View) (lock start : ℕ)
     (placed : PlacedState) (r : IsPlaceReserved setup body lock old new start placed) where
   abbrev entry : Entry
   entry = entry_reserved (old.reserving).number r.at (r.reserved).value
@@ -37,23 +43,81 @@ module _ (setup : Setup) (body : Assembled) (old new : SeatView) (lock start : �
   new_is = (r.reserved).new_is
 
   seen_is : (new.reserving).seen ≡ position_behind setup.segment_size entry
-  seen_is = ap (λ (v : SeatView). (v.reserving).seen) new_is
+  seen_is = ap (λ (v : View). (v.reserving).seen) new_is
 
   pub place_keeps : KeepsPass old new
   place_keeps = record {
-    opening = ap (λ (v : SeatView). v.opening) new_is;
-    live = ap (λ (v : SeatView). (v.reserving).live) new_is;
-    number = ap (λ (v : SeatView). (v.reserving).number) new_is;
-    spare = ap (λ (v : SeatView). (v.reserving).spare) new_is;
-    spare_end = ap (λ (v : SeatView). (v.reserving).spare_end) new_is;
-    joined = ap (λ (v : SeatView). (v.reserving).joined) new_is;
+    opening = ap (λ (v : View). v.opening) new_is;
+    live = ap (λ (v : View). (v.reserving).live) new_is;
+    number = ap (λ (v : View). (v.reserving).number) new_is;
+    spare = ap (λ (v : View). (v.reserving).spare) new_is;
+    spare_end = ap (λ (v : View). (v.reserving).spare_end) new_is;
+    joined = ap (λ (v : View). (v.reserving).joined) new_is;
     rises = omega (arith, seen_is, r.behind_seen);
     down = λ faults knows. subst (KnowsDown faults) (sym new_is) knows;
   }
 
+-- and begins to be copied, under just this lock
+pub begun_is : (setup : Setup) (body : Assembled) (old new : View) (lock : ℕ) (start end : Lsn)
+    (placed : PlacedState) → IsPlaceReserved setup body lock old new start.0 placed
+    → end.0 ≡ placed_end placed → lock < 8 → HasOneLock lock old → KnowsNoFault old
+    → IsPlaceBegun setup body old new
+    (record { lock = lock; start = start; end = end; placed = placed })
+begun_is setup body old new lock start end placed r end_is low one up = record {
+  entry = e;
+  reserved = record {
+    own = record {
+      value = (r.reserved).value;
+      writable = (r.reserved).writable;
+      of_body = (r.reserved).of_body;
+      at = r.at;
+      entry_is = refl;
+      behind_seen = r.behind_seen;
+      within = r.within;
+    };
+    log_is = ap (λ (v : View). log_of_pass v) is;
+    seen = (let same = ap (λ (v : View). (v.reserving).seen) is in omega (arith, same));
+  };
+  up = subst KnowsNoFault (sym is) (record { met = up.met; set = up.set });
+  lock_low = low;
+  copies = subst (λ (v : View). CopiesUnderOneLock setup lock placed v) (sym is) (record {
+    copy = c;
+    working = ap (λ (w : Working). record w { flight = Copying c }) one.working;
+    under = refl;
+    rest = placed_so;
+    place = refl;
+    stage = one.stage;
+    hold = one.hold;
+  });
+  prev = r.prev;
+  placed_is = r.placed_is;
+  start_is = r.start_is;
+  end_is = end_is;
+}
+  where
+    e : Entry
+    e = entry_reserved (old.reserving).number r.at (r.reserved).value
+
+    c : Copy
+    c = record { entry = e; prev = r.prev; locks = lock ∷ []; copied = 0 }
+
+    is : new ≡ reserved_view setup.segment_size e r.prev lock old
+    is = (r.reserved).new_is
+
+    own : PlacedState
+    own = placed_first setup (assembled (r.reserved).value) r.at r.prev
+
+    first_word : own.next ≡ (rest_of setup c).next
+    first_word = omega arith
+
+    placed_so : placed ≡ rest_of setup c
+    placed_so = r.placed_is
+        ∙ ap (λ (a : Assembled). placed_first setup a r.at r.prev) (sym (r.reserved).of_body)
+        ∙ ap (λ (n : ℕ). record own { next = n }) first_word
+
 -- ---- it was not: the lock is given back
 
-module _ (v : SeatView) where
+module _ (v : View) where
   seen_keeps : (n : ℕ) → KeepsPass v (seen_view n v)
   seen_keeps n = record {
     opening = refl;
@@ -78,21 +142,21 @@ module _ (v : SeatView) where
     down = λ faults knows. knows;
   }
 
-module _ (setup : Setup) (body : Assembled) (old between : SeatView) where
+module _ (setup : Setup) (body : Assembled) (old between : View) where
   keeps_in_vain : (e : ReserveErr) → TellsWhy setup body old between e → KeepsPass old between
   keeps_in_vain (Busy seen) why =
       subst (KeepsPass old) (sym why.new_is) (seen_keeps old (unlocked why.loaded))
   keeps_in_vain (Full free) why = subst (KeepsPass old) (sym why.new_is) (full_keeps old why.at)
 
-  pub holds_in_vain : (lock : ℕ) → HoldsOneLock lock old → (e : ReserveErr)
-      → TellsWhy setup body old between e → HoldsOneLock lock between
-  holds_in_vain lock holds (Busy seen) why = subst (HoldsOneLock lock) (sym why.new_is) (record {
+  pub holds_in_vain : (lock : ℕ) → HasOneLock lock old → (e : ReserveErr)
+      → TellsWhy setup body old between e → HasOneLock lock between
+  holds_in_vain lock holds (Busy seen) why = subst (HasOneLock lock) (sym why.new_is) (record {
     working = holds.working;
     place = holds.place;
     stage = holds.stage;
     hold = holds.hold;
   })
-  holds_in_vain lock holds (Full free) why = subst (HoldsOneLock lock) (sym why.new_is) (record {
+  holds_in_vain lock holds (Full free) why = subst (HasOneLock lock) (sym why.new_is) (record {
     working = holds.working;
     place = refl;
     stage = holds.stage;
@@ -112,12 +176,12 @@ module _ (setup : Setup) (body : Assembled) (old between : SeatView) where
 
   seen_in_vain : (at : ℕ) → between ≡ full_view at (seen_view at old)
       → at ≤ (between.reserving).seen
-  seen_in_vain at is = subst (λ (v : SeatView). at ≤ (v.reserving).seen) (sym is)
+  seen_in_vain at is = subst (λ (v : View). at ≤ (v.reserving).seen) (sym is)
       (le-max_right (old.reserving).seen at)
 
   tells_in_vain : KnowsNoFault old → (e : ReserveErr) → TellsWhy setup body old between e
       → TellsBeginTry setup body old (rested between) (try_err_of_reserve e)
-  tells_in_vain up (Busy seen) why = ap (λ (v : SeatView). log_of_pass v) why.new_is
+  tells_in_vain up (Busy seen) why = ap (λ (v : View). log_of_pass v) why.new_is
   tells_in_vain up (Full free) why =
       let still = up_in_vain up (Full free) why in (
         record {
@@ -127,27 +191,27 @@ module _ (setup : Setup) (body : Assembled) (old between : SeatView) where
           free_is = why.free_is;
           short = why.short;
           seen = seen_in_vain why.at why.new_is;
-          log_is = ap (λ (v : SeatView). log_of_pass v) why.new_is;
+          log_is = ap (λ (v : View). log_of_pass v) why.new_is;
         },
         record { met = still.met; set = still.set },
       )
 
-  module _ (lock : ℕ) (holds : HoldsOneLock lock old) (e : ReserveErr)
+  module _ (lock : ℕ) (holds : HasOneLock lock old) (e : ReserveErr)
       (why : TellsWhy setup body old between e) where
-    between_holds : HoldsOneLock lock between
+    between_holds : HasOneLock lock between
     between_holds = holds_in_vain lock holds e why
 
-    pub may_unlock_in_vain : MaySeat between (release lock)
+    pub may_unlock_in_vain : MayStep between (release lock)
     may_unlock_in_vain = may_unlock lock between between_holds
 
-    module _ (new : SeatView) (is : new ≡ behind (release lock) 0 none between) where
+    module _ (new : View) (is : new ≡ view_behind between (release lock) 0 none) where
       new_rested : new ≡ rested between
       new_rested = is ∙ unlocked_view lock between between_holds
 
       pub tried_in_vain : KnowsNoFault old
-          → TellsBeginTry setup body old new (try_err_of_reserve e) × IsAtRest new
+          → TellsBeginTry setup body old new (try_err_of_reserve e) × IsResting new
       tried_in_vain up = subst
-          (λ (v : SeatView). TellsBeginTry setup body old v (try_err_of_reserve e) × IsAtRest v)
+          (λ (v : View). TellsBeginTry setup body old v (try_err_of_reserve e) × IsResting v)
           (sym new_rested) (tells_in_vain up e why, unlocked_rests lock between between_holds)
 
       pub vain_keeps : KeepsPass old new
@@ -156,7 +220,7 @@ module _ (setup : Setup) (body : Assembled) (old between : SeatView) where
 
 -- ---- since an earlier view, from which the pass's log is the same
 
-module _ (setup : Setup) (body : Assembled) (old between new : SeatView)
+module _ (setup : Setup) (body : Assembled) (old between new : View)
     (keeps : KeepsPass old between) (same : log_of_pass between ≡ log_of_pass old) where
   pub reserved_since : (e : Entry) → HasReserved setup body between new e
       → HasReserved setup body old new e
@@ -175,10 +239,9 @@ module _ (setup : Setup) (body : Assembled) (old between new : SeatView)
     seen = r.seen;
   }
 
-  pub begun_since : (lock start : ℕ) (placed : PlacedState)
-      → IsPlaceBegun setup body between new lock start placed
-      → IsPlaceBegun setup body old new lock start placed
-  begun_since lock start placed b = record {
+  pub begun_since : (begun : Begun) → IsPlaceBegun setup body between new begun
+      → IsPlaceBegun setup body old new begun
+  begun_since begun b = record {
     entry = b.entry;
     reserved = reserved_since b.entry b.reserved;
     up = b.up;
@@ -187,6 +250,7 @@ module _ (setup : Setup) (body : Assembled) (old between new : SeatView)
     prev = b.prev;
     placed_is = b.placed_is;
     start_is = b.start_is;
+    end_is = b.end_is;
   }
 
   pub full_since : (free : ℕ) → FindsLogFull setup body free between new
@@ -201,7 +265,7 @@ module _ (setup : Setup) (body : Assembled) (old between new : SeatView)
     log_is = f.log_is ∙ ap (log_with_full f.at) same;
   }
 
-  pub try_since : between.down_set ≡ old.down_set → (e : TryErr)
+  pub try_since : between.writing.down_set ≡ old.writing.down_set → (e : TryErr)
       → TellsBeginTry setup body between new e → TellsBeginTry setup body old new e
   try_since set_none (tries.Busy seen) told = told ∙ same
   try_since set_none (tries.AllHeld held) told = (told.0, told.1 ∙ same)
@@ -209,9 +273,20 @@ module _ (setup : Setup) (body : Assembled) (old between new : SeatView)
   try_since set_none (tries.Down faults) told =
       (meets_since old between new faults set_none told.0, told.1 ∙ same)
 
+  pub answers_since : between.writing.down_set ≡ old.writing.down_set → (same_one : Setup)
+      → same_one ≡ setup → (r : Result Begun TryErr)
+      → AnswersBeginTry same_one body between r new → AnswersBeginTry setup body old r new
+  answers_since set_none same_one is r told = answered r
+      (subst (λ (s : Setup). AnswersBeginTry s body between r new) is told)
+    where
+      answered : (r : Result Begun TryErr) → AnswersBeginTry setup body between r new
+          → AnswersBeginTry setup body old r new
+      answered (Ok begun) is_begun = begun_since begun is_begun
+      answered (Err e) vain = (try_since set_none e vain.0, vain.1)
+
 -- ---- behind the down value loaded, with the lock taken or not
 
-module _ (old loaded : SeatView) (met : ℕ) (load : loaded ≡ behind load_down met none old)
+module _ (old loaded : View) (met : ℕ) (load : loaded ≡ view_behind old load_down met none)
     (known : (faults : ℕ) → KnowsDown faults old → met ≡ faults) where
   pub none_known : met ≡ 0 → (faults : ℕ) → KnowsDown faults old → ⊥
   none_known none_met faults knows = knows.0 (sym (known faults knows) ∙ none_met)
@@ -219,14 +294,14 @@ module _ (old loaded : SeatView) (met : ℕ) (load : loaded ≡ behind load_down
   pub loaded_keeps : KeepsPass old loaded
   loaded_keeps = (down_met_keeps old met loaded load known).pass
 
-  pub load_sets_none : loaded.down_set ≡ old.down_set
-  load_sets_none = ap (λ (v : SeatView). v.down_set) (load ∙ down_loaded met old)
+  pub load_sets_none : loaded.writing.down_set ≡ old.writing.down_set
+  load_sets_none = ap (λ (v : View). v.writing.down_set) (load ∙ down_loaded met old)
 
   pub loaded_log : log_of_pass loaded ≡ log_of_pass old
-  loaded_log = ap (λ (v : SeatView). log_of_pass v) (load ∙ down_loaded met old)
+  loaded_log = ap (λ (v : View). log_of_pass v) (load ∙ down_loaded met old)
 
-  pub loaded_rests : IsAtRest old → IsAtRest loaded
-  loaded_rests rests = subst IsAtRest (sym (load ∙ down_loaded met old))
+  pub loaded_rests : IsResting old → IsResting loaded
+  loaded_rests rests = subst IsResting (sym (load ∙ down_loaded met old))
       (record {
         place = rests.place;
         locks = rests.locks;
@@ -235,9 +310,9 @@ module _ (old loaded : SeatView) (met : ℕ) (load : loaded ≡ behind load_down
         hold = rests.hold;
       })
 
-  module _ (lock : ℕ) (taken : SeatView) (take : taken ≡ with_lock lock loaded) where
-    pub taken_sets_none : taken.down_set ≡ old.down_set
-    taken_sets_none = ap (λ (v : SeatView). v.down_set) take ∙ load_sets_none
+  module _ (lock : ℕ) (taken : View) (take : taken ≡ with_lock lock loaded) where
+    pub taken_sets_none : taken.writing.down_set ≡ old.writing.down_set
+    taken_sets_none = ap (λ (v : View). v.writing.down_set) take ∙ load_sets_none
 
     pub taken_up : met ≡ 0 → KnowsNoFault taken
     taken_up none_met =
@@ -245,7 +320,7 @@ module _ (old loaded : SeatView) (met : ℕ) (load : loaded ≡ behind load_down
         subst KnowsNoFault (sym take) (record { met = up.met; set = up.set })
 
     pub taken_log : log_of_pass taken ≡ log_of_pass old
-    taken_log = ap (λ (v : SeatView). log_of_pass v)
+    taken_log = ap (λ (v : View). log_of_pass v)
         (take ∙ ap (with_lock lock) (load ∙ down_loaded met old))
 
     pub taken_keeps : KeepsPass old taken
@@ -261,3 +336,28 @@ module _ (old loaded : SeatView) (met : ℕ) (load : loaded ≡ behind load_down
           rises = keeps.rises;
           down = keeps.down;
         })
+
+-- behind both a pass that was at rest holds just the lock
+pub held_one : {D : Type 0} → (old loaded taken : SeatedPass D) (met : ℕ)
+    → Steps load_down met old loaded
+    → ((faults : ℕ) → KnowsDown faults (view_of old) → met ≡ faults) → (lock : ℕ) → lock < 8
+    → HasView (with_lock lock (view_of loaded)) loaded taken → StandsAtRest old
+    → HoldsOneLock lock taken
+held_one old loaded taken met load known lock low take rest = record {
+  low = low;
+  one = subst (λ (v : View). HasOneLock lock v) (sym (view_is take))
+      (only_lock (loaded_rests (view_of old) (view_of loaded) met (view_is load) known rest.rests));
+  empty = hand_is take ∙ hand_is load ∙ rest.empty;
+}
+  where
+    only_lock : IsResting (view_of loaded) → HasOneLock lock (with_lock lock (view_of loaded))
+    only_lock rests = record {
+      working = ap (λ (locks : List ℕ). record (view_of loaded).working {
+        locks = locks ++ lock ∷ [];
+      }) rests.locks
+          ∙ ap (λ (f : Flight). record (view_of loaded).working { locks = lock ∷ []; flight = f })
+          rests.flight;
+      place = rests.place;
+      stage = rests.stage;
+      hold = rests.hold;
+    }

@@ -5,11 +5,11 @@ use Rattle.machine_words.proofs.Bounds.{limit_low}
 use Rattle.wal_core.specs.Words.{Opening}
 use Rattle.wal_rule.specs.declared.writer.LogWriter.{LogWriter}
 use Rattle.wal_rule.specs.Closing.{ClosesWith}
-use Rattle.wal_rule.specs.Seats.{SeatView}
+use Rattle.wal_core.specs.Views.{View}
 
 module _ {D : Type 0} (tape : D → Option Tape) (moment faults : D → ℕ) (began : Option Tape)
     (opening : Opening) where
-  pub position_low : (v : SeatView) (w : LogWriter D) (position : ℕ)
+  pub position_low : (v : View) (w : LogWriter D) (position : ℕ)
       → ClosesWith tape moment faults began opening v w position → position < 2 ^ 60
   position_low v w position ends =
       let low = limit_low opening.setup (ends.sound).setup_is in

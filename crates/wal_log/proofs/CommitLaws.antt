@@ -11,9 +11,8 @@ use Rattle.record_spelling.specs.Spelling.{Assembled}
 use Rattle.wal_types.specs.declared.lsn.Lsn.{Lsn}
 use Rattle.wal_page.specs.Order.{Entry, position_behind}
 use Rattle.wal_core.specs.declared.setup.Setup.{Setup}
-use Rattle.wal_core.specs.Views.{FlushPromise}
+use Rattle.wal_core.specs.Views.{FlushPromise, View}
 use Rattle.wal_core.specs.Words.{Opening, end_form}
-use Rattle.wal_rule.specs.Seats.{SeatView}
 use Rattle.wal_log.specs.declared.inserting.InsertErr.{InsertErr}
 use Rattle.wal_log.specs.declared.inserting.InsertErr.TheVariants.{Down}
 use Rattle.wal_log.specs.Committing.{IsSealed, commit_known_down, refused_of_insert}
@@ -39,7 +38,7 @@ pub known_again : (inserted : Result Receipt InsertErr) (e : InsertErr)
 known_again inserted e answer refused faults was is same known =
     is ∙ ap (λ (x : Refused). Err x) same ∙ ap answer_of_insert (sym was ∙ known)
 
-module _ (setup : Setup) (body : Assembled) (old mid new : SeatView) (receipt : Receipt)
+module _ (setup : Setup) (body : Assembled) (old mid new : View) (receipt : Receipt)
     (told : IsReceipt setup body old mid receipt) where
   -- what was reserved stays so behind steps that leave the pass's log
   pub started : log_of_pass new ≡ log_of_pass mid → (mid.reserving).seen ≤ (new.reserving).seen
@@ -79,11 +78,11 @@ module _ (setup : Setup) (body : Assembled) (old mid new : SeatView) (receipt : 
     up = hard.up;
   }
     where
-      same_promises : mid.promises ≡ old.promises
+      same_promises : mid.writing.promises ≡ old.writing.promises
       same_promises = ap (λ (l : PassLog). l.promises) (told.reserved).log_is
 
   -- the insert set no down value
-  pub set_none : KeepsPass old mid → mid.down_set ≡ old.down_set
+  pub set_none : KeepsPass old mid → mid.writing.down_set ≡ old.writing.down_set
   set_none keeps = both_up old mid (up_before old mid keeps told.up) told.up
 
   -- the pass has seen its own record reserved, up to its end

@@ -1,6 +1,8 @@
 -- A copy under one lock: its next word lies far below the last address, and each step leaves a copy
 -- under that lock.
 use Rattle.std.proofs.Common.{◌≡◌, ℕ, ◌+◌, ◌*◌, ◌%◌, ◌^◌, ◌<◌, ◌≤◌, List, ◌∷◌, map, refl, sym, ap, ◌∙◌, subst, arith}
+use Rattle.std.proofs.Math.Logic.{∥∥₁_elim}
+use Rattle.std.specs.Coded.{Coded-set, coded_ℕ, le_prop}
 use Rattle.atomic_table.proofs.Lists.{at_map}
 use Rattle.byte_position.specs.Geometry.{IsSegmentSize}
 use Rattle.byte_position.specs.Position.{end_address_of, first_position}
@@ -14,9 +16,8 @@ use Rattle.wal_page.proofs.OrderLaws.{FollowsFrom-parts, rooms_of-append, rooms_
 use Rattle.wal_core.specs.declared.setup.Setup.{Setup}
 use Rattle.wal_core.specs.Ringed.{IsOfOrder}
 use Rattle.wal_core.specs.Sound.{IsSound}
-use Rattle.wal_core.specs.Views.{Copy, Copying, Flight, HasAt, Working, flight_of}
+use Rattle.wal_core.specs.Views.{Copy, Copying, Flight, HasAt, Working, flight_of, View}
 use Rattle.machine_laws.proofs.RingLaws.{copy-whole, last_word-ends}
-use Rattle.wal_rule.specs.Seats.{SeatView, view_on}
 use Rattle.wal_rule.specs.Stepping.{Stands}
 use Rattle.word_ring.specs.declared.copying.Copied.{Copied}
 use Rattle.word_ring.specs.declared.mapping.MapTry.{MapTry}
@@ -24,13 +25,14 @@ use Rattle.word_ring.specs.declared.mapping.MapTry.TheVariants.{Mapped, There, T
 use Rattle.word_ring.specs.Copied.{CopiesPage, copied_view, further, rest_of}
 use Rattle.word_ring.specs.Mapped.{IsOldPageUnwritten, TriesMapping, looked_view}
 use Rattle.word_ring.specs.Ring.{confirmed_view, end_of_page}
-use Rattle.wal_log.specs.declared.copying.CopyErr.{CopyErr}
-use Rattle.wal_log.specs.declared.copying.CopyErr.TheVariants as copies
-use Rattle.wal_log.specs.Copying.{IsSamePlace, TellsCopyErr}
+use Rattle.wal_rule.specs.declared.seated.SeatedPass.{SeatedPass}
+use Rattle.wal_rule.specs.SeatedPasses.{StaysSeated, setup_of, view_of}
+use Rattle.wal_log.specs.Copying.{CopyGoesOn, IsSamePlace}
 use Rattle.wal_log.specs.Downs.{KnowsNoFault}
 use Rattle.wal_log.specs.PassLogs.{log_of_pass}
-use Rattle.wal_log.specs.Standing.{CopiesUnderOneLock, KeepsPass, KeepsWork}
-use Rattle.wal_log.proofs.Keeping.{both_up, further_pass, meets_since, same_pass}
+use Rattle.wal_log.specs.Standing.{CopiesAlone, CopiesUnderOneLock, GoesOnSeated, HasNoTurn, KeepsPass, KeepsWork}
+use Rattle.wal_log.proofs.Keeping.{copies_stay, further_pass, same_pass}
+use Rattle.wal_log.proofs.Seated.{further_seated, own_setup, same_setup}
 
 -- an entry in flight ends at the order's end or before
 entry-within : (size : ℕ) (order : List Entry) → IsChained size order → (c : Copy)
@@ -44,11 +46,11 @@ entry-within size order chain c s =
     ap (rooms_of size) s.are ∙ rooms_of-append size s.front (c.entry ∷ s.back) in
     omega (arith, start, all, rooms_of_cons size c.entry s.back)
 
-module _ (v : SeatView) (stands : Stands v) (c : Copy) (is : (v.working).flight ≡ Copying c) where
+module _ (v : View) (stands : Stands v) (c : Copy) (is : (v.working).flight ≡ Copying c) where
   abbrev size : ℕ
   size = ((v.opening).setup).segment_size
 
-  abbrev sound : IsSound v.opening stands.words stands.home stands.views
+  abbrev sound : IsSound stands.first v.opening stands.words stands.home stands.views
   sound = stands.sound
 
   abbrev last : ℕ
@@ -60,7 +62,7 @@ module _ (v : SeatView) (stands : Stands v) (c : Copy) (is : (v.working).flight 
   of_order : IsOfOrder size sound.order c
   of_order = (sound.ring).in_flight stands.id c
       (subst (λ (f : Flight). HasAt (map flight_of stands.views) stands.id f) is
-      (at_map flight_of stands.views stands.id (view_on stands.first v) stands.here))
+      (at_map flight_of stands.views stands.id v stands.here))
 
   whole : (c.entry).start % 8 ≡ 0
   whole = copy-whole size valid sound.order (sound.reserved).chained c of_order
@@ -96,33 +98,34 @@ module _ (v : SeatView) (stands : Stands v) (c : Copy) (is : (v.working).flight 
 
 -- ---- a copy under one lock
 
-module _ (setup : Setup) (lock : ℕ) (placed : PlacedState) (v : SeatView)
+module _ (setup : Setup) (lock : ℕ) (placed : PlacedState) (v : View)
     (c : CopiesUnderOneLock setup lock placed v) where
   flight_is : (v.working).flight ≡ Copying c.copy
   flight_is = ap (λ (w : Working). w.flight) c.working
 
-  module _ (stands : Stands v) (own : setup ≡ (v.opening).setup) where
+  module _ (stood : ∥ Stands v ∥₁) (own : setup ≡ (v.opening).setup) where
     rest_own : placed ≡ rest_of (v.opening).setup c.copy
     rest_own = c.rest ∙ ap (λ (s : Setup). rest_of s c.copy) own
 
     pub next_low : placed.next < 2 ^ 50
-    next_low =
+    next_low = ∥∥₁_elim stood le_prop (λ (stands : Stands v).
         let next = ap (λ (p : PlacedState). p.next) rest_own in
         let low = word_low v stands c.copy flight_is in
-        omega (arith, next, low)
+        omega (arith, next, low))
 
     pub all_copied : (before : PlacedState) → IsSamePlace before placed
         → placed.next ≡ placed_end before
         → (c.copy).copied ≡ words_owned ((v.opening).setup).segment_size (c.copy).entry
     all_copied before same ended =
         let here : placed.next ≡ placed_end placed = ended ∙ sym (ap placed_end same) in
+        ∥∥₁_elim stood (Coded-set coded_ℕ _ _) (λ (stands : Stands v).
         whole_where_ended v stands c.copy flight_is
-        (subst (λ (p : PlacedState). p.next ≡ placed_end p) rest_own here)
+        (subst (λ (p : PlacedState). p.next ≡ placed_end p) rest_own here))
 
 -- ---- steps of a copy
 
 -- what steps of a copy keep: the lock, the words that are left, the pass and its log
-pub record StaysCopying (setup : Setup) (before after : PlacedState) (old new : SeatView) : Type 0
+pub record StaysCopying (setup : Setup) (before after : PlacedState) (old new : View) : Type 0
   where
     pub copies : (lock : ℕ) → CopiesUnderOneLock setup lock before old
         → CopiesUnderOneLock setup lock after new
@@ -130,7 +133,7 @@ pub record StaysCopying (setup : Setup) (before after : PlacedState) (old new : 
     pub up : KnowsNoFault old → KnowsNoFault new
     pub log_is : log_of_pass new ≡ log_of_pass old
 
-module _ (setup : Setup) (p : PlacedState) (v : SeatView) where
+module _ (setup : Setup) (p : PlacedState) (v : View) where
   pub stays : StaysCopying setup p p v v
   stays = record {
     copies = λ lock c. c;
@@ -222,7 +225,7 @@ module _ (setup : Setup) (p : PlacedState) (v : SeatView) where
     log_is = refl;
   }
 
-module _ (setup : Setup) (p q r : PlacedState) (u v w : SeatView) where
+module _ (setup : Setup) (p q r : PlacedState) (u v w : View) where
   pub stays_on : StaysCopying setup p q u v → StaysCopying setup q r v w
       → StaysCopying setup p r u w
   stays_on x y = record {
@@ -233,31 +236,31 @@ module _ (setup : Setup) (p q r : PlacedState) (u v w : SeatView) where
   }
 
 -- a page's end is met, and then its words are copied, or one try is made to map a page
-module _ (setup : Setup) (p : PlacedState) (old met new : SeatView) (end : ℕ)
+module _ (setup : Setup) (p : PlacedState) (old met new : View) (end : ℕ)
     (is : met ≡ confirmed_view end old) where
   met_stays : StaysCopying setup p p old met
-  met_stays = subst (λ (w : SeatView). StaysCopying setup p p old w) (sym is)
+  met_stays = subst (λ (w : View). StaysCopying setup p p old w) (sym is)
       (confirmed_stays setup p old end)
 
   pub page_copied : (q : PlacedState) (stop : Copied) → CopiesPage met new p q stop
       → StaysCopying setup p q old new
   page_copied q stop k = stays_on setup p p q old met new met_stays
-      (subst (λ (w : SeatView). StaysCopying setup p q met w) (sym k.view_is)
+      (subst (λ (w : View). StaysCopying setup p q met w) (sym k.view_is)
       (subst (λ (s : PlacedState). StaysCopying setup p s met (copied_view k.count met))
       (sym k.placed_is) (copied_stays setup p met k.count)))
 
   tried : (page : ℕ) (t : MapTry) → TriesMapping setup page met new t
       → StaysCopying setup p p met new
-  tried page Mapped k = subst (λ (w : SeatView). StaysCopying setup p p met w) (sym k.3)
+  tried page Mapped k = subst (λ (w : View). StaysCopying setup p p met w) (sym k.3)
       (stays_on setup p p p met (looked_view k.0 k.1 met)
       (confirmed_view (k.0 + 8192) (looked_view k.0 k.1 met))
       (looked_stays setup p met k.0 k.1)
       (confirmed_stays setup p (looked_view k.0 k.1 met) (k.0 + 8192)))
-  tried page There k = subst (λ (w : SeatView). StaysCopying setup p p met w) (sym k.3)
+  tried page There k = subst (λ (w : View). StaysCopying setup p p met w) (sym k.3)
       (looked_stays setup p met k.0 k.1)
-  tried page (Taken turn) k = subst (λ (w : SeatView). StaysCopying setup p p met w)
+  tried page (Taken turn) k = subst (λ (w : View). StaysCopying setup p p met w)
       (sym k.1) (stays setup p met)
-  tried page (Unwritten told) k = subst (λ (w : SeatView). StaysCopying setup p p met w)
+  tried page (Unwritten told) k = subst (λ (w : View). StaysCopying setup p p met w)
       (sym k.3) (looked_stays setup p met k.0 told)
 
   pub map_tried : (page : ℕ) (t : MapTry) → TriesMapping setup page met new t
@@ -269,27 +272,70 @@ pub written_low : (setup : Setup) (page at told : ℕ) → page < 2 ^ 40 → at 
     → IsOldPageUnwritten setup at told → told < 2 ^ 60
 written_low setup page at told low met old = omega (arith, low, met, old)
 
--- work that stays leaves a copy under its lock
-pub work_stays : (setup : Setup) (lock : ℕ) (p : PlacedState) (old new : SeatView)
-    → KeepsWork old new → new.hold ≡ old.hold → CopiesUnderOneLock setup lock p old
-    → CopiesUnderOneLock setup lock p new
-work_stays setup lock p old new keeps hold c = record {
-  copy = c.copy;
-  working = keeps.working ∙ c.working;
-  under = c.under;
-  rest = c.rest;
-  place = keeps.place ∙ c.place;
-  stage = keeps.stage ∙ c.stage;
-  hold = hold ∙ c.hold;
-}
-
--- why a copy was given up, since an earlier view from which no down value was set
-pub copy_since : (old between new : SeatView) → KnowsNoFault old → KnowsNoFault between
-    → (e : CopyErr) → TellsCopyErr between new e → TellsCopyErr old new e
-copy_since old between new before up (copies.Disk faults) told = told
-copy_since old between new before up (copies.Down faults) told =
-    meets_since old between new faults (both_up old between before up) told
-
 -- a record that was at the same place is so still
 pub same_place : (a b c : PlacedState) → IsSamePlace a b → IsSamePlace b c → IsSamePlace a c
 same_place a b c x y = y ∙ ap (λ (p : PlacedState). record p { next = c.next }) x
+
+-- ---- at a pass's table
+
+module _ {D : Type 0} (old new : SeatedPass D) (seats : StaysSeated old new) where
+  module _ (p q : PlacedState)
+      (s : StaysCopying (setup_of old) p q (view_of old) (view_of new)) where
+    pub copies_still : (lock : ℕ) → CopiesAlone lock p old → CopiesAlone lock q new
+    copies_still lock c = record {
+      low = c.low;
+      under = subst (λ (setup : Setup). CopiesUnderOneLock setup lock q (view_of new))
+          (sym (same_setup old new seats.same_table)) (s.copies lock c.under);
+      empty = seats.same_hand ∙ c.empty;
+    }
+
+    pub went_on : IsSamePlace p q → CopyGoesOn p q old new
+    went_on place = record {
+      place = place;
+      goes_on = record { stays = seats; keeps = s.keeps };
+      log = s.log_is;
+    }
+
+-- work that stays, at the same table and with nothing in hand, leaves a copy under its lock
+pub alone_still : {D : Type 0} → (old new : SeatedPass D) → new.table ≡ old.table
+    → KeepsWork (view_of old) (view_of new) → HasNoTurn new → (lock : ℕ) (p : PlacedState)
+    → CopiesAlone lock p old → CopiesAlone lock p new
+alone_still old new same work rests lock p c = record {
+  low = c.low;
+  under = subst (λ (setup : Setup). CopiesUnderOneLock setup lock p (view_of new))
+      (sym (same_setup old new same))
+      (copies_stay (setup_of old) lock p (view_of old) (view_of new) c.under work rests.idle);
+  empty = rests.empty;
+}
+
+-- its next word lies far below the last address
+pub alone_low : {D : Type 0} → (v : SeatedPass D) (lock : ℕ) (p : PlacedState)
+    → CopiesAlone lock p v → p.next < 2 ^ 50
+alone_low v lock p c = next_low (setup_of v) lock p (view_of v) c.under (v.seated).stands
+    (sym (own_setup v))
+
+-- and where the record has ended, all its words are copied
+pub alone_whole : {D : Type 0} → (v : SeatedPass D) (lock : ℕ) (p : PlacedState)
+    → (c : CopiesAlone lock p v) → (before : PlacedState) → IsSamePlace before p
+    → p.next ≡ placed_end before
+    → ((c.under).copy).copied
+    ≡ words_owned (((view_of v).opening).setup).segment_size ((c.under).copy).entry
+alone_whole v lock p c = all_copied (setup_of v) lock p (view_of v) c.under (v.seated).stands
+    (sym (own_setup v))
+
+-- one copy behind another
+pub copied_on : {D : Type 0} → (p q r : PlacedState) (a b c : SeatedPass D) → CopyGoesOn p q a b
+    → CopyGoesOn q r b c → CopyGoesOn p r a c
+copied_on p q r a b c x y = record {
+  place = same_place p q r x.place y.place;
+  goes_on = record {
+    stays = further_seated a b c (x.goes_on).stays (y.goes_on).stays;
+    keeps = further_pass (view_of a) (view_of b) (view_of c) (x.goes_on).keeps (y.goes_on).keeps;
+  };
+  log = y.log ∙ x.log;
+}
+
+-- steps that copy nothing, and add nothing to the log
+pub stood_still : {D : Type 0} → (p : PlacedState) (a b : SeatedPass D) → GoesOnSeated a b
+    → log_of_pass (view_of b) ≡ log_of_pass (view_of a) → CopyGoesOn p p a b
+stood_still p a b goes_on same = record { place = refl; goes_on = goes_on; log = same }

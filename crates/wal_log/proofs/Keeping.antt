@@ -1,24 +1,25 @@
 -- What stays of a pass, and of what it is about, stays over several steps.
-use Rattle.std.proofs.Common.{◌≡◌, ◌⊎◌, inl, inr, ℕ, ◌≤◌, refl, sym, ap, ◌∙◌, subst, arith}
+use Rattle.std.proofs.Common.{◌≡◌, ◌⊎◌, inl, inr, ℕ, refl, sym, ap, ◌∙◌, subst, arith}
 use mathlib.Core.Logic.{dite}
 use mathlib.Core.Option.{none}
 use native.Mathlib.Decide.{ℕ_discrete}
-use Rattle.wal_core.specs.Moves.{copied_below}
-use Rattle.wal_core.specs.Steps.{load_down}
+use Rattle.wal_core.specs.Moves.{with_hold}
+use Rattle.wal_core.specs.Steps.{IsResting, load_down, view_behind}
 use Rattle.wal_core.specs.declared.setup.Setup.{Setup}
-use Rattle.wal_core.specs.Views.{Watching}
+use Rattle.wal_core.specs.Views.{Idle, Hold, View, Working}
 use Rattle.wal_page.specs.Placed.{PlacedState}
+use Rattle.wal_rule.specs.declared.seated.SeatedPass.{SeatedPass}
 use Rattle.wal_rule.specs.Downs.{KnowsDown}
-use Rattle.wal_rule.specs.Seats.{Rests, SeatHold, SeatView, behind}
+use Rattle.wal_rule.specs.SeatedPasses.{view_of}
 use Rattle.page_writing.specs.InHand.{ChangesHand}
-use Rattle.insert_locks.specs.Watching.{HasFinished, with_sight, with_watching}
-use Rattle.wal_log.specs.Downs.{KnowsNoFault, MeetsDown, SetsDownItself}
+use Rattle.wal_log.specs.declared.fault.Fault.{Fault}
+use Rattle.wal_log.specs.declared.fault.Fault.TheVariants.{Disk, Down}
+use Rattle.wal_log.specs.Downs.{KnowsNoFault, MeetsDown, MeetsFault, SetsDownItself}
 use Rattle.wal_log.specs.Hands.{SetsDownAndRests}
 use Rattle.wal_log.specs.Standing.{CopiesUnderOneLock, KeepsPass, KeepsWork}
-use Rattle.wal_log.specs.Writing.{stored_view}
 use Rattle.wal_log.proofs.Plain.{down_loaded}
 
-pub same_pass : (v : SeatView) → KeepsPass v v
+pub same_pass : (v : View) → KeepsPass v v
 same_pass v = record {
   opening = refl;
   live = refl;
@@ -30,7 +31,7 @@ same_pass v = record {
   down = λ faults knows. knows;
 }
 
-pub further_pass : (a b c : SeatView) → KeepsPass a b → KeepsPass b c → KeepsPass a c
+pub further_pass : (a b c : View) → KeepsPass a b → KeepsPass b c → KeepsPass a c
 further_pass a b c x y = record {
   opening = y.opening ∙ x.opening;
   live = y.live ∙ x.live;
@@ -42,7 +43,7 @@ further_pass a b c x y = record {
   down = λ faults knows. y.down faults (x.down faults knows);
 }
 
-pub same_work : (v : SeatView) → KeepsWork v v
+pub same_work : (v : View) → KeepsWork v v
 same_work v = record {
   pass = same_pass v;
   place = refl;
@@ -51,7 +52,7 @@ same_work v = record {
   confirmed = omega arith;
 }
 
-pub further_work : (a b c : SeatView) → KeepsWork a b → KeepsWork b c → KeepsWork a c
+pub further_work : (a b c : View) → KeepsWork a b → KeepsWork b c → KeepsWork a c
 further_work a b c x y = record {
   pass = further_pass a b c x.pass y.pass;
   place = y.place ∙ x.place;
@@ -61,9 +62,11 @@ further_work a b c x y = record {
 }
 
 -- where only the down values change, and what the pass has of the write turn
-pub downs_keep : (v : SeatView) (hold : SeatHold) (met set : ℕ)
+pub downs_keep : (v : View) (hold : Hold) (met set : ℕ)
     → ((faults : ℕ) → KnowsDown faults v → (met ≡ faults) ⊎ (set ≡ faults))
-    → KeepsWork v (record v { hold = hold; down_met = met; down_set = set })
+    → KeepsWork v (record v {
+      writing = record v.writing { hold = hold; down_met = met; down_set = set };
+    })
 downs_keep v hold met set knows = record {
   pass = record {
     opening = refl;
@@ -81,46 +84,21 @@ downs_keep v hold met set knows = record {
   confirmed = omega arith;
 }
 
-pub hold_keeps : (v : SeatView) (hold : SeatHold) (w : SeatView) → w ≡ record v { hold = hold }
+pub hold_keeps : (v : View) (hold : Hold) (w : View) → w ≡ with_hold hold v
     → KeepsWork v w
-hold_keeps v hold w is = subst (λ (x : SeatView). KeepsWork v x) (sym is)
-    (downs_keep v hold v.down_met v.down_set (λ faults knows. knows.1))
+hold_keeps v hold w is = subst (λ (x : View). KeepsWork v x) (sym is)
+    (downs_keep v hold v.writing.down_met v.writing.down_set (λ faults knows. knows.1))
 
 -- the down value that is loaded is the one that the pass knows, where it knows one
-pub down_met_keeps : (v : SeatView) (met : ℕ) (w : SeatView) → w ≡ behind load_down met none v
+pub down_met_keeps : (v : View) (met : ℕ) (w : View) → w ≡ view_behind v load_down met none
     → ((faults : ℕ) → KnowsDown faults v → met ≡ faults) → KeepsWork v w
-down_met_keeps v met w is known = subst (λ (x : SeatView). KeepsWork v x)
+down_met_keeps v met w is known = subst (λ (x : View). KeepsWork v x)
     (sym (is ∙ down_loaded met v))
-    (downs_keep v v.hold met v.down_set (λ faults knows. inl (known faults knows)))
-
--- where the locks are watched
-pub watch_keeps : (v : SeatView) (watching : Watching) (seen : ℕ) (w : SeatView)
-    → w ≡ with_watching watching (with_sight seen v) → (v.reserving).seen ≤ seen → KeepsWork v w
-watch_keeps v watching seen w is more = subst (λ (x : SeatView). KeepsWork v x) (sym is) (record {
-  pass = record {
-    opening = refl;
-    live = refl;
-    number = refl;
-    spare = refl;
-    spare_end = refl;
-    joined = refl;
-    rises = more;
-    down = λ faults knows. knows;
-  };
-  place = refl;
-  working = refl;
-  stage = refl;
-  confirmed = omega arith;
-})
-
--- what a watch that has finished tells is known to be copied
-pub watch_known : (upto bound : ℕ) (old new : SeatView) → HasFinished upto bound old new
-    → copied_below new.watching ≡ bound
-watch_known upto bound old new done = ap (λ (v : SeatView). copied_below v.watching) done.new_is
+    (downs_keep v v.writing.hold met v.writing.down_set (λ faults knows. inl (known faults knows)))
 
 -- a pass goes on to copy under its lock
-pub copies_stay : (setup : Setup) (lock : ℕ) (placed : PlacedState) (v w : SeatView)
-    → CopiesUnderOneLock setup lock placed v → KeepsWork v w → w.hold ≡ Rests
+pub copies_stay : (setup : Setup) (lock : ℕ) (placed : PlacedState) (v w : View)
+    → CopiesUnderOneLock setup lock placed v → KeepsWork v w → w.writing.hold ≡ Idle
     → CopiesUnderOneLock setup lock placed w
 copies_stay setup lock placed v w copies work rests = record {
   copy = copies.copy;
@@ -132,45 +110,56 @@ copies_stay setup lock placed v w copies work rests = record {
   hold = rests;
 }
 
+-- a pass that was about nothing is so still
+pub rested_on : (v w : View) → KeepsWork v w → w.writing.hold ≡ Idle → IsResting v → IsResting w
+rested_on v w work idle rests = record {
+  place = work.place ∙ rests.place;
+  locks = ap (λ (x : Working). x.locks) work.working ∙ rests.locks;
+  flight = ap (λ (x : Working). x.flight) work.working ∙ rests.flight;
+  stage = work.stage ∙ rests.stage;
+  hold = idle;
+}
+
 -- ---- no down value is known
 
-knows_none : (v : SeatView) → KnowsNoFault v → (faults : ℕ) → KnowsDown faults v → ⊥
+knows_none : (v : View) → KnowsNoFault v → (faults : ℕ) → KnowsDown faults v → ⊥
 knows_none v up faults (some, inl met) = some (sym met ∙ up.met)
 knows_none v up faults (some, inr set) = some (sym set ∙ up.set)
 
 -- where it is set then, the pass knows it
-pub down_set_keeps : (v w : SeatView) (faults : ℕ) → KnowsNoFault v
+pub down_set_keeps : (v w : View) (faults : ℕ) → KnowsNoFault v
     → SetsDownAndRests faults v w → KeepsWork v w
-down_set_keeps v w faults up down = subst (λ (x : SeatView). KeepsWork v x) (sym down.new_is)
-    (downs_keep v Rests v.down_met faults (λ known knows. absurd (knows_none v up known knows)))
+down_set_keeps v w faults up down = subst (λ (x : View). KeepsWork v x) (sym down.new_is)
+    (downs_keep v Idle v.writing.down_met faults
+    (λ known knows. absurd (knows_none v up known knows)))
 
 -- where none is loaded, the pass knows none
-pub none_loaded : (v : SeatView) (met : ℕ) (w : SeatView) → w ≡ behind load_down met none v
+pub none_loaded : (v : View) (met : ℕ) (w : View) → w ≡ view_behind v load_down met none
     → ((faults : ℕ) → KnowsDown faults v → met ≡ faults) → met ≡ 0 → KnowsNoFault w
 none_loaded v met w is known zero = subst KnowsNoFault (sym (is ∙ down_loaded met v)) (record {
   met = zero;
-  set = dite (ℕ_discrete v.down_set 0) (λ is_zero. is_zero)
-      (λ some. sym (known v.down_set (some, inr refl)) ∙ zero);
+  set = dite (ℕ_discrete v.writing.down_set 0) (λ is_zero. is_zero)
+      (λ some. sym (known v.writing.down_set (some, inr refl)) ∙ zero);
 })
 
-pub still_up : (v : SeatView) (hold : SeatHold) (w : SeatView) → w ≡ record v { hold = hold }
+pub still_up : (v : View) (hold : Hold) (w : View) → w ≡ with_hold hold v
     → KnowsNoFault v → KnowsNoFault w
 still_up v hold w is up = record {
-  met = ap (λ (x : SeatView). x.down_met) is ∙ up.met;
-  set = ap (λ (x : SeatView). x.down_set) is ∙ up.set;
+  met = ap (λ (x : View). x.writing.down_met) is ∙ up.met;
+  set = ap (λ (x : View). x.writing.down_set) is ∙ up.set;
 }
 
 -- behind a pass that knows of no failed disk, it knew of none before
-pub up_before : (v w : SeatView) → KeepsPass v w → KnowsNoFault w → KnowsNoFault v
+pub up_before : (v w : View) → KeepsPass v w → KnowsNoFault w → KnowsNoFault v
 up_before v w keeps up = record {
-  met = dite (ℕ_discrete v.down_met 0) (λ is_zero. is_zero) (λ some. absurd
-      (knows_none w up v.down_met (keeps.down v.down_met (some, inl refl))));
-  set = dite (ℕ_discrete v.down_set 0) (λ is_zero. is_zero) (λ some. absurd
-      (knows_none w up v.down_set (keeps.down v.down_set (some, inr refl))));
+  met = dite (ℕ_discrete v.writing.down_met 0) (λ is_zero. is_zero) (λ some. absurd
+      (knows_none w up v.writing.down_met (keeps.down v.writing.down_met (some, inl refl))));
+  set = dite (ℕ_discrete v.writing.down_set 0) (λ is_zero. is_zero) (λ some. absurd
+      (knows_none w up v.writing.down_set (keeps.down v.writing.down_set (some, inr refl))));
 }
 
 -- a down value that was met behind steps that set none
-pub meets_since : (u v w : SeatView) (faults : ℕ) → v.down_set ≡ u.down_set
+pub meets_since : (u v w : View) (faults : ℕ) → v.writing.down_set ≡ u.writing.down_set
     → MeetsDown faults v w → MeetsDown faults u w
 meets_since u v w faults same meets = record {
   met = meets.met;
@@ -179,32 +168,28 @@ meets_since u v w faults same meets = record {
 }
 
 -- where both are up, none was set between
-pub both_up : (v w : SeatView) → KnowsNoFault v → KnowsNoFault w → w.down_set ≡ v.down_set
+pub both_up : (v w : View) → KnowsNoFault v → KnowsNoFault w
+    → w.writing.down_set ≡ v.writing.down_set
 both_up v w before after = after.set ∙ sym before.set
+
+-- what was met of a failed disk, since an earlier view from which no down value was set
+pub fault_since : (u v w : View) → KnowsNoFault u → KnowsNoFault v → (fault : Fault)
+    → MeetsFault v w fault → MeetsFault u w fault
+fault_since u v w before up (Disk faults) met = met
+fault_since u v w before up (Down faults) met = meets_since u v w faults (both_up u v before up) met
 
 -- ---- with the writer in hand
 
-pub changes_keep : (v w : SeatView) → ChangesHand v w → KeepsWork v w
-changes_keep v w changes = hold_keeps v _ w changes.view_is
+pub changes_up : {D : Type 0} → (v w : SeatedPass D) → ChangesHand v w
+    → KnowsNoFault (view_of v) → KnowsNoFault (view_of w)
+changes_up v w changes up = still_up (view_of v) _ (view_of w) changes.view_is up
 
-pub changes_up : (v w : SeatView) → ChangesHand v w → KnowsNoFault v → KnowsNoFault w
-changes_up v w changes up = still_up v _ w changes.view_is up
-
-pub stored_keeps : (v w : SeatView) → w ≡ stored_view v → KeepsWork v w
-stored_keeps v w is = hold_keeps v _ w is
-
--- a call of the device failed, and the down value is set
-pub failed_keeps : (v w x : SeatView) (faults : ℕ) → ChangesHand v w → KnowsNoFault v
-    → SetsDownAndRests faults w x → KeepsWork v x
-failed_keeps v w x faults changes up down = further_work v w x (changes_keep v w changes)
-    (down_set_keeps w x faults (changes_up v w changes up) down)
-
-pub sets_down : (v w : SeatView) (faults : ℕ) → SetsDownAndRests faults v w
-    → SetsDownItself faults w × (w.hold ≡ Rests)
+pub sets_down : (v w : View) (faults : ℕ) → SetsDownAndRests faults v w
+    → SetsDownItself faults w × (w.writing.hold ≡ Idle)
 sets_down v w faults down = (
   record {
-    set = ap (λ (x : SeatView). x.down_set) down.new_is;
+    set = ap (λ (x : View). x.writing.down_set) down.new_is;
     some = down.some;
   },
-  ap (λ (x : SeatView). x.hold) down.new_is,
+  ap (λ (x : View). x.writing.hold) down.new_is,
 )

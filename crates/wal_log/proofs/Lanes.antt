@@ -2,14 +2,14 @@
 use Rattle.std.proofs.Common.{◌≡◌, ℕ, ◌<◌, ◌∷◌, ◌++◌, [], List, suc, zero, ap, arith, ◌∙◌, length, map, slice_index_or}
 use Rattle.std.proofs.lemmas.List.{map_push}
 use Rattle.wal_rule.specs.Closing.{KeepsNumbers}
-use Rattle.wal_rule.specs.Seats.{SeatView}
+use Rattle.wal_core.specs.Views.{View}
 use Rattle.wal_log.specs.Sharing.{KeepEach}
 
-module _ {Lane : Type 0} (view : Lane → SeatView) where
-  pub views_with_one_more : (old new : List Lane) (lane : Lane) (v : SeatView)
+module _ {Lane : Type 0} (view : Lane → View) where
+  pub views_with_one_more : (old new : List Lane) (lane : Lane) (v : View)
       → new ≡ old ++ lane ∷ [] → view lane ≡ v → map view new ≡ map view old ++ v ∷ []
   views_with_one_more old new lane v pushed is = ap (λ (lanes : List Lane). map view lanes) pushed
-      ∙ map_push view old lane ∙ ap (λ (w : SeatView). map view old ++ w ∷ []) is
+      ∙ map_push view old lane ∙ ap (λ (w : View). map view old ++ w ∷ []) is
 
   pub views_keep_each : (old new : List Lane) → length new ≡ length old
       → ((k : ℕ) (d : Lane) → k < length old

@@ -1,3 +1,4 @@
+pub mod AddingNothing
 pub mod BeginLaws
 pub mod Closes
 pub mod CommitLaws
@@ -8,7 +9,11 @@ pub mod InsertLaws
 pub mod Keeping
 pub mod NextWord
 pub mod Opens
+pub mod Passing
 pub mod Plain
+pub mod Trying
 pub mod Unlocking
+pub mod Watched
 mod Having
+pub mod Seated
 pub mod Lanes

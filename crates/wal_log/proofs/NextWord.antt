@@ -1,48 +1,51 @@
 -- How far an insert tells its copy to be: up to the address of the next word, which is within the
--- log.
+-- log, and a multiple of 8.
 use Rattle.std.proofs.Common.{◌≡◌, ℕ, ◌^◌, ◌<◌, List, [], ◌∷◌, refl, sym, ap, ◌∙◌, subst, arith}
 use Rattle.wal_page.specs.EntryWords.{address_of_word}
 use Rattle.wal_page.specs.Placed.{PlacedState}
 use Rattle.wal_core.specs.declared.setup.Setup.{Setup}
-use Rattle.wal_core.specs.Words.{Opening}
-use Rattle.wal_core.specs.Steps.{advance}
-use Rattle.wal_core.specs.Views.{Copying, Working}
-use Rattle.wal_rule.specs.Seats.{SeatView}
-use Rattle.wal_rule.specs.Stepping.{MaySeat, Stands}
-use Rattle.wal_log.specs.Standing.{CopiesUnderOneLock}
-use Rattle.wal_log.proofs.CopyLaws.{next_low}
+use Rattle.wal_core.specs.Steps.{advance, MayStep}
+use Rattle.wal_core.specs.Views.{Copy, Copying, Working, View}
+use Rattle.wal_rule.specs.declared.seated.SeatedPass.{SeatedPass}
+use Rattle.wal_rule.specs.SeatedPasses.{view_of}
+use Rattle.word_ring.proofs.CopyLaws.{next-whole}
+use Rattle.wal_log.specs.Standing.{CopiesAlone}
+use Rattle.wal_log.proofs.CopyLaws.{alone_low}
+use Rattle.wal_log.proofs.Seated.{own_setup}
 
-module _ (setup : Setup) (lock : ℕ) (placed : PlacedState) (v : SeatView)
-    (copies : CopiesUnderOneLock setup lock placed v) (opening : Opening)
-    (is : setup ≡ opening.setup) (own : v.opening ≡ opening) where
-  flight : (v.working).flight ≡ Copying copies.copy
-  flight = ap (λ (w : Working). w.flight) copies.working
+module _ {D : Type 0} (p : SeatedPass D) (lock : ℕ) (placed : PlacedState)
+    (copies : CopiesAlone lock placed p) where
+  abbrev v : View
+  v = view_of p
 
-  next_is : placed.next
-      ≡ address_of_word ((v.opening).setup).segment_size (copies.copy).entry (copies.copy).copied
-  next_is = ap (λ (p : PlacedState). p.next) copies.rest
-      ∙ ap (λ (s : Setup). address_of_word s.segment_size (copies.copy).entry (copies.copy).copied)
-      (is ∙ sym (ap (λ (o : Opening). o.setup) own))
+  abbrev copy : Copy
+  copy = (copies.under).copy
 
-  pub told_low : Stands v → placed.next < 2 ^ 60
-  told_low stands =
-      let low = next_low setup lock placed v copies stands
-      (is ∙ sym (ap (λ (o : Opening). o.setup) own)) in
-      omega (arith, low)
+  flight : (v.working).flight ≡ Copying copy
+  flight = ap (λ (w : Working). w.flight) (copies.under).working
+
+  next_is : placed.next ≡ address_of_word ((v.opening).setup).segment_size copy.entry copy.copied
+  next_is = ap (λ (q : PlacedState). q.next) (copies.under).rest
+      ∙ ap (λ (s : Setup). address_of_word s.segment_size copy.entry copy.copied)
+      (sym (own_setup p))
+
+  pub told_low : placed.next < 2 ^ 60
+  told_low = let low = alone_low p lock placed copies in omega (arith, low)
 
   one_lock : (locks : List ℕ) → locks ≡ lock ∷ [] → Rattle.std.specs.Prelude.Contains locks lock
   one_lock locks are = subst (λ (l : List ℕ). Rattle.std.specs.Prelude.Contains l lock) (sym are)
       (0, omega arith, refl)
 
-  pub may_tell : MaySeat v (advance lock placed.next)
+  pub may_tell : MayStep v (advance lock placed.next)
   may_tell = (
-    one_lock (v.working).locks (ap (λ (w : Working). w.locks) copies.working),
+    one_lock (v.working).locks (ap (λ (w : Working). w.locks) (copies.under).working),
     (
-      copies.copy,
+      copy,
       flight,
       (
-        one_lock (copies.copy).locks copies.under,
+        one_lock copy.locks (copies.under).under,
         omega (arith, next_is),
+        next-whole p placed (copy, flight, (copies.under).rest),
       ),
     ),
   )

@@ -1,8 +1,9 @@
 -- A log's first pass is about nothing.
 use Rattle.std.proofs.Common.{refl}
 use Rattle.wal_core.specs.Words.{Opening}
-use Rattle.wal_rule.specs.Seats.{IsAtRest, first_seat_view}
+use Rattle.wal_core.specs.Steps.{IsResting}
+use Rattle.wal_core.specs.Opened.{first_view}
 
-pub first_rests : (opening : Opening) → IsAtRest (first_seat_view opening)
+pub first_rests : (opening : Opening) → IsResting (first_view opening)
 first_rests opening =
     record { place = refl; locks = refl; flight = refl; stage = refl; hold = refl }

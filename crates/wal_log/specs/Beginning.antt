@@ -1,14 +1,16 @@
 -- What one try to reserve a record's place answers, and what it leaves of its pass.
-use Rattle.std.specs.Prelude.{◌≡◌, ℕ, ◌<◌}
+use Rattle.std.specs.Prelude.{◌≡◌, ℕ, ◌<◌, Result, Ok, Err}
 use Rattle.record_spelling.specs.Spelling.{Assembled}
 use Rattle.wal_page.specs.Order.{Entry, start_of}
-use Rattle.wal_page.specs.Placed.{PlacedState}
+use Rattle.wal_page.specs.Placed.{placed_end}
 use Rattle.wal_core.specs.declared.setup.Setup.{Setup}
-use Rattle.wal_rule.specs.Seats.{SeatView}
+use Rattle.wal_core.specs.Steps.{IsResting}
+use Rattle.wal_core.specs.Views.{View}
 use Rattle.reserve_lock.specs.declared.reserving.ReserveErr.{ReserveErr}
 use Rattle.reserve_lock.specs.declared.reserving.ReserveErr.TheVariants as reserving
 use Rattle.insert_locks.specs.Taking.{AreHeldWords}
 use Rattle.reserve_lock.specs.Reserved.{placed_first}
+use Rattle.wal_log.specs.declared.beginning.Begun.{Begun}
 use Rattle.wal_log.specs.declared.beginning.TryErr.{TryErr}
 use Rattle.wal_log.specs.declared.beginning.TryErr.TheVariants.{Busy, AllHeld, Full, Down}
 use Rattle.wal_log.specs.Downs.{KnowsNoFault, MeetsDown}
@@ -16,29 +18,36 @@ use Rattle.wal_log.specs.Inserting.{FindsLogFull, HasReserved}
 use Rattle.wal_log.specs.PassLogs.{log_of_pass}
 use Rattle.wal_log.specs.Standing.{CopiesUnderOneLock}
 
--- an entry was reserved, and is copied under one lock, of which all words are left; it starts at
--- this address
-pub record IsPlaceBegun (setup : Setup) (body : Assembled) (old new : SeatView) (lock start : ℕ)
-    (placed : PlacedState) : Type 0 where
+-- an entry was reserved, and is copied under one lock, of which all words are left; it starts and
+-- ends at these addresses
+pub record IsPlaceBegun (setup : Setup) (body : Assembled) (old new : View) (begun : Begun)
+    : Type 0 where
   pub entry : Entry
   pub reserved : HasReserved setup body old new entry
   pub up : KnowsNoFault new
-  pub lock_low : lock < 8
-  pub copies : CopiesUnderOneLock setup lock placed new
+  pub lock_low : begun.lock < 8
+  pub copies : CopiesUnderOneLock setup begun.lock begun.placed new
   pub prev : ℕ
-  pub placed_is : placed ≡ placed_first setup body entry.start prev
-  pub start_is : start ≡ start_of setup.segment_size entry
+  pub placed_is : begun.placed ≡ placed_first setup body entry.start prev
+  pub start_is : begun.start.0 ≡ start_of setup.segment_size entry
+  pub end_is : begun.end.0 ≡ placed_end begun.placed
 
 -- why nothing was reserved
-abbrev pub TellsBeginTry : Setup → Assembled → SeatView → SeatView → TryErr → Type 0
+abbrev pub TellsBeginTry : Setup → Assembled → View → View → TryErr → Type 0
 TellsBeginTry setup body old new (Busy seen) = log_of_pass new ≡ log_of_pass old
 TellsBeginTry setup body old new (AllHeld held) =
-    ((v : SeatView) × (number : ℕ) × AreHeldWords v number held.seen)
+    ((v : View) × AreHeldWords v held.seen)
     × (log_of_pass new ≡ log_of_pass old)
 TellsBeginTry setup body old new (Full free) =
     FindsLogFull setup body free old new × KnowsNoFault new
 TellsBeginTry setup body old new (Down faults) =
     MeetsDown faults old new × (log_of_pass new ≡ log_of_pass old)
+
+-- what a try answers: the log's setup, the record, the pass's view before it, the answer, and the
+-- view after it; where nothing was reserved the pass is about nothing
+abbrev pub AnswersBeginTry : Setup → Assembled → View → Result Begun TryErr → View → Type 0
+AnswersBeginTry setup body old (Ok begun) new = IsPlaceBegun setup body old new begun
+AnswersBeginTry setup body old (Err e) new = TellsBeginTry setup body old new e × IsResting new
 
 -- why the place was not reserved under the lock
 abbrev pub try_err_of_reserve : ReserveErr → TryErr

@@ -8,7 +8,7 @@ use Rattle.wal_types.specs.declared.answers.Cause.TheVariants as causes
 use Rattle.wal_types.specs.declared.answers.Refused.{Refused}
 use Rattle.wal_types.specs.declared.answers.Sealed.{Sealed}
 use Rattle.wal_core.specs.declared.setup.Setup.{Setup}
-use Rattle.wal_rule.specs.Seats.{SeatView}
+use Rattle.wal_core.specs.Views.{View}
 use Rattle.wal_log.specs.declared.inserting.InsertErr.{InsertErr}
 use Rattle.wal_log.specs.declared.inserting.InsertErr.TheVariants.{Full, Disk, Down}
 use Rattle.byte_position.specs.Position.{position_of}
@@ -19,7 +19,7 @@ use Rattle.wal_log.specs.PassLogs.{log_of_pass, log_with_entry, log_with_promise
 
 -- the record was reserved, the places told are its entry's, and behind it the pass was told that
 -- all below an address which is no less than its end is durable from the moment on
-pub record IsSealed (setup : Setup) (body : Assembled) (old new : SeatView) (sealed : Sealed)
+pub record IsSealed (setup : Setup) (body : Assembled) (old new : View) (sealed : Sealed)
     : Type 0 where
   pub entry : Entry
   pub upto : ℕ
@@ -35,7 +35,7 @@ pub record IsSealed (setup : Setup) (body : Assembled) (old new : SeatView) (sea
   pub up : KnowsNoFault new
 
 -- why a commit is refused
-abbrev pub RefusesCommit : Setup → Assembled → SeatView → SeatView → Cause → Option Lsn → Type 0
+abbrev pub RefusesCommit : Setup → Assembled → View → View → Cause → Option Lsn → Type 0
 RefusesCommit setup body old new (causes.Full free) None =
     RefusesInsert setup body old new (Full free)
 RefusesCommit setup body old new (causes.Full free) (Some start) = ⊥
@@ -57,7 +57,7 @@ abbrev pub commit_known_down : ℕ → Result Sealed Refused
 commit_known_down faults = Err (record { cause = causes.Down faults; reserved = None })
 
 -- commit: the log's setup, the record, the pass's view before it, the answer, and the view after it
-abbrev pub AnswersCommit : Setup → Assembled → SeatView → Result Sealed Refused → SeatView → Type 0
+abbrev pub AnswersCommit : Setup → Assembled → View → Result Sealed Refused → View → Type 0
 AnswersCommit setup body old (Ok sealed) new = IsSealed setup body old new sealed
 AnswersCommit setup body old (Err refused) new =
     RefusesCommit setup body old new refused.cause refused.reserved

@@ -4,7 +4,9 @@ use Rattle.byte_position.specs.Position.{position_of}
 use Rattle.wal_types.specs.declared.answers.Hard.{Hard}
 use Rattle.wal_core.specs.Words.{end_form}
 use Rattle.insert_locks.specs.Watching.{SeesPosition}
-use Rattle.wal_rule.specs.Seats.{SeatView}
+use Rattle.wal_core.specs.Views.{View}
+use Rattle.wal_log.specs.declared.fault.Fault.{Fault}
+use Rattle.wal_log.specs.declared.fault.Fault.TheVariants as faults
 use Rattle.wal_log.specs.declared.turns.TurnErr.{TurnErr}
 use Rattle.wal_log.specs.declared.turns.TurnErr.TheVariants as turns
 use Rattle.wal_log.specs.declared.flushing.TryFlushErr.{TryFlushErr}
@@ -18,7 +20,7 @@ use Rattle.wal_log.specs.PassLogs.{log_of_pass, log_with_promise}
 -- all below an address, which is at least the one asked for, is told to be durable from a moment
 -- on, which is not before the opening; nothing that was told before names more or a later moment;
 -- and the disk was not known to have failed
-pub record IsToldHard (asked upto moment : ℕ) (old new : SeatView) : Type 0 where
+pub record IsToldHard (asked upto moment : ℕ) (old new : View) : Type 0 where
   pub reached : asked ≤ upto
   pub log_is : log_of_pass new ≡ log_with_promise upto moment (log_of_pass old)
   pub since : (old.opening).moment ≤ moment
@@ -28,53 +30,65 @@ pub record IsToldHard (asked upto moment : ℕ) (old new : SeatView) : Type 0 wh
 
 -- the address asked for is above the end of what was reserved, as a load of the position met it,
 -- which is no less than the log's start, and than what the pass had seen before
-pub record IsUnreserved (asked end : ℕ) (old new : SeatView) : Type 0 where
+pub record IsUnreserved (asked end : ℕ) (old new : View) : Type 0 where
   pub end_is : end ≡ end_form (old.opening).setup (new.reserving).seen
   pub rises : (old.reserving).seen ≤ (new.reserving).seen
   pub begun : ((old.opening).setup).segment_size ≤ end
   pub above : end < asked
-  pub before : SeatView
+  pub before : View
   pub loaded : SeesPosition before (new.reserving).seen
   pub up : KnowsNoFault new
 
 -- the turn to write was not had
 abbrev pub try_flush_err_of_turn : TurnErr → TryFlushErr
+try_flush_err_of_turn (turns.Fault fault) = tries.Fault fault
 try_flush_err_of_turn (turns.Taken turn) = tries.Turn turn
-try_flush_err_of_turn (turns.Down faults) = tries.Down faults
-try_flush_err_of_turn (turns.Failed faults) = tries.Disk faults
+
+-- a fault ended the flush
+abbrev pub flush_err_of_fault : Fault → FlushErr
+flush_err_of_fault (faults.Disk n) = Disk n
+flush_err_of_fault (faults.Down n) = Down n
 
 -- what is answered where the pass knows of a failed disk
 abbrev pub try_flush_err_known_down : ℕ → Result Hard TryFlushErr
-try_flush_err_known_down faults = Err (tries.Down faults)
+try_flush_err_known_down n = Err (tries.Fault (faults.Down n))
 
 abbrev pub flush_err_known_down : ℕ → Result Hard FlushErr
 flush_err_known_down faults = Err (Down faults)
 
 -- a device call of the flush itself failed: the address asked for was reserved
-pub record FailsItsFlush (asked faults : ℕ) (old new : SeatView) : Type 0 where
+pub record FailsItsFlush (asked faults : ℕ) (old new : View) : Type 0 where
   pub down : SetsDownItself faults new
   pub reserved : asked ≤ end_form (old.opening).setup (new.reserving).seen
 
--- why one try told nothing: the pass's log is as it was
-abbrev pub TellsFlushTry : ℕ → SeatView → SeatView → TryFlushErr → Type 0
-TellsFlushTry asked old new (tries.Disk faults) = FailsItsFlush asked faults old new
-TellsFlushTry asked old new (tries.Down faults) = MeetsDown faults old new
-TellsFlushTry asked old new (tries.Unreserved end) = IsUnreserved asked end.0 old new
-TellsFlushTry asked old new (tries.Behind lock word) =
-    (word ≢ 0) × (new.flushed < asked) × KnowsNoFault new
-TellsFlushTry asked old new (tries.Turn turn) =
-    (turn ≢ 0) × (new.flushed < asked) × KnowsNoFault new
-
 -- why a flush told nothing
-abbrev pub TellsFlushErr : ℕ → SeatView → SeatView → FlushErr → Type 0
+abbrev pub TellsFlushErr : ℕ → View → View → FlushErr → Type 0
 TellsFlushErr asked old new (Disk faults) = FailsItsFlush asked faults old new
 TellsFlushErr asked old new (Down faults) = MeetsDown faults old new
 TellsFlushErr asked old new (Unreserved end) = IsUnreserved asked end.0 old new
 
+-- why one try told nothing: the pass's log is as it was
+abbrev pub TellsFlushTry : ℕ → View → View → TryFlushErr → Type 0
+TellsFlushTry asked old new (tries.Fault fault) =
+    TellsFlushErr asked old new (flush_err_of_fault fault)
+TellsFlushTry asked old new (tries.Unreserved end) = IsUnreserved asked end.0 old new
+TellsFlushTry asked old new (tries.Behind lock word) =
+    (word ≢ 0) × (new.writing.flushed < asked) × KnowsNoFault new
+TellsFlushTry asked old new (tries.Turn turn) =
+    (turn ≢ 0) × (new.writing.flushed < asked) × KnowsNoFault new
+
+-- what one try answers: the address asked for, the pass's view before it, the answer, and the view
+-- after it; where the flushed address that it loaded has reached the one asked for, it tells that
+abbrev pub AnswersFlushTry : ℕ → View → Result Hard TryFlushErr → View → Type 0
+AnswersFlushTry asked old (Ok hard) new = IsToldHard asked hard.upto.0 hard.moment old new
+    × ((hard.upto.0 ≡ new.writing.flushed) ⊎ (new.writing.flushed < asked))
+AnswersFlushTry asked old (Err e) new =
+    TellsFlushTry asked old new e × (log_of_pass new ≡ log_of_pass old)
+
 -- flush: the address asked for, the pass's view before it, the answer, and the view after it. Where
 -- the flushed address that it loaded has reached the one asked for, it tells that
-abbrev pub AnswersFlush : ℕ → SeatView → Result Hard FlushErr → SeatView → Type 0
+abbrev pub AnswersFlush : ℕ → View → Result Hard FlushErr → View → Type 0
 AnswersFlush asked old (Ok hard) new = IsToldHard asked hard.upto.0 hard.moment old new
-    × ((hard.upto.0 ≡ new.flushed) ⊎ (new.flushed < asked))
+    × ((hard.upto.0 ≡ new.writing.flushed) ⊎ (new.writing.flushed < asked))
 AnswersFlush asked old (Err e) new =
     (log_of_pass new ≡ log_of_pass old) × TellsFlushErr asked old new e

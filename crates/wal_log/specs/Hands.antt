@@ -1,30 +1,33 @@
 -- The writer in hand, between taking the turn to write and giving it back.
-use Rattle.std.specs.Prelude.{◌≡◌, ◌≢◌, ℕ, ◌≤◌, All}
-use Rattle.wal_core.specs.Views.{FlushPromise}
-use Rattle.wal_rule.specs.Seats.{Rests, SeatView}
-use Rattle.page_writing.specs.InHand.{lent_in, writer_in}
+use Rattle.std.specs.Prelude.{◌≡◌, ◌≢◌, ℕ, ◌≤◌, All, Option}
+use Rattle.segment_disk.specs.Tape.{Tape}
+use Rattle.wal_core.specs.Views.{FlushPromise, Idle, View}
+use Rattle.wal_rule.specs.declared.seated.SeatedPass.{SeatedPass}
+use Rattle.wal_rule.specs.SeatedPasses.{view_of}
+use Rattle.page_writing.specs.InHand.{IsReady, lent_in, writer_in}
 use Rattle.wal_log.specs.declared.turns.TurnErr.{TurnErr}
-use Rattle.wal_log.specs.declared.turns.TurnErr.TheVariants.{Taken, Down, Failed}
-use Rattle.wal_log.specs.Downs.{KnowsNoFault, MeetsDown, SetsDownItself}
+use Rattle.wal_log.specs.declared.turns.TurnErr.TheVariants.{Fault, Taken}
+use Rattle.wal_log.specs.Downs.{KnowsNoFault, MeetsFault}
 
--- why the turn to write was not had: it was taken, or the disk has failed; that the writer had
--- failed and nobody told so does not come
-abbrev pub TellsTurnErr : SeatView → SeatView → TurnErr → Type 0
+-- why the turn to write was not had: the disk has failed, or it was taken
+abbrev pub TellsTurnErr : View → View → TurnErr → Type 0
+TellsTurnErr old new (Fault fault) = MeetsFault old new fault
 TellsTurnErr old new (Taken turn) = (turn ≢ 0) × KnowsNoFault new
-TellsTurnErr old new (Down faults) = MeetsDown faults old new
-TellsTurnErr old new (Failed faults) = SetsDownItself faults new
 
--- what the writer has written is stored, and is at least up to an address
-pub record IsWrittenStored (upto : ℕ) (v : SeatView) : Type 0 where
-  pub stored : (lent_in v.hold).stored ≡ (writer_in v).written
-  pub written : upto ≤ (writer_in v).written
+-- the writer is in hand and no call of it has failed, all that it has written is stored, and the
+-- disk is not known to have failed
+pub record HasAllStored {D : Type 0} (tape : D → Option Tape) (moment faults : D → ℕ)
+    (p : SeatedPass D) : Type 0 where
+  pub ready : IsReady tape moment faults p
+  pub stored : (lent_in (view_of p).writing.hold).stored ≡ (writer_in (view_of p)).written
+  pub up : KnowsNoFault (view_of p)
 
 -- with the writer and the turn given back, a view is as it was but for the down value
-pub record SetsDownAndRests (faults : ℕ) (old new : SeatView) : Type 0 where
-  pub new_is : new ≡ record old { hold = Rests; down_set = faults }
+pub record SetsDownAndRests (faults : ℕ) (old new : View) : Type 0 where
+  pub new_is : new ≡ record old { writing = record old.writing { hold = Idle; down_set = faults } }
   pub some : faults ≢ 0
 
 -- no promise told before names a later moment, or a higher address
-pub record IsLatestPromise (upto moment : ℕ) (v : SeatView) : Type 0 where
-  pub moments : All (λ (p : FlushPromise). p.moment ≤ moment) v.promises
-  pub addresses : All (λ (p : FlushPromise). p.upto ≤ upto) v.promises
+pub record IsLatestPromise (upto moment : ℕ) (v : View) : Type 0 where
+  pub moments : All (λ (p : FlushPromise). p.moment ≤ moment) v.writing.promises
+  pub addresses : All (λ (p : FlushPromise). p.upto ≤ upto) v.writing.promises

@@ -8,9 +8,9 @@ use Rattle.wal_types.specs.declared.answers.Receipt.{Receipt}
 use Rattle.wal_core.specs.declared.setup.Setup.{Setup}
 use Rattle.wal_core.specs.Moves.{entry_reserved}
 use Rattle.wal_core.specs.Words.{log_limit}
-use Rattle.wal_rule.specs.Seats.{SeatView}
-use Rattle.wal_log.specs.declared.copying.CopyErr.{CopyErr}
-use Rattle.wal_log.specs.declared.copying.CopyErr.TheVariants as copies
+use Rattle.wal_core.specs.Views.{View}
+use Rattle.wal_log.specs.declared.fault.Fault.{Fault}
+use Rattle.wal_log.specs.declared.fault.Fault.TheVariants as faults
 use Rattle.wal_log.specs.declared.inserting.InsertErr.{InsertErr}
 use Rattle.wal_log.specs.declared.inserting.InsertErr.TheVariants.{Full, Disk, Down}
 use Rattle.wal_log.specs.Downs.{KnowsNoFault, MeetsDown, SetsDownItself}
@@ -18,7 +18,7 @@ use Rattle.wal_log.specs.PassLogs.{log_of_pass, log_with_entry, log_with_full}
 
 -- an entry is one of the pass that the body's record makes, behind all that the pass had seen, and
 -- within the log
-pub record IsOwnEntry (setup : Setup) (body : Assembled) (old : SeatView) (e : Entry) : Type 0 where
+pub record IsOwnEntry (setup : Setup) (body : Assembled) (old : View) (e : Entry) : Type 0 where
   pub value : Record
   pub writable : IsWritable value
   pub of_body : assembled value ≡ body
@@ -28,7 +28,7 @@ pub record IsOwnEntry (setup : Setup) (body : Assembled) (old : SeatView) (e : E
   pub within : at + assembled_room_at setup.segment_size at body ≤ log_limit setup
 
 -- this entry was reserved: the pass's log has it last, and the pass has seen all before its end
-pub record HasReserved (setup : Setup) (body : Assembled) (old new : SeatView) (e : Entry) : Type 0
+pub record HasReserved (setup : Setup) (body : Assembled) (old new : View) (e : Entry) : Type 0
   where
     pub own : IsOwnEntry setup body old e
     pub log_is : log_of_pass new ≡ log_with_entry e (log_of_pass old)
@@ -36,7 +36,7 @@ pub record HasReserved (setup : Setup) (body : Assembled) (old new : SeatView) (
 
 -- fewer bytes were left behind a position than the record takes up; the pass had seen nothing
 -- behind it
-pub record FindsLogFull (setup : Setup) (body : Assembled) (free : ℕ) (old new : SeatView) : Type 0
+pub record FindsLogFull (setup : Setup) (body : Assembled) (free : ℕ) (old new : View) : Type 0
   where
     pub at : ℕ
     pub behind_seen : (old.reserving).seen ≤ at
@@ -48,7 +48,7 @@ pub record FindsLogFull (setup : Setup) (body : Assembled) (free : ℕ) (old new
 
 -- the record was reserved, the places told are its entry's, and the disk was not known to have
 -- failed
-pub record IsReceipt (setup : Setup) (body : Assembled) (old new : SeatView) (receipt : Receipt)
+pub record IsReceipt (setup : Setup) (body : Assembled) (old new : View) (receipt : Receipt)
     : Type 0 where
   pub entry : Entry
   pub reserved : HasReserved setup body old new entry
@@ -57,14 +57,14 @@ pub record IsReceipt (setup : Setup) (body : Assembled) (old new : SeatView) (re
   pub up : KnowsNoFault new
 
 -- the record was reserved, with this start
-pub record IsStarted (setup : Setup) (body : Assembled) (old new : SeatView) (start : ℕ) : Type 0
+pub record IsStarted (setup : Setup) (body : Assembled) (old new : View) (start : ℕ) : Type 0
   where
     pub entry : Entry
     pub reserved : HasReserved setup body old new entry
     pub start_is : start ≡ start_of setup.segment_size entry
 
 -- why an insert is refused, and whether its record was reserved all the same
-abbrev pub RefusesInsert : Setup → Assembled → SeatView → SeatView → InsertErr → Type 0
+abbrev pub RefusesInsert : Setup → Assembled → View → View → InsertErr → Type 0
 RefusesInsert setup body old new (Full free) =
     FindsLogFull setup body free old new × KnowsNoFault new
 RefusesInsert setup body old new (Disk faults start) =
@@ -75,12 +75,12 @@ RefusesInsert setup body old new (Down faults (Some start)) =
     IsStarted setup body old new start.0 × MeetsDown faults old new
 
 -- a record that starts here was not copied whole
-abbrev pub insert_err_of_copy : Lsn → CopyErr → InsertErr
-insert_err_of_copy start (copies.Disk faults) = Disk faults start
-insert_err_of_copy start (copies.Down faults) = Down faults (Some start)
+abbrev pub insert_err_of_fault : Lsn → Fault → InsertErr
+insert_err_of_fault start (faults.Disk n) = Disk n start
+insert_err_of_fault start (faults.Down n) = Down n (Some start)
 
 -- insert: the log's setup, the record, the pass's view before it, the answer, and the view after it
-abbrev pub AnswersInsert : Setup → Assembled → SeatView → Result Receipt InsertErr → SeatView
+abbrev pub AnswersInsert : Setup → Assembled → View → Result Receipt InsertErr → View
     → Type 0
 AnswersInsert setup body old (Ok receipt) new = IsReceipt setup body old new receipt
 AnswersInsert setup body old (Err e) new = RefusesInsert setup body old new e

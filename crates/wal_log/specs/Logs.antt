@@ -4,7 +4,7 @@ use Rattle.wal_core.specs.declared.setup.Setup.{Setup}
 use Rattle.wal_rule.specs.declared.pass.Pass.{Pass}
 use Rattle.wal_rule.specs.declared.table.LogTable.{LogTable}
 use Rattle.wal_rule.specs.Passes.{view_of_pass}
-use Rattle.wal_rule.specs.Seats.{IsAtRest}
+use Rattle.wal_core.specs.Steps.{IsResting}
 use Rattle.wal_rule.specs.Tables.{IsPassOn, opening_of_table}
 use Rattle.wal_log.specs.declared.wal.Wal.{Wal}
 
@@ -21,4 +21,4 @@ setup_of_log wal = (opening_of_log wal).setup
 -- a pass of a log, which is about nothing
 pub record IsPassOfLog {D : Type 0} (wal : Wal D) (pass : Pass) : Type 0 where
   pub of_log : IsPassOn (table_of wal) pass
-  pub rests : IsAtRest (view_of_pass pass)
+  pub rests : IsResting (view_of_pass pass)

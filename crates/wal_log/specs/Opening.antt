@@ -7,7 +7,7 @@ use Rattle.wal_core.specs.Sound.{IsSetup}
 use Rattle.wal_rule.specs.declared.pass.Pass.{Pass}
 use Rattle.wal_rule.specs.Founded.{empty_log_opening}
 use Rattle.wal_rule.specs.Passes.{view_of_pass}
-use Rattle.wal_rule.specs.Seats.{first_seat_view}
+use Rattle.wal_core.specs.Opened.{first_view}
 use Rattle.wal_rule.specs.Tables.{began_of_table}
 use Rattle.wal_log.specs.declared.opening.OpenFault.{OpenFault}
 use Rattle.wal_log.specs.declared.opening.OpenFaultKind.{OpenFaultKind}
@@ -23,7 +23,7 @@ module _ {D : Type 0} (tape : D → Option Tape) (moment faults : D → ℕ) whe
         ≡ empty_log_opening setup (moment disk) (faults disk)
     pub began : began_of_table tape (table_of wal) ≡ tape disk
     pub pass_is : IsPassOfLog wal pass
-    pub view : view_of_pass pass ≡ first_seat_view (opening_of_log wal)
+    pub view : view_of_pass pass ≡ first_view (opening_of_log wal)
     pub empty : IfSome (tape disk) (λ t. page_of_segment (state_now t 1) 0 ≡ None)
 
   -- why a log was not opened, and what is left of the disk

@@ -1,10 +1,10 @@
 -- The log of a pass, by its seat's view.
-use Rattle.wal_rule.specs.Seats.{SeatView}
+use Rattle.wal_core.specs.Views.{View}
 pub use Rattle.wal_core.specs.PassLogs.{PassLog, log_with_entry, log_with_full, log_with_promise}
 
-abbrev pub log_of_pass : SeatView → PassLog
+abbrev pub log_of_pass : View → PassLog
 log_of_pass v = record {
   entries = (v.reserving).entries;
   filled = (v.reserving).filled;
-  promises = v.promises;
+  promises = v.writing.promises;
 }

@@ -1,15 +1,19 @@
--- What stays of a pass's view in a call, and what it is about in the midst of one.
-use Rattle.std.specs.Prelude.{◌≡◌, ℕ, ◌≤◌, [], ◌∷◌}
+-- What stays of a pass in a call, and what it is about in the midst of one.
+use Rattle.std.specs.Prelude.{◌≡◌, ℕ, ◌<◌, ◌≤◌, [], ◌∷◌}
 use Rattle.wal_page.specs.Placed.{PlacedState}
 use Rattle.wal_core.specs.declared.setup.Setup.{Setup}
-use Rattle.wal_core.specs.Views.{Away, Copy, Copying, Free, Landed}
-use Rattle.wal_rule.specs.Seats.{Rests, SeatView}
+use Rattle.wal_core.specs.Views.{Away, Copy, Copying, Free, Landed, Idle, View}
 use Rattle.word_ring.specs.Copied.{rest_of}
+use Rattle.wal_rule.specs.declared.seated.SeatedPass.{SeatedPass}
 use Rattle.wal_rule.specs.Downs.{KnowsDown}
+use Rattle.wal_rule.specs.SeatedPasses.{StandsAtRest, StaysSeated, hand_of, setup_of, view_of}
+use Rattle.wal_log.specs.PassLogs.{log_of_pass}
+
+-- ---- what stays of its view
 
 -- a pass keeps its number and its spare ones, the passes that it took in, and what it knows of a
 -- failed disk; and it has seen no less of the order than before
-pub record KeepsPass (old new : SeatView) : Type 0 where
+pub record KeepsPass (old new : View) : Type 0 where
   pub opening : new.opening ≡ old.opening
   pub live : (new.reserving).live ≡ (old.reserving).live
   pub number : (new.reserving).number ≡ (old.reserving).number
@@ -20,23 +24,25 @@ pub record KeepsPass (old new : SeatView) : Type 0 where
   pub down : (faults : ℕ) → KnowsDown faults old → KnowsDown faults new
 
 -- and it is about what it was about: a place, locks and an entry, and a page that it maps
-pub record KeepsWork (old new : SeatView) : Type 0 where
+pub record KeepsWork (old new : View) : Type 0 where
   pub pass : KeepsPass old new
   pub place : (new.reserving).place ≡ (old.reserving).place
   pub working : new.working ≡ old.working
   pub stage : (new.mapping).stage ≡ (old.mapping).stage
   pub confirmed : (old.mapping).confirmed ≤ (new.mapping).confirmed
 
--- it holds one insertion lock, and is about nothing else
-pub record HoldsOneLock (lock : ℕ) (v : SeatView) : Type 0 where
+-- ---- what it is about, by its view
+
+-- it has one insertion lock, and is about nothing else
+pub record HasOneLock (lock : ℕ) (v : View) : Type 0 where
   pub working : v.working ≡ record { locks = lock ∷ []; flight = Landed }
   pub place : (v.reserving).place ≡ Free
   pub stage : (v.mapping).stage ≡ Away
-  pub hold : v.hold ≡ Rests
+  pub hold : v.writing.hold ≡ Idle
 
 -- it copies an entry under one insertion lock, of which this record at its place gives the words
 -- that are left, and is about nothing else
-pub record CopiesUnderOneLock (setup : Setup) (lock : ℕ) (placed : PlacedState) (v : SeatView)
+pub record CopiesUnderOneLock (setup : Setup) (lock : ℕ) (placed : PlacedState) (v : View)
     : Type 0 where
   pub copy : Copy
   pub working : v.working ≡ record { locks = lock ∷ []; flight = Copying copy }
@@ -44,4 +50,55 @@ pub record CopiesUnderOneLock (setup : Setup) (lock : ℕ) (placed : PlacedState
   pub rest : placed ≡ rest_of setup copy
   pub place : (v.reserving).place ≡ Free
   pub stage : (v.mapping).stage ≡ Away
-  pub hold : v.hold ≡ Rests
+  pub hold : v.writing.hold ≡ Idle
+
+-- ---- what it is about at its table
+
+-- it holds just this insertion lock, and has nothing in hand
+pub record HoldsOneLock {D : Type 0} (lock : ℕ) (p : SeatedPass D) : Type 0 where
+  pub low : lock < 8
+  pub one : HasOneLock lock (view_of p)
+  pub empty : hand_of p ≡ []
+
+-- it copies under just this insertion lock, of which this record at its place gives the words that
+-- are left, and has nothing in hand
+pub record CopiesAlone {D : Type 0} (lock : ℕ) (placed : PlacedState) (p : SeatedPass D) : Type 0
+  where
+    pub low : lock < 8
+    pub under : CopiesUnderOneLock (setup_of p) lock placed (view_of p)
+    pub empty : hand_of p ≡ []
+
+-- it has neither the turn to write nor the writer
+pub record HasNoTurn {D : Type 0} (p : SeatedPass D) : Type 0 where
+  pub idle : (view_of p).writing.hold ≡ Idle
+  pub empty : hand_of p ≡ []
+
+-- ---- what stays of it at its table
+
+-- it goes on with what it had in hand, and keeps what a pass keeps
+pub record GoesOnSeated {D : Type 0} (old new : SeatedPass D) : Type 0 where
+  pub stays : StaysSeated old new
+  pub keeps : KeepsPass (view_of old) (view_of new)
+
+-- it keeps what a pass keeps, and stands at rest
+pub record ComesToRest {D : Type 0} (old new : SeatedPass D) : Type 0 where
+  pub same_table : new.table ≡ old.table
+  pub keeps : KeepsPass (view_of old) (view_of new)
+  pub rests : StandsAtRest new
+
+-- it keeps its work, whatever it has in hand
+pub record WorksOn {D : Type 0} (old new : SeatedPass D) : Type 0 where
+  pub same_table : new.table ≡ old.table
+  pub work : KeepsWork (view_of old) (view_of new)
+
+-- it keeps its work, and what it has of the turn to write, with the writer
+pub record StaysAtWork {D : Type 0} (old new : SeatedPass D) : Type 0 where
+  pub stays : StaysSeated old new
+  pub work : KeepsWork (view_of old) (view_of new)
+  pub hold : (view_of new).writing.hold ≡ (view_of old).writing.hold
+
+-- it keeps its work and its log, and the flushed address that it loaded last
+pub record AddsNothing {D : Type 0} (old new : SeatedPass D) : Type 0 where
+  pub works : WorksOn old new
+  pub log : log_of_pass (view_of new) ≡ log_of_pass (view_of old)
+  pub flushed : (view_of new).writing.flushed ≡ (view_of old).writing.flushed

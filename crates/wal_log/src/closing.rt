@@ -31,12 +31,13 @@ impl<D: Disk> Wal<D> {
             (view_of_pass pass).reserving }
         ensures { ClosesLog D.tape D.moment D.faults self pass result }
     {
-        let Wal { table, shape } = self;
+        let Wal { table } = self;
+        let geometry = table.shape.geometry();
         let (writer, position) = pass.close(table);
         let down = writer.fault();
         Closed {
             disk: writer.into_disk(),
-            end: shape.geometry().to_end_lsn(position),
+            end: geometry.to_end_lsn(position),
             down,
         }
     }

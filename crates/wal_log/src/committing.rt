@@ -2,22 +2,21 @@
 // XLogFlush): an insert, then a flush to the record's end. Nothing is held between the two. Others
 // may flush in between, and make this record durable too: then the flush tells what it finds as
 // flushed. If the flush is refused the record keeps its place, and nothing is promised of it.
-ghost use Rattle.std.specs.Prelude.{◌≡◌, [], Err, None};
-ghost use Rattle.wal_rule.specs.Passes.{view_of_pass};
-ghost use Rattle.wal_rule.specs.Seats.{IsAtRest};
-ghost use Rattle.wal_rule.specs.Tables.{IsSeatOn};
-ghost use Rattle.wal_log.specs.Committing.{AnswersCommit, commit_known_down, refused_of_insert};
+ghost use Rattle.std.specs.Prelude.{◌≡◌};
 ghost use Rattle.wal_rule.specs.Downs.{KnowsDown};
+ghost use Rattle.wal_rule.specs.Passes.{view_of_pass};
+ghost use Rattle.wal_rule.specs.SeatedPasses.{StandsAtRest, setup_of, view_of};
+ghost use Rattle.wal_log.specs.Committing.{AnswersCommit, commit_known_down, refused_of_insert};
 ghost use Rattle.wal_log.specs.Logs.{IsPassOfLog, setup_of_log};
-ghost use Rattle.wal_log.specs.Standing.{KeepsPass};
+ghost use Rattle.wal_log.specs.Standing.{ComesToRest, KeepsPass};
 
-use crate::flushing::FlushErr;
-use crate::inserting::InsertErr;
+use crate::flushing::{FlushErr, flush_on};
+use crate::inserting::{InsertErr, insert_on};
 use crate::wal::Wal;
 use record_spelling::Body;
 use segment_disk::Disk;
 use std::sync::Wait;
-use wal_rule::{LogSeat, Pass};
+use wal_rule::{Pass, SeatedPass};
 use wal_types::{Cause, Receipt, Refused, Sealed};
 
 impl From<InsertErr> for Refused {
@@ -57,47 +56,41 @@ impl<D: Disk> Wal<D> {
         ensures keeps { KeepsPass (view_of_pass pass.old) (view_of_pass pass.new) }
         ensures pass { IsPassOfLog self.now pass.new }
     {
-        let number = pass.number;
-        let mut seat = pass.seat();
-        let answer = self.commit_on(rt, &mut seat, number, body);
-        pass.put_back(seat);
+        let mut seated = pass.seat(&self.table);
+        let answer = commit_on(rt, &mut seated, body);
+        pass.put_back(seated);
         answer
     }
+}
 
-    // The commit of a seat, which is about nothing before it and behind it. It leaves of the seat's
-    // view what `commit` says of a pass.
-    fn commit_on<R: Wait>(
-        &self,
-        rt: &R,
-        seat: &mut LogSeat<D>,
-        number: u32,
-        body: &Body,
-    ) -> Result<Sealed, Refused>
-        requires seat { IsSeatOn self.now.table seat.old }
-        requires number { number ≡ seat.old.me.0.reserving.number }
-        requires rests { IsAtRest seat.old.me.0 × (seat.old.me.1 ≡ []) }
-        ensures commits { AnswersCommit self.now.shape body.now seat.old.me.0 result seat.new.me.0 }
-        ensures down_again { (faults : _) → KnowsDown faults seat.old.me.0
-            → result ≡ commit_known_down faults }
-        ensures keeps { KeepsPass seat.old.me.0 seat.new.me.0 }
-        ensures rests { IsAtRest seat.new.me.0 × (seat.new.me.1 ≡ []) }
-        ensures seat { IsSeatOn self.now.table seat.new }
-    {
-        let Receipt { start, end } = self.insert_on(rt, seat, number, body)?;
-        match self.flush_on(rt, seat, number, end) {
-            Ok(hard) => Ok(Sealed {
-                start,
-                end,
-                moment: hard.moment,
-            }),
-            Err(FlushErr::Disk { faults }) => Err(InsertErr::Disk { faults, start }.into()),
-            Err(FlushErr::Down { faults }) => Err(InsertErr::Down {
-                faults,
-                start: Some(start),
-            }
-            .into()),
-            // The pass has seen its own record reserved, up to its end.
-            Err(FlushErr::Unreserved { .. }) => unreachable!(),
+// The commit of a pass, which is about nothing before it and behind it. It leaves of the pass what
+// `Wal::commit` says.
+fn commit_on<'p, D: Disk, R: Wait>(
+    rt: &R,
+    seated: &mut SeatedPass<'p, D>,
+    body: &Body,
+) -> Result<Sealed, Refused>
+    requires rests { StandsAtRest seated.old }
+    ensures commits { AnswersCommit (setup_of seated.old) body.now (view_of seated.old) result
+        (view_of seated.new) }
+    ensures down_again { (faults : _) → KnowsDown faults (view_of seated.old)
+        → result ≡ commit_known_down faults }
+    ensures rests { ComesToRest seated.old seated.new }
+{
+    let Receipt { start, end } = insert_on(rt, seated, body)?;
+    match flush_on(rt, seated, end) {
+        Ok(hard) => Ok(Sealed {
+            start,
+            end,
+            moment: hard.moment,
+        }),
+        Err(FlushErr::Disk { faults }) => Err(InsertErr::Disk { faults, start }.into()),
+        Err(FlushErr::Down { faults }) => Err(InsertErr::Down {
+            faults,
+            start: Some(start),
         }
+        .into()),
+        // The pass has seen its own record reserved, up to its end.
+        Err(FlushErr::Unreserved { .. }) => unreachable!(),
     }
 }

@@ -6,38 +6,39 @@
 // behind it, who finds an address flushed is told no moment that is too early.
 // PostgreSQL waits at locks and turn (WaitXLogInsertionsToFinish, LWLockAcquireOrWait). Here a try
 // ends there, and the next one loads the flushed address again: another flush may have passed it.
-ghost use Rattle.std.specs.Prelude.{◌≡◌, ◌⊎◌, ◌<◌, ◌≤◌, [], IfErr, IfNone, IfOk, IfSome};
+ghost use Rattle.std.specs.Prelude.{◌≡◌, ◌<◌, ◌≤◌, MatchOption, MatchResult};
 ghost use mathlib.Core.Option.{none};
-ghost use Rattle.page_writing.specs.InHand.{IsReady, lent_in, writer_in};
+ghost use Rattle.page_writing.specs.InHand.{writer_in};
 ghost use Rattle.wal_core.specs.Words.{end_form};
-ghost use Rattle.wal_rule.specs.Passes.{view_of_pass};
-ghost use Rattle.wal_rule.specs.Seats.{IsAtRest, Rests};
-ghost use Rattle.wal_rule.specs.Tables.{IsSeatOn};
 ghost use Rattle.wal_rule.specs.Downs.{KnowsDown};
+ghost use Rattle.wal_rule.specs.Passes.{view_of_pass};
+ghost use Rattle.wal_rule.specs.SeatedPasses.{StandsAtRest, setup_of, view_of};
 ghost use Rattle.wal_log.specs.Downs.{KnowsNoFault, SetsDownItself};
-ghost use Rattle.wal_log.specs.Flushing.{AnswersFlush, IsToldHard, TellsFlushTry, flush_err_known_down, try_flush_err_known_down, try_flush_err_of_turn};
-ghost use Rattle.wal_log.specs.Hands.{IsWrittenStored};
+ghost use Rattle.wal_log.specs.Flushing.{AnswersFlush, AnswersFlushTry, IsToldHard, flush_err_known_down, flush_err_of_fault, try_flush_err_known_down, try_flush_err_of_turn};
+ghost use Rattle.wal_log.specs.Hands.{HasAllStored};
 ghost use Rattle.wal_log.specs.Logs.{IsPassOfLog};
 ghost use Rattle.wal_log.specs.PassLogs.{log_of_pass};
-ghost use Rattle.wal_log.specs.Standing.{KeepsPass, KeepsWork};
-ghost use Rattle.wal_log.specs.declared.flushing.TryFlushErr.TheVariants.{Disk};
+ghost use Rattle.wal_log.specs.Standing.{ComesToRest, HasNoTurn, KeepsPass, StaysAtWork, WorksOn};
+ghost use Rattle.wal_log.specs.declared.fault.Fault.TheVariants.{Disk};
+ghost use Rattle.wal_log.specs.declared.flushing.TryFlushErr.TheVariants.{Fault};
 
-use crate::turns::TurnErr;
+use crate::fault::Fault;
+use crate::turns::{TurnErr, give_back, go_down, take_ready};
 use crate::wal::Wal;
+use crate::writing::write_known;
 use crossbeam_utils::Backoff;
 use flush_core::DiskFault;
 use insert_locks::{Watched, see_end, watch};
 use page_writing::{sync_written, writer_now};
 use segment_disk::Disk;
 use std::sync::Wait;
-use wal_rule::{LogSeat, Pass};
+use wal_rule::{Pass, SeatedPass};
 use wal_types::{Hard, Lsn};
 
 /// Why one try of a flush told nothing, in this order: down, unreserved, behind, turn, disk.
 #[derive(Clone, Copy, Debug, PartialEq, Eq)]
 pub enum TryFlushErr {
-    Disk { faults: u64 },
-    Down { faults: u64 },
+    Fault(Fault),
     Unreserved { end: Lsn },
     /// An insertion lock's holder has not copied so far: the lock's word.
     Behind { lock: u32, word: u64 },
@@ -61,18 +62,28 @@ impl From<TurnErr> for TryFlushErr {
 
     fn from(e: TurnErr) -> TryFlushErr {
         match e {
+            TurnErr::Fault(fault) => TryFlushErr::Fault(fault),
             TurnErr::Taken { turn } => TryFlushErr::Turn { turn },
-            TurnErr::Down { faults } => TryFlushErr::Down { faults },
-            TurnErr::Failed { faults } => TryFlushErr::Disk { faults },
         }
     }
 }
 
 impl From<DiskFault> for TryFlushErr {
-    ghost from_gives = { λ e t. t ≡ Disk e.faults };
+    ghost from_gives = { λ e t. t ≡ Fault (Disk e.faults) };
 
     fn from(e: DiskFault) -> TryFlushErr {
-        TryFlushErr::Disk { faults: e.faults }
+        TryFlushErr::Fault(Fault::Disk { faults: e.faults })
+    }
+}
+
+impl From<Fault> for FlushErr {
+    ghost from_gives = { λ f e. e ≡ flush_err_of_fault f };
+
+    fn from(f: Fault) -> FlushErr {
+        match f {
+            Fault::Disk { faults } => FlushErr::Disk { faults },
+            Fault::Down { faults } => FlushErr::Down { faults },
+        }
     }
 }
 
@@ -95,203 +106,169 @@ impl<D: Disk> Wal<D> {
         ensures keeps { KeepsPass (view_of_pass pass.old) (view_of_pass pass.new) }
         ensures pass { IsPassOfLog self.now pass.new }
     {
-        let number = pass.number;
-        let mut seat = pass.seat();
-        let answer = self.flush_on(rt, &mut seat, number, upto);
-        pass.put_back(seat);
+        let mut seated = pass.seat(&self.table);
+        let answer = flush_on(rt, &mut seated, upto);
+        pass.put_back(seated);
         answer
     }
+}
 
-    // The flush of a seat, by as many tries as it takes; between two of them nothing is held. It
-    // leaves of the seat's view what `flush` says of a pass.
-    pub(crate) fn flush_on<R: Wait>(
-        &self,
-        rt: &R,
-        seat: &mut LogSeat<D>,
-        number: u32,
-        upto: Lsn,
-    ) -> Result<Hard, FlushErr>
-        requires seat { IsSeatOn self.now.table seat.old }
-        requires number { number ≡ seat.old.me.0.reserving.number }
-        requires rests { IsAtRest seat.old.me.0 × (seat.old.me.1 ≡ []) }
-        ensures flushes { AnswersFlush upto.0 seat.old.me.0 result seat.new.me.0 }
-        ensures down_again { (faults : _) → KnowsDown faults seat.old.me.0
-            → result ≡ flush_err_known_down faults }
-        ensures keeps { KeepsPass seat.old.me.0 seat.new.me.0 }
-        ensures rests { IsAtRest seat.new.me.0 × (seat.new.me.1 ≡ []) }
-        ensures seat { IsSeatOn self.now.table seat.new }
-    {
-        let backoff = Backoff::new();
-        for _ in rt.forever() {
-            match self.try_flush(seat, number, upto) {
-                Ok(hard) => return Ok(hard),
-                Err(TryFlushErr::Disk { faults }) => return Err(FlushErr::Disk { faults }),
-                Err(TryFlushErr::Down { faults }) => return Err(FlushErr::Down { faults }),
-                Err(TryFlushErr::Unreserved { end }) => return Err(FlushErr::Unreserved { end }),
-                Err(TryFlushErr::Behind { .. }) => backoff.snooze(),
-                Err(TryFlushErr::Turn { .. }) => backoff.snooze(),
-            }
+// The flush of a pass, by as many tries as it takes; between two of them nothing is held. It leaves
+// of the pass what `Wal::flush` says.
+pub(crate) fn flush_on<'p, D: Disk, R: Wait>(
+    rt: &R,
+    seated: &mut SeatedPass<'p, D>,
+    upto: Lsn,
+) -> Result<Hard, FlushErr>
+    requires rests { StandsAtRest seated.old }
+    ensures flushes { AnswersFlush upto.0 (view_of seated.old) result (view_of seated.new) }
+    ensures down_again { (faults : _) → KnowsDown faults (view_of seated.old)
+        → result ≡ flush_err_known_down faults }
+    ensures rests { ComesToRest seated.old seated.new }
+{
+    let backoff = Backoff::new();
+    for _ in rt.forever() {
+        match try_flush(seated, upto) {
+            Ok(hard) => return Ok(hard),
+            Err(TryFlushErr::Fault(fault)) => return Err(FlushErr::from(fault)),
+            Err(TryFlushErr::Unreserved { end }) => return Err(FlushErr::Unreserved { end }),
+            Err(TryFlushErr::Behind { .. }) => backoff.snooze(),
+            Err(TryFlushErr::Turn { .. }) => backoff.snooze(),
         }
-        unreachable!()
     }
+    unreachable!()
+}
 
-    // One try, which does not wait. At Ok the pass was promised what is told; else its log is as it
-    // was. In both cases it is about nothing behind it.
-    fn try_flush(&self, seat: &mut LogSeat<D>, number: u32, upto: Lsn) -> Result<Hard, TryFlushErr>
-        requires seat { IsSeatOn self.now.table seat.old }
-        requires number { number ≡ seat.old.me.0.reserving.number }
-        requires rests { IsAtRest seat.old.me.0 × (seat.old.me.1 ≡ []) }
-        ensures told { IfOk result (λ hard. IsToldHard upto.0 hard.upto.0 hard.moment
-            seat.old.me.0 seat.new.me.0
-            × ((hard.upto.0 ≡ seat.new.me.0.flushed) ⊎ (seat.new.me.0.flushed < upto.0))) }
-        ensures why { IfErr result (λ e. TellsFlushTry upto.0 seat.old.me.0 seat.new.me.0 e
-            × (log_of_pass seat.new.me.0 ≡ log_of_pass seat.old.me.0)) }
-        ensures down_again { (faults : _) → KnowsDown faults seat.old.me.0
-            → result ≡ try_flush_err_known_down faults }
-        ensures keeps { KeepsPass seat.old.me.0 seat.new.me.0 }
-        ensures rests { IsAtRest seat.new.me.0 × (seat.new.me.1 ≡ []) }
-        ensures seat { IsSeatOn self.now.table seat.new }
-    {
-        let faults = self.table.load_down(seat);
-        if faults != 0 {
-            return Err(TryFlushErr::Down { faults });
-        }
-        self.try_up(seat, number, upto)
+// One try, which does not wait. At Ok the pass was promised what is told; else its log is as it
+// was. In both cases it is about nothing behind it.
+fn try_flush<'p, D: Disk>(seated: &mut SeatedPass<'p, D>, upto: Lsn) -> Result<Hard, TryFlushErr>
+    requires rests { StandsAtRest seated.old }
+    ensures tries { AnswersFlushTry upto.0 (view_of seated.old) result (view_of seated.new) }
+    ensures down_again { (faults : _) → KnowsDown faults (view_of seated.old)
+        → result ≡ try_flush_err_known_down faults }
+    ensures rests { ComesToRest seated.old seated.new }
+{
+    let faults = seated.load_down();
+    if faults != 0 {
+        return Err(TryFlushErr::Fault(Fault::Down { faults }));
     }
+    try_up(seated, upto)
+}
 
-    // One try, where the disk has not failed. The reserved end is looked at first, then the flushed
-    // address, then the locks.
-    fn try_up(&self, seat: &mut LogSeat<D>, number: u32, upto: Lsn) -> Result<Hard, TryFlushErr>
-        requires seat { IsSeatOn self.now.table seat.old }
-        requires number { number ≡ seat.old.me.0.reserving.number }
-        requires rests { (seat.old.me.0.hold ≡ Rests) × (seat.old.me.1 ≡ []) }
-        requires up { KnowsNoFault seat.old.me.0 }
-        ensures told { IfOk result (λ hard. IsToldHard upto.0 hard.upto.0 hard.moment
-            seat.old.me.0 seat.new.me.0
-            × ((hard.upto.0 ≡ seat.new.me.0.flushed) ⊎ (seat.new.me.0.flushed < upto.0))) }
-        ensures why { IfErr result (λ e. TellsFlushTry upto.0 seat.old.me.0 seat.new.me.0 e
-            × (log_of_pass seat.new.me.0 ≡ log_of_pass seat.old.me.0)) }
-        ensures work { KeepsWork seat.old.me.0 seat.new.me.0 }
-        ensures rests { (seat.new.me.0.hold ≡ Rests) × (seat.new.me.1 ≡ []) }
-        ensures seat { IsSeatOn self.now.table seat.new }
-    {
-        let end = Lsn(see_end(&self.table, seat, &self.shape, upto.0));
-        if end < upto {
-            return Err(TryFlushErr::Unreserved { end });
-        }
-        if let Some(hard) = self.told_already(seat, upto) {
-            return Ok(hard);
-        }
-        self.harden_copied(seat, number, upto)
+// One try, where the disk has not failed. The reserved end is looked at first, then the flushed
+// address, then the locks.
+fn try_up<'p, D: Disk>(seated: &mut SeatedPass<'p, D>, upto: Lsn) -> Result<Hard, TryFlushErr>
+    requires rests { HasNoTurn seated.old }
+    requires up { KnowsNoFault (view_of seated.old) }
+    ensures tries { AnswersFlushTry upto.0 (view_of seated.old) result (view_of seated.new) }
+    ensures works { WorksOn seated.old seated.new }
+    ensures rests { HasNoTurn seated.new }
+{
+    let end = Lsn(see_end(seated, upto.0));
+    if end < upto {
+        return Err(TryFlushErr::Unreserved { end });
     }
-
-    // Writes and syncs what is copied, where that reaches an address below which the pass has seen
-    // all reserved. The locks are visited before the turn to write is taken: what the watch told
-    // stays true, and all of it is written and promised, also above the address.
-    fn harden_copied(
-        &self,
-        seat: &mut LogSeat<D>,
-        number: u32,
-        upto: Lsn,
-    ) -> Result<Hard, TryFlushErr>
-        requires seat { IsSeatOn self.now.table seat.old }
-        requires number { number ≡ seat.old.me.0.reserving.number }
-        // The address is reserved, and the flushed address that the pass loaded is below it.
-        requires reserved { upto.0 ≤ end_form self.now.shape seat.old.me.0.reserving.seen }
-        requires above { seat.old.me.0.flushed < upto.0 }
-        requires rests { (seat.old.me.0.hold ≡ Rests) × (seat.old.me.1 ≡ []) }
-        requires up { KnowsNoFault seat.old.me.0 }
-        ensures told { IfOk result (λ hard. IsToldHard upto.0 hard.upto.0 hard.moment
-            seat.old.me.0 seat.new.me.0
-            × ((hard.upto.0 ≡ seat.new.me.0.flushed) ⊎ (seat.new.me.0.flushed < upto.0))) }
-        ensures why { IfErr result (λ e. TellsFlushTry upto.0 seat.old.me.0 seat.new.me.0 e
-            × (log_of_pass seat.new.me.0 ≡ log_of_pass seat.old.me.0)) }
-        ensures work { KeepsWork seat.old.me.0 seat.new.me.0 }
-        ensures rests { (seat.new.me.0.hold ≡ Rests) × (seat.new.me.1 ≡ []) }
-        ensures seat { IsSeatOn self.now.table seat.new }
-    {
-        let known = match watch(&self.table, seat, &self.shape, upto.0) {
-            Watched::Finished { upto } => upto,
-            Watched::Behind { lock, word } => return Err(TryFlushErr::Behind { lock, word }),
-        };
-        self.take_ready(seat, number)?;
-        self.write_known(seat, known)?;
-        Ok(self.harden(seat)?)
+    if let Some(hard) = told_already(seated, upto) {
+        return Ok(hard);
     }
+    harden_copied(seated, upto)
+}
 
-    // What was flushed already, where that is as far as an address: then the moment is loaded, and
-    // the pass was promised both. Else it has seen that the flushed address is below.
-    fn told_already(&self, seat: &mut LogSeat<D>, upto: Lsn) -> Option<Hard>
-        requires seat { IsSeatOn self.now.table seat.old }
-        requires up { KnowsNoFault seat.old.me.0 }
-        ensures told { IfSome result (λ hard. IsToldHard upto.0 hard.upto.0 hard.moment
-            seat.old.me.0 seat.new.me.0 × (hard.upto.0 ≡ seat.new.me.0.flushed)) }
-        ensures above { IfNone result ((log_of_pass seat.new.me.0 ≡ log_of_pass seat.old.me.0)
-            × (seat.new.me.0.flushed < upto.0) × KnowsNoFault seat.new.me.0) }
-        ensures work { KeepsWork seat.old.me.0 seat.new.me.0 }
-        ensures hold { seat.new.me.0.hold ≡ seat.old.me.0.hold }
-        ensures slots { seat.new.me.1 ≡ seat.old.me.1 }
-        ensures seat { IsSeatOn self.now.table seat.new }
-    {
-        let flushed = Lsn(self.table.load_flushed(seat));
-        if flushed < upto {
-            return None;
-        }
-        let moment = self.table.load_moment(seat);
-        Some(Hard {
-            upto: flushed,
-            moment,
-        })
+// Writes and syncs what is copied, where that reaches an address below which the pass has seen all
+// reserved. The locks are visited before the turn to write is taken: what the watch told stays
+// true, and all of it is written and promised, also above the address.
+fn harden_copied<'p, D: Disk>(
+    seated: &mut SeatedPass<'p, D>,
+    upto: Lsn,
+) -> Result<Hard, TryFlushErr>
+    // The address is reserved, and the flushed address that the pass loaded is below it.
+    requires reserved { upto.0 ≤ end_form (setup_of seated.old)
+        (view_of seated.old).reserving.seen }
+    requires above { (view_of seated.old).writing.flushed < upto.0 }
+    requires rests { HasNoTurn seated.old }
+    requires up { KnowsNoFault (view_of seated.old) }
+    ensures tries { AnswersFlushTry upto.0 (view_of seated.old) result (view_of seated.new) }
+    ensures works { WorksOn seated.old seated.new }
+    ensures rests { HasNoTurn seated.new }
+{
+    let known = match watch(seated, upto.0) {
+        Watched::Finished { upto } => upto,
+        Watched::Behind { lock, word } => return Err(TryFlushErr::Behind { lock, word }),
+    };
+    take_ready(seated)?;
+    write_known(seated, known)?;
+    Ok(harden(seated)?)
+}
+
+// What was flushed already, where that is as far as an address: then the moment is loaded, and the
+// pass was promised both. Else it has seen that the flushed address is below.
+fn told_already<'p, D: Disk>(seated: &mut SeatedPass<'p, D>, upto: Lsn) -> Option<Hard>
+    requires up { KnowsNoFault (view_of seated.old) }
+    ensures told { MatchOption result
+        ((log_of_pass (view_of seated.new) ≡ log_of_pass (view_of seated.old))
+        × ((view_of seated.new).writing.flushed < upto.0) × KnowsNoFault (view_of seated.new))
+        (λ hard. IsToldHard upto.0 hard.upto.0 hard.moment (view_of seated.old)
+        (view_of seated.new) × (hard.upto.0 ≡ (view_of seated.new).writing.flushed)) }
+    ensures stays { StaysAtWork seated.old seated.new }
+{
+    let flushed = Lsn(seated.load_flushed());
+    if flushed < upto {
+        return None;
     }
+    let moment = seated.load_moment();
+    Some(Hard {
+        upto: flushed,
+        moment,
+    })
+}
 
-    // Syncs what is written and stored, tells since which moment it is durable, and gives writer
-    // and turn back. If the disk fails, sets it down and promises nothing: after a failed sync
-    // nobody knows which writes the system still holds.
-    fn harden(&self, seat: &mut LogSeat<D>) -> Result<Hard, DiskFault>
-        // The writer is in hand and has not failed, and all that it has written is stored.
-        requires ready { IsReady D.tape D.moment D.faults self.now.table seat.old }
-        requires stored { (lent_in seat.old.me.0.hold).stored ≡ (writer_in seat.old.me.0).written }
-        requires up { KnowsNoFault seat.old.me.0 }
-        // Just that much is promised. Or the down value is set, and nothing is promised.
-        ensures told { IfOk result (λ hard. (hard.upto.0 ≡ (writer_in seat.old.me.0).written)
-            × IsToldHard hard.upto.0 hard.upto.0 hard.moment seat.old.me.0 seat.new.me.0) }
-        ensures failed { IfErr result (λ e. SetsDownItself e.faults seat.new.me.0
-            × (log_of_pass seat.new.me.0 ≡ log_of_pass seat.old.me.0)) }
-        ensures flushed { seat.new.me.0.flushed ≡ seat.old.me.0.flushed }
-        ensures work { KeepsWork seat.old.me.0 seat.new.me.0 }
-        ensures rests { (seat.new.me.0.hold ≡ Rests) × (seat.new.me.1 ≡ []) }
-        ensures seat { IsSeatOn self.now.table seat.new }
-    {
-        if let Err(fault) = sync_written(&self.table, seat) {
-            self.go_down(seat, fault);
-            return Err(fault);
-        }
-        let hard = self.store_hard(seat);
-        self.give_back(seat);
-        Ok(hard)
+// Syncs what is written and stored, tells since which moment it is durable, and gives writer and
+// turn back. If the disk fails, sets it down and promises nothing: after a failed sync nobody knows
+// which writes the system still holds.
+fn harden<'p, D: Disk>(seated: &mut SeatedPass<'p, D>) -> Result<Hard, DiskFault>
+    // The writer is in hand and has not failed, and all that it has written is stored.
+    requires stored { HasAllStored D.tape D.moment D.faults seated.old }
+    // Just that much is promised. Or the down value is set, and nothing is promised.
+    ensures told { MatchResult result
+        (λ hard. (hard.upto.0 ≡ (writer_in (view_of seated.old)).written)
+        × IsToldHard hard.upto.0 hard.upto.0 hard.moment (view_of seated.old)
+        (view_of seated.new))
+        (λ e. SetsDownItself e.faults (view_of seated.new)
+        × (log_of_pass (view_of seated.new) ≡ log_of_pass (view_of seated.old))) }
+    ensures flushed { (view_of seated.new).writing.flushed
+        ≡ (view_of seated.old).writing.flushed }
+    ensures works { WorksOn seated.old seated.new }
+    ensures rests { HasNoTurn seated.new }
+{
+    if let Err(fault) = sync_written(seated) {
+        go_down(seated, fault);
+        return Err(fault);
     }
+    let hard = store_hard(seated);
+    give_back(seated);
+    Ok(hard)
+}
 
-    // Stores the moment, and then the address below which all is durable since. All that is written
-    // is synced, and stored as written. From the second store on any pass that loads the flushed
-    // address rests on it. The writer stays in hand.
-    fn store_hard(&self, seat: &mut LogSeat<D>) -> Hard
-        requires ready { IsReady D.tape D.moment D.faults self.now.table seat.old }
-        requires stored { (lent_in seat.old.me.0.hold).stored ≡ (writer_in seat.old.me.0).written }
-        requires synced { (writer_in seat.old.me.0).waiting ≡ none }
-        requires up { KnowsNoFault seat.old.me.0 }
-        ensures told { (result.upto.0 ≡ (writer_in seat.old.me.0).written)
-            × IsToldHard result.upto.0 result.upto.0 result.moment seat.old.me.0 seat.new.me.0 }
-        ensures ready { IsReady D.tape D.moment D.faults self.now.table seat.new
-            × IsWrittenStored result.upto.0 seat.new.me.0 }
-        ensures flushed { seat.new.me.0.flushed ≡ seat.old.me.0.flushed }
-        ensures work { KeepsWork seat.old.me.0 seat.new.me.0 }
-    {
-        let now = writer_now(&self.table, seat);
-        self.table.store_moment(seat, now.moment);
-        self.table.store_flushed(seat, now.written);
-        Hard {
-            upto: Lsn(now.written),
-            moment: now.moment,
-        }
+// Stores the moment, and then the address below which all is durable since. All that is written is
+// synced, and stored as written. From the second store on any pass that loads the flushed address
+// rests on it. The writer stays in hand.
+fn store_hard<'p, D: Disk>(seated: &mut SeatedPass<'p, D>) -> Hard
+    requires stored { HasAllStored D.tape D.moment D.faults seated.old }
+    requires synced { (writer_in (view_of seated.old)).waiting ≡ none }
+    ensures told { (result.upto.0 ≡ (writer_in (view_of seated.old)).written)
+        × IsToldHard result.upto.0 result.upto.0 result.moment (view_of seated.old)
+        (view_of seated.new) }
+    ensures stored { HasAllStored D.tape D.moment D.faults seated.new
+        × (result.upto.0 ≤ (writer_in (view_of seated.new)).written) }
+    ensures flushed { (view_of seated.new).writing.flushed
+        ≡ (view_of seated.old).writing.flushed }
+    ensures works { WorksOn seated.old seated.new }
+{
+    let now = writer_now(seated);
+    seated.store_moment(now.moment);
+    seated.store_flushed(now.written);
+    Hard {
+        upto: Lsn(now.written),
+        moment: now.moment,
     }
 }

@@ -11,6 +11,7 @@ mod beginning;
 mod closing;
 mod committing;
 mod copying;
+mod fault;
 mod flushing;
 mod inserting;
 pub mod numbers;

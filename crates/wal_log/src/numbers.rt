@@ -2,10 +2,10 @@
 //! these no other pass is left, and the log may be closed.
 
 ghost use Rattle.wal_rule.specs.Closing.{KeepsNumbers};
-ghost use Rattle.wal_rule.specs.Seats.{SeatView};
+ghost use Rattle.wal_core.specs.Views.{View};
 ghost use Rattle.wal_log.specs.Standing.{KeepsPass};
 
 /// A call that leaves of a pass what `KeepsPass` says takes no number away.
 pub fn calls_keep_numbers()
-    ensures { (old new : SeatView) → KeepsPass old new → KeepsNumbers old new }
+    ensures { (old new : View) → KeepsPass old new → KeepsNumbers old new }
 {}

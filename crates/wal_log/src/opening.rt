@@ -82,10 +82,10 @@ impl<D: Disk> Wal<D> {
     {
         let founding = Founding::of(setup, &disk);
         let writer = LogWriter::new(disk, shape.geometry());
-        match LogTable::open(alloc, words.as_slice(), writer, &founding) {
+        match LogTable::open(alloc, words.as_slice(), writer, shape, &founding) {
             Ok((table, seat)) => {
                 let pass = Pass::of_seat(seat, 0, 1, setup.passes);
-                Ok((Wal { table, shape }, pass))
+                Ok((Wal { table }, pass))
             }
             Err(error) => Err(open_fault(error)),
         }

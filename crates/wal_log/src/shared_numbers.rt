@@ -5,7 +5,8 @@
 
 ghost use Rattle.std.specs.Prelude.{◌≡◌, ℕ, ◌++◌, [], ◌∷◌, List, length};
 ghost use Rattle.machine_laws.specs.ClosedLogs.{HasAllNumbers};
-ghost use Rattle.wal_rule.specs.Seats.{SeatView, seat_after_join, seat_after_split, seat_split_off};
+ghost use Rattle.wal_core.specs.Views.{View};
+ghost use Rattle.wal_core.specs.Moves.{after_join, after_split, split_off};
 ghost use Rattle.wal_log.specs.Sharing.{KeepEach, ShareNumbers};
 
 use wal_rule::numbers::seats_keep_numbers;
@@ -14,19 +15,19 @@ use wal_rule::numbers::seats_keep_numbers;
 /// the end; behind a split, with the new pass behind the others; where each of the others keeps its
 /// own; and behind a join of the first of the others, which has no number to give away.
 pub fn passes_share_numbers()
-    ensures none { (passes : ℕ) (v : SeatView) → HasAllNumbers passes v.reserving
+    ensures none { (passes : ℕ) (v : View) → HasAllNumbers passes v.reserving
         → ShareNumbers passes v [] }
-    ensures all { (passes : ℕ) (v : SeatView) → ShareNumbers passes v []
+    ensures all { (passes : ℕ) (v : View) → ShareNumbers passes v []
         → HasAllNumbers passes v.reserving }
-    ensures split { (passes : ℕ) (v : SeatView) (others : List SeatView)
+    ensures split { (passes : ℕ) (v : View) (others : List View)
         → ShareNumbers passes v others
-        → ShareNumbers passes (seat_after_split v) (others ++ seat_split_off v ∷ []) }
-    ensures kept { (passes : ℕ) (v : SeatView) (old new : List SeatView)
+        → ShareNumbers passes (after_split v) (others ++ split_off v ∷ []) }
+    ensures kept { (passes : ℕ) (v : View) (old new : List View)
         → length new ≡ length old → KeepEach old new → ShareNumbers passes v old
         → ShareNumbers passes v new }
-    ensures join { (passes : ℕ) (v w : SeatView) (others : List SeatView)
+    ensures join { (passes : ℕ) (v w : View) (others : List View)
         → (w.reserving).spare_end ≡ 0 → ShareNumbers passes v (w ∷ others)
-        → ShareNumbers passes (seat_after_join v w) others }
+        → ShareNumbers passes (after_join v w) others }
 {
     seats_keep_numbers();
 }

@@ -5,7 +5,7 @@
 // is not closed.
 ghost use Rattle.std.specs.Prelude.{◌≡◌, ◌<◌};
 ghost use Rattle.wal_rule.specs.Passes.{view_of_pass};
-ghost use Rattle.wal_rule.specs.Seats.{seat_after_join, seat_after_split, seat_split_off};
+ghost use Rattle.wal_core.specs.Moves.{after_join, after_split, split_off};
 ghost use Rattle.wal_log.specs.Logs.{IsPassOfLog};
 
 use crate::wal::Wal;
@@ -19,9 +19,9 @@ impl<D: Disk> Wal<D> {
         requires pass { IsPassOfLog self.now pass.old }
         requires spare { pass.old.spare < pass.old.spare_end }
         ensures left { IsPassOfLog self.now pass.new
-            × (view_of_pass pass.new ≡ seat_after_split (view_of_pass pass.old)) }
+            × (view_of_pass pass.new ≡ after_split (view_of_pass pass.old)) }
         ensures right { IsPassOfLog self.now result
-            × (view_of_pass result ≡ seat_split_off (view_of_pass pass.old)) }
+            × (view_of_pass result ≡ split_off (view_of_pass pass.old)) }
     {
         pass.split(&self.table)
     }
@@ -33,7 +33,7 @@ impl<D: Disk> Wal<D> {
         requires other { IsPassOfLog self.now other }
         ensures pass { IsPassOfLog self.now pass.new }
         ensures view { view_of_pass pass.new
-            ≡ seat_after_join (view_of_pass pass.old) (view_of_pass other) }
+            ≡ after_join (view_of_pass pass.old) (view_of_pass other) }
     {
         pass.join(&self.table, other);
     }

@@ -2,14 +2,12 @@
 // table: shared words, each of which changes by one atomic step, and the writer in its slot.
 // docs/COMMIT.md has a list of who may change which word, and when.
 //
-// Between two calls a pass holds nothing. In an insert it takes an insertion lock, then locks the
-// position, and unlocks that before it copies. While it copies, under that lock, it may take the
-// turn to map or the turn to write, and never has both. A flush takes the turn to write alone, and
-// no insertion lock. A call that waits holds nothing but the lock of a record that it is copying.
-ghost use Rattle.std.specs.Prelude.{◌≡◌};
-ghost use Rattle.wal_rule.specs.Tables.{opening_of_table};
+// Between two calls a pass holds nothing. A call seats it, and puts it back where it is about
+// nothing again. In an insert it takes an insertion lock, then locks the position, and unlocks that
+// before it copies. While it copies, under that lock, it may take the turn to map or the turn to
+// write, and never has both. A flush takes the turn to write alone, and no insertion lock. A call
+// that waits holds nothing but the lock of a record that it is copying.
 
-use machine_words::LogShape;
 use segment_disk::Disk;
 use wal_rule::LogTable;
 
@@ -18,6 +16,4 @@ use wal_rule::LogTable;
 #[derive(Drop)]
 pub struct Wal<D: Disk> {
     pub(crate) table: LogTable<D>,
-    pub(crate) shape: LogShape,
-    pub(crate) ghost of_table: { shape ≡ (opening_of_table table).setup },
 }

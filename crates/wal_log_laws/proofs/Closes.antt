@@ -5,19 +5,21 @@ use Rattle.segment_disk.specs.Tape.{Tape}
 use Rattle.flush_core.specs.Pages.{HoldsNothing}
 use Rattle.wal_page.specs.Order.{Entry}
 use Rattle.wal_core.specs.declared.setup.Setup.{Setup}
-use Rattle.wal_core.specs.Suited.{BeganSuited}
+use Rattle.wal_core.specs.Suited.{BeganSuited, tape_from}
 use Rattle.wal_core.specs.Views.{FlushPromise, View}
 use Rattle.wal_core.specs.Words.{Opening, end_form}
 use Rattle.wal_core.proofs.Tapes.{at_told}
 use Rattle.wal_rule.specs.declared.pass.Pass.{Pass}
 use Rattle.wal_rule.specs.Closing.{ClosesWith}
 use Rattle.wal_rule.specs.Passes.{view_of_pass}
-use Rattle.wal_rule.specs.Slotted.{slot_disk, slot_plain}
+use Rattle.wal_rule.specs.Slotted.{first_on, slot_disk, slot_plain}
 use Rattle.wal_rule.specs.Tables.{began_of_table}
+use Rattle.wal_rule.proofs.SlotTapes.{tape_on_first}
 use Rattle.wal_rule.proofs.OpeningTold.{began_suited}
 use Rattle.closed_log.specs.Closed.{IsClosedOn, WasPromised}
 use Rattle.closed_log.specs.Rising.{LogsAreOfOrder}
 use Rattle.closed_log.specs.Whole.{HoldsWhole}
+use Rattle.closed_log.proofs.Closing.{told_from}
 use Rattle.closed_log.proofs.Fronts.{survive}
 use Rattle.closed_log.proofs.Promises.{within_words}
 use Rattle.closed_log.proofs.ReadWhole.{whole}
@@ -26,7 +28,7 @@ use Rattle.closed_log.proofs.Timeliness.{timely}
 use Rattle.wal_log.specs.declared.closing.Closed.{Closed}
 use Rattle.wal_log.specs.declared.wal.Wal.{Wal}
 use Rattle.wal_log.specs.Logs.{opening_of_log, setup_of_log, table_of}
-use Rattle.wal_log_laws.specs.Keeping.{IsClosedFrom, KeepsPromises, LeavesOrder, end_of_order, last_view}
+use Rattle.wal_log_laws.specs.Keeping.{IsClosedFrom, KeepsPromises, LeavesOrder, end_of_order}
 
 -- ---- what a closed log keeps
 
@@ -64,7 +66,7 @@ module _ {D : Type 0} (tape : D → Option Tape) (moment faults : D → ℕ)
   began = began_of_table tape (table_of wal)
 
   abbrev mine : View
-  mine = last_view tape wal pass
+  mine = view_of_pass pass
 
   abbrev ends : ClosesWith tape moment faults (began_of_table tape (table_of wal))
       (opening_of_log wal) (view_of_pass pass) (run.closes).writer (run.closes).position
@@ -102,25 +104,32 @@ module _ {D : Type 0} (tape : D → Option Tape) (moment faults : D → ℕ)
         (subst HoldsNothing (sym (run.opened).began) nothing) counted (ends.of_log).on_first
         (ends.of_log).goes_on)
 
+    -- the tape that the disk tells is that of the last state's writer
+    own : tape_from (first_on began) (slot_plain tape moment (run.closes).writer).calls ≡ Some t
+    own = tape_on_first (first_on began) (tape (slot_disk (run.closes).writer)) (ends.of_log).on_first
+        ∙ tape_is
+
     closed_on : IsClosedOn (opening_of_log wal) (((run.closes).closes).sound).order t
-        (last_view tape wal pass)
-    closed_on = record {
-      words = ends.words;
-      writer = slot_plain tape moment (run.closes).writer;
-      views = ends.views;
-      id = ends.id;
-      sound = ends.sound;
-      order_is = refl;
-      here = ends.here;
-      closed = ends.closed;
-      narrow = subst (λ (n : ℕ). n < 2 ^ 64)
-          (sym (ap (λ (o : Opening). (o.setup).sysid) (run.opened).opening)) narrow;
-      tape_is = tape_is;
-      began = began_on;
-    }
+        (view_of_pass pass)
+    closed_on = told_from (λ (t : Tape). BeganSuited opening t → IsClosedOn opening order t mine)
+        (first_on began) (slot_plain tape moment (run.closes).writer).calls t own
+        (λ calls is suited. record {
+          words = ends.words;
+          writer = slot_plain tape moment (run.closes).writer;
+          views = ends.views;
+          id = ends.id;
+          sound = ends.sound;
+          order_is = refl;
+          here = ends.here;
+          closed = ends.closed;
+          narrow = subst (λ (n : ℕ). n < 2 ^ 64)
+              (sym (ap (λ (o : Opening). (o.setup).sysid) (run.opened).opening)) narrow;
+          calls_is = is;
+          began = suited;
+        }) began_on
 
     keeps : KeepsPromises (opening_of_log wal) (((run.closes).closes).sound).order t
-        (last_view tape wal pass)
+        (view_of_pass pass)
     keeps = keeps_promises opening order t mine closed_on logs
 
   pub leaves_order : (order : List Entry) × LeavesOrder tape disk wal pass closed order

@@ -3,11 +3,9 @@ use Rattle.std.proofs.Common.{inl, inr, ℕ, Contains, List, sym, ap, subst, ari
 use Rattle.std.proofs.lemmas.List.Elements.{Contains-append_left, Contains-push}
 use Rattle.record_spelling.specs.Spelling.{Assembled}
 use Rattle.wal_types.specs.declared.answers.Sealed.{Sealed}
-use Rattle.segment_disk.specs.Tape.{DiskState}
 use Rattle.wal_page.specs.Order.{Entry, finish_of}
 use Rattle.wal_core.specs.declared.setup.Setup.{Setup}
-use Rattle.wal_core.specs.Views.{FlushPromise}
-use Rattle.wal_rule.specs.Seats.{SeatView, view_on}
+use Rattle.wal_core.specs.Views.{FlushPromise, View}
 use Rattle.closed_log.specs.Closed.{WasPromised}
 use Rattle.wal_log.specs.Committing.{IsSealed}
 use Rattle.wal_log.specs.Flushing.{IsToldHard}
@@ -18,21 +16,21 @@ use Rattle.wal_log_laws.specs.Told.{HasEntry, HasPromise, Promises, promise_to}
 
 -- ---- what a call tells
 
-pub reserved : (setup : Setup) (body : Assembled) (old new : SeatView) (e : Entry)
+pub reserved : (setup : Setup) (body : Assembled) (old new : View) (e : Entry)
     → HasReserved setup body old new e → Contains (log_of_pass new).entries e
 reserved setup body old new e has = subst (λ (l : PassLog). Contains l.entries e)
     (sym has.log_is) (Contains-push (old.reserving).entries e)
 
-pub told_promises : (asked upto moment : ℕ) (old new : SeatView)
+pub told_promises : (asked upto moment : ℕ) (old new : View)
     → IsToldHard asked upto moment old new
     → Promises (log_of_pass new) asked (promise_to (log_of_pass old) upto moment)
 told_promises asked upto moment old new told = record {
   in_log = subst (λ (l : PassLog). Contains l.promises (promise_to (log_of_pass old) upto moment))
-      (sym told.log_is) (Contains-push old.promises (promise_to (log_of_pass old) upto moment));
+      (sym told.log_is) (Contains-push old.writing.promises (promise_to (log_of_pass old) upto moment));
   reaches = told.reached;
 }
 
-module _ (setup : Setup) (body : Assembled) (old new : SeatView) (sealed : Sealed)
+module _ (setup : Setup) (body : Assembled) (old new : View) (sealed : Sealed)
     (s : IsSealed setup body old new sealed) where
   abbrev promise : FlushPromise
   promise = promise_to (log_with_entry s.entry (log_of_pass old)) s.upto sealed.moment
@@ -44,7 +42,7 @@ module _ (setup : Setup) (body : Assembled) (old new : SeatView) (sealed : Seale
   promise_in_log : Contains (log_of_pass new).promises
       (promise_to (log_with_entry s.entry (log_of_pass old)) s.upto sealed.moment)
   promise_in_log = subst (λ (l : PassLog). Contains l.promises promise) (sym s.log_is)
-      (Contains-push old.promises promise)
+      (Contains-push old.writing.promises promise)
 
   pub commit_promises : Promises (log_of_pass new) (finish_of setup.segment_size s.entry)
       (promise_to (log_with_entry s.entry (log_of_pass old)) s.upto sealed.moment)
@@ -69,7 +67,7 @@ still_has : {A : Type 0} → (front whole : List A) (x : A) → IsFrontOf front 
 still_has {A} front whole x goes has = subst (λ (xs : List A). Contains xs x) (sym goes.1)
     (Contains-append_left front goes.0 x has)
 
-pub still_entry : (l : PassLog) (v : SeatView) (e : Entry) → Contains l.entries e
+pub still_entry : (l : PassLog) (v : View) (e : Entry) → Contains l.entries e
     → HasGrown l v → HasEntry e v
 still_entry l v e has grown = (
   grown.0,
@@ -77,7 +75,7 @@ still_entry l v e has grown = (
   still_has l.entries (grown.0).entries e (grown.1).entries has,
 )
 
-pub still_promise : (l : PassLog) (v : SeatView) (address : ℕ) (p : FlushPromise)
+pub still_promise : (l : PassLog) (v : View) (address : ℕ) (p : FlushPromise)
     → Promises l address p → HasGrown l v → HasPromise address p v
 still_promise l v address p has grown = (
   grown.0,
@@ -90,19 +88,19 @@ still_promise l v address p has grown = (
 
 -- ---- what is closed
 
-promised_in : (first : DiskState) (l : PassLog) (v : SeatView) (p : FlushPromise)
-    → HasLog l v → Contains l.promises p → WasPromised (view_on first v) l.entries p
-promised_in first l v p (inl own) has = inl (
+promised_in : (l : PassLog) (v : View) (p : FlushPromise)
+    → HasLog l v → Contains l.promises p → WasPromised v l.entries p
+promised_in l v p (inl own) has = inl (
   ap (λ (x : PassLog). x.entries) own,
   subst (λ (x : PassLog). Contains x.promises p) own has,
 )
-promised_in first l v p (inr its) has = inr (
+promised_in l v p (inr its) has = inr (
   its.0,
   its.1,
   ap (λ (x : PassLog). x.entries) its.2,
   subst (λ (x : PassLog). Contains x.promises p) its.2 has,
 )
 
-pub was_promised : (first : DiskState) (v : SeatView) (address : ℕ) (p : FlushPromise)
-    (has : HasPromise address p v) → WasPromised (view_on first v) (has.0).entries p
-was_promised first v address p has = promised_in first has.0 v p has.1 (has.2).in_log
+pub was_promised : (v : View) (address : ℕ) (p : FlushPromise)
+    (has : HasPromise address p v) → WasPromised v (has.0).entries p
+was_promised v address p has = promised_in has.0 v p has.1 (has.2).in_log

@@ -7,24 +7,21 @@ use Rattle.byte_position.specs.Position.{address_of}
 use Rattle.record_spelling.specs.Spelling.{Assembled}
 use Rattle.wal_types.specs.declared.answers.Sealed.{Sealed}
 use Rattle.flush_core.specs.Pages.{HoldsNothing}
-use Rattle.segment_disk.specs.Tape.{DiskState, Tape}
+use Rattle.segment_disk.specs.Tape.{Tape}
 use Rattle.wal_page.specs.Order.{Entry, finish_of}
 use Rattle.wal_core.specs.Ordered.{entries_under, is_pass}
-use Rattle.wal_core.specs.Views.{FlushPromise, Joined}
+use Rattle.wal_core.specs.Views.{FlushPromise, Joined, View}
 use Rattle.wal_core.specs.Words.{Opening}
 use Rattle.wal_reader.specs.declared.found.FoundRecord.{FoundRecord}
 use Rattle.written_log.specs.Written.{found_entry, found_from}
 use Rattle.wal_rule.specs.declared.pass.Pass.{Pass}
 use Rattle.wal_rule.specs.Passes.{view_of_pass}
-use Rattle.wal_rule.specs.Seats.{SeatView, view_on}
-use Rattle.wal_rule.specs.Slotted.{first_on}
-use Rattle.wal_rule.specs.Tables.{began_of_table}
 use Rattle.closed_log.specs.Rising.{LogsAreOfOrder}
 use Rattle.closed_log.specs.Surviving.{IsFrontAsPromised}
 use Rattle.wal_log.specs.declared.closing.Closed.{Closed}
 use Rattle.wal_log.specs.declared.wal.Wal.{Wal}
 use Rattle.wal_log.specs.Committing.{IsSealed}
-use Rattle.wal_log.specs.Logs.{opening_of_log, setup_of_log, table_of}
+use Rattle.wal_log.specs.Logs.{opening_of_log, setup_of_log}
 use Rattle.wal_log.specs.PassLogs.{PassLog, log_of_pass, log_with_entry}
 use Rattle.wal_log_laws.specs.Growing.{HasGrown, HasLog}
 use Rattle.wal_log_laws.specs.Keeping.{KeepsPromises, LeavesOrder}
@@ -85,7 +82,7 @@ in_front order e n count within below low is =
 
 -- ---- what a pass has is in the order
 
-log_in_order : (opening : Opening) (order : List Entry) (v : SeatView)
+log_in_order : (opening : Opening) (order : List Entry) (v : View)
     → LogsAreOfOrder opening order v.reserving → (l : PassLog) → HasLog l v
     → (number : ℕ) × (l.entries ≡ entries_under number order)
 log_in_order opening order v logs l (inl own) =
@@ -97,7 +94,7 @@ log_in_order opening order v logs l (inr its) = (
       (v.reserving).joined its.0 logs.joined its.1,
 )
 
-entry_in_order : (opening : Opening) (order : List Entry) (v : SeatView)
+entry_in_order : (opening : Opening) (order : List Entry) (v : View)
     → LogsAreOfOrder opening order v.reserving → (e : Entry) → HasEntry e v → Contains order e
 entry_in_order opening order v logs e has =
     let part = log_in_order opening order v logs has.0 has.1 in
@@ -105,15 +102,14 @@ entry_in_order opening order v logs e has =
 
 -- ---- what survives
 
-pub survives : (opening : Opening) (order : List Entry) (t : Tape) (first : DiskState)
-    (v : SeatView) → KeepsPromises opening order t (view_on first v) → (e : Entry)
+pub survives : (opening : Opening) (order : List Entry) (t : Tape) (v : View) → KeepsPromises opening order t v → (e : Entry)
     (p : FlushPromise) → HasEntry e v → HasPromise (finish_of (opening.setup).segment_size e) p v
     → Survives (opening.setup).segment_size order t p.moment e
-survives opening order t first v k e p has told moment image since left torn found answer decodes =
+survives opening order t v k e p has told moment image since left torn found answer decodes =
     let size = (opening.setup).segment_size in
-    let was = was_promised first v (finish_of size e) p told in
+    let was = was_promised v (finish_of size e) p told in
     let began = (k.timely (told.0).entries p was).since in
-    let f : IsFrontAsPromised size moment order (view_on first v) found =
+    let f : IsFrontAsPromised size moment order v found =
     k.fronts moment image (omega (arith, began, since)) left torn found answer decodes in
     let at = entry_in_order opening order v k.logs e has in
     let below = f.promised (told.0).entries p was since at.0 e
@@ -133,7 +129,7 @@ pub sealed_survives : {D : Type 0} → (tape : D → Option Tape) (disk : D) (wa
     (pass : Pass) (closed : Closed D) (order : List Entry)
     → LeavesOrder tape disk wal pass closed order → HoldsNothing (tape disk)
     → (t : Tape) → tape closed.disk ≡ Some t
-    → (body : Assembled) (old new : SeatView) (sealed : Sealed)
+    → (body : Assembled) (old new : View) (sealed : Sealed)
     (s : IsSealed (setup_of_log wal) body old new sealed)
     → HasGrown (log_of_pass new) (view_of_pass pass)
     → Survives (setup_of_log wal).segment_size order t sealed.moment s.entry
@@ -141,7 +137,7 @@ sealed_survives tape disk wal pass closed order leaves nothing t told body old n
     let setup = setup_of_log wal in
     let v = view_of_pass pass in
     let p = promise_to (log_with_entry s.entry (log_of_pass old)) s.upto sealed.moment in
-    survives (opening_of_log wal) order t (first_on (began_of_table tape (table_of wal))) v
+    survives (opening_of_log wal) order t v
     (leaves.keeps nothing t told) s.entry p
     (still_entry (log_of_pass new) v s.entry (commit_reserved setup body old new sealed s) grown)
     (still_promise (log_of_pass new) v (finish_of setup.segment_size s.entry) p

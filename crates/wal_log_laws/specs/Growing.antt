@@ -1,8 +1,7 @@
 -- How the log of a pass grows, and who has it once its pass was taken in.
 use Rattle.std.specs.Prelude.{◌≡◌, ◌⊎◌, Contains, List, ◌++◌}
 use Rattle.wal_core.specs.PassLogs.{log_of_joined}
-use Rattle.wal_core.specs.Views.{Joined}
-use Rattle.wal_rule.specs.Seats.{SeatView}
+use Rattle.wal_core.specs.Views.{Joined, View}
 use Rattle.wal_log.specs.PassLogs.{PassLog, log_of_pass}
 
 -- a list has all of another one first, and then more
@@ -16,10 +15,10 @@ pub record GrowsTo (old new : PassLog) : Type 0 where
   pub promises : IsFrontOf old.promises new.promises
 
 -- a pass has a log: it is its own, or that of a pass that it took in
-abbrev pub HasLog : PassLog → SeatView → Type 0
+abbrev pub HasLog : PassLog → View → Type 0
 HasLog l v = (l ≡ log_of_pass v)
     ⊎ ((j : Joined) × Contains (v.reserving).joined j × (l ≡ log_of_joined j))
 
 -- a pass has a log that grew from this one
-abbrev pub HasGrown : PassLog → SeatView → Type 0
+abbrev pub HasGrown : PassLog → View → Type 0
 HasGrown l v = (grown : PassLog) × GrowsTo l grown × HasLog grown v

@@ -8,9 +8,6 @@ use Rattle.wal_core.specs.Words.{Opening, end_form, flushed_word}
 use Rattle.wal_core.specs.Views.{FlushPromise, View}
 use Rattle.wal_rule.specs.declared.pass.Pass.{Pass}
 use Rattle.wal_rule.specs.Passes.{view_of_pass}
-use Rattle.wal_rule.specs.Seats.{view_on}
-use Rattle.wal_rule.specs.Slotted.{first_on}
-use Rattle.wal_rule.specs.Tables.{began_of_table}
 use Rattle.closed_log.specs.Closed.{IsClosedOn, WasPromised}
 use Rattle.closed_log.specs.Rising.{LogsAreOfOrder}
 use Rattle.closed_log.specs.Surviving.{LeavesFronts}
@@ -19,7 +16,7 @@ use Rattle.closed_log.specs.Whole.{HoldsWhole}
 use Rattle.wal_log.specs.declared.closing.Closed.{Closed}
 use Rattle.wal_log.specs.declared.wal.Wal.{Wal}
 use Rattle.wal_log.specs.Closing.{ClosesLog}
-use Rattle.wal_log.specs.Logs.{opening_of_log, setup_of_log, table_of}
+use Rattle.wal_log.specs.Logs.{opening_of_log, setup_of_log}
 use Rattle.wal_log.specs.Opening.{IsOpened}
 
 -- the address at which an order ends
@@ -46,10 +43,6 @@ pub record KeepsPromises (opening : Opening) (order : List Entry) (t : Tape) (v 
         → HoldsWhole (opening.setup).segment_size t order
 
 module _ {D : Type 0} (tape : D → Option Tape) where
-  -- what the last pass of a log knew, as the machine has it
-  abbrev pub last_view : Wal D → Pass → View
-  last_view wal pass = view_on (first_on (began_of_table tape (table_of wal))) (view_of_pass pass)
-
   -- a log that was opened on a disk leaves this order, which ends where its closing told; each
   -- pass's log is its part of the order; and where the disk told that it held nothing, the log
   -- keeps what was promised
@@ -58,7 +51,7 @@ module _ {D : Type 0} (tape : D → Option Tape) where
     pub end_is : closed.end.0 ≡ end_of_order (setup_of_log wal) order
     pub logs : LogsAreOfOrder (opening_of_log wal) order (view_of_pass pass).reserving
     pub keeps : HoldsNothing (tape disk) → (t : Tape) → tape closed.disk ≡ Some t
-        → KeepsPromises (opening_of_log wal) order t (last_view wal pass)
+        → KeepsPromises (opening_of_log wal) order t (view_of_pass pass)
 
   -- a log was opened on a disk with this setup, and this pass closed it
   pub record IsClosedFrom (moment faults : D → ℕ) (setup : Setup) (disk : D) (wal : Wal D)

@@ -1,8 +1,7 @@
 -- What a pass was told of flushes, and the entries and promises that it has once it took others in.
 use Rattle.std.specs.Prelude.{ℕ, ◌≤◌, Contains, length}
 use Rattle.wal_page.specs.Order.{Entry}
-use Rattle.wal_core.specs.Views.{FlushPromise}
-use Rattle.wal_rule.specs.Seats.{SeatView}
+use Rattle.wal_core.specs.Views.{FlushPromise, View}
 use Rattle.wal_log.specs.PassLogs.{PassLog}
 use Rattle.wal_log_laws.specs.Growing.{HasLog}
 
@@ -17,9 +16,9 @@ pub record Promises (l : PassLog) (address : ℕ) (p : FlushPromise) : Type 0 wh
   pub reaches : address ≤ p.upto
 
 -- a pass has an entry: it stands in a log that the pass has
-abbrev pub HasEntry : Entry → SeatView → Type 0
+abbrev pub HasEntry : Entry → View → Type 0
 HasEntry e v = (l : PassLog) × HasLog l v × Contains l.entries e
 
 -- a pass has a promise that reaches an address: it was made to a log that the pass has
-abbrev pub HasPromise : ℕ → FlushPromise → SeatView → Type 0
+abbrev pub HasPromise : ℕ → FlushPromise → View → Type 0
 HasPromise address p v = (l : PassLog) × HasLog l v × Promises l address p

@@ -2,7 +2,7 @@
 
 ghost use Rattle.std.specs.Prelude.{◌≡◌, ◌⊎◌, ℕ, ◌^◌, ◌<◌, Contains, List, Result, Some};
 ghost use Rattle.record_spelling.specs.Spelling.{Assembled};
-ghost use Rattle.segment_disk.specs.Tape.{DiskState, Tape};
+ghost use Rattle.segment_disk.specs.Tape.{Tape};
 ghost use Rattle.flush_core.specs.Pages.{HoldsNothing};
 ghost use Rattle.wal_page.specs.Order.{Entry, finish_of};
 ghost use Rattle.wal_types.specs.declared.answers.Hard.{Hard};
@@ -10,11 +10,11 @@ ghost use Rattle.wal_types.specs.declared.answers.Receipt.{Receipt};
 ghost use Rattle.wal_types.specs.declared.answers.Refused.{Refused};
 ghost use Rattle.wal_types.specs.declared.answers.Sealed.{Sealed};
 ghost use Rattle.wal_core.specs.declared.setup.Setup.{Setup};
-ghost use Rattle.wal_core.specs.Views.{FlushPromise};
+ghost use Rattle.wal_core.specs.Views.{FlushPromise, View};
 ghost use Rattle.wal_core.specs.Words.{Opening};
 ghost use Rattle.wal_rule.specs.declared.pass.Pass.{Pass};
 ghost use Rattle.wal_rule.specs.Passes.{view_of_pass};
-ghost use Rattle.wal_rule.specs.Seats.{SeatView, seat_after_join, seat_after_split, view_on};
+ghost use Rattle.wal_core.specs.Moves.{after_join, after_split};
 ghost use Rattle.closed_log.specs.Closed.{WasPromised};
 ghost use Rattle.wal_log.specs.Committing.{AnswersCommit, IsSealed};
 ghost use Rattle.wal_log.specs.Flushing.{AnswersFlush, IsToldHard};
@@ -36,54 +36,54 @@ use segment_disk::Disk;
 /// Whatever a call answers, the log of its pass only grows. A split and a join leave it as it was;
 /// and a pass that took another one in has each log that either had.
 pub fn logs_only_grow()
-    ensures inserts { (setup : Setup) (body : Assembled) (old new : SeatView)
+    ensures inserts { (setup : Setup) (body : Assembled) (old new : View)
         (answer : Result Receipt InsertErr) → AnswersInsert setup body old answer new
         → GrowsTo (log_of_pass old) (log_of_pass new) }
-    ensures flushes { (asked : ℕ) (old new : SeatView) (answer : Result Hard FlushErr)
+    ensures flushes { (asked : ℕ) (old new : View) (answer : Result Hard FlushErr)
         → AnswersFlush asked old answer new → GrowsTo (log_of_pass old) (log_of_pass new) }
-    ensures commits { (setup : Setup) (body : Assembled) (old new : SeatView)
+    ensures commits { (setup : Setup) (body : Assembled) (old new : View)
         (answer : Result Sealed Refused) → AnswersCommit setup body old answer new
         → GrowsTo (log_of_pass old) (log_of_pass new) }
     ensures stays { (l : PassLog) → GrowsTo l l }
     ensures again { (first second third : PassLog) → GrowsTo first second
         → GrowsTo second third → GrowsTo first third }
-    ensures own { (v w : SeatView) → (log_of_pass (seat_after_split v) ≡ log_of_pass v)
-        × (log_of_pass (seat_after_join v w) ≡ log_of_pass v) }
-    ensures join { (l : PassLog) (v w : SeatView) → HasLog l v ⊎ HasLog l w
-        → HasLog l (seat_after_join v w) }
+    ensures own { (v w : View) → (log_of_pass (after_split v) ≡ log_of_pass v)
+        × (log_of_pass (after_join v w) ≡ log_of_pass v) }
+    ensures join { (l : PassLog) (v w : View) → HasLog l v ⊎ HasLog l w
+        → HasLog l (after_join v w) }
 {}
 
 /// So a log that a pass had, grown since, some pass has until the last one closes: behind each call
 /// of its own, behind a split, and in the pass that took it in.
 pub fn logs_are_never_lost()
-    ensures own { (v : SeatView) → HasGrown (log_of_pass v) v }
-    ensures calls { (l : PassLog) (old new : SeatView) → KeepsPass old new
+    ensures own { (v : View) → HasGrown (log_of_pass v) v }
+    ensures calls { (l : PassLog) (old new : View) → KeepsPass old new
         → GrowsTo (log_of_pass old) (log_of_pass new) → HasGrown l old → HasGrown l new }
-    ensures split { (l : PassLog) (v : SeatView) → HasGrown l v
-        → HasGrown l (seat_after_split v) }
-    ensures join { (l : PassLog) (v w : SeatView) → HasGrown l v ⊎ HasGrown l w
-        → HasGrown l (seat_after_join v w) }
+    ensures split { (l : PassLog) (v : View) → HasGrown l v
+        → HasGrown l (after_split v) }
+    ensures join { (l : PassLog) (v w : View) → HasGrown l v ⊎ HasGrown l w
+        → HasGrown l (after_join v w) }
 {}
 
 /// A record that was reserved stands in its pass's log. What a flush or a commit tells is a promise
 /// to that log, of the address that was asked for or a higher one, or of the end of the commit's
 /// record. And the last pass has all of it, where it has the log, grown since.
 pub fn what_was_told_was_promised()
-    ensures entry { (setup : Setup) (body : Assembled) (old new : SeatView) (e : Entry)
+    ensures entry { (setup : Setup) (body : Assembled) (old new : View) (e : Entry)
         → HasReserved setup body old new e → Contains (log_of_pass new).entries e }
-    ensures flush { (asked upto moment : ℕ) (old new : SeatView)
+    ensures flush { (asked upto moment : ℕ) (old new : View)
         → IsToldHard asked upto moment old new
         → Promises (log_of_pass new) asked (promise_to (log_of_pass old) upto moment) }
-    ensures commit { (setup : Setup) (body : Assembled) (old new : SeatView) (sealed : Sealed)
+    ensures commit { (setup : Setup) (body : Assembled) (old new : View) (sealed : Sealed)
         (s : IsSealed setup body old new sealed) → Contains (log_of_pass new).entries s.entry
         × Promises (log_of_pass new) sealed.end.0
         (promise_to (log_with_entry s.entry (log_of_pass old)) s.upto sealed.moment) }
-    ensures still_entry { (l : PassLog) (v : SeatView) (e : Entry) → Contains l.entries e
+    ensures still_entry { (l : PassLog) (v : View) (e : Entry) → Contains l.entries e
         → HasGrown l v → HasEntry e v }
-    ensures still_promise { (l : PassLog) (v : SeatView) (address : ℕ) (p : FlushPromise)
+    ensures still_promise { (l : PassLog) (v : View) (address : ℕ) (p : FlushPromise)
         → Promises l address p → HasGrown l v → HasPromise address p v }
-    ensures closed { (first : DiskState) (v : SeatView) (address : ℕ) (p : FlushPromise)
-        (has : HasPromise address p v) → WasPromised (view_on first v) has.0.entries p }
+    ensures closed { (v : View) (address : ℕ) (p : FlushPromise)
+        (has : HasPromise address p v) → WasPromised v has.0.entries p }
 {}
 
 /// A log that was opened on a disk and closed leaves one order, which ends where the closing told;
@@ -106,12 +106,12 @@ pub fn sealed_records_survive<D: Disk>()
     ensures sealed { (disk : D) (wal : Wal D) (pass : Pass) (closed : Closed D)
         (order : List Entry) → LeavesOrder D.tape disk wal pass closed order
         → HoldsNothing (D.tape disk) → (t : Tape) → D.tape closed.disk ≡ Some t
-        → (body : Assembled) (old new : SeatView) (sealed : Sealed)
+        → (body : Assembled) (old new : View) (sealed : Sealed)
         (s : IsSealed (setup_of_log wal) body old new sealed)
         → HasGrown (log_of_pass new) (view_of_pass pass)
         → Survives (setup_of_log wal).segment_size order t sealed.moment s.entry }
-    ensures entries { (opening : Opening) (order : List Entry) (t : Tape) (first : DiskState)
-        (v : SeatView) → KeepsPromises opening order t (view_on first v)
+    ensures entries { (opening : Opening) (order : List Entry) (t : Tape)
+        (v : View) → KeepsPromises opening order t v
         → (e : Entry) (p : FlushPromise) → HasEntry e v
         → HasPromise (finish_of (opening.setup).segment_size e) p v
         → Survives (opening.setup).segment_size order t p.moment e }

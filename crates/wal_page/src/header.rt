@@ -8,9 +8,7 @@ ghost use Rattle.record_spelling.specs.Spelling.{word_at};
 ghost use Rattle.wal_page.specs.Page.{header_size, is_first_page, page_header};
 
 use crate::layout::{BACKUP_REMOVABLE, CONTINUED, LONG, MAGIC};
-use byte_position::{Geometry, PAGE_SIZE};
-
-const TIMELINE: u32 = 1;
+use byte_position::{Geometry, PAGE_SIZE, TIMELINE};
 
 /// The n-th word of a page's header (PostgreSQL's XLogLongPageHeaderData of xlog_internal.h), where
 /// a record continues into the page with `remaining` bytes still to come (0: none does).

@@ -1,10 +1,9 @@
 -- What is found in pages is what they decode to.
-use Rattle.std.proofs.Common.{◌≡◌, ◌↔◌, ℕ, ◌/◌, List, [], ◌∷◌, Option, Some, None, Result, Ok, Err, refl, sym, ap, ap₂, subst, ◌∙◌}
+use Rattle.std.proofs.Common.{◌≡◌, ℕ, ◌/◌, List, [], ◌∷◌, Option, Some, None, Result, Ok, Err, refl, sym, ap, ap₂, subst, ◌∙◌}
 use Rattle.std.specs.Prelude.{filter, nat_le}
 use Rattle.std.specs.Int.{w32, w64}
-use Rattle.byte_position.specs.Geometry.{IsSegmentSize}
+use Rattle.std.specs.Result.{MatchResult}
 use Rattle.byte_position.specs.Position.{address_of}
-use Rattle.segment_disk.specs.DiskImage.{DiskImage}
 use Rattle.record_spelling.specs.Numbers.{number_at}
 use Rattle.record_decode.specs.Spells.{Spells}
 use Rattle.wal_page.specs.Page.{first_fault}
@@ -12,7 +11,7 @@ use Rattle.wal_reader.specs.declared.found.Answer.{Answer}
 use Rattle.wal_reader.specs.declared.found.FoundRecord.{FoundRecord}
 use Rattle.wal_reader.specs.declared.record_place.RecordPlace.{RecordPlace}
 use Rattle.wal_reader.specs.Decodes.{Decodes, ReadsAt, ReadsFrom, ReadsIn, ReadsRecords, Says, TellsOrSays, beginning, found_record, has_compressed, malformed, place_behind, record_rows, spelled}
-use Rattle.wal_reader.specs.Finds.{FindingIsDecoding, FindsRecords, FindsBegun, FindsFrom, IsRecordAt}
+use Rattle.wal_reader.specs.Finds.{FindingIsDecoding, FindsRecords, FindsFrom, IsRecordAt}
 use Rattle.wal_reader.specs.Pages.{Pages, bytes_from, pages_in}
 use Rattle.wal_reader.proofs.ReadAtLaws.{read_at_of}
 use Rattle.wal_reader.proofs.SettledLaws.{decoding_is_settled}
@@ -136,6 +135,10 @@ finds_read size pages place (r ∷ rs) answer reads = (
 )
 
 -- ---- from where reading begins
+
+abbrev FindsBegun : ℕ → Pages → Result RecordPlace Answer → List FoundRecord → Type 0
+FindsBegun size pages begun found =
+    MatchResult begun (λ place. FindsFrom size pages place found) (λ answer. found ≡ [])
 
 same_begun : (size : ℕ) (pages : Pages) (begun : Result RecordPlace Answer)
     (found read : List FoundRecord) (answer : Answer) → FindsBegun size pages begun found

@@ -1,4 +1,5 @@
 pub mod CacheLaws
+pub mod ReadsOnLaws
 pub mod BeginningLaws
 pub mod GatherLaws
 pub mod PageCheckLaws

@@ -8,6 +8,8 @@ use Rattle.wal_reader.specs.declared.standing.Standing.TheVariants.{NotBegun, At
 use Rattle.wal_reader.specs.declared.record_place.RecordPlace.{RecordPlace}
 use Rattle.wal_reader.specs.LogReader.{ReaderState, GivesRecords, GivesAt, IsNext, LeavesReader, OnEnd, StandsAfter}
 use Rattle.wal_reader.specs.Pages.{Pages}
+use Rattle.wal_reader.specs.Spelled.{GivesSpelledIn}
+use Rattle.std.specs.Prelude.{IfOk}
 use Rattle.wal_reader.specs.Standings.{standing_after, told}
 use Rattle.wal_reader.specs.Steps.{Comes}
 
@@ -41,3 +43,8 @@ StandsAfter-told size standing (Stopped stop) = tt
 pub Leaves-told : (old : ReaderState) (answer : Answer) → LeavesReader old (record old { standing = standing_after old.standing answer }) (told answer)
 Leaves-told old (End at) = refl
 Leaves-told old (Stopped stop) = refl
+
+-- no answer is a record
+pub SpelledIn-told : (size : ℕ) (pages : Pages) (answer : Answer) → IfOk (told answer) (GivesSpelledIn size pages)
+SpelledIn-told size pages (End at) = tt
+SpelledIn-told size pages (Stopped stop) = tt

@@ -4,8 +4,13 @@ use Rattle.std.proofs.lemmas.Bool.{cond-true}
 use Rattle.wal_page.specs.Page.{first_fault, is_continued, is_overwritten, remaining_of}
 use Rattle.wal_reader.specs.declared.found.Answer.{Answer}
 use Rattle.wal_reader.specs.declared.found.DamageKind.TheVariants as kinds
-use Rattle.wal_reader.specs.Decodes.{damaged, overwritten, continuation_rows_of, page_answers}
+use Rattle.wal_reader.specs.declared.found.Answer.TheVariants as answers
+use Rattle.wal_reader.specs.declared.found.Stopped.TheVariants as stopped
+use Rattle.wal_reader.specs.Decodes.{damaged, continuation_rows_of, page_answers}
 use Rattle.wal_reader.proofs.RowLaws.{first_of, first_fault-append}
+
+abbrev pub overwritten : ℕ → Answer
+overwritten at = answers.Stopped (stopped.Overwritten (record { 0 = at }))
 
 -- the checks of a page into which a record continues, behind the page's own
 abbrev continued_rows : ℕ → ℕ → List ℕ → List (Bool × Answer)

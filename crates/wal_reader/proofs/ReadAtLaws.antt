@@ -11,7 +11,8 @@ use Rattle.record_spelling.specs.Layout.{last_block_id, long_main_tag, origin_ta
 use Rattle.record_spelling.specs.Numbers.{number_at}
 use Rattle.record_decode.specs.Fails.{FailsAt, block_rows, fork_rows, image_rows, is_cut_at, item_rows, last_of, relation_rows}
 use Rattle.record_decode.specs.Reading.{Checks, reading_of}
-use Rattle.record_decode.specs.Spells.{Items, Spells}
+use Rattle.record_decode.specs.Items.{Items}
+use Rattle.record_decode.specs.Spells.{Spells}
 use Rattle.record_decode.specs.declared.fault.RecErr.{RecErr}
 use Rattle.record_decode.specs.declared.fault.RecErr.TheVariants.{Memory, Malformed, Compressed}
 use Rattle.record_decode.specs.declared.fault.RecKind.{RecKind}

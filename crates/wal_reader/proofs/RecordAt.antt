@@ -11,7 +11,7 @@ use Rattle.wal_reader.specs.declared.found.Answer.{Answer}
 use Rattle.wal_reader.specs.declared.page_cursor.PageCursor.{PageCursor}
 use Rattle.wal_reader.specs.Pages.{IsPage, Pages, bytes_from}
 use Rattle.wal_reader.specs.PageCursor.{HasGathered, StandsIn}
-use Rattle.wal_reader.specs.Decodes.{ended, is_at_end, is_zero_word, record_rows, opening_of, opening_rows, size_rows, rest_rows}
+use Rattle.wal_reader.specs.Decodes.{ended, is_at_end, is_zero_word, record_rows, opening_fault, opening_rows, size_rows, rest_rows}
 use Rattle.wal_reader.specs.ReadAt.{found_or, answer_or, read_in, read_at}
 use Rattle.wal_reader.specs.RecordRead.{said_of}
 use Rattle.wal_reader.proofs.GatherLaws.{bytes_in_page}
@@ -39,17 +39,17 @@ module _ (size : ℕ) (pages : Pages) (end : Option ℕ) (place : RecordPlace) w
     groups bytes = first_fault-append (opening_rows size place bytes) (size_rows size end place.position (is_zero_word (bytes_from size pages 24 place.position)) total ++ rest_rows size pages place total)
 
     -- the page is not there, or one of its own checks fails
-    opening_tells : (here : Option (List ℕ)) (answer : Answer) → opening_of size place here ≡ Some answer → read_in size pages end place here ≡ Err answer
+    opening_tells : (here : Option (List ℕ)) (answer : Answer) → opening_fault size place here ≡ Some answer → read_in size pages end place here ≡ Err answer
     opening_tells None answer told = ap (answer_or size pages place) told
     opening_tells (Some bytes) answer told = ap (answer_or size pages place) (groups bytes ∙ ap (λ (o : Option Answer). first_of o (first_fault (size_rows size end place.position (is_zero_word (bytes_from size pages 24 place.position)) total ++ rest_rows size pages place total))) told)
 
-    pub read_at-not_opened : (answer : Answer) → opening_of size place (pages (address_of size place.position / 8192)) ≡ Some answer → read_at size pages end place ≡ Err answer
+    pub read_at-not_opened : (answer : Answer) → opening_fault size place (pages (address_of size place.position / 8192)) ≡ Some answer → read_at size pages end place ≡ Err answer
     read_at-not_opened answer told = read_at-before ∙ opening_tells (pages (start / 8192)) answer told
 
-    module _ (page : List ℕ) (here : pages (address_of size place.position / 8192) ≡ Some page) (opened : opening_of size place (pages (address_of size place.position / 8192)) ≡ None) where
+    module _ (page : List ℕ) (here : pages (address_of size place.position / 8192) ≡ Some page) (opened : opening_fault size place (pages (address_of size place.position / 8192)) ≡ None) where
       behind_opening : first_fault (record_rows size pages end place page) ≡ first_of (first_fault (size_rows size end place.position (is_zero_word (bytes_from size pages 24 place.position)) total)) (first_fault (rest_rows size pages place total))
       behind_opening =
-          let passes : first_fault (opening_rows size place page) ≡ None = ap (opening_of size place) (sym here) ∙ opened in
+          let passes : first_fault (opening_rows size place page) ≡ None = ap (opening_fault size place) (sym here) ∙ opened in
           groups page
           ∙ ap (λ (o : Option Answer). first_of o (first_fault (size_rows size end place.position (is_zero_word (bytes_from size pages 24 place.position)) total ++ rest_rows size pages place total))) passes
           ∙ first_fault-append (size_rows size end place.position (is_zero_word (bytes_from size pages 24 place.position)) total) (rest_rows size pages place total)

@@ -10,7 +10,7 @@ use Rattle.wal_reader.specs.declared.found.Answer.{Answer}
 use Rattle.wal_reader.specs.declared.found.DamageKind.TheVariants as kinds
 use Rattle.wal_reader.specs.declared.page_cursor.PageCursor.{PageCursor}
 use Rattle.wal_reader.specs.PageCursor.{HasGathered}
-use Rattle.wal_reader.specs.Decodes.{damaged, is_zero_word, opens_page, page_answers, opening_of}
+use Rattle.wal_reader.specs.Decodes.{damaged, is_zero_word, opens_page, page_answers, opening_fault}
 use Rattle.wal_reader.proofs.RowLaws.{first_of, first_fault-append}
 
 -- ---- the page in which a record starts
@@ -22,16 +22,16 @@ module _ (size : ℕ) (place : RecordPlace) (here : Option (List ℕ)) (bytes : 
   abbrev last_row : Bool × Answer
   last_row = (opens_page size place.position && is_continued bytes, damaged (address_of size place.position) kinds.Claims)
 
-  opening_parts : opening_of size place here ≡ first_of (first_fault (page_answers size start_page bytes place.timeline)) (first_fault (last_row ∷ []))
-  opening_parts = ap (opening_of size place) there ∙ cond-false _ _ _ marked ∙ first_fault-append (page_answers size start_page bytes place.timeline) (last_row ∷ [])
+  opening_parts : opening_fault size place here ≡ first_of (first_fault (page_answers size start_page bytes place.timeline)) (first_fault (last_row ∷ []))
+  opening_parts = ap (opening_fault size place) there ∙ cond-false _ _ _ marked ∙ first_fault-append (page_answers size start_page bytes place.timeline) (last_row ∷ [])
 
-  pub opening_page_fails : (answer : Answer) → first_fault (page_answers size start_page bytes place.timeline) ≡ Some answer → opening_of size place here ≡ Some answer
+  pub opening_page_fails : (answer : Answer) → first_fault (page_answers size start_page bytes place.timeline) ≡ Some answer → opening_fault size place here ≡ Some answer
   opening_page_fails answer e = opening_parts ∙ ap (λ (o : Option Answer). first_of o (first_fault (last_row ∷ []))) e
 
-  pub opening_claims : first_fault (page_answers size start_page bytes place.timeline) ≡ None → opens_page size place.position ≡ true → is_continued bytes ≡ true → opening_of size place here ≡ Some (damaged (address_of size place.position) kinds.Claims)
+  pub opening_claims : first_fault (page_answers size start_page bytes place.timeline) ≡ None → opens_page size place.position ≡ true → is_continued bytes ≡ true → opening_fault size place here ≡ Some (damaged (address_of size place.position) kinds.Claims)
   opening_claims e f g = opening_parts ∙ ap (λ (o : Option Answer). first_of o (first_fault (last_row ∷ []))) e ∙ rw (f, g) refl
 
-  pub opening_passes : first_fault (page_answers size start_page bytes place.timeline) ≡ None → (opens_page size place.position && is_continued bytes) ≡ false → opening_of size place here ≡ None
+  pub opening_passes : first_fault (page_answers size start_page bytes place.timeline) ≡ None → (opens_page size place.position && is_continued bytes) ≡ false → opening_fault size place here ≡ None
   opening_passes e f = opening_parts ∙ ap (λ (o : Option Answer). first_of o (first_fault (last_row ∷ []))) e ∙ rw f refl
 
 -- the cursor at a byte position, before any byte is gathered

@@ -30,9 +30,6 @@ damaged at kind = answers.Stopped (stopped.Damaged (record { 0 = at }) kind)
 abbrev pub compressed : ℕ → Answer
 compressed at = answers.Stopped (stopped.Compressed (record { 0 = at }))
 
-abbrev pub overwritten : ℕ → Answer
-overwritten at = answers.Stopped (stopped.Overwritten (record { 0 = at }))
-
 abbrev pub ended : ℕ → ℕ → Answer
 ended size position = answers.End (record { 0 = end_address_of size position })
 
@@ -61,7 +58,8 @@ timeline_or (Some bytes) timeline = timeline_of bytes
 abbrev pub continuation_rows_of : ℕ → ℕ → ℕ → ℕ → ℕ → Option (List ℕ) → List (Bool × Answer)
 continuation_rows_of size page timeline start owed None = (true, damaged start kinds.Missing) ∷ []
 continuation_rows_of size page timeline start owed (Some bytes) =
-    page_answers size page bytes timeline ++ (is_overwritten bytes, overwritten start)
+    page_answers size page bytes timeline
+    ++ (is_overwritten bytes, answers.Stopped (stopped.Overwritten (record { 0 = start })))
     ∷ (not (is_continued bytes), damaged start kinds.NoContinuation)
     ∷ (not (remaining_of bytes == owed), damaged start (kinds.RemLen (remaining_of bytes))) ∷ []
 
@@ -104,9 +102,9 @@ opening_rows size place bytes =
           (address_of size place.position) kinds.Claims,
     ) ∷ []
 
-abbrev pub opening_of : ℕ → RecordPlace → Option (List ℕ) → Option Answer
-opening_of size place None = Some (ended size place.position)
-opening_of size place (Some bytes) = first_fault (opening_rows size place bytes)
+abbrev pub opening_fault : ℕ → RecordPlace → Option (List ℕ) → Option Answer
+opening_fault size place None = Some (ended size place.position)
+opening_fault size place (Some bytes) = first_fault (opening_rows size place bytes)
 
 -- of its first word, and of its size
 abbrev pub size_rows : ℕ → Option ℕ → ℕ → Bool → ℕ → List (Bool × Answer)
@@ -213,11 +211,6 @@ ReadsRecords size pages end place (found ∷ others) answer =
     ReadsAt size pages end place (Ok found)
     × ReadsRecords size pages end (place_behind size pages place found) others answer
 
--- a place before any record is read
-abbrev pub first_place : ℕ → ℕ → Result RecordPlace Answer
-first_place position timeline =
-    Ok (record { position = position; prev = None; timeline = timeline })
-
 -- the first place of a page that a record may start at: behind what is continued there, which may
 -- reach over whole pages; `turns` bounds how many
 abbrev pub begin_in : (ℕ → ℕ → Result RecordPlace Answer) → ℕ → ℕ → ℕ → Option (List ℕ)
@@ -226,12 +219,14 @@ begin_in next size page timeline None = Err (ended size (position_of size (page 
 begin_in next size page timeline (Some bytes) =
     let first = position_of size (page * 8192) in
     let skipped = (remaining_of bytes + 7) / 8 * 8 in
+    let from : ℕ → Result RecordPlace Answer = λ position.
+    Ok (record { position = position; prev = None; timeline = timeline_of bytes }) in
     let behind_continued =
     if nat_le (8192 - header_size size page) skipped then next (page + 1) (timeline_of bytes)
-    else first_place (first + skipped) (timeline_of bytes) in
+    else from (first + skipped) in
     if is_zero_word bytes then Err (ended size first)
     else begun (first_fault (page_answers size page bytes timeline))
-    (if is_continued bytes then behind_continued else first_place first (timeline_of bytes))
+    (if is_continued bytes then behind_continued else from first)
   where
     begun : Option Answer → Result RecordPlace Answer → Result RecordPlace Answer
     begun (Some answer) place = Err answer

@@ -1,7 +1,8 @@
 -- What a reader finds in a log's pages: the records that `Decodes` lists, without what is told
 -- where they end.
-use Rattle.std.specs.Prelude.{◌≡◌, ◌↔◌, ℕ, ◌/◌, List, [], ◌∷◌, filter, nat_le, Option, Some, None, Result, Ok, Err}
+use Rattle.std.specs.Prelude.{◌≡◌, ◌↔◌, ℕ, ◌/◌, List, [], ◌∷◌, filter, nat_le, Some, None}
 use Rattle.std.specs.Int.{w32, w64}
+use Rattle.std.specs.Result.{MatchResult}
 use Rattle.byte_position.specs.Geometry.{IsSegmentSize}
 use Rattle.byte_position.specs.Position.{address_of}
 use Rattle.segment_disk.specs.DiskImage.{DiskImage}
@@ -33,16 +34,14 @@ FindsFrom size pages place (found ∷ others) =
     IsRecordAt size pages place found
     × FindsFrom size pages (place_behind size pages place found) others
 
--- where reading cannot begin nothing is found
-abbrev pub FindsBegun : ℕ → Pages → Result RecordPlace Answer → List FoundRecord → Type 0
-FindsBegun size pages (Err answer) found = found ≡ []
-FindsBegun size pages (Ok place) found = FindsFrom size pages place found
-
--- the records that a reader finds in pages and that start at `start` or behind it
+-- the records that a reader finds in pages and that start at `start` or behind it: those from where
+-- reading begins on, and none where it cannot begin
 pub record FindsRecords (size : ℕ) (pages : Pages) (start : ℕ) (found : List FoundRecord)
     : Type 0 where
   pub read : List FoundRecord
-  pub reads : FindsBegun size pages (beginning size pages start) read
+  pub reads :
+      MatchResult (beginning size pages start) (λ place. FindsFrom size pages place read)
+      (λ answer. read ≡ [])
   pub given : found ≡ filter (λ f. nat_le start f.start.0) read
 
 -- they are just those that the pages decode to, whatever is told where they end

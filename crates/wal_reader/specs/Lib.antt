@@ -8,12 +8,16 @@ pub mod RecordPlace
 pub mod ReadFailures
 pub mod PageCursor
 pub mod PagesPassed
+pub mod ReadsOn
+pub mod Gathering
 pub mod RecordRead
 pub mod Beginning
 pub mod Steps
+pub mod Answered
 pub mod Standings
 pub mod Buffers
 pub mod LogReader
+pub mod StepIn
 pub mod Settled
 pub mod Finds
 pub mod Runs

@@ -1,5 +1,6 @@
 -- The pages of a log as a reader finds them in an image, by their numbers counted from address 0.
 use Rattle.std.specs.Prelude.{◌≡◌, ℕ, zero, suc, ◌+◌, ◌*◌, ◌/◌, ◌%◌, ◌^◌, ◌<◌, All, length, List, [], ◌∷◌, slice_index, Option, Some, None, nat_lt, nat_le, if◌then◌else◌}
+use Rattle.std.specs.Option.{unwrap_or}
 use Rattle.byte_position.specs.Geometry.{pages_of}
 use Rattle.byte_position.specs.Position.{address_of}
 use Rattle.segment_disk.specs.DiskImage.{DiskImage, ImageSegment}
@@ -19,12 +20,8 @@ pages_in size image page =
     then page_of_image (image (page / pages_of size)) (page % pages_of size) else None
 
 -- the byte at an address; 0 where its page is not there
-abbrev pub byte_in_page : Option (List ℕ) → ℕ → ℕ
-byte_in_page None k = 0
-byte_in_page (Some bytes) k = slice_index bytes k
-
 abbrev pub byte_at : Pages → ℕ → ℕ
-byte_at pages address = byte_in_page (pages (address / 8192)) (address % 8192)
+byte_at pages address = slice_index (unwrap_or (pages (address / 8192)) []) (address % 8192)
 
 -- a page: 8,192 bytes
 abbrev pub IsPage : List ℕ → Type 0

@@ -12,7 +12,7 @@ use Rattle.wal_reader.specs.declared.read_failure.ReadFailure.TheVariants as fai
 use Rattle.wal_reader.specs.Pages.{Pages, bytes_from}
 use Rattle.wal_reader.specs.PageCursor.{HoldsPassed}
 use Rattle.wal_reader.specs.RecordPlace.{IsReachable}
-use Rattle.wal_reader.specs.Decodes.{opening_of, place_behind}
+use Rattle.wal_reader.specs.Decodes.{opening_fault, place_behind}
 use Rattle.wal_reader.specs.ReadAt.{found_or}
 
 -- the first check that fails, or else what a record's bytes say
@@ -50,7 +50,7 @@ abbrev pub HoldsFront : ℕ → Pages → RecordPlace → List ℕ → Type 0
 HoldsFront size pages place room =
     let total = number_at w32 (bytes_from size pages 8 place.position) 0 in
     let first = address_of size place.position / 8192 in
-    (opening_of size place (pages first) ≡ None) × HoldsPassed size pages place total first room
+    (opening_fault size place (pages first) ≡ None) × HoldsPassed size pages place total first room
 
 -- a room after reading at a place: as it was, or it holds first bytes of the record there
 abbrev pub IsRoomAfter : ℕ → Pages → RecordPlace → List ℕ → List ℕ → Type 0

@@ -5,15 +5,15 @@
 
 ghost use Rattle.std.specs.Prelude.{◌≡◌, ℕ, ◌+◌, ◌-◌, ◌*◌, ◌/◌, ◌%◌, ◌<◌, ◌≤◌, ◌^◌, ◌==◌, if◌then◌else◌, Some, IfOk, IfSome, OnOk, Result};
 ghost use Rattle.byte_position.specs.Position.{position_of};
-ghost use Rattle.segment_disk.specs.Tape.{IsUncalled};
 ghost use Rattle.wal_reader.specs.declared.record_place.RecordPlace.{RecordPlace};
 ghost use Rattle.wal_reader.specs.PageCursor.{Sees};
 ghost use Rattle.wal_reader.specs.Decodes.{begin_in, beginning, ended};
 ghost use Rattle.wal_reader.specs.declared.found.Answer.{Answer};
 ghost use Rattle.wal_reader.specs.Beginning.{IsBegun, IsReachableFront, goes_on};
 ghost use Rattle.wal_reader.specs.Pages.{Pages};
-ghost use Rattle.wal_reader.specs.RecordPlace.{IsReachable};
 ghost use Rattle.wal_reader.specs.ReadFailures.{HasFailureCause};
+ghost use Rattle.wal_reader.specs.ReadsOn.{ReadsOn};
+ghost use Rattle.wal_reader.specs.RecordPlace.{IsReachable};
 
 use crate::found::Answer;
 use crate::page_cache::PageCache;
@@ -43,14 +43,12 @@ pub(crate) fn find_beginning<D: Disk>(
     start: Lsn,
 ) -> Result<RecordPlace, ReadFailure>
     // At Ok a record may start at the place, which is the one that these pages give for this start.
-    ensures geometry { cache.new.geometry ≡ cache.old.geometry }
     ensures reachable { IfOk result IsReachable }
     ensures unread { 2 ^ 60 ≤ start.0 → (disk.new ≡ disk.old) × OnOk result ⊥ }
     ensures begins { (pages : Pages) → Sees (D.tape disk.old) cache.old pages
-        → Sees (D.tape disk.new) cache.new pages
-        × IsBegun (beginning cache.old.geometry pages start.0) result }
+        → IsBegun (beginning cache.old.geometry pages start.0) result }
 
-    ensures uncalled { IsUncalled D.tape D.moment disk.old disk.new }
+    ensures reads_on { ReadsOn D.tape D.moment disk.old disk.new cache.old cache.new }
     ensures cause { HasFailureCause (D.faults disk.old) (D.faults disk.new) result }
 {
     let mut page = start.0 / PAGE_SIZE;

@@ -5,14 +5,15 @@
 
 ghost use Rattle.std.specs.Prelude.{◌≡◌, ℕ, ◌+◌, ◌-◌, ◌*◌, ◌/◌, ◌<◌, ◌≤◌, ◌^◌, ◌++◌, length, take, drop, min, vec_len, Some, None, IfOk, OnErr, OnOk, MatchResult};
 ghost use Rattle.wal_page.specs.Page.{first_fault};
-ghost use Rattle.segment_disk.specs.Tape.{IsUncalled};
-ghost use Rattle.wal_reader.specs.PageCursor.{Crosses, HasGathered, HoldsPassed, IsOn, Sees, SeesStill, StandsIn, StaysOnPage};
+ghost use Rattle.wal_reader.specs.PageCursor.{Crosses, HasGathered, IsOn, Sees, StandsIn, StaysOnPage};
 ghost use Rattle.wal_reader.specs.Decodes.{page_of_byte, rows_of_pages};
+ghost use Rattle.wal_reader.specs.Gathering.{Gathers, IsGathering};
 ghost use Rattle.wal_reader.specs.Pages.{IsPage, Pages, bytes_from};
-ghost use Rattle.wal_reader.specs.PagesPassed.{PassesPages};
+ghost use Rattle.wal_reader.specs.ReadsOn.{ReadsOn};
 ghost use Rattle.wal_reader.specs.RecordPlace.{IsReachable};
 ghost use Rattle.wal_reader.specs.ReadFailures.{HasFailureCause, IsTold};
 
+use crate::buffers::Buffers;
 use crate::layout::PAGE_LEN;
 use crate::page_cache::PageCache;
 use crate::page_checks::turn_page;
@@ -22,52 +23,45 @@ use crate::record_extent::RecordExtent;
 use segment_disk::Disk;
 use std::alloc::AllocError;
 
+/// A record whose bytes are gathered: what it takes up, and where its next byte stands.
+#[derive(Clone, Copy, Debug)]
+pub(crate) struct Gathering {
+    pub(crate) extent: RecordExtent,
+    pub(crate) cursor: PageCursor,
+}
+
 /// Gathers a record's bytes behind those that the room has, up to `upto` of them: those of a
-/// further page once it has passed its checks.
+/// further page once it has passed its checks. It answers where the next byte stands then.
 pub(crate) fn gather<D: Disk>(
-    cache: &mut PageCache,
-    room: &mut Vec<u8>,
+    buffers: &mut Buffers,
     disk: &mut D,
-    extent: RecordExtent,
-    cursor: PageCursor,
+    gathering: Gathering,
     upto: u32,
 ) -> Result<PageCursor, ReadFailure>
-    // The room has the record's first bytes, at most those asked for, and the cursor stands behind
-    // them.
-    requires reachable { IsReachable extent.at }
-    requires upto { upto ≤ extent.total }
-    requires len { vec_len room.old ≤ upto }
-    requires on { IsOn cache.old cursor }
-    requires gathered { HasGathered cache.old.geometry extent.at.position
-        (vec_len room.old) cursor }
-    // At Ok the room has all bytes asked for, and the cursor stands behind them.
-    ensures geometry { cache.new.geometry ≡ cache.old.geometry }
-    ensures len { OnOk result (vec_len room.new ≡ upto) }
-    ensures cursor { IfOk result (λ now. IsOn cache.new now
-        × HasGathered cache.old.geometry extent.at.position upto now) }
+    // The room has the record's first bytes, at most those asked for.
+    requires gathering { IsGathering buffers.old.cache gathering (vec_len buffers.old.room) }
+    requires upto { (vec_len buffers.old.room ≤ upto) × (upto ≤ gathering.extent.total) }
+    // At Ok the room has all bytes asked for.
+    ensures gathered { IfOk result (λ now. (vec_len buffers.new.room ≡ upto)
+        × IsGathering buffers.new.cache (record gathering { cursor = now }) upto) }
     // Beyond the last address that is read no page is looked at.
-    ensures beyond { 2 ^ 47 ≤ cursor.page + 1 → StaysOnPage disk.old disk.new
-        cache.old cache.new cursor result }
-    ensures sees { SeesStill (D.tape disk.old) (D.tape disk.new) cache.old cache.new }
-    // Bytes that were the record's are followed by the record's; all are of pages that passed.
-    ensures bytes { (pages : Pages) → Sees (D.tape disk.old) cache.old pages → room.old.items
-        ≡ bytes_from cache.old.geometry pages (vec_len room.old) extent.at.position
-        → OnOk result (room.new.items
-        ≡ bytes_from cache.old.geometry pages upto extent.at.position) }
-    ensures room { (pages : Pages) → Sees (D.tape disk.old) cache.old pages → room.old.items
-        ≡ bytes_from cache.old.geometry pages (vec_len room.old) extent.at.position
-        → HoldsPassed cache.old.geometry pages extent.at extent.total cursor.page room.new.items }
-    // It goes on where all checks of the pages between hold, and tells the first that fails else.
-    ensures checks { (pages : Pages) → Sees (D.tape disk.old) cache.old pages
-        → PassesPages cache.old.geometry pages extent.at extent.total cursor.page upto result }
+    ensures beyond { 2 ^ 47 ≤ gathering.cursor.page + 1 → StaysOnPage disk.old disk.new
+        buffers.old.cache buffers.new.cache gathering.cursor result }
+    // It goes on where all checks of the pages between hold.
+    ensures gathers { (pages : Pages) → Sees (D.tape disk.old) buffers.old.cache pages
+        → Gathers buffers.old.cache.geometry pages gathering (vec_len buffers.old.room) upto
+        buffers.old.room.items buffers.new.room.items result }
 
-    ensures uncalled { IsUncalled D.tape D.moment disk.old disk.new }
+    ensures reads_on { ReadsOn D.tape D.moment disk.old disk.new
+        buffers.old.cache buffers.new.cache }
     ensures cause { HasFailureCause (D.faults disk.old) (D.faults disk.new) result }
 {
-    let mut cursor = cursor;
-    'pages: while room.len() < upto as usize {
-        cursor = pass_border(cache, disk, extent, cursor, room.len() as u32)?;
-        cursor = take_bytes(cache, room, extent, cursor, upto)?;
+    let extent = gathering.extent;
+    let mut cursor = gathering.cursor;
+    'pages: while buffers.room.len() < upto as usize {
+        let gathered = buffers.room.len() as u32;
+        cursor = pass_border(&mut buffers.cache, disk, extent, cursor, gathered)?;
+        cursor = take_bytes(&buffers.cache, &mut buffers.room, extent, cursor, upto)?;
     }
     Ok(cursor)
 }
@@ -87,12 +81,10 @@ fn pass_border<D: Disk>(
     requires on { IsOn cache.old cursor }
     requires stands { StandsIn cache.old.geometry (extent.at.position + gathered) cursor }
     // At Ok the cursor stands at that byte, on the page that is held then.
-    ensures geometry { cache.new.geometry ≡ cache.old.geometry }
     ensures cursor { IfOk result (λ now. IsOn cache.new now × StandsIn cache.old.geometry
         (extent.at.position + gathered) now × (now.offset < 8192)) }
     ensures beyond { 2 ^ 47 ≤ cursor.page + 1 → StaysOnPage disk.old disk.new
         cache.old cache.new cursor result }
-    ensures sees { SeesStill (D.tape disk.old) (D.tape disk.new) cache.old cache.new }
     ensures checks { (pages : Pages) → Sees (D.tape disk.old) cache.old pages
         → MatchResult result (λ now. Crosses cache.old.geometry pages
         extent.at extent.total cursor.page now.page)
@@ -101,7 +93,7 @@ fn pass_border<D: Disk>(
         extent.at extent.total cursor.page
         (page_of_byte cache.old.geometry extent.at.position upto))) failure) }
 
-    ensures uncalled { IsUncalled D.tape D.moment disk.old disk.new }
+    ensures reads_on { ReadsOn D.tape D.moment disk.old disk.new cache.old cache.new }
     ensures cause { HasFailureCause (D.faults disk.old) (D.faults disk.new) result }
 {
     if cursor.offset < PAGE_LEN {

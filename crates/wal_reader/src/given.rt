@@ -5,16 +5,14 @@
 //! given has a right one before it, but the first that was read.
 
 ghost use Rattle.std.specs.Prelude.{◌≡◌, ◌<◌, ◌≤◌, ◌^◌, option_map, Some, None, IfOk, IfSome};
-ghost use Rattle.segment_disk.specs.Tape.{IsUncalled};
 ghost use Rattle.byte_position.specs.Position.{address_of};
 ghost use Rattle.wal_reader.specs.Cache.{HoldsLastPage};
 ghost use Rattle.wal_reader.specs.PageCursor.{Sees};
 ghost use Rattle.wal_reader.specs.Pages.{Pages};
-ghost use Rattle.wal_reader.specs.RecordRead.{GoesOn, IsBehind, IsRoomAfterStep};
-ghost use Rattle.wal_reader.specs.Spelled.{IsSpelled, IsSpelledIn};
-ghost use Rattle.wal_reader.specs.RecordPlace.{IsOutOfReach, IsReachable};
-ghost use Rattle.wal_reader.specs.Steps.{ComesNext, IsFurther};
+ghost use Rattle.wal_reader.specs.Answered.{IsAnswered, IsNextIn};
 ghost use Rattle.wal_reader.specs.ReadFailures.{HasFailureCause};
+ghost use Rattle.wal_reader.specs.ReadsOn.{ReadsOn};
+ghost use Rattle.wal_reader.specs.RecordPlace.{IsOutOfReach, IsReachable};
 
 use crate::beginning::find_beginning;
 use crate::buffers::Buffers;
@@ -37,29 +35,20 @@ pub(crate) fn next_given<D: Disk>(
     from: Option<RecordPlace>,
 ) -> Result<(FoundRecord, RecordPlace), ReadFailure>
     requires { IfSome from IsReachable }
-    // What is answered is the next record of these pages, at or behind `start`, spelled by its
-    // bytes; the place behind it lies further on.
-    ensures geometry { buffers.new.cache.geometry ≡ buffers.old.cache.geometry }
-    ensures further { IfOk result (λ r. IsFurther from r.1) }
-    ensures next { (pages : Pages) → Sees (D.tape disk.old) buffers.old.cache pages
-        → Sees (D.tape disk.new) buffers.new.cache pages
-        × ComesNext buffers.old.cache.geometry pages start.0
-        (option_map (λ e. e.0) end) from result }
-    ensures behind { IfOk result (λ r. IsBehind buffers.old.cache.geometry r.0 r.1) }
-    ensures spelled { IfOk result (λ r. IsSpelled r.0) }
-    ensures room { (pages : Pages) → Sees (D.tape disk.old) buffers.old.cache pages
-        → IsRoomAfterStep buffers.old.cache.geometry pages
-        buffers.old.room.items buffers.new.room.items }
+    // What is answered is the next record of these pages, at or behind `start`.
+    ensures answered { IfOk result (IsAnswered from buffers.old.cache.geometry) }
+    ensures gives { (pages : Pages) → Sees (D.tape disk.old) buffers.old.cache pages
+        → IsNextIn buffers.old.cache.geometry pages start.0 (option_map (λ e. e.0) end) from
+        buffers.old.room.items buffers.new.room.items result }
     // Where nothing is to be read, or all that may be is held already, the disk is untouched.
     ensures unread { IfSome from (λ at. IsOutOfReach buffers.old.cache.geometry
         (option_map (λ e. e.0) end) at.position → disk.new ≡ disk.old) }
     ensures last_page { IfSome from (λ at. HoldsLastPage buffers.old.cache.number
         (address_of buffers.old.cache.geometry at.position) → disk.new ≡ disk.old) }
     ensures unbegun { from ≡ None → 2 ^ 60 ≤ start.0 → disk.new ≡ disk.old }
-    ensures spelled_there { (pages : Pages) → Sees (D.tape disk.old) buffers.old.cache pages
-        → IfOk result (λ r. IsSpelledIn buffers.old.cache.geometry pages r.0) }
 
-    ensures uncalled { IsUncalled D.tape D.moment disk.old disk.new }
+    ensures reads_on { ReadsOn D.tape D.moment disk.old disk.new
+        buffers.old.cache buffers.new.cache }
     ensures cause { HasFailureCause (D.faults disk.old) (D.faults disk.new) result }
 {
     let at = match from {
@@ -80,37 +69,22 @@ fn read_given<D: Disk>(
 ) -> Result<(FoundRecord, RecordPlace), ReadFailure>
     requires { IsReachable from }
     // As of `next_given`, from a place on.
-    ensures geometry { buffers.new.cache.geometry ≡ buffers.old.cache.geometry }
-    ensures further { IfOk result (λ r. GoesOn from r.1) }
-    ensures next { (pages : Pages) → Sees (D.tape disk.old) buffers.old.cache pages
-        → Sees (D.tape disk.new) buffers.new.cache pages
-        × ComesNext buffers.old.cache.geometry pages start.0 (option_map (λ e. e.0) end)
-        (Some from) result }
-    ensures behind { IfOk result (λ r. IsBehind buffers.old.cache.geometry r.0 r.1) }
-    ensures spelled { IfOk result (λ r. IsSpelled r.0) }
-    ensures room { (pages : Pages) → Sees (D.tape disk.old) buffers.old.cache pages
-        → IsRoomAfterStep buffers.old.cache.geometry pages
-        buffers.old.room.items buffers.new.room.items }
+    ensures answered { IfOk result (IsAnswered (Some from) buffers.old.cache.geometry) }
+    ensures gives { (pages : Pages) → Sees (D.tape disk.old) buffers.old.cache pages
+        → IsNextIn buffers.old.cache.geometry pages start.0 (option_map (λ e. e.0) end) (Some from)
+        buffers.old.room.items buffers.new.room.items result }
     ensures unread { IsOutOfReach buffers.old.cache.geometry
         (option_map (λ e. e.0) end) from.position → disk.new ≡ disk.old }
     ensures last_page { HoldsLastPage buffers.old.cache.number
         (address_of buffers.old.cache.geometry from.position) → disk.new ≡ disk.old }
-    ensures spelled_there { (pages : Pages) → Sees (D.tape disk.old) buffers.old.cache pages
-        → IfOk result (λ r. IsSpelledIn buffers.old.cache.geometry pages r.0) }
 
-    ensures uncalled { IsUncalled D.tape D.moment disk.old disk.new }
+    ensures reads_on { ReadsOn D.tape D.moment disk.old disk.new
+        buffers.old.cache buffers.new.cache }
     ensures cause { HasFailureCause (D.faults disk.old) (D.faults disk.new) result }
 {
     let mut at = from;
     'records: loop {
-        let (found, behind) = read_record(
-            alloc,
-            &mut buffers.cache,
-            &mut buffers.room,
-            disk,
-            end,
-            at,
-        )?;
+        let (found, behind) = read_record(alloc, buffers, disk, end, at)?;
         if found.start.0 >= start.0 {
             return Ok((found, behind));
         }

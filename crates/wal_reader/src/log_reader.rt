@@ -35,11 +35,11 @@ impl Reader {
     ghost use Rattle.segment_disk.specs.Tape.{IsUncalled};
     ghost use Rattle.wal_reader.specs.declared.standing.Standing.TheVariants.{NotBegun};
     ghost use Rattle.wal_reader.specs.Pages.{Pages};
-    ghost use Rattle.wal_reader.specs.RecordRead.{IsRoomAfterStep};
     ghost use Rattle.wal_reader.specs.PageCursor.{IsLogOf};
-    ghost use Rattle.wal_reader.specs.LogReader.{HoldsNoPage, IsNext, Knows, LeavesReader, NeedsNoPage, OnEnd, StandsAfter, reader_page, reader_state, reader_room};
-    ghost use Rattle.wal_reader.specs.Spelled.{GivesSpelled, GivesSpelledIn};
+    ghost use Rattle.wal_reader.specs.LogReader.{HoldsNoPage, Knows, LeavesReader, NeedsNoPage, OnEnd, StandsAfter, reader_page, reader_state};
+    ghost use Rattle.wal_reader.specs.Spelled.{GivesSpelled};
     ghost use Rattle.wal_reader.specs.Standings.{HasReadCause, IsToldAgain};
+    ghost use Rattle.wal_reader.specs.StepIn.{IsStepIn};
 
     /// A reader of the records from the address `start` on, up to `end` where one is given. It
     /// takes no memory and reads nothing yet.
@@ -70,8 +70,8 @@ impl Reader {
         // It gives what the pages decode to, as long as the disk holds these pages; it stands
         // behind a record that it gave, and where it was else.
         ensures gives { (pages : Pages) → IsLogOf (D.tape disk.old)
-            (reader_state self.old).size pages → Knows self.old pages → Knows self.new pages
-            × IsNext pages (reader_state self.old) (reader_state self.new) result }
+            (reader_state self.old).size pages → Knows self.old pages
+            → IsStepIn pages self.old self.new result }
         ensures leaves { LeavesReader (reader_state self.old) (reader_state self.new) result }
         ensures behind { StandsAfter (reader_state self.old).size
             (reader_state self.new).standing result }
@@ -80,16 +80,8 @@ impl Reader {
         ensures forgets { OnEnd result (HoldsNoPage self.new) }
         ensures unread { NeedsNoPage (reader_state self.old) (reader_page self.old)
             self.old.standing → disk.new ≡ disk.old }
-        // A record that is given is one that some bytes spell, those at its addresses. The room has
-        // nothing but first bytes of one record, of pages that passed.
+        // A record that is given is one that some bytes spell.
         ensures spelled { IfOk result GivesSpelled }
-        ensures spelled_there { (pages : Pages) → IsLogOf (D.tape disk.old)
-            (reader_state self.old).size pages → Knows self.old pages
-            → IfOk result (GivesSpelledIn (reader_state self.old).size pages) }
-        ensures room { (pages : Pages) → IsLogOf (D.tape disk.old)
-            (reader_state self.old).size pages → Knows self.old pages
-            → IsRoomAfterStep (reader_state self.old).size pages
-            (reader_room self.old) (reader_room self.new) }
         // What has stopped it is told again, without a read.
         ensures stopped { IsToldAgain (reader_state self.old).standing result disk.old disk.new }
 

@@ -5,10 +5,10 @@
 
 ghost use Rattle.std.specs.Prelude.{◌≡◌, ◌+◌, ◌*◌, ◌/◌, ◌%◌, ◌<◌, ◌≤◌, ◌^◌, Some, None, Ok, false, IfOk, OnErr, IfSome, IsTrue};
 ghost use Rattle.segment_disk.specs.Cause.{HasCause};
-ghost use Rattle.segment_disk.specs.Tape.{IsUncalled};
-ghost use Rattle.wal_reader.specs.Cache.{Caches, IsLoaded, log_of};
+ghost use Rattle.wal_reader.specs.Cache.{IsLoaded};
 ghost use Rattle.wal_reader.specs.PageCursor.{Sees};
 ghost use Rattle.wal_reader.specs.Pages.{Pages};
+ghost use Rattle.wal_reader.specs.ReadsOn.{ReadsOn};
 
 use byte_position::Geometry;
 use segment_disk::{Disk, Failed};
@@ -43,7 +43,6 @@ impl PageCache {
     /// nothing is held.
     pub(crate) fn load<D: Disk>(&mut self, disk: &mut D, page: u64) -> Result<bool, Failed>
         // At true the page asked for is held, as the disk has it.
-        ensures geometry { self.new.geometry ≡ self.old.geometry }
         ensures held { IfOk result (λ there. IsTrue there → self.new.number ≡ Some page) }
         ensures reach { IfOk result (λ there. IsTrue there → page < 2 ^ 47) }
         // Nothing is read from address 2^60 on, nor of a page that is held. Behind a failed read
@@ -53,19 +52,11 @@ impl PageCache {
         ensures unread { self.old.number ≡ Some page → (disk.new ≡ disk.old)
             × (self.new ≡ self.old) }
         ensures nothing_held { OnErr result (self.new.number ≡ None) }
-        // What is held is a page of these pages, before and behind: of those that the disk tells,
-        // or of any that the caller knows it to hold.
-        ensures caches { IfSome (D.tape disk.old)
-            (λ t. let pages = log_of t self.old.geometry in Caches self.old pages
-            → Caches self.new pages) }
-        ensures loaded { IfOk result (λ there. IfSome (D.tape disk.old)
-            (λ t. let pages = log_of t self.old.geometry in Caches self.old pages
-            → IsLoaded (pages page) page there self.new)) }
-        ensures sees { (pages : Pages) → Sees (D.tape disk.old) self.old pages
-            → Sees (D.tape disk.new) self.new pages
-            × IfOk result (λ there. IsLoaded (pages page) page there self.new) }
+        // It is true just where the disk's log has the page.
+        ensures loaded { (pages : Pages) → Sees (D.tape disk.old) self.old pages
+            → IfOk result (λ there. IsLoaded (pages page) page there self.new) }
 
-        ensures uncalled { IsUncalled D.tape D.moment disk.old disk.new }
+        ensures reads_on { ReadsOn D.tape D.moment disk.old disk.new self.old self.new }
         ensures cause { HasCause (D.faults disk.old) (D.faults disk.new) result }
     {
         if page >= PAGES_READ {

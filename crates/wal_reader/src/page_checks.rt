@@ -7,10 +7,10 @@ ghost use Rattle.std.specs.Prelude.{◌≡◌, ◌+◌, ◌-◌, ◌*◌, ◌/�
 ghost use Rattle.byte_position.specs.Geometry.{IsSegmentSize};
 ghost use Rattle.byte_position.specs.Position.{address_of};
 ghost use Rattle.wal_page.specs.Page.{first_fault, header_size, is_continued, is_overwritten, remaining_of, timeline_of};
-ghost use Rattle.segment_disk.specs.Tape.{IsUncalled};
-ghost use Rattle.wal_reader.specs.PageCursor.{IsOn, Sees, SeesStill};
+ghost use Rattle.wal_reader.specs.PageCursor.{IsOn, Sees};
 ghost use Rattle.wal_reader.specs.Decodes.{continuation_rows_of, page_answers};
 ghost use Rattle.wal_reader.specs.Pages.{Pages};
+ghost use Rattle.wal_reader.specs.ReadsOn.{ReadsOn};
 ghost use Rattle.wal_reader.specs.ReadFailures.{HasFailureCause, Passes, Settles};
 
 use crate::answers::damaged;
@@ -63,21 +63,18 @@ pub(crate) fn turn_page<D: Disk>(
 ) -> Result<PageCursor, ReadFailure>
     requires { cursor.page < 2 ^ 47 }
     // At Ok the next page is held, and the cursor stands behind its header.
-    ensures geometry { cache.new.geometry ≡ cache.old.geometry }
     ensures next { IfOk result (λ next. (next.page ≡ cursor.page + 1) × (next.offset
         ≡ header_size cache.old.geometry (cursor.page + 1)) × (next.page < 2 ^ 47)
         × IsOn cache.new next) }
-    // A page beyond the last address that is read is not looked at. Pages that were seen are seen
-    // still.
+    // A page beyond the last address that is read is not looked at.
     ensures beyond { 2 ^ 47 ≤ cursor.page + 1 → (disk.new ≡ disk.old)
         × (cache.new ≡ cache.old) × OnOk result ⊥ }
-    ensures sees { SeesStill (D.tape disk.old) (D.tape disk.new) cache.old cache.new }
     // It goes on where all checks of that page hold, and tells the first that fails else.
     ensures checks { (pages : Pages) → Sees (D.tape disk.old) cache.old pages
         → Settles (first_fault (continuation_rows_of cache.old.geometry
         (cursor.page + 1) cursor.timeline start.0 owed (pages (cursor.page + 1)))) result }
 
-    ensures uncalled { IsUncalled D.tape D.moment disk.old disk.new }
+    ensures reads_on { ReadsOn D.tape D.moment disk.old disk.new cache.old cache.new }
     ensures cause { HasFailureCause (D.faults disk.old) (D.faults disk.new) result }
 {
     let page = cursor.page + 1;

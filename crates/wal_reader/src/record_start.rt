@@ -7,11 +7,11 @@ ghost use Rattle.std.specs.Int.{w32, w64};
 ghost use Rattle.byte_position.specs.Position.{address_of};
 ghost use Rattle.wal_page.specs.Page.{first_fault};
 ghost use Rattle.record_spelling.specs.Numbers.{number_at};
-ghost use Rattle.segment_disk.specs.Tape.{IsUncalled};
-ghost use Rattle.wal_reader.specs.PageCursor.{HasGathered, IsOn, Sees, SeesStill};
+ghost use Rattle.wal_reader.specs.PageCursor.{HasGathered, IsOn, Sees};
 ghost use Rattle.wal_reader.specs.Pages.{IsPage, Pages};
-ghost use Rattle.wal_reader.specs.Decodes.{opening_of, size_rows};
+ghost use Rattle.wal_reader.specs.Decodes.{opening_fault, size_rows};
 ghost use Rattle.wal_reader.specs.RecordPlace.{IsReachable};
+ghost use Rattle.wal_reader.specs.ReadsOn.{ReadsOn};
 ghost use Rattle.wal_reader.specs.ReadFailures.{HasFailureCause, Passes, Settles};
 
 use crate::answers::{damaged, end_of_log, reaches_end};
@@ -37,22 +37,20 @@ pub(crate) fn open_page<D: Disk>(
 ) -> Result<PageCursor, ReadFailure>
     requires reachable { IsReachable at }
     // At Ok the page is held that has the record's first byte, and the cursor stands at that byte.
-    ensures geometry { cache.new.geometry ≡ cache.old.geometry }
     ensures cursor { IfOk result (λ cursor. IsOn cache.new cursor
         × HasGathered cache.old.geometry at.position 0 cursor) }
     ensures place { IfOk result (λ cursor. (cursor.page
         ≡ address_of cache.old.geometry at.position / 8192) × (cursor.offset + 8 ≤ 8192)) }
-    // A page that is held is not read again. Pages that were seen are seen still.
+    // A page that is held is not read again.
     ensures unread { cache.old.number ≡ Some (address_of cache.old.geometry at.position / 8192)
         → (disk.new ≡ disk.old) × (cache.new ≡ cache.old) }
-    ensures sees { SeesStill (D.tape disk.old) (D.tape disk.new) cache.old cache.new }
     // It goes on where all checks before the record's first word hold, and tells the first that
     // fails else.
     ensures checks { (pages : Pages) → Sees (D.tape disk.old) cache.old pages
-        → Settles (opening_of cache.old.geometry at
+        → Settles (opening_fault cache.old.geometry at
         (pages (address_of cache.old.geometry at.position / 8192))) result }
 
-    ensures uncalled { IsUncalled D.tape D.moment disk.old disk.new }
+    ensures reads_on { ReadsOn D.tape D.moment disk.old disk.new cache.old cache.new }
     ensures cause { HasFailureCause (D.faults disk.old) (D.faults disk.new) result }
 {
     let start = cache.geometry.to_lsn(at.position);

@@ -1,10 +1,9 @@
 -- Each kind of step is allowed on the table: the machine's laws, in the words of `atomic_table`.
 use Rattle.std.specs.Prelude.{if◌then◌else◌, ◌==◌}
-use Rattle.std.proofs.Common.{◌≡◌, ℕ, ◌<◌, Bool, true, false, length, length-set, arith, List, [], ◌∷◌, ◌++◌, map, set, slice_index, refl, sym, ap, ◌∙◌, subst}
+use Rattle.std.proofs.Common.{◌≡◌, ℕ, ◌<◌, Bool, true, false, length, length-set, arith, List, [], ◌∷◌, ◌++◌, set, slice_index, refl, sym, ap, ◌∙◌, subst}
 use mathlib.Core.Option.{Option, none, some, some-injective, some-ne-none}
 use lib.ListN.{get_elem?}
-use lib.Seq.{map-set, set_comm}
-use mathlib.Core.List.{map-append}
+use lib.Seq.{set_comm}
 use prog.Atomic.{either}
 use Rattle.atomic_table.specs.Table.{State, Me, Allows, Joins, Splits, gives, keeps, put_back, rest, takes}
 use Rattle.atomic_table.proofs.Lists.{at_map, set_again, set_else, set_here}
@@ -12,39 +11,37 @@ use Rattle.wal_core.proofs.Lists.{at_below}
 use Rattle.wal_core.proofs.WordLists.{word_again}
 use Rattle.segment_disk.specs.Tape.{DiskState, Tape}
 use Rattle.wal_core.specs.Words.{Opening, write_turn}
-use Rattle.wal_core.specs.Views.{Hold, Plain, Turned, View, writer_of}
+use Rattle.wal_core.specs.Views.{Hold, Plain, Turned, View, writer_of, Lent}
 use Rattle.wal_core.specs.Locked.{StandsTo}
-use Rattle.wal_core.specs.Moves.{after_join, orphan_of, spent, split_off}
+use Rattle.wal_core.specs.Moves.{after_join, orphan_of, spent, split_off, after_split, without_work}
 use Rattle.wal_core.specs.Sound.{IsSound}
-use Rattle.wal_core.specs.Steps.{Abandons, StepKind, MayStep, Moves, SplitsOff, TakesIn, returned, slot_in, slot_out, word_of_step, value_behind, home_behind, view_behind}
+use Rattle.wal_core.specs.Steps.{Abandons, StepKind, MayStep, Moves, SplitsOff, TakesIn, returned, slot_in, slot_out, word_of_step, value_behind, home_behind, view_behind, IsResting, IsStranded}
 use Rattle.wal_core.specs.Steps as machine
 use Rattle.machine_laws.proofs.EveryStep.{step_keeps}
 use Rattle.machine_laws.specs.RisingMoments.{MomentsKeepRising}
 use Rattle.machine_laws.proofs.EveryMoment.{steps_rise}
 use Rattle.wal_rule.specs.declared.writer.LogWriter.{LogWriter}
-use Rattle.wal_rule.specs.Seats.{IsAtRest, IsStrandedSeat, SeatHold, SeatLent, SeatView, SeatWriter, behind, hold_on, plain_on, seat_after_join, seat_after_split, seat_orphan, seat_spent, seat_split_off, seat_without_work, view_on}
 use Rattle.wal_rule.specs.Slotted.{IsOfLog, first_on, slot_plain}
-use Rattle.wal_rule.specs.Stepping.{IsQuiet, MaySeat, Meets, Stands, value_left, word_at_step}
+use Rattle.wal_rule.specs.Stepping.{IsQuiet, Meets, Stands}
 use Rattle.wal_rule.specs.Ruled.{HasInHand, IsOutOf, IsRuled, home_of}
-use Rattle.wal_rule.proofs.SeatLaws.{back_plain, given_up, held_on, joined, rests_on, split_left, strands_on, taken_out}
-use Rattle.wal_rule.proofs.Steady.{seat_steady}
-use Rattle.wal_rule.proofs.QuietSteps.{home_on, may_go_in, may_on, value_on, view_on_behind, word_on}
+use Rattle.wal_rule.proofs.Steady.{steady}
+use Rattle.wal_rule.proofs.QuietSteps.{home_on, quiet_behind}
 
 pub either_if : (b : Bool) (x y : ℕ) → either b x y ≡ (if b then x else y)
 either_if true x y = refl
 either_if false x y = refl
 
 -- a sound state of the machine in which moments rise
-abbrev pub SoundAndRises : Opening → List ℕ → Option Plain → List View → Type 0
-SoundAndRises opening words home views = (sound : IsSound opening words home views)
+abbrev pub SoundAndRises : DiskState → Opening → List ℕ → Option Plain → List View → Type 0
+SoundAndRises first opening words home views = (sound : IsSound first opening words home views)
     × MomentsKeepRising opening words home views sound
 
 -- a step of the machine leaves another one
-kept_behind : (opening : Opening) (s t : machine.State)
-    → SoundAndRises opening s.words s.home s.views → machine.Step s t
-    → SoundAndRises opening t.words t.home t.views
-kept_behind opening s t k step =
-    let sound : IsSound opening t.words t.home t.views = step_keeps opening s t k.0 step in
+kept_behind : (first : DiskState) (opening : Opening) (s t : machine.State)
+    → SoundAndRises first opening s.words s.home s.views → machine.MachineStep s t
+    → SoundAndRises first opening t.words t.home t.views
+kept_behind first opening s t k step =
+    let sound : IsSound first opening t.words t.home t.views = step_keeps first opening s t k.0 step in
     (sound, steps_rise opening s t k.0 k.1 step sound)
 
 module _ {D : Type 0} (tape : D → Rattle.std.specs.Prelude.Option Tape) (moment faults : D → ℕ)
@@ -52,7 +49,7 @@ module _ {D : Type 0} (tape : D → Rattle.std.specs.Prelude.Option Tape) (momen
   abbrev first : DiskState
   first = first_on began
 
-  abbrev Held : State (LogWriter D) SeatView → Type 0
+  abbrev Held : State (LogWriter D) View → Type 0
   Held s = IsRuled tape moment faults opening began s.words s.homes s.views
 
   -- ---- the slot
@@ -75,112 +72,110 @@ module _ {D : Type 0} (tape : D → Rattle.std.specs.Prelude.Option Tape) (momen
   is_home (none ∷ homes) p e = absurd (some-ne-none p (sym e))
   is_home (some w ∷ homes) p e = (w, refl, refl)
 
-  module _ (slots id : ℕ) (me : Me (LogWriter D) SeatView)
+  module _ (slots id : ℕ) (me : Me (LogWriter D) View)
       (live : ((me.0).reserving).live ≡ true) where
     abbrev mine : View
-    mine = view_on first me.0
+    mine = me.0
 
     -- one step of the machine, of the state that the table's is
-    pub stepped : (e : StepKind) → MayStep mine e → (s : State (LogWriter D) SeatView) → Held s
-        → get_elem? s.views id ≡ some me.0 → (home : Option Plain) (w : SeatView)
+    pub stepped : (e : StepKind) → MayStep mine e → (s : State (LogWriter D) View) → Held s
+        → get_elem? s.views id ≡ some me.0 → (home : Option Plain) (w : View)
         → home ≡ home_behind mine e (home_of tape moment faults s.homes)
-        → view_on first w ≡ view_behind mine e (slice_index s.words (word_of_step mine e))
+        → w ≡ view_behind mine e (slice_index s.words (word_of_step mine e))
         (home_of tape moment faults s.homes)
-        → SoundAndRises opening (set s.words (word_of_step mine e)
+        → SoundAndRises first opening (set s.words (word_of_step mine e)
         (value_behind mine e (slice_index s.words (word_of_step mine e)))) home
-        (map (view_on first) (set s.views id w))
+        (set s.views id w)
     stepped e may s k here home w home_is is =
         let met : ℕ = slice_index s.words (word_of_step mine e) in
-        let old : List View = map (view_on first) s.views in
+        let old : List View = s.views in
         let before : machine.State =
         record { words = s.words; home = home_of tape moment faults s.homes; views = old } in
         let after : machine.State = record {
           words = set s.words (word_of_step mine e) (value_behind mine e met);
           home = home;
-          views = map (view_on first) (set s.views id w);
+          views = set s.views id w;
         } in
-        kept_behind opening before after (k.sound, k.rises) (Moves id e met (record {
+        kept_behind first opening before after (k.sound, k.rises) (Moves id e met (record {
           view = mine;
-          live = (at_map (view_on first) s.views id me.0 here, live);
+          live = (here, live);
           may = may;
           met_is = refl;
           words = refl;
           home = home_is;
-          views = map-set (view_on first) s.views id w ∙ ap (λ (u : View). set old id u) is;
+          views = ap (λ (u : View). set s.views id u) is;
         }))
 
     -- what the pass's view is of, as the rule says
-    own_opening : (s : State (LogWriter D) SeatView) → Held s → get_elem? s.views id ≡ some me.0
+    own_opening : (s : State (LogWriter D) View) → Held s → get_elem? s.views id ≡ some me.0
         → (me.0).opening ≡ opening
     own_opening s k here =
-        ((k.sound).grounded id mine (at_map (view_on first) s.views id me.0 here)).opening_is live
+        ((k.sound).grounded id mine here).opening_is live
 
     -- the view stands in the table's state
-    abbrev stands_now : (s : State (LogWriter D) SeatView) → Held s → get_elem? s.views id ≡ some me.0
+    abbrev stands_now : (s : State (LogWriter D) View) → Held s → get_elem? s.views id ≡ some me.0
         → Stands me.0
     stands_now s k here =
         let home : Option Plain = home_of tape moment faults s.homes in
-        let views : List View = map (view_on first) s.views in
         record {
           first = first;
           words = s.words;
           home = home;
-          views = views;
+          views = s.views;
           id = id;
-          sound = subst (λ (o : Opening). IsSound o s.words home views)
+          sound = subst (λ (o : Opening). IsSound first o s.words home s.views)
               (sym (own_opening s k here)) k.sound;
-          here = at_map (view_on first) s.views id me.0 here;
+          here = here;
         }
 
     -- the view stands in the state that a step leaves
-    pub stands_in : (s : State (LogWriter D) SeatView) → Held s → get_elem? s.views id ≡ some me.0
-        → (words : List ℕ) (home : Option Plain) (w : SeatView) → w.opening ≡ (me.0).opening
-        → IsSound opening words home (map (view_on first) (set s.views id w)) → Stands w
+    pub stands_in : (s : State (LogWriter D) View) → Held s → get_elem? s.views id ≡ some me.0
+        → (words : List ℕ) (home : Option Plain) (w : View) → w.opening ≡ (me.0).opening
+        → IsSound first opening words home (set s.views id w) → Stands w
     stands_in s k here words home w is sound = record {
       first = first;
       words = words;
       home = home;
-      views = map (view_on first) (set s.views id w);
+      views = set s.views id w;
       id = id;
-      sound = subst (λ (o : Opening). IsSound o words home
-          (map (view_on first) (set s.views id w))) (sym (is ∙ own_opening s k here)) sound;
-      here = at_map (view_on first) (set s.views id w) id w
-          (set_here s.views id w (at_below s.views me.0 id here));
+      sound = subst (λ (o : Opening). IsSound first o words home
+          (set s.views id w)) (sym (is ∙ own_opening s k here)) sound;
+      here = set_here s.views id w (at_below s.views me.0 id here);
     }
 
     -- a step of a kind that moves no writer and calls no device: `value` says what the table's call
     -- leaves of the word
-    pub quietly : (e : StepKind) → IsQuiet e → MaySeat me.0 e → (word : ℕ)
-        → word ≡ word_at_step me.0 e → (f : ℕ → ℕ)
-        → ((met : ℕ) → f met ≡ value_left me.0 e met)
+    pub quietly : (e : StepKind) → IsQuiet e → MayStep me.0 e → (word : ℕ)
+        → word ≡ word_of_step me.0 e → (f : ℕ → ℕ)
+        → ((met : ℕ) → f met ≡ value_behind me.0 e met)
         → Allows Held slots id me word f
-        (λ r n. (n ≡ (behind e r none me.0, me.1)) × Stands n.0)
+        (λ r n. (n ≡ (view_behind me.0 e r none, me.1)) × Stands n.0)
     quietly e quiet may word word_is f value = subst
         (λ (i : ℕ). Allows Held slots id me i f
-        (λ r n. (n ≡ (behind e r none me.0, me.1)) × Stands n.0))
-        (sym (word_is ∙ word_on first me.0 e quiet))
+        (λ r n. (n ≡ (view_behind me.0 e r none, me.1)) × Stands n.0))
+        (sym word_is)
         (λ s k _ here _.
         let home : Option Plain = home_of tape moment faults s.homes in
         let met : ℕ = slice_index s.words (word_of_step mine e) in
-        let w : SeatView = behind e met none me.0 in
-        let kept = subst (λ (n : ℕ). SoundAndRises opening
-        (set s.words (word_of_step mine e) n) home (map (view_on first) (set s.views id w)))
-        (sym (value met ∙ value_on first me.0 e quiet met))
-        (stepped e (may_on first me.0 e quiet may) s k here home w
-        (home_on first me.0 e quiet home) (view_on_behind first me.0 e quiet met home none)) in (
+        let w : View = view_behind me.0 e met none in
+        let kept = subst (λ (n : ℕ). SoundAndRises first opening
+        (set s.words (word_of_step mine e) n) home (set s.views id w))
+        (sym (value met))
+        (stepped e may s k here home w
+        (home_on me.0 e quiet home) (quiet_behind me.0 e quiet met home none)) in (
           w,
           keeps,
           tt,
           record { one = k.one; of_log = k.of_log; sound = kept.0; rises = kept.1 },
-          (refl, stands_in s k here _ home w (seat_steady me.0 e quiet met none).0 kept.0),
+          (refl, stands_in s k here _ home w (steady me.0 e quiet met none).0 kept.0),
         ))
 
     -- the same, which tells also that its number was met
-    pub met_quietly : (e : StepKind) → IsQuiet e → MaySeat me.0 e → (word : ℕ)
-        → word ≡ word_at_step me.0 e → (f : ℕ → ℕ)
-        → ((met : ℕ) → f met ≡ value_left me.0 e met)
+    pub met_quietly : (e : StepKind) → IsQuiet e → MayStep me.0 e → (word : ℕ)
+        → word ≡ word_of_step me.0 e → (f : ℕ → ℕ)
+        → ((met : ℕ) → f met ≡ value_behind me.0 e met)
         → Allows Held slots id me word f
-        (λ r n. (n ≡ (behind e r none me.0, me.1)) × Stands n.0 × Meets me.0 e r)
+        (λ r n. (n ≡ (view_behind me.0 e r none, me.1)) × Stands n.0 × Meets me.0 e r)
     met_quietly e quiet may word word_is f value s k at here fits =
         let step = quietly e quiet may word word_is f value s k at here fits in (
           step.0,
@@ -206,7 +201,7 @@ module _ {D : Type 0} (tape : D → Rattle.std.specs.Prelude.Option Tape) (momen
         (set s.views id me.0) =
         subst (λ (ws : List ℕ). IsRuled tape moment faults opening began ws s.homes
         (set s.views id me.0)) (sym (word_again s.words word))
-        (subst (λ (vs : List SeatView). IsRuled tape moment faults opening began s.words s.homes vs)
+        (subst (λ (vs : List View). IsRuled tape moment faults opening began s.words s.homes vs)
         (sym (set_again s.views id me.0 here)) k) in (
           me.0,
           keeps,
@@ -216,12 +211,12 @@ module _ {D : Type 0} (tape : D → Rattle.std.specs.Prelude.Option Tape) (momen
         )
 
     -- the same of a store, which tells nothing
-    pub told_stored : (e : StepKind) → IsQuiet e → MaySeat me.0 e → (word : ℕ)
-        → word ≡ word_at_step me.0 e → (value : ℕ)
-        → ((met : ℕ) → value ≡ value_left me.0 e met)
-        → ((met other : ℕ) → behind e met none me.0 ≡ behind e other none me.0)
+    pub told_stored : (e : StepKind) → IsQuiet e → MayStep me.0 e → (word : ℕ)
+        → word ≡ word_of_step me.0 e → (value : ℕ)
+        → ((met : ℕ) → value ≡ value_behind me.0 e met)
+        → ((met other : ℕ) → view_behind me.0 e met none ≡ view_behind me.0 e other none)
         → Allows Held slots id me word (λ _. value)
-        (λ _ n. (n ≡ (behind e value none me.0, me.1)) × Stands n.0)
+        (λ _ n. (n ≡ (view_behind me.0 e value none, me.1)) × Stands n.0)
     told_stored e quiet may word word_is value stores meets_none s k at here fits =
         let step = quietly e quiet may word word_is (λ _. value) stores s k at here fits in (
           step.0,
@@ -229,14 +224,14 @@ module _ {D : Type 0} (tape : D → Rattle.std.specs.Prelude.Option Tape) (momen
           step.2,
           step.3,
           (
-            (step.4).0 ∙ ap (λ (v : SeatView). (v, me.1))
+            (step.4).0 ∙ ap (λ (v : View). (v, me.1))
                 (meets_none (slice_index s.words word) value),
             (step.4).1,
           ),
         )
 
     -- who has the turn finds the writer at home
-    at_home : hold_on first (me.0).hold ≡ Turned → (s : State (LogWriter D) SeatView) (k : Held s)
+    at_home : (me.0).writing.hold ≡ Turned → (s : State (LogWriter D) View) (k : Held s)
         → get_elem? s.views id ≡ some me.0
         → home_of tape moment faults s.homes ≡ some (k.sound).writer
     at_home is s k here =
@@ -244,25 +239,24 @@ module _ {D : Type 0} (tape : D → Rattle.std.specs.Prelude.Option Tape) (momen
         let stands = subst (λ (h : Hold). StandsTo (write_turn s.words) t.holder
         (home_of tape moment faults s.homes) (k.sound).writer id ((me.0).reserving).number h)
         is
-        (t.each id (writer_of mine) (at_map writer_of (map (view_on first) s.views) id mine
-        (at_map (view_on first) s.views id me.0 here))) in
+        (t.each id (writer_of mine) (at_map writer_of s.views id mine
+        here)) in
         stands.2
 
-    pub goes_out : MaySeat me.0 slot_out → (told : Rattle.std.specs.Prelude.Option Tape) → told ≡ began
+    pub goes_out : MayStep me.0 slot_out → (told : Rattle.std.specs.Prelude.Option Tape) → told ≡ began
         → (of : Opening) → of ≡ opening → Allows Held slots id me 11 (λ n. n)
         (λ r n. (w : LogWriter D) × IsOutOf tape moment faults told of r w me n × Stands n.0)
     goes_out may told told_is of of_is s k _ here _ =
         let one = k.one in
         let met : ℕ = slice_index s.words 11 in
-        let turned : hold_on first (me.0).hold ≡ Turned = held_on first (me.0).hold Turned may in
+        let turned : (me.0).writing.hold ≡ Turned = may in
         let found = is_home s.homes (k.sound).writer (at_home turned s k here) in
         let p : Plain = slot_plain tape moment found.0 in
         let of_log : IsOfLog tape faults began opening found.0 = k.of_log found.0 found.1 in
-        let w : SeatView = behind slot_out met (some p) me.0 in
+        let w : View = view_behind me.0 slot_out met (some p) in
         let kept = stepped slot_out turned s k here
         (home_of tape moment faults (set s.homes 0 none)) w (home_none s.homes k.one)
-        (taken_out first p of_log.on_first me.0 met
-        ∙ ap (λ (h : Option Plain). view_behind mine slot_out met h) (sym found.2)) in (
+        (ap (λ (h : Option Plain). view_behind mine slot_out met h) (sym found.2)) in (
           w,
           takes 0 found.0,
           found.1,
@@ -286,22 +280,20 @@ module _ {D : Type 0} (tape : D → Rattle.std.specs.Prelude.Option Tape) (momen
           ),
         )
 
-    pub comes_in : (l : SeatLent) (w : LogWriter D)
-        → HasInHand tape moment faults began opening me l w → MaySeat me.0 slot_in
+    pub comes_in : (l : Lent) (w : LogWriter D)
+        → HasInHand tape moment faults began opening me l w → MayStep me.0 slot_in
         → Allows Held slots id me 11 (λ n. n)
-        (λ r n. (n ≡ (behind slot_in r none me.0, [])) × Stands n.0)
+        (λ r n. (n ≡ (view_behind me.0 slot_in r none, [])) × Stands n.0)
     comes_in l w has may s k _ here _ =
         let one = k.one in
         let met : ℕ = slice_index s.words 11 in
         let home : Option Plain = home_of tape moment faults s.homes in
-        let v : SeatView = behind slot_in met none me.0 in
-        let returned_is : returned mine (hold_on first (me.0).hold) home
+        let v : View = view_behind me.0 slot_in met none in
+        let returned_is : returned mine (me.0).writing.hold home
         ≡ some (slot_plain tape moment w) =
-        ap (λ (h : SeatHold). returned mine (hold_on first h) home) has.hold
-        ∙ ap (λ (x : SeatWriter). some (plain_on first x)) has.kept
-        ∙ ap (λ (x : Plain). some x)
-        (back_plain first (slot_plain tape moment w) (has.of_log).on_first) in
-        let kept = stepped slot_in (may_go_in first me.0 may) s k here
+        ap (λ (h : Hold). returned mine h home) has.hold
+        ∙ ap (λ (x : Plain). some x) has.kept in
+        let kept = stepped slot_in may s k here
         (home_of tape moment faults (set s.homes 0 (some w))) v
         (home_some s.homes w k.one ∙ sym returned_is) refl in
         let back : IsRuled tape moment faults opening began (set s.words 11 met)
@@ -324,90 +316,77 @@ module _ {D : Type 0} (tape : D → Rattle.std.specs.Prelude.Option Tape) (momen
           ),
         )
 
-  pub splits_off : (id : ℕ) (v : SeatView) → (v.reserving).live ≡ true
+  pub splits_off : (id : ℕ) (v : View) → (v.reserving).live ≡ true
       → (v.reserving).spare < (v.reserving).spare_end
-      → Splits Held id v (seat_after_split v) (seat_split_off v)
+      → Splits Held id v (after_split v) (split_off v)
   splits_off id v live may s k here =
-      let f : SeatView → View = view_on first in
       let home : Option Plain = home_of tape moment faults s.homes in
-      let old : List View = map f s.views in
-      let left : List SeatView = set s.views id (seat_after_split v) in
+      let old : List View = s.views in
+      let left : List View = set s.views id (after_split v) in
       let before : machine.State = record { words = s.words; home = home; views = old } in
       let after : machine.State = record {
         words = s.words;
         home = home;
-        views = map f (left ++ seat_split_off v ∷ []);
+        views = left ++ split_off v ∷ [];
       } in
-      let kept = kept_behind opening before after (k.sound, k.rises) (SplitsOff id (record {
-        view = f v;
-        live = (at_map f s.views id v here, live);
+      let kept = kept_behind first opening before after (k.sound, k.rises) (SplitsOff id (record {
+        view = v;
+        live = (here, live);
         may = may;
         words = refl;
         home = refl;
-        views = map-append f left (seat_split_off v ∷ [])
-            ∙ ap (λ (us : List View). us ++ split_off (f v) ∷ [])
-            (map-set f s.views id (seat_after_split v)
-            ∙ ap (λ (u : View). set old id u) (split_left first v));
+        views = refl;
       })) in
       record { one = k.one; of_log = k.of_log; sound = kept.0; rises = kept.1 }
 
-  pub gives_up : (id : ℕ) (v : SeatView) → (v.reserving).live ≡ true → IsStrandedSeat v
-      → Splits Held id v (seat_without_work v) (seat_orphan v)
+  pub gives_up : (id : ℕ) (v : View) → (v.reserving).live ≡ true → IsStranded v
+      → Splits Held id v (without_work v) (orphan_of v)
   gives_up id v live stranded s k here =
-      let f : SeatView → View = view_on first in
       let home : Option Plain = home_of tape moment faults s.homes in
-      let old : List View = map f s.views in
-      let left : List SeatView = set s.views id (seat_without_work v) in
+      let old : List View = s.views in
+      let left : List View = set s.views id (without_work v) in
       let before : machine.State = record { words = s.words; home = home; views = old } in
       let after : machine.State = record {
         words = s.words;
         home = home;
-        views = map f (left ++ seat_orphan v ∷ []);
+        views = left ++ orphan_of v ∷ [];
       } in
-      let kept = kept_behind opening before after (k.sound, k.rises) (Abandons id (record {
-        view = f v;
-        live = (at_map f s.views id v here, live);
-        may = strands_on first v stranded;
+      let kept = kept_behind first opening before after (k.sound, k.rises) (Abandons id (record {
+        view = v;
+        live = (here, live);
+        may = stranded;
         words = refl;
         home = refl;
-        views = map-append f left (seat_orphan v ∷ [])
-            ∙ ap (λ (us : List View). us ++ orphan_of (f v) ∷ [])
-            (map-set f s.views id (seat_without_work v)
-            ∙ ap (λ (u : View). set old id u) (given_up first v));
+        views = refl;
       })) in
       record { one = k.one; of_log = k.of_log; sound = kept.0; rises = kept.1 }
 
-  pub joins_in : (id : ℕ) (v : SeatView) (other : ℕ) (w : SeatView)
-      → (v.reserving).live ≡ true → (w.reserving).live ≡ true → IsAtRest w
-      → (left : SeatView) → left ≡ seat_spent w
-      → Joins Held id v other w (seat_after_join v w) left
+  pub joins_in : (id : ℕ) (v : View) (other : ℕ) (w : View)
+      → (v.reserving).live ≡ true → (w.reserving).live ≡ true → IsResting w
+      → (left : View) → left ≡ spent w
+      → Joins Held id v other w (after_join v w) left
   joins_in id v other w live alive rests left is s k here apart there =
-      let f : SeatView → View = view_on first in
       let home : Option Plain = home_of tape moment faults s.homes in
-      let old : List View = map f s.views in
-      let both : List SeatView = set s.views id (seat_after_join v w) in
+      let old : List View = s.views in
+      let both : List View = set s.views id (after_join v w) in
       let before : machine.State = record { words = s.words; home = home; views = old } in
       let after : machine.State = record {
         words = s.words;
         home = home;
-        views = map f (set both other left);
+        views = set both other left;
       } in
       let found : get_elem? s.views other ≡ some w =
-      sym (set_else s.views id other (seat_after_join v w) apart) ∙ there in
-      let kept = kept_behind opening before after (k.sound, k.rises) (TakesIn id other (record {
-        view = f v;
-        other_view = f w;
-        live = (at_map f s.views id v here, live);
-        other_live = (at_map f s.views other w found, alive);
+      sym (set_else s.views id other (after_join v w) apart) ∙ there in
+      let kept = kept_behind first opening before after (k.sound, k.rises) (TakesIn id other (record {
+        view = v;
+        other_view = w;
+        live = (here, live);
+        other_live = (found, alive);
         apart = λ e. apart (sym e);
-        may = rests_on first w rests;
+        may = rests;
         words = refl;
         home = refl;
-        views = ap (λ (x : SeatView). map f (set both other x)) is
-            ∙ map-set f both other (seat_spent w)
-            ∙ ap (λ (us : List View). set us other (spent (f w)))
-            (map-set f s.views id (seat_after_join v w)
-            ∙ ap (λ (u : View). set old id u) (joined first v w))
-            ∙ set_comm old id other (after_join (f v) (f w)) (spent (f w)) (λ e. apart (sym e));
+        views = ap (λ (x : View). set both other x) is
+            ∙ set_comm old id other (after_join v w) (spent w) (λ e. apart (sym e));
       })) in
       record { one = k.one; of_log = k.of_log; sound = kept.0; rises = kept.1 }

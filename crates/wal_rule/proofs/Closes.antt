@@ -1,5 +1,5 @@
 -- A table's last state gives its writer and its position back.
-use Rattle.std.proofs.Common.{◌≡◌, ℕ, true, List, [], ◌∷◌, map, sym, ap, ◌∙◌, subst}
+use Rattle.std.proofs.Common.{◌≡◌, ℕ, true, List, [], ◌∷◌, sym, ap, ◌∙◌, subst}
 use mathlib.Core.Option.{Option, some, some-injective, some-ne-none}
 use lib.ListN.{get_elem?}
 use Rattle.atomic_table.specs.Table.{State, Final, Seen}
@@ -7,17 +7,15 @@ use Rattle.segment_disk.specs.Tape.{DiskState, Tape}
 use Rattle.wal_core.specs.Words.{Opening, position_word}
 use Rattle.wal_core.specs.Views.{Plain, View}
 use Rattle.wal_core.specs.Sound.{IsSound}
-use Rattle.wal_core.proofs.Lists.{part_at}
 use Rattle.machine_laws.specs.ClosedLogs.{HasAllNumbers, IsClosed, IsLastPass}
 use Rattle.machine_laws.proofs.ClosingLaws.{closed}
 use Rattle.machine_laws.proofs.EveryMoment.{logs_rise}
 use Rattle.wal_rule.specs.declared.writer.LogWriter.{LogWriter}
 use Rattle.wal_rule.specs.Closing.{ClosesWith}
 use Rattle.wal_rule.specs.Ruled.{IsRuled, home_of}
-use Rattle.wal_rule.specs.Seats.{IsAtRest, SeatView, view_on}
+use Rattle.wal_core.specs.Steps.{IsResting}
 use Rattle.wal_rule.specs.Slotted.{IsOfLog, first_on, slot_plain}
 use Rattle.wal_rule.proofs.Allowed.{is_home}
-use Rattle.wal_rule.proofs.SeatLaws.{rests_on}
 
 first_word : (words : List ℕ) (n : ℕ) → get_elem? words 0 ≡ some n → n ≡ position_word words
 first_word [] n at = absurd (some-ne-none n (sym at))
@@ -28,21 +26,21 @@ module _ {D : Type 0} (tape : D → Rattle.std.specs.Prelude.Option Tape) (momen
   abbrev first : DiskState
   first = first_on began
 
-  abbrev Held : State (LogWriter D) SeatView → Type 0
+  abbrev Held : State (LogWriter D) View → Type 0
   Held s = IsRuled tape moment faults opening began s.words s.homes s.views
 
-  module _ (id : ℕ) (v : SeatView) (live : (v.reserving).live ≡ true) (rests : IsAtRest v)
+  module _ (id : ℕ) (v : View) (live : (v.reserving).live ≡ true) (rests : IsResting v)
       (numbers : HasAllNumbers (opening.setup).passes v.reserving) where
     abbrev mine : View
-    mine = view_on first v
+    mine = v
 
     last : IsLastPass opening mine
-    last = record { live = live; rests = rests_on first v rests; numbers = numbers }
+    last = record { live = live; rests = rests; numbers = numbers }
 
     -- the machine's last state, with this writer at home
     abbrev Ends : List ℕ → List View → Option Plain → Plain → Type 0
-    Ends words views home writer = (k : IsSound opening words home views)
-        × IsClosed opening k.order words home writer views id mine
+    Ends words views home writer = (k : IsSound first opening words home views)
+        × IsClosed first opening k.order words home writer views id mine
 
     pub closes : (words : List ℕ) (slots : List (LogWriter D)) (w : LogWriter D)
         (position : ℕ) → Final (Seen Held id v) words slots → get_elem? slots 0 ≡ some w
@@ -51,9 +49,9 @@ module _ {D : Type 0} (tape : D → Rattle.std.specs.Prelude.Option Tape) (momen
     closes words slots w position end taken found =
         let s = end.0 in
         let k : Held s = (end.1).0 in
-        let views : List View = map (view_on first) s.views in
+        let views : List View = s.views in
         let home : Option Plain = home_of tape moment faults s.homes in
-        let here = part_at (view_on first) s.views id v (end.1).1 in
+        let here = (end.1).1 in
         let c = closed opening s.words home views k.sound id mine here last in
         let h = is_home tape moment faults opening began s.homes (k.sound).writer c.at_home in
         let same : h.0 ≡ w = some-injective h.0 w (sym (end.4 0 h.0 h.1) ∙ taken) in
@@ -64,7 +62,7 @@ module _ {D : Type 0} (tape : D → Rattle.std.specs.Prelude.Option Tape) (momen
         some-injective (k.sound).writer plain (sym c.at_home ∙ home_is) in
         let e : Ends s.words views home plain = (
           k.sound,
-          subst (λ (p : Plain). IsClosed opening (k.sound).order s.words home p views id
+          subst (λ (p : Plain). IsClosed first opening (k.sound).order s.words home p views id
               mine) writer_is c,
         ) in
         let f : Ends s.words views (some plain) plain =

@@ -1,109 +1,51 @@
 -- A call of the device is a step of the table: what a seat knows of its writer, told of the call,
 -- is the machine's writer behind it.
 use Rattle.std.specs.Prelude.{IfErr, IfSome, IsSome, Result, MatchResult, if◌then◌else◌}
-use Rattle.std.proofs.Common.{get_or, ◌≡◌, ℕ, ◌+◌, ◌*◌, ◌/◌, ◌^◌, ◌≤◌, ◌<◌, inl, inr, Bool, true, false, List, [], ◌∷◌, ◌++◌, append_assoc, map, set, slice_index, Err, Ok, Some, None, arith, refl, sym, ap, ◌∙◌, subst}
+use Rattle.std.proofs.Common.{get_or, ◌≡◌, ℕ, ◌+◌, ◌*◌, ◌/◌, ◌^◌, ◌≤◌, ◌<◌, inl, inr, Bool, true, false, List, [], ◌∷◌, ◌++◌, append_assoc, set, slice_index, Err, Ok, Some, None, arith, refl, sym, ap, ◌∙◌, subst}
 use mathlib.Core.Option.{Option, none, some, some-injective, some-ne-none}
 use Rattle.atomic_table.specs.Table.{Allows, State, keeps, rest}
 use Rattle.byte_position.specs.Geometry.{pages_of}
 use Rattle.segment_disk.specs.declared.disk.Call.{Call}
 use Rattle.segment_disk.specs.Cause.{Rose}
-use Rattle.segment_disk.specs.Tape.{DiskState, Tape, create_call, empty_state, failed_call, sync_call, with_call, write_call}
+use Rattle.segment_disk.specs.Tape.{DiskState, Tape, create_call, failed_call, sync_call, write_call}
 use Rattle.flush_core.specs.declared.writer.DiskFault.{DiskFault}
 use Rattle.wal_core.specs.Words.{Opening}
 use Rattle.wal_core.specs.Views.{Hold, Idle, Lent, Out, Plain, Turned, View}
-use Rattle.wal_core.specs.Moves.{Done, Failed, CallOutcome, is_counted, is_done, with_hold, with_outcome}
+use Rattle.wal_core.specs.Suited.{tape_from}
+use Rattle.wal_core.specs.Moves.{one_call_more, Done, Failed, CallOutcome, is_counted, is_done, with_hold, with_outcome}
 use Rattle.wal_core.specs.Steps.{IsCallFault, MayStep, StepKind, create, sync, write, home_behind, value_behind, view_behind, with_call_on, word_of_step}
 use Rattle.wal_rule.specs.declared.writer.LogWriter.{LogWriter}
 use Rattle.wal_rule.specs.Called.{DeviceCall, DeviceCallEnds, IsCalled, IsWriteLow, creates, step_of_call, syncs, writer_behind, writes}
-use Rattle.wal_rule.specs.Seats.{HasWriter, SeatHold, SeatLent, SeatView, SeatWriter, behind, calls_of, hold_on, lent_on, plain_on, tape_on, view_on, writer_told}
-use Rattle.wal_rule.specs.Slotted.{CallEnds, EndsAs, GoesOnFrom, IsOfLog, first_on, slot_disk, slot_plain, slot_segment_size}
-use Rattle.wal_rule.specs.Stepping.{MaySeat, Stands}
+use Rattle.wal_core.specs.Suited.{tape_from}
+use Rattle.wal_rule.specs.Slotted.{CallEnds, EndsAs, GoesOnFrom, IsOfLog, first_on, slot_disk, slot_plain, slot_segment_size, calls_of}
+use Rattle.wal_rule.specs.Stepping.{Stands}
 use Rattle.wal_rule.specs.Ruled.{HasInHand, IsRuled, home_of}
-use Rattle.wal_rule.proofs.SeatLaws.{again_tape, back_plain}
-use Rattle.wal_rule.proofs.QuietSteps.{out_on}
+use Rattle.wal_rule.proofs.SlotTapes.{own_tape}
 use Rattle.wal_rule.proofs.Allowed.{SoundAndRises, stands_in, stepped}
 use Rattle.wal_rule.proofs.Addresses.{starts_in_pages}
 
--- ---- the writer behind a call, as a seat tells it
+-- ---- the tape behind a call
 
-module _ (first : DiskState) where
-  with_call_on_tape : (other : DiskState) (calls : Rattle.std.specs.Prelude.Option (List Call))
-      (call : Call)
-      → tape_on first (calls_of (with_call (tape_on other calls) call))
-      ≡ with_call (tape_on first calls) call
-  with_call_on_tape other None call = refl
-  with_call_on_tape other (Some calls) call = refl
-
-  outcome_on : (other : DiskState) (call : Call) (outcome : CallOutcome) (w : SeatWriter)
-      → plain_on first (writer_told (with_outcome call outcome (plain_on other w)))
-      ≡ with_outcome call outcome (plain_on first w)
-  outcome_on other call Done w =
-      ap (λ (t : Rattle.std.specs.Prelude.Option Tape).
-      record (with_outcome call Done (plain_on first w)) { tape = t })
-      (with_call_on_tape other w.calls call)
-  outcome_on other call (Failed faults none) w =
-      ap (λ (t : Rattle.std.specs.Prelude.Option Tape).
-      record (with_outcome call (Failed faults none) (plain_on first w)) { tape = t })
-      (again_tape first other w.calls)
-  outcome_on other call (Failed faults (some made)) w =
-      ap (λ (t : Rattle.std.specs.Prelude.Option Tape).
-      record (with_outcome call (Failed faults (some made)) (plain_on first w)) { tape = t })
-      (with_call_on_tape other w.calls (failed_call made call))
-
-  pub writer_on : (other : DiskState) (size : ℕ) (call : DeviceCall) (outcome : CallOutcome)
-      (w : SeatWriter)
-      → plain_on first (writer_told (writer_behind size call outcome (plain_on other w)))
-      ≡ writer_behind size call outcome (plain_on first w)
-  writer_on other size (creates segment) outcome w =
-      ap (λ (p : Plain). record p { made = (if is_done outcome then segment else w.made) })
-      (outcome_on other (create_call size segment) outcome w)
-  writer_on other size (writes segment page upto bytes) outcome w =
-      ap (λ (p : Plain). record p {
-        written = (if is_done outcome then upto else w.written);
-        waiting = (if is_counted outcome then some segment else w.waiting);
-      })
-      (outcome_on other (write_call size segment page bytes) outcome w)
-  writer_on other size (syncs segment) outcome w =
-      ap (λ (p : Plain). record p { waiting = (if is_done outcome then none else w.waiting) })
-      (outcome_on other (sync_call size segment) outcome w)
-
-  told_calls : (calls : Rattle.std.specs.Prelude.Option (List Call))
-      → calls_of (tape_on first calls) ≡ calls
-  told_calls None = refl
-  told_calls (Some calls) = refl
-
-  told_plain : (w : SeatWriter) → writer_told (plain_on first w) ≡ w
-  told_plain w = ap (λ (c : Rattle.std.specs.Prelude.Option (List Call)). record w { calls = c })
-      (told_calls w.calls)
-
-  -- a seat tells the same of the writer behind a call, whatever it takes the disk to have held
-  told_behind : (other : DiskState) (size : ℕ) (call : DeviceCall) (outcome : CallOutcome) (p : Plain)
-      → IfSome p.tape (λ (x : Tape). x.at_first ≡ first)
-      → writer_told (writer_behind size call outcome (plain_on other (writer_told p)))
-      ≡ writer_told (writer_behind size call outcome p)
-  told_behind other size call outcome p is =
-      sym (told_plain
-      (writer_told (writer_behind size call outcome (plain_on other (writer_told p)))))
-      ∙ ap writer_told (writer_on other size call outcome (writer_told p)
-      ∙ ap (writer_behind size call outcome) (back_plain first p is))
-
--- what holds of a tape, and of each with one call more, still holds behind a call of the writer
-module _ (P : Tape → Type 0)
+-- what holds of a tape, and of each with one call more, still holds behind a call of the writer,
+-- whose disk held this at first
+module _ (first : DiskState) (P : Tape → Type 0)
     (more : (t : Tape) (call : Call) → P t → P (record t { calls = t.calls ++ call ∷ [] })) where
-  kept_call : (t : Rattle.std.specs.Prelude.Option Tape) (call : Call) → IfSome t P
-      → IfSome (with_call t call) P
+  kept_call : (calls : Rattle.std.specs.Prelude.Option (List Call)) (call : Call)
+      → IfSome (tape_from first calls) P → IfSome (tape_from first (one_call_more call calls)) P
   kept_call None call is = tt
-  kept_call (Some t) call is = more t call is
+  kept_call (Some calls) call is = more (record { at_first = first; calls = calls }) call is
 
-  outcome_keeps : (call : Call) (outcome : CallOutcome) (p : Plain) → IfSome p.tape P
-      → IfSome (with_outcome call outcome p).tape P
-  outcome_keeps call Done p is = kept_call p.tape call is
+  outcome_keeps : (call : Call) (outcome : CallOutcome) (p : Plain)
+      → IfSome (tape_from first p.calls) P
+      → IfSome (tape_from first (with_outcome call outcome p).calls) P
+  outcome_keeps call Done p is = kept_call p.calls call is
   outcome_keeps call (Failed faults none) p is = is
   outcome_keeps call (Failed faults (some made)) p is =
-      kept_call p.tape (failed_call made call) is
+      kept_call p.calls (failed_call made call) is
 
   pub writer_keeps : (size : ℕ) (call : DeviceCall) (outcome : CallOutcome) (p : Plain)
-      → IfSome p.tape P → IfSome (writer_behind size call outcome p).tape P
+      → IfSome (tape_from first p.calls) P
+      → IfSome (tape_from first (writer_behind size call outcome p).calls) P
   writer_keeps size (creates segment) outcome p is =
       outcome_keeps (create_call size segment) outcome p is
   writer_keeps size (writes segment page upto bytes) outcome p is =
@@ -120,25 +62,34 @@ goes_further (Some b) t call is = (
   ap (λ (cs : List Call). cs ++ call ∷ []) is.1 ∙ append_assoc b.calls is.0 (call ∷ []),
 )
 
--- a tape that is told is told behind a call
-told_call : (t : Rattle.std.specs.Prelude.Option Tape) (call : Call) → IsSome t
-    → IsSome (with_call t call)
+-- calls that are told are told behind a call, and so is their tape
+told_call : (calls : Rattle.std.specs.Prelude.Option (List Call)) (call : Call) → IsSome calls
+    → IsSome (one_call_more call calls)
 told_call None call is = is
-told_call (Some t) call is = is
+told_call (Some calls) call is = is
 
-told_outcome : (call : Call) (outcome : CallOutcome) (p : Plain) → IsSome p.tape
-    → IsSome (with_outcome call outcome p).tape
-told_outcome call Done p is = told_call p.tape call is
+told_outcome : (call : Call) (outcome : CallOutcome) (p : Plain) → IsSome p.calls
+    → IsSome (with_outcome call outcome p).calls
+told_outcome call Done p is = told_call p.calls call is
 told_outcome call (Failed faults none) p is = is
-told_outcome call (Failed faults (some made)) p is = told_call p.tape (failed_call made call) is
+told_outcome call (Failed faults (some made)) p is = told_call p.calls (failed_call made call) is
 
-told_on : (size : ℕ) (call : DeviceCall) (outcome : CallOutcome) (p : Plain) → IsSome p.tape
-    → IsSome (writer_behind size call outcome p).tape
+told_on : (size : ℕ) (call : DeviceCall) (outcome : CallOutcome) (p : Plain) → IsSome p.calls
+    → IsSome (writer_behind size call outcome p).calls
 told_on size (creates segment) outcome p is =
     told_outcome (create_call size segment) outcome p is
 told_on size (writes segment page upto bytes) outcome p is =
     told_outcome (write_call size segment page bytes) outcome p is
 told_on size (syncs segment) outcome p is = told_outcome (sync_call size segment) outcome p is
+
+told_calls : (t : Rattle.std.specs.Prelude.Option Tape) → IsSome t → IsSome (calls_of t)
+told_calls None is = is
+told_calls (Some t) is = is
+
+told_tape : (first : DiskState) (calls : Rattle.std.specs.Prelude.Option (List Call))
+    → IsSome calls → IsSome (tape_from first calls)
+told_tape first None is = is
+told_tape first (Some calls) is = is
 
 -- the segment that waits behind a call waited before, or is the one written to
 outcome_waits : (call : Call) (outcome : CallOutcome) (p : Plain)
@@ -221,62 +172,53 @@ module _ (size : ℕ) (call : DeviceCall) (p : Plain) (old new : ℕ) (kept : Op
 -- ---- the view behind a call
 
 -- with this of the writer in hand
-abbrev lent_behind : ℕ → DeviceCall → CallOutcome → SeatLent → SeatLent
+abbrev lent_behind : ℕ → DeviceCall → CallOutcome → Lent → Lent
 lent_behind size call outcome l = record l {
-  writer = writer_told (writer_behind size call outcome (plain_on empty_state l.writer));
+  writer = writer_behind size call outcome l.writer;
 }
 
-abbrev holding : SeatHold → SeatView → SeatView
-holding hold v = record v { hold = hold }
+abbrev holding : Hold → View → View
+holding hold v = with_hold hold v
 
-abbrev size_of : SeatView → ℕ
+abbrev size_of : View → ℕ
 size_of v = ((v.opening).setup).segment_size
 
-held_behind : (call : DeviceCall) (outcome : CallOutcome) (v : SeatView) (l : SeatLent)
-    → behind (step_of_call call outcome) 0 none (holding (HasWriter l) v)
-    ≡ holding (HasWriter (lent_behind (size_of v) call outcome l)) v
+held_behind : (call : DeviceCall) (outcome : CallOutcome) (v : View) (l : Lent)
+    → view_behind (holding (Out l) v) (step_of_call call outcome) 0 none
+    ≡ holding (Out (lent_behind (size_of v) call outcome l)) v
 held_behind (creates segment) outcome v l = refl
 held_behind (writes segment page upto bytes) outcome v l = refl
 held_behind (syncs segment) outcome v l = refl
 
-machine_behind : (first : DiskState) (call : DeviceCall) (outcome : CallOutcome) (v : SeatView)
-    (l : SeatLent) (met : ℕ) (home : Option Plain)
-    → view_behind (view_on first (holding (HasWriter l) v)) (step_of_call call outcome) met home
-    ≡ with_hold (Out (record (lent_on first l) {
-      writer = writer_behind (size_of v) call outcome (plain_on first l.writer);
-    })) (view_on first v)
-machine_behind first (creates segment) outcome v l met home = refl
-machine_behind first (writes segment page upto bytes) outcome v l met home = refl
-machine_behind first (syncs segment) outcome v l met home = refl
+-- wherever the writer is, and whatever number was met
+call_view : (call : DeviceCall) (outcome : CallOutcome) (v : View) (met : ℕ) (home : Option Plain)
+    → view_behind v (step_of_call call outcome) 0 none
+    ≡ view_behind v (step_of_call call outcome) met home
+call_view (creates segment) outcome v met home = refl
+call_view (writes segment page upto bytes) outcome v met home = refl
+call_view (syncs segment) outcome v met home = refl
 
-call_view : (first : DiskState) (call : DeviceCall) (outcome : CallOutcome) (v : SeatView)
-    (l : SeatLent) (met : ℕ) (home : Option Plain)
-    → view_on first (behind (step_of_call call outcome) 0 none (holding (HasWriter l) v))
-    ≡ view_behind (view_on first (holding (HasWriter l) v)) (step_of_call call outcome) met home
-call_view first call outcome v l met home =
-    ap (view_on first) (held_behind call outcome v l)
-    ∙ ap (λ (p : Plain). with_hold (Out (record (lent_on first l) { writer = p })) (view_on first v))
-    (writer_on first empty_state (size_of v) call outcome l.writer)
-    ∙ sym (machine_behind first call outcome v l met home)
-
--- no call changes what is fixed of its pass's log, nor whether the pass is live
+-- no call changes what is fixed of its pass's log, whether the pass is live, or its number
 abbrev IsSteady : View → View → Type 0
 IsSteady v w = (w.opening ≡ v.opening) × ((w.reserving).live ≡ (v.reserving).live)
+    × ((w.reserving).number ≡ (v.reserving).number)
 
 steady_called : (v : View) (f : Plain → Plain) (h : Hold) → IsSteady v (with_call_on v f h)
-steady_called v f Idle = (refl, refl)
-steady_called v f Turned = (refl, refl)
-steady_called v f (Out l) = (refl, refl)
+steady_called v f Idle = (refl, refl, refl)
+steady_called v f Turned = (refl, refl, refl)
+steady_called v f (Out l) = (refl, refl, refl)
 
-pub call_steady : (call : DeviceCall) (outcome : CallOutcome) (v : SeatView)
-    → ((behind (step_of_call call outcome) 0 none v).opening ≡ v.opening)
-    × (((behind (step_of_call call outcome) 0 none v).reserving).live ≡ (v.reserving).live)
+pub call_steady : (call : DeviceCall) (outcome : CallOutcome) (v : View)
+    → ((view_behind v (step_of_call call outcome) 0 none).opening ≡ v.opening)
+    × (((view_behind v (step_of_call call outcome) 0 none).reserving).live ≡ (v.reserving).live)
+    × (((view_behind v (step_of_call call outcome) 0 none).reserving).number
+    ≡ (v.reserving).number)
 call_steady (creates segment) outcome v =
-    steady_called (view_on empty_state v) _ (hold_on empty_state v.hold)
+    steady_called v _ v.writing.hold
 call_steady (writes segment page upto bytes) outcome v =
-    steady_called (view_on empty_state v) _ (hold_on empty_state v.hold)
+    steady_called v _ v.writing.hold
 call_steady (syncs segment) outcome v =
-    steady_called (view_on empty_state v) _ (hold_on empty_state v.hold)
+    steady_called v _ v.writing.hold
 
 -- ---- what a call rests on
 
@@ -292,37 +234,12 @@ call_fault v old (Ok done) outcome below ends rose =
 call_fault v old (Err e) outcome below ends rose =
     subst (IsCallFault v) (sym ends.1) (rose_since (v.opening).faults old e.faults below rose)
 
-may_call : (first : DiskState) (v : SeatView) (call : DeviceCall) (outcome : CallOutcome)
-    → MaySeat v (step_of_call call Done) → IsCallFault (view_on first v) outcome
-    → MayStep (view_on first v) (step_of_call call outcome)
-may_call first v (creates segment) outcome may fault = (
-  out_on first v _ _ (λ l is. record {
-    up = is.up;
-    next = is.next;
-    behind = is.behind;
-    asked = is.asked;
-    alone = is.alone;
-  }) may.0,
-  fault,
-)
-may_call first v (writes segment page upto bytes) outcome may fault = (
-  out_on first v _ _ (λ l is. record {
-    up = is.up;
-    page_is = is.page_is;
-    on_segment = is.on_segment;
-    is_made = is.is_made;
-    alone = is.alone;
-    rises = is.rises;
-    behind_start = is.behind_start;
-    within = is.within;
-    copied = is.copied;
-    whole = is.whole;
-    loaded = is.loaded;
-  }) may.0,
-  fault,
-)
-may_call first v (syncs segment) outcome may fault =
-    (out_on first v _ _ (λ l is. record { up = is.up; waits = is.waits }) may.0, fault)
+may_call : (v : View) (call : DeviceCall) (outcome : CallOutcome)
+    → MayStep v (step_of_call call Done) → IsCallFault v outcome
+    → MayStep v (step_of_call call outcome)
+may_call v (creates segment) outcome may fault = (may.0, fault)
+may_call v (writes segment page upto bytes) outcome may fault = (may.0, fault)
+may_call v (syncs segment) outcome may fault = (may.0, fault)
 
 -- ---- the step
 
@@ -361,8 +278,8 @@ fault_of_hold Turned = none
 fault_of_hold (Out l) = (l.writer).fault
 
 -- a call is made only while no fault is kept
-up_lent : (v : SeatView) (call : DeviceCall) → MaySeat v (step_of_call call Done)
-    → fault_of_hold (hold_on empty_state v.hold) ≡ none
+up_lent : (v : View) (call : DeviceCall) → MayStep v (step_of_call call Done)
+    → fault_of_hold v.writing.hold ≡ none
 up_lent v (creates segment) may = ap fault_of_hold (may.0).1 ∙ ((may.0).2).up
 up_lent v (writes segment page upto bytes) may = ap fault_of_hold (may.0).1 ∙ ((may.0).2).up
 up_lent v (syncs segment) may = ap fault_of_hold (may.0).1 ∙ ((may.0).2).up
@@ -372,7 +289,7 @@ module _ {D : Type 0} (tape : D → Rattle.std.specs.Prelude.Option Tape) (momen
   abbrev first : DiskState
   first = first_on began
 
-  abbrev Held : State (LogWriter D) SeatView → Type 0
+  abbrev Held : State (LogWriter D) View → Type 0
   Held s = IsRuled tape moment faults opening began s.words s.homes s.views
 
   of_log_behind : (call : DeviceCall) (result : Result Unit DiskFault) (before now : LogWriter D)
@@ -386,21 +303,29 @@ module _ {D : Type 0} (tape : D → Rattle.std.specs.Prelude.Option Tape) (momen
       let rises = ends.rises in
       let failed = was.failed in
       let old : Plain = slot_plain tape moment before in
-      let tape_is : (writer_behind size call ends.outcome old).tape ≡ tape (slot_disk now) =
-      sym (ap (λ (p : Plain). p.tape) ends.plain_is) in
+      let then_first : DiskState = first_on (tape (slot_disk before)) in
+      let own : tape_from then_first old.calls ≡ tape (slot_disk before) =
+      own_tape (tape (slot_disk before)) in
+      let tape_is : tape_from then_first (writer_behind size call ends.outcome old).calls
+      ≡ tape (slot_disk now) =
+      ap (tape_from then_first) (sym (ap (λ (p : Plain). p.calls) ends.plain_is))
+      ∙ sym ends.tape_is in
       let fault_is = sym (ap (λ (p : Plain). p.fault) ends.plain_is) in
       record {
         size_is = ends.same_size ∙ was.size_is;
         on_first = subst (λ (t : Rattle.std.specs.Prelude.Option Tape).
             IfSome t (λ (x : Tape). x.at_first ≡ first)) tape_is
-            (writer_keeps (λ (x : Tape). x.at_first ≡ first) (λ t call is. is) size call
-            ends.outcome old was.on_first);
+            (writer_keeps then_first (λ (x : Tape). x.at_first ≡ first) (λ t call is. is) size call
+            ends.outcome old (subst (λ (t : Rattle.std.specs.Prelude.Option Tape).
+            IfSome t (λ (x : Tape). x.at_first ≡ first)) (sym own) was.on_first));
         goes_on = subst (λ (t : Rattle.std.specs.Prelude.Option Tape).
             IfSome t (GoesOnFrom began)) tape_is
-            (writer_keeps (GoesOnFrom began) (goes_further began) size call ends.outcome old
-            was.goes_on);
+            (writer_keeps then_first (GoesOnFrom began) (goes_further began) size call ends.outcome
+            old (subst (λ (t : Rattle.std.specs.Prelude.Option Tape). IfSome t (GoesOnFrom began))
+            (sym own) was.goes_on));
         told = λ some. subst (λ (t : Rattle.std.specs.Prelude.Option Tape). IsSome t) tape_is
-            (told_on size call ends.outcome old (was.told some));
+            (told_tape then_first _
+            (told_on size call ends.outcome old (told_calls _ (was.told some))));
         failed = omega (arith, rises, failed);
         up = λ none_kept. up_behind size call old (faults (slot_disk before))
             (faults (slot_disk now)) (slot_plain tape moment now).fault result ends.outcome
@@ -415,45 +340,39 @@ module _ {D : Type 0} (tape : D → Rattle.std.specs.Prelude.Option Tape) (momen
 
   -- the seat behind the call
   module _ (call : DeviceCall) (result : Result Unit DiskFault)
-      (me : SeatView × List (ℕ × LogWriter D)) (own : (me.0).opening ≡ opening)
+      (me : View × List (ℕ × LogWriter D)) (own : (me.0).opening ≡ opening)
       (called : IsCalled tape moment faults began opening call result me) where
     abbrev made : StepKind
     made = step_of_call call (called.ends).outcome
 
-    abbrev told : SeatView
-    told = behind made 0 none me.0
+    abbrev told : View
+    told = view_behind me.0 made 0 none
 
     own_size : (opening.setup).segment_size ≡ size_of me.0
     own_size = ap (λ (o : Opening). (o.setup).segment_size) (sym own)
 
-    told_hold : told ≡ holding (HasWriter (lent_behind (opening.setup).segment_size call
+    told_hold : told ≡ holding (Out (lent_behind (opening.setup).segment_size call
         (called.ends).outcome called.lent)) me.0
-    told_hold = ap (λ (h : SeatHold). behind made 0 none (holding h me.0)) (called.had).hold
+    told_hold = ap (λ (h : Hold). view_behind (holding h me.0) made 0 none) (called.had).hold
         ∙ held_behind call (called.ends).outcome me.0 called.lent
-        ∙ ap (λ (n : ℕ). holding (HasWriter (lent_behind n call (called.ends).outcome
+        ∙ ap (λ (n : ℕ). holding (Out (lent_behind n call (called.ends).outcome
         called.lent)) me.0) (sym own_size)
 
-    told_view : (met : ℕ) (home : Option Plain)
-        → view_on first told ≡ view_behind (view_on first me.0) made met home
-    told_view met home = subst (λ (h : SeatHold).
-        view_on first (behind made 0 none (holding h me.0))
-        ≡ view_behind (view_on first (holding h me.0)) made met home)
-        (sym (called.had).hold)
-        (call_view first call (called.ends).outcome me.0 called.lent met home)
+    told_view : (met : ℕ) (home : Option Plain) → told ≡ view_behind me.0 made met home
+    told_view met home = call_view call (called.ends).outcome me.0 met home
 
     -- the writer had met no fault before the call
-    up_before : MaySeat me.0 (step_of_call call Done)
+    up_before : MayStep me.0 (step_of_call call Done)
         → (slot_plain tape moment called.before).fault ≡ none
-    up_before may = sym (ap (λ (w : SeatWriter). w.fault) (called.had).kept)
-        ∙ ap (λ (h : SeatHold). fault_of_hold (hold_on empty_state h)) (sym (called.had).hold)
+    up_before may = sym (ap (λ (w : Plain). w.fault) (called.had).kept)
+        ∙ ap fault_of_hold (sym (called.had).hold)
         ∙ up_lent me.0 call may
 
-    pub call_ended : MaySeat me.0 (step_of_call call Done)
+    pub call_ended : MayStep me.0 (step_of_call call Done)
         → DeviceCallEnds tape moment faults began opening call result me.0 (told, me.1)
     call_ended may =
         let size : ℕ = (opening.setup).segment_size in
         let outcome : CallOutcome = (called.ends).outcome in
-        let was : Plain = slot_plain tape moment called.before in
         record {
           outcome = outcome;
           ends = (called.ends).ends;
@@ -461,47 +380,43 @@ module _ {D : Type 0} (tape : D → Rattle.std.specs.Prelude.Option Tape) (momen
           lent = lent_behind size call outcome called.lent;
           writer = called.writer;
           in_hand = record {
-            hold = ap (λ (v : SeatView). v.hold) told_hold;
+            hold = ap (λ (v : View). v.writing.hold) told_hold;
             slot = called.slot;
-            kept = ap (λ (w : SeatWriter).
-                writer_told (writer_behind size call outcome (plain_on empty_state w)))
-                (called.had).kept
-                ∙ told_behind first empty_state size call outcome was
-                ((called.had).of_log).on_first
-                ∙ ap writer_told (sym (called.ends).plain_is);
+            kept = ap (writer_behind size call outcome) (called.had).kept
+                ∙ sym (called.ends).plain_is;
             of_log = of_log_behind call result called.before called.writer (called.had).of_log
                 called.low (up_before may) called.ends;
           };
         }
 
-    may_made : MaySeat me.0 (step_of_call call Done) → MayStep (view_on first me.0) made
-    may_made may = may_call first me.0 call (called.ends).outcome may
-        (call_fault (view_on first me.0) (faults (slot_disk called.before)) result
+    may_made : MayStep me.0 (step_of_call call Done) → MayStep me.0 made
+    may_made may = may_call me.0 call (called.ends).outcome may
+        (call_fault me.0 (faults (slot_disk called.before)) result
         (called.ends).outcome
         (subst (λ (o : Opening). o.faults ≤ faults (slot_disk called.before)) (sym own)
         ((called.had).of_log).failed)
         (called.ends).ends (called.ends).fault)
 
     pub catches_up : (slots id : ℕ) → ((me.0).reserving).live ≡ true
-        → MaySeat me.0 (step_of_call call Done) → (told_began : Rattle.std.specs.Prelude.Option Tape) → told_began ≡ began
+        → MayStep me.0 (step_of_call call Done) → (told_began : Rattle.std.specs.Prelude.Option Tape) → told_began ≡ began
         → (of : Opening) → of ≡ opening → Allows Held slots id me 11 (λ n. n)
         (λ r n. DeviceCallEnds tape moment faults told_began of call result me.0 n × Stands n.0)
     catches_up slots id live may told_began began_is of of_is s k _ here _ =
-        let v : View = view_on first me.0 in
+        let v : View = me.0 in
         let home : Option Plain = home_of tape moment faults s.homes in
         let word : ℕ = word_of_step v made in
-        let after : List SeatView = set s.views id told in
-        let kept : SoundAndRises opening (set s.words word (slice_index s.words word)) home
-        (map (view_on first) after) = subst
-        (λ (n : ℕ). SoundAndRises opening (set s.words word n) home (map (view_on first) after))
+        let after : List View = set s.views id told in
+        let kept : SoundAndRises first opening (set s.words word (slice_index s.words word)) home
+        after = subst
+        (λ (n : ℕ). SoundAndRises first opening (set s.words word n) home after)
         (value_called v call (called.ends).outcome (slice_index s.words word))
         (stepped tape moment faults opening began slots id me live made
         (may_made may) s k here home told (home_called v call (called.ends).outcome home)
         (told_view (slice_index s.words word) home)) in
-        let left : SoundAndRises opening (set s.words 11 (slice_index s.words 11)) home
-        (map (view_on first) after) = subst (λ (i : ℕ).
-        SoundAndRises opening (set s.words i (slice_index s.words i)) home
-        (map (view_on first) after)) (word_called v call (called.ends).outcome) kept in (
+        let left : SoundAndRises first opening (set s.words 11 (slice_index s.words 11)) home
+        after = subst (λ (i : ℕ).
+        SoundAndRises first opening (set s.words i (slice_index s.words i)) home
+        after) (word_called v call (called.ends).outcome) kept in (
           told,
           keeps,
           tt,
@@ -524,12 +439,12 @@ module _ {D : Type 0} (tape : D → Rattle.std.specs.Prelude.Option Tape) (momen
 
   -- ---- the writer is lent from its slot
 
-  pub lends : (me : SeatView × List (ℕ × LogWriter D)) (l : SeatLent) (w : LogWriter D)
+  pub lends : (me : View × List (ℕ × LogWriter D)) (l : Lent) (w : LogWriter D)
       → HasInHand tape moment faults began opening me l w → me.1 ≡ (0, w) ∷ rest me.1
   lends me l w has =
       has.slot ∙ ap (λ (c : List (ℕ × LogWriter D)). (0, w) ∷ rest c) (sym has.slot)
 
-  module _ (me : SeatView × List (ℕ × LogWriter D)) (l : SeatLent) (w held : LogWriter D)
+  module _ (me : View × List (ℕ × LogWriter D)) (l : Lent) (w held : LogWriter D)
       (has : HasInHand tape moment faults began opening me l w)
       (lent_is : me.1 ≡ (0, held) ∷ rest me.1) where
     pub lent_writer : w ≡ held
@@ -561,21 +476,19 @@ module _ {D : Type 0} (tape : D → Rattle.std.specs.Prelude.Option Tape) (momen
     own_held : (me.0).opening ≡ opening → size_of me.0 ≡ slot_segment_size held
     own_held own = ap (λ (o : Opening). (o.setup).segment_size) own ∙ lent_size
 
-    written_held : (lent : Lent) → hold_on empty_state (me.0).hold ≡ Out lent
+    written_held : (lent : Lent) → (me.0).writing.hold ≡ Out lent
         → (lent.writer).written ≡ held.written
-    written_held lent out = ap written_of_hold (sym out
-        ∙ ap (λ (h : SeatHold). hold_on empty_state h) has.hold)
-        ∙ ap (λ (w : SeatWriter). w.written) has.kept
+    written_held lent out = ap written_of_hold (sym out ∙ has.hold)
+        ∙ ap (λ (w : Plain). w.written) has.kept
         ∙ ap (λ (x : LogWriter D). (slot_plain tape moment x).written) lent_writer
 
-    waiting_held : (lent : Lent) → hold_on empty_state (me.0).hold ≡ Out lent
+    waiting_held : (lent : Lent) → (me.0).writing.hold ≡ Out lent
         → (lent.writer).waiting ≡ (slot_plain tape moment w).waiting
-    waiting_held lent out = ap waiting_of_hold (sym out
-        ∙ ap (λ (h : SeatHold). hold_on empty_state h) has.hold)
-        ∙ ap (λ (w : SeatWriter). w.waiting) has.kept
+    waiting_held lent out = ap waiting_of_hold (sym out ∙ has.hold)
+        ∙ ap (λ (w : Plain). w.waiting) has.kept
 
     pub create_reaches : (me.0).opening ≡ opening → (segment : ℕ)
-        → MaySeat me.0 (create segment Done)
+        → MayStep me.0 (create segment Done)
         → segment * pages_of (slot_segment_size held) ≤ (slot_plain tape moment held).written / 8192
     create_reaches own segment may =
         let next = (may.0).2 in
@@ -585,7 +498,7 @@ module _ {D : Type 0} (tape : D → Rattle.std.specs.Prelude.Option Tape) (momen
         next.behind))
 
     pub write_reaches : (me.0).opening ≡ opening → (segment page upto : ℕ) (bytes : List ℕ)
-        → MaySeat me.0 (write segment page upto bytes Done)
+        → MayStep me.0 (write segment page upto bytes Done)
         → (segment * pages_of (slot_segment_size held)
         ≤ (slot_plain tape moment held).written / 8192)
         × (page < pages_of (slot_segment_size held))
@@ -598,7 +511,7 @@ module _ {D : Type 0} (tape : D → Rattle.std.specs.Prelude.Option Tape) (momen
         subst (λ (n : ℕ). (segment * pages_of n ≤ (slot_plain tape moment held).written / 8192)
         × (page < pages_of n)) size_is (omega (arith, at), next.on_segment)
 
-    pub sync_low : (segment : ℕ) → MaySeat me.0 (sync segment Done)
+    pub sync_low : (segment : ℕ) → MayStep me.0 (sync segment Done)
         → segment < 2 ^ 64 / slot_segment_size held
     sync_low segment may =
         let next = (may.0).2 in

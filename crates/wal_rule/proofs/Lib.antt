@@ -1,6 +1,7 @@
-pub mod SeatLaws
+pub mod SlotTapes
 pub mod QuietSteps
 pub mod Steady
+pub mod SeatedSteps
 pub mod Allowed
 pub mod Opens
 pub mod Begins

@@ -8,7 +8,7 @@ use Rattle.wal_core.specs.Words.{Opening}
 use Rattle.wal_rule.specs.declared.writer.LogWriter.{LogWriter}
 use Rattle.wal_rule.specs.Beginning.{HoldsRule, view_by_home}
 use Rattle.wal_rule.specs.Ruled.{IsRuled}
-use Rattle.wal_rule.specs.Seats.{SeatView}
+use Rattle.wal_core.specs.Views.{View}
 
 -- a step that keeps the machine's invariant keeps the rule
 pub kept_step : {V A : Type 0} {IsValid Begins Holds Tells : V → A → Type 0}
@@ -18,34 +18,34 @@ kept_step step = (step.0, step.1, step.2, inr step.3, step.4)
 
 module _ {D : Type 0} (tape : D → Rattle.std.specs.Prelude.Option Tape) (moment faults : D → ℕ)
     (opening : Opening) (began : Rattle.std.specs.Prelude.Option Tape) where
-  abbrev Whole : State (LogWriter D) SeatView → Type 0
+  abbrev Whole : State (LogWriter D) View → Type 0
   Whole s = HoldsRule tape moment faults opening began s.words s.homes s.views
 
-  abbrev Held : State (LogWriter D) SeatView → Type 0
+  abbrev Held : State (LogWriter D) View → Type 0
   Held s = IsRuled tape moment faults opening began s.words s.homes s.views
 
-  never_live : (home : Option (LogWriter D)) (id : ℕ) (v : SeatView)
+  never_live : (home : Option (LogWriter D)) (id : ℕ) (v : View)
       → get_elem? (view_by_home tape moment faults opening began home ∷ []) id ≡ some v
       → (v.reserving).live ≡ false
-  never_live none zero v at = ap (λ (x : SeatView). (x.reserving).live) (sym (some-injective _ v at))
+  never_live none zero v at = ap (λ (x : View). (x.reserving).live) (sym (some-injective _ v at))
   never_live (some w) zero v at =
-      ap (λ (x : SeatView). (x.reserving).live) (sym (some-injective _ v at))
+      ap (λ (x : View). (x.reserving).live) (sym (some-injective _ v at))
   never_live home (suc id) v at = absurd (some-ne-none v (sym at))
 
   false_not_true : false ≡ true → ⊥
   false_not_true e = absurd cc
 
-  module _ (id : ℕ) (v : SeatView) (live : (v.reserving).live ≡ true) where
-    pub live_held : (s : State (LogWriter D) SeatView) → Whole s → get_elem? s.views id ≡ some v → Held s
+  module _ (id : ℕ) (v : View) (live : (v.reserving).live ≡ true) where
+    pub live_held : (s : State (LogWriter D) View) → Whole s → get_elem? s.views id ≡ some v → Held s
     live_held s (inl b) here = absurd (false_not_true (sym (never_live b.home id v
-        (sym (ap (λ (vs : List SeatView). get_elem? vs id) b.views_are) ∙ here)) ∙ live))
+        (sym (ap (λ (vs : List View). get_elem? vs id) b.views_are) ∙ here)) ∙ live))
     live_held s (inr k) here = k
 
-    pub live_splits : (left right : SeatView) → Splits Held id v left right
+    pub live_splits : (left right : View) → Splits Held id v left right
         → Splits Whole id v left right
     live_splits left right step s h here = inr (step s (live_held s h here) here)
 
-    pub live_joins : (other : ℕ) (w both spent : SeatView) → Joins Held id v other w both spent
+    pub live_joins : (other : ℕ) (w both spent : View) → Joins Held id v other w both spent
         → Joins Whole id v other w both spent
     live_joins other w both spent step s h here apart there =
         inr (step s (live_held s h here) here apart there)

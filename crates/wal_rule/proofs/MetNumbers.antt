@@ -5,32 +5,31 @@ use Rattle.atomic_table.proofs.Lists.{at_map}
 use Rattle.segment_disk.specs.Cause.{Rose}
 use Rattle.machine_words.proofs.Bounds.{limit_low}
 use Rattle.wal_core.specs.Words.{down_word, flushed_word, moment_word, position_word, prev_word}
-use Rattle.wal_core.specs.Views.{FlushPromise, reserving_of, receipts_of}
+use Rattle.wal_core.specs.Views.{FlushPromise, reserving_of, receipts_of, View}
 use Rattle.wal_core.specs.Durable.{IsPromised, IsToldRightly}
 use Rattle.wal_core.specs.Moves.{unlocked}
 use Rattle.wal_core.specs.Steps.{StepKind, load_down, load_flushed, load_moment, load_position}
 use Rattle.machine_laws.proofs.OrderSteps.{unlocked-is}
 use Rattle.wal_rule.specs.Downs.{KnowsDown}
-use Rattle.wal_rule.specs.Seats.{SeatView, view_on}
 use Rattle.wal_rule.specs.Stepping.{Meets, Stands}
 
 -- ---- what a view was told
 
-module _ (v : SeatView) (s : Stands v) where
+module _ (v : View) (s : Stands v) where
   abbrev down : ℕ
   down = down_word s.words
 
-  told_rightly : IsToldRightly v.opening (s.sound).order (flushed_word s.words)
-      (moment_word s.words) down (s.sound).writer (receipts_of (view_on s.first v))
-  told_rightly = ((s.sound).durable).views s.id (receipts_of (view_on s.first v))
-      (at_map receipts_of s.views s.id (view_on s.first v) s.here)
+  told_rightly : IsToldRightly s.first v.opening (s.sound).order (flushed_word s.words)
+      (moment_word s.words) down (s.sound).writer (receipts_of v)
+  told_rightly = ((s.sound).durable).views s.id (receipts_of v)
+      (at_map receipts_of s.views s.id v s.here)
 
   -- the word has the down value that it knows
   known_is : (faults : ℕ) → KnowsDown faults v → faults ≡ down
   known_is faults (some_are, inl met) = sym met
-      ∙ told_rightly.down_met (λ (e : v.down_met ≡ 0). some_are (sym met ∙ e))
+      ∙ told_rightly.down_met (λ (e : v.writing.down_met ≡ 0). some_are (sym met ∙ e))
   known_is faults (some_are, inr set) = sym set
-      ∙ told_rightly.down_set (λ (e : v.down_set ≡ 0). some_are (sym set ∙ e))
+      ∙ told_rightly.down_set (λ (e : v.writing.down_set ≡ 0). some_are (sym set ∙ e))
 
   -- a down value is a fault since the opening
   down_since : down ≢ 0 → Rose (v.opening).faults down
@@ -48,7 +47,7 @@ module _ (v : SeatView) (s : Stands v) where
 
 -- ---- what a load met
 
-module _ (v : SeatView) (met : ℕ) where
+module _ (v : View) (met : ℕ) where
   -- no pass has seen more than is reserved, and a position is far below the last of 64 bits
   pub position_met : Meets v load_position met → (v.reserving).live ≡ true
       → ((v.reserving).seen ≤ unlocked met) × (met < 2 ^ 60)
@@ -57,7 +56,7 @@ module _ (v : SeatView) (met : ℕ) where
       let setup = (v.opening).setup in
       let holds = (s.sound).reserved in
       let part = holds.views s.id v.reserving
-      (at_map reserving_of s.views s.id (view_on s.first v) s.here) live in
+      (at_map reserving_of s.views s.id v s.here) live in
       let end = unlocked-is setup (v.opening).found (s.sound).order (position_word s.words)
       (prev_word s.words) (map reserving_of s.views) holds ((s.sound).setup_is).size in
       let low = limit_low setup (s.sound).setup_is in
@@ -78,13 +77,13 @@ module _ (v : SeatView) (met : ℕ) where
 
   -- the pass was promised nothing beyond the flushed address, and nothing of a later moment
   pub flushed_met : Meets v load_flushed met
-      → All (λ (p : FlushPromise). p.upto ≤ met) v.promises
+      → All (λ (p : FlushPromise). p.upto ≤ met) v.writing.promises
   flushed_met m = All-weaker (promised m) (λ (p : FlushPromise). p.upto ≤ met)
-      (λ p is. subst (λ (n : ℕ). p.upto ≤ n) (sym m.met_is) is.upto_low) v.promises
+      (λ p is. subst (λ (n : ℕ). p.upto ≤ n) (sym m.met_is) is.upto_low) v.writing.promises
       (told_rightly v m.before).own_promised
 
   pub moment_met : Meets v load_moment met
-      → All (λ (p : FlushPromise). p.moment ≤ met) v.promises
+      → All (λ (p : FlushPromise). p.moment ≤ met) v.writing.promises
   moment_met m = All-weaker (promised m) (λ (p : FlushPromise). p.moment ≤ met)
-      (λ p is. subst (λ (n : ℕ). p.moment ≤ n) (sym m.met_is) is.moment_low) v.promises
+      (λ p is. subst (λ (n : ℕ). p.moment ≤ n) (sym m.met_is) is.moment_low) v.writing.promises
       (told_rightly v m.before).own_promised

@@ -6,11 +6,10 @@ use mathlib.Core.Option.{some, some-injective, some-ne-none}
 use Rattle.segment_disk.specs.Tape.{Tape}
 use Rattle.wal_core.specs.Views.{Plain}
 use Rattle.wal_core.specs.Words.{Opening}
-use Rattle.wal_core.specs.Opened.{AreFirstWords, IsFirstWriter, IsNew}
+use Rattle.wal_core.specs.Opened.{AreFirstWords, IsFirstWriter, IsNew, first_view}
 use Rattle.machine_laws.proofs.OpeningLaws.{logs_begin}
 use Rattle.machine_laws.proofs.EveryMoment.{first_rises}
 use Rattle.wal_rule.specs.declared.writer.LogWriter.{LogWriter}
-use Rattle.wal_rule.specs.Seats.{first_seat_view}
 use Rattle.wal_rule.specs.Slotted.{GoesOnFrom, IsOfLog, first_on, slot_disk, slot_plain, slot_segment_size}
 use Rattle.wal_rule.specs.Ruled.{IsRuled}
 
@@ -48,13 +47,13 @@ module _ {D : Type 0} (tape : D → Rattle.std.specs.Prelude.Option Tape) (momen
       → IsNew opening → AreFirstWords opening words
       → IsFirstWriter opening (slot_plain tape moment writer)
       → IsRuled tape moment faults opening (tape disk) words (map some items)
-      (first_seat_view opening ∷ [])
+      (first_view opening ∷ [])
   opens items are of_log new first begins =
       let plain : Plain = slot_plain tape moment writer in
-      let sound = logs_begin opening words plain new first begins in
+      let sound = logs_begin (first_on (tape disk)) opening words plain new first begins in
       subst
       (λ (xs : List (LogWriter D)). IsRuled tape moment faults opening (tape disk) words
-      (map some xs) (first_seat_view opening ∷ []))
+      (map some xs) (first_view opening ∷ []))
       (sym are)
       (record {
         one = refl;

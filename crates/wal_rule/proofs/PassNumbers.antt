@@ -2,18 +2,18 @@
 use Rattle.std.specs.Prelude.{if◌then◌else◌}
 use Rattle.std.proofs.Common.{◌≡◌, ℕ, ◌<◌, ◌≤◌, Bool, true, false, sym, ap, ◌∙◌, arith}
 use Rattle.std.proofs.Common.{ltb-true, ltb-false}
-use Rattle.wal_core.specs.Moves.{has_spares}
+use Rattle.wal_core.specs.Moves.{has_spares, after_join}
 use Rattle.wal_rule.specs.declared.pass.Pass.{Pass}
 use Rattle.wal_rule.specs.Passes.{HasNumbers, SamePass}
-use Rattle.wal_rule.specs.Seats.{SeatView, seat_after_join}
+use Rattle.wal_core.specs.Views.{View}
 
-module _ (v w : SeatView) (number spare spare_end other_number other other_end : ℕ)
+module _ (v w : View) (number spare spare_end other_number other other_end : ℕ)
     (mine : HasNumbers number spare spare_end v)
     (theirs : HasNumbers other_number other other_end w) (left : ℕ × ℕ)
     (own : spare < spare_end → left ≡ (spare, spare_end))
     (taken : spare_end ≤ spare → left ≡ (other, other_end)) where
   either : (b : Bool) → has_spares v.reserving ≡ b
-      → HasNumbers number left.0 left.1 (seat_after_join v w)
+      → HasNumbers number left.0 left.1 (after_join v w)
   either true is =
       let lt = ltb-true (v.reserving).spare (v.reserving).spare_end is in
       let low = mine.low in
@@ -39,11 +39,11 @@ module _ (v w : SeatView) (number spare spare_end other_number other other_end :
             (sym is);
       }
 
-  pub joined_numbers : HasNumbers number left.0 left.1 (seat_after_join v w)
+  pub joined_numbers : HasNumbers number left.0 left.1 (after_join v w)
   joined_numbers = either (has_spares v.reserving) (λ i. has_spares v.reserving)
 
 -- numbers stay while a pass is without its seat
-pub same_numbers : (old new : Pass) (v : SeatView) → SamePass old new
+pub same_numbers : (old new : Pass) (v : View) → SamePass old new
     → HasNumbers old.number old.spare old.spare_end v
     → HasNumbers new.number new.spare new.spare_end v
 same_numbers old new v same is = record {

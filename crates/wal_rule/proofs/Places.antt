@@ -1,15 +1,16 @@
 -- The words that a step of pages or of the ring is about are words of the table.
 use Rattle.std.proofs.Common.{◌≡◌, ℕ, ◌+◌, ◌*◌, ◌<◌, arith, sym, subst}
+use Rattle.std.proofs.Math.Logic.{∥∥₁_elim}
+use Rattle.std.specs.Coded.{le_prop}
 use Rattle.wal_core.specs.declared.setup.Setup.{Setup}
 use Rattle.wal_core.specs.Words.{Opening, word_count}
-use Rattle.wal_core.specs.Views.{Stage}
-use Rattle.wal_core.specs.Steps.{buffer_of, end_number, page_mapped, ring_number, ring_place, words_zeroed, zero_ring_word}
+use Rattle.wal_core.specs.Views.{Stage, View}
+use Rattle.wal_core.specs.Steps.{buffer_of, end_number, page_mapped, ring_number, ring_place, words_zeroed, zero_ring_word, MayStep}
 use Rattle.machine_laws.proofs.PutWords.{buffer-below, place-below, ring_place-below}
-use Rattle.wal_rule.specs.Seats.{SeatView}
-use Rattle.wal_rule.specs.Stepping.{MaySeat, Stands}
+use Rattle.wal_rule.specs.Stepping.{Stands}
 
-module _ (n word : ℕ) (v : SeatView) (opening : Opening) (wide : n ≡ word_count opening.setup)
-    (own : v.opening ≡ opening) (stands : Stands v) where
+module _ (n word : ℕ) (v : View) (opening : Opening) (wide : n ≡ word_count opening.setup)
+    (own : v.opening ≡ opening) (stands : ∥ Stands v ∥₁) where
   abbrev setup : Setup
   setup = (v.opening).setup
 
@@ -17,7 +18,7 @@ module _ (n word : ℕ) (v : SeatView) (opening : Opening) (wide : n ≡ word_co
   wide_own = subst (λ (o : Opening). n ≡ word_count o.setup) (sym own) wide
 
   some : 0 < setup.ring_pages
-  some = omega (arith, ((stands.sound).setup_is).ring_low)
+  some = ∥∥₁_elim stands le_prop (λ (s : Stands v). omega (arith, ((s.sound).setup_is).ring_low))
 
   pub end_there : (at : ℕ) → word ≡ end_number setup (buffer_of setup at) → word < n
   end_there at are =
@@ -29,7 +30,7 @@ module _ (n word : ℕ) (v : SeatView) (opening : Opening) (wide : n ≡ word_co
       let below = ring_place-below setup some k in
       omega (arith, below, wide_own, are)
 
-  pub zero_there : MaySeat v zero_ring_word
+  pub zero_there : MayStep v zero_ring_word
       → word ≡ ring_number setup (buffer_of setup (page_mapped (v.mapping).stage) * 1024
       + words_zeroed (v.mapping).stage) → word < n
   zero_there may are =

@@ -6,30 +6,30 @@ use Rattle.std.specs.Prelude.{◌≡◌, ◌⊎◌, ℕ, false, List, [], ◌∷
 use mathlib.Core.Option.{Option, none, some}
 use Rattle.segment_disk.specs.Tape.{Tape}
 use Rattle.wal_core.specs.Words.{Opening}
-use Rattle.wal_core.specs.Opened.{AreFirstWords, IsFirstWriter}
+use Rattle.wal_core.specs.Moves.{no_writing}
+use Rattle.wal_core.specs.Opened.{AreFirstWords, IsFirstWriter, first_view}
 use Rattle.wal_rule.specs.declared.writer.LogWriter.{LogWriter}
 use Rattle.wal_rule.specs.Ruled.{IsRuled}
-use Rattle.wal_rule.specs.Seats.{HasTurn, HasWriter, SeatHold, SeatLent, SeatView, first_seat_view}
+use Rattle.wal_core.specs.Views.{Turned, Out, Hold, Lent, View}
 use Rattle.wal_rule.specs.Slotted.{slot_disk, slot_plain, slot_segment_size}
 
 -- the view of a seat whose table is not begun, with this of the turn to write and this count of
 -- faults: that of the first pass otherwise, but not live
-abbrev pub view_before : Opening → SeatHold → ℕ → SeatView
-view_before opening hold faults = record (first_seat_view opening) {
-  reserving = record (first_seat_view opening).reserving { live = false };
-  down_set = faults;
-  hold = hold;
+abbrev pub view_before : Opening → Hold → ℕ → View
+view_before opening hold faults = record (first_view opening) {
+  reserving = record (first_view opening).reserving { live = false };
+  writing = record no_writing { down_set = faults; hold = hold };
 }
 
 -- the seat waits: it has the turn to write, and tells the disk's count of faults
-abbrev pub waiting_view : Opening → ℕ → SeatView
-waiting_view opening faults = view_before opening HasTurn faults
+abbrev pub waiting_view : Opening → ℕ → View
+waiting_view opening faults = view_before opening Turned faults
 
 -- the seat reads: it has the writer in hand, of which its view tells nothing
-abbrev pub reading_view : Opening → SeatView
-reading_view opening = view_before opening (HasWriter none_told) 0
+abbrev pub reading_view : Opening → View
+reading_view opening = view_before opening (Out none_told) 0
   where
-    none_told : SeatLent
+    none_told : Lent
     none_told = record {
       writer = record {
         calls = None;
@@ -59,14 +59,14 @@ module _ {D : Type 0} (tape : D → Rattle.std.specs.Prelude.Option Tape) (momen
     (opening : Opening) (began : Rattle.std.specs.Prelude.Option Tape)
   where
     -- the seat waits where the writer is at home, and reads where the slot is empty
-    abbrev pub view_by_home : Option (LogWriter D) → SeatView
+    abbrev pub view_by_home : Option (LogWriter D) → View
     view_by_home none = reading_view opening
     view_by_home (some w) = waiting_view opening (faults (slot_disk w))
 
     -- the table is not begun: its words are those of a new log, a writer at home has called
     -- nothing, and there is no other seat
     pub record IsBeginning (words : List ℕ) (homes : List (Option (LogWriter D)))
-        (views : List SeatView) : Type 0 where
+        (views : List View) : Type 0 where
       pub words_are : AreFirstWords opening words
       pub home : Option (LogWriter D)
       pub homes_are : homes ≡ home ∷ []
@@ -75,6 +75,6 @@ module _ {D : Type 0} (tape : D → Rattle.std.specs.Prelude.Option Tape) (momen
       pub views_are : views ≡ view_by_home home ∷ []
 
     -- the rule of the table: it is not begun, or the machine's invariant holds
-    abbrev pub HoldsRule : List ℕ → List (Option (LogWriter D)) → List SeatView → Type 0
+    abbrev pub HoldsRule : List ℕ → List (Option (LogWriter D)) → List View → Type 0
     HoldsRule words homes views = IsBeginning words homes views
         ⊎ IsRuled tape moment faults opening began words homes views

@@ -6,11 +6,10 @@ use mathlib.Core.Option.{none}
 use Rattle.segment_disk.specs.Tape.{Tape, create_call, sync_call, write_call}
 use Rattle.flush_core.specs.declared.writer.DiskFault.{DiskFault}
 use Rattle.wal_core.specs.Words.{Opening}
-use Rattle.wal_core.specs.Views.{Plain}
+use Rattle.wal_core.specs.Views.{Plain, Lent, View}
 use Rattle.wal_core.specs.Moves.{CallOutcome, after_create, after_sync, after_write}
-use Rattle.wal_core.specs.Steps.{StepKind, create, sync, write}
+use Rattle.wal_core.specs.Steps.{StepKind, create, sync, write, view_behind}
 use Rattle.wal_rule.specs.declared.writer.LogWriter.{LogWriter}
-use Rattle.wal_rule.specs.Seats.{SeatLent, SeatView, behind}
 use Rattle.wal_rule.specs.Slotted.{CallEnds, EndsAs}
 use Rattle.wal_rule.specs.Ruled.{HasInHand}
 
@@ -46,8 +45,8 @@ module _ {D : Type 0} (tape : D → Rattle.std.specs.Prelude.Option Tape) (momen
     (result : Result Unit DiskFault)
   where
     -- the call is made, and the view does not tell it yet
-    pub record IsCalled (me : SeatView × List (ℕ × LogWriter D)) : Type 0 where
-      pub lent : SeatLent
+    pub record IsCalled (me : View × List (ℕ × LogWriter D)) : Type 0 where
+      pub lent : Lent
       pub before : LogWriter D
       pub writer : LogWriter D
       pub had : HasInHand tape moment faults began opening (me.0, (0, before) ∷ []) lent before
@@ -57,11 +56,11 @@ module _ {D : Type 0} (tape : D → Rattle.std.specs.Prelude.Option Tape) (momen
       pub low : IsWriteLow (opening.setup).segment_size call
 
     -- a call ended: the seat has the writer in hand, and knows of the call what the machine says
-    pub record DeviceCallEnds (old : SeatView) (new : SeatView × List (ℕ × LogWriter D)) : Type 0
+    pub record DeviceCallEnds (old : View) (new : View × List (ℕ × LogWriter D)) : Type 0
       where
         pub outcome : CallOutcome
         pub ends : EndsAs result outcome
-        pub view_is : new.0 ≡ behind (step_of_call call outcome) 0 none old
-        pub lent : SeatLent
+        pub view_is : new.0 ≡ view_behind old (step_of_call call outcome) 0 none
+        pub lent : Lent
         pub writer : LogWriter D
         pub in_hand : HasInHand tape moment faults began opening new lent writer

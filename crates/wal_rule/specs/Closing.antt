@@ -10,7 +10,6 @@ use Rattle.machine_laws.specs.ClosedLogs.{IsClosed}
 use Rattle.machine_laws.specs.RisingMoments.{LogsRise, promised_of}
 use Rattle.wal_rule.specs.declared.writer.LogWriter.{LogWriter}
 use Rattle.wal_rule.specs.Slotted.{IsOfLog, first_on, slot_plain}
-use Rattle.wal_rule.specs.Seats.{SeatView, view_on}
 
 -- a table ended with this view of its last seat, this writer and this number of the position: the
 -- writer is the log's, and stood at home in a sound state of the machine, in which this was the
@@ -18,18 +17,18 @@ use Rattle.wal_rule.specs.Seats.{SeatView, view_on}
 -- pass's log was promised, and each log that it took in
 pub record ClosesWith {D : Type 0} (tape : D → Rattle.std.specs.Prelude.Option Tape)
     (moment faults : D → ℕ) (began : Rattle.std.specs.Prelude.Option Tape) (opening : Opening)
-    (v : SeatView) (w : LogWriter D) (position : ℕ) : Type 0 where
+    (v : View) (w : LogWriter D) (position : ℕ) : Type 0 where
   pub of_log : IsOfLog tape faults began opening w
   pub words : List ℕ
   pub position_is : position ≡ position_word words
   pub views : List View
   pub id : ℕ
-  pub here : HasAt views id (view_on (first_on began) v)
-  pub sound : IsSound opening words (some (slot_plain tape moment w)) views
-  pub closed : IsClosed opening sound.order words (some (slot_plain tape moment w))
-      (slot_plain tape moment w) views id (view_on (first_on began) v)
-  pub in_order : LogsRise opening (promised_of (view_on (first_on began) v))
+  pub here : HasAt views id v
+  pub sound : IsSound (first_on began) opening words (some (slot_plain tape moment w)) views
+  pub closed : IsClosed (first_on began) opening sound.order words (some (slot_plain tape moment w))
+      (slot_plain tape moment w) views id v
+  pub in_order : LogsRise opening (promised_of v)
 
 -- one view has each number that the other one had
-abbrev pub KeepsNumbers : SeatView → SeatView → Type 0
+abbrev pub KeepsNumbers : View → View → Type 0
 KeepsNumbers old new = (n : ℕ) → HasNumber n old.reserving → HasNumber n new.reserving

@@ -1,10 +1,10 @@
 pub mod Slotted
-pub mod Seats
 pub mod Founded
 pub mod Stepping
 pub mod Downs
 pub mod Passes
 pub mod Tables
+pub mod SeatedPasses
 pub mod Ruled
 pub mod Beginning
 pub mod Opening

@@ -3,20 +3,36 @@ use Rattle.std.specs.Prelude.{◌≡◌, ℕ, true, List, [], ◌∷◌}
 use Rattle.atomic_table.specs.Seated.{TableId}
 use Rattle.wal_core.specs.Words.{Opening}
 use Rattle.wal_rule.specs.declared.pass.Pass.{Pass}
-use Rattle.wal_rule.specs.Seats.{SeatView, no_view}
+use Rattle.wal_core.specs.Views.{View}
+use Rattle.wal_core.specs.Opened.{first_view}
 use Rattle.wal_rule.specs.Stepping.{Stands}
 
+-- of a log without a size: what stands where a proof picks a view
+abbrev pub no_view : View
+no_view = first_view (record {
+  setup = record {
+    segment_size = 0;
+    ring_pages = 0;
+    cap_segments = 0;
+    sysid = 0;
+    passes = 0;
+  };
+  found = [];
+  moment = 0;
+  faults = 0;
+})
+
 -- the first of some views
-abbrev pub first_among : List SeatView → SeatView
+abbrev pub first_among : List View → View
 first_among [] = no_view
 first_among (v ∷ views) = v
 
 -- what a pass knows and is about
-abbrev pub view_of_pass : Pass → SeatView
+abbrev pub view_of_pass : Pass → View
 view_of_pass pass = first_among (pass.badge).views
 
 -- a view's number and its spare ones are these
-pub record HasNumbers (number spare spare_end : ℕ) (v : SeatView) : Type 0 where
+pub record HasNumbers (number spare spare_end : ℕ) (v : View) : Type 0 where
   pub own : number ≡ (v.reserving).number
   pub low : spare ≡ (v.reserving).spare
   pub high : spare_end ≡ (v.reserving).spare_end
@@ -28,7 +44,7 @@ pub record IsPassOf (table : TableId) (opening : Opening) (pass : Pass) : Type 0
   pub numbers : HasNumbers pass.number pass.spare pass.spare_end (view_of_pass pass)
   pub own : (view_of_pass pass).opening ≡ opening
   pub live : ((view_of_pass pass).reserving).live ≡ true
-  pub stands : Stands (view_of_pass pass)
+  pub stands : ∥ Stands (view_of_pass pass) ∥₁
 
 -- two passes have the same numbers
 pub record SamePass (old new : Pass) : Type 0 where

@@ -6,6 +6,7 @@ use Rattle.segment_disk.specs.Cause.{Rose}
 use Rattle.segment_disk.specs.Tape.{DiskState, Tape, empty_state}
 use Rattle.flush_core.specs.declared.writer.DiskFault.{DiskFault}
 use Rattle.wal_core.specs.Words.{Opening}
+use Rattle.wal_core.specs.Suited.{tape_from}
 use Rattle.wal_core.specs.Views.{Plain}
 use Rattle.wal_core.specs.Moves.{CallOutcome, Done, Failed}
 use Rattle.wal_rule.specs.declared.writer.LogWriter.{LogWriter}
@@ -22,11 +23,17 @@ slot_disk w = w.disk
 abbrev pub slot_segment_size : {D : Type 0} → LogWriter D → ℕ
 slot_segment_size w = w.geometry
 
+-- the calls on a tape
+abbrev pub calls_of : Rattle.std.specs.Prelude.Option Tape
+    → Rattle.std.specs.Prelude.Option (List Call)
+calls_of None = None
+calls_of (Some t) = Some t.calls
+
 -- the writer as the machine sees it
 abbrev pub slot_plain : {D : Type 0} → (D → Rattle.std.specs.Prelude.Option Tape) → (D → ℕ)
     → LogWriter D → Plain
 slot_plain tape moment w = record {
-  tape = tape w.disk;
+  calls = calls_of (tape w.disk);
   moment = moment w.disk;
   written = w.written;
   made = w.made;
@@ -49,14 +56,16 @@ abbrev pub EndsAs : Result Unit DiskFault → CallOutcome → Type 0
 EndsAs result outcome = MatchResult result (λ _. outcome ≡ Done)
     (λ e. (counted : Option Bool) × (outcome ≡ Failed e.faults counted))
 
--- a device call ended: the writer is as the machine's call by this outcome leaves it, and the
--- disk's count of faults is as before, or the one told
+-- a device call ended: the writer is as the machine's call by this outcome leaves it, its disk held
+-- at first what it held before, and the disk's count of faults is as before, or the one told
 pub record CallEnds {D : Type 0} (tape : D → Rattle.std.specs.Prelude.Option Tape)
     (moment faults : D → ℕ) (old new : LogWriter D) (result : Result Unit DiskFault)
     (behind_call : CallOutcome → Plain → Plain) : Type 0 where
   pub outcome : CallOutcome
   pub ends : EndsAs result outcome
   pub plain_is : slot_plain tape moment new ≡ behind_call outcome (slot_plain tape moment old)
+  pub tape_is : tape (slot_disk new)
+      ≡ tape_from (first_on (tape (slot_disk old))) (calls_of (tape (slot_disk new)))
   pub same_size : slot_segment_size new ≡ slot_segment_size old
   pub rises : faults (slot_disk old) ≤ faults (slot_disk new)
   pub counts : MatchResult result (λ _. faults (slot_disk new) ≡ faults (slot_disk old))

@@ -4,11 +4,12 @@ use Rattle.atomic_table.specs.Seated.{TableId}
 use Rattle.atomic_table.specs.declared.shared.Seat.{Seat}
 use Rattle.segment_disk.specs.Tape.{Tape}
 use Rattle.wal_core.specs.Words.{Opening}
+use Rattle.wal_core.specs.declared.setup.Setup.{Setup}
 use Rattle.wal_rule.specs.declared.table.LogTable.{LogTable}
 use Rattle.wal_rule.specs.declared.pass.Pass.{Pass}
 use Rattle.wal_rule.specs.declared.writer.LogWriter.{LogWriter}
 use Rattle.wal_rule.specs.Founded.{disk_of_founding, founded_opening}
-use Rattle.wal_rule.specs.Seats.{SeatView}
+use Rattle.wal_core.specs.Views.{View}
 use Rattle.wal_rule.specs.Passes.{IsPassOf}
 use Rattle.wal_rule.specs.Stepping.{IsSeatOf}
 
@@ -22,8 +23,12 @@ opening_of_table t = founded_opening ((t.table).shared).key
 abbrev pub began_of_table : {D : Type 0} → (D → Option Tape) → LogTable D → Option Tape
 began_of_table tape t = tape (disk_of_founding ((t.table).shared).key)
 
+-- how it was set up
+abbrev pub setup_of_table : {D : Type 0} → LogTable D → Setup
+setup_of_table t = (opening_of_table t).setup
+
 -- a live seat of it
-abbrev pub IsSeatOn : {D : Type 0} → LogTable D → Seat (LogWriter D) SeatView → Type 0
+abbrev pub IsSeatOn : {D : Type 0} → LogTable D → Seat (LogWriter D) View → Type 0
 IsSeatOn t seat = IsSeatOf (table_number t) (opening_of_table t) seat
 
 -- a pass of it

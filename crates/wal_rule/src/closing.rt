@@ -7,7 +7,7 @@
 ghost use Rattle.machine_laws.specs.ClosedLogs.{HasAllNumbers};
 ghost use Rattle.wal_rule.specs.Closing.{ClosesWith};
 ghost use Rattle.wal_rule.specs.Passes.{view_of_pass};
-ghost use Rattle.wal_rule.specs.Seats.{IsAtRest};
+ghost use Rattle.wal_core.specs.Steps.{IsResting};
 ghost use Rattle.wal_rule.specs.Tables.{IsPassOn, IsSeatOn, began_of_table, opening_of_table};
 
 use crate::pass::Pass;
@@ -21,13 +21,13 @@ impl<D: Disk> LogTable<D> {
     /// one was joined. Gives the writer back, and the position's word. It makes no device call.
     pub fn close(self, seat: LogSeat<D>) -> (LogWriter<D>, u64)
         requires seat { IsSeatOn self seat }
-        requires rests { IsAtRest seat.me.0 }
+        requires rests { IsResting seat.me.0 }
         requires numbers { HasAllNumbers (opening_of_table self).setup.passes
             seat.me.0.reserving }
         ensures { ClosesWith D.tape D.moment D.faults (began_of_table D.tape self)
             (opening_of_table self) seat.me.0 result.0 result.1 }
     {
-        let LogTable { table } = self;
+        let LogTable { table, shape: _ } = self;
         let mut closed = table.close_with(seat);
         let position = closed.word(POSITION);
         let writer = closed.take(0);
@@ -40,13 +40,13 @@ impl Pass {
     /// Ends the table by the pass that has all numbers and is about nothing.
     pub fn close<D: Disk>(mut self, table: LogTable<D>) -> (LogWriter<D>, u64)
         requires pass { IsPassOn table self }
-        requires rests { IsAtRest (view_of_pass self) }
+        requires rests { IsResting (view_of_pass self) }
         requires numbers { HasAllNumbers (opening_of_table table).setup.passes
             (view_of_pass self).reserving }
         ensures { ClosesWith D.tape D.moment D.faults (began_of_table D.tape table)
             (opening_of_table table) (view_of_pass self) result.0 result.1 }
     {
-        let seat = self.seat();
+        let seat = self.take_seat();
         table.close(seat)
     }
 }

@@ -4,13 +4,13 @@
 ghost use Rattle.std.specs.Prelude.{◌≡◌, ℕ};
 ghost use Rattle.segment_disk.specs.Cause.{Rose};
 ghost use Rattle.wal_rule.specs.Downs.{KnowsDown};
-ghost use Rattle.wal_rule.specs.Seats.{SeatView};
+ghost use Rattle.wal_core.specs.Views.{View};
 ghost use Rattle.wal_rule.specs.Stepping.{Stands};
 
 /// A down value that a pass met or set is a count of faults above the one at the opening, or the
 /// last that there is; and all that it met and set are the same.
 pub fn down_values_are_known()
-    ensures rose { (v : SeatView) → Stands v → (faults : ℕ) → KnowsDown faults v
+    ensures rose { (v : View) → Stands v → (faults : ℕ) → KnowsDown faults v
         → Rose (v.opening).faults faults }
-    ensures same { (v : SeatView) → Stands v → (f g : ℕ) → KnowsDown f v → KnowsDown g v → f ≡ g }
+    ensures same { (v : View) → Stands v → (f g : ℕ) → KnowsDown f v → KnowsDown g v → f ≡ g }
 {}

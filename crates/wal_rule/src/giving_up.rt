@@ -3,25 +3,29 @@
 // copies any more, and its locks stay held for good and tell no more than was copied. The pass is
 // about nothing then, and may be taken in; its log keeps the record, which has its place.
 ghost use Rattle.std.specs.Prelude.{◌≡◌};
-ghost use Rattle.wal_rule.specs.Seats.{IsStrandedSeat, seat_without_work};
-ghost use Rattle.wal_rule.specs.Tables.{IsSeatOn};
+ghost use Rattle.wal_core.specs.Steps.{IsStranded};
+ghost use Rattle.wal_core.specs.Moves.{without_work};
+ghost use Rattle.wal_rule.specs.SeatedPasses.{HasView, view_of};
 
-use crate::plays::GivesUp;
-use crate::table::{LogSeat, LogTable};
+use crate::plays::GivesCopyUp;
+use crate::seated::SeatedPass;
 use segment_disk::Disk;
 
-impl<D: Disk> LogTable<D> {
+impl<'a, D: Disk> SeatedPass<'a, D> {
     /// Behind a fault of the disk that the pass met or set, gives up its copy with its locks: they
     /// stay with a seat of their own, with which nobody steps any more.
-    pub fn give_up(&self, seat: &mut LogSeat<D>)
-        requires seat { IsSeatOn self.now seat.old }
-        // The seat met or set a down value, has a record in flight, and is about nothing else: it
+    pub fn give_up(&mut self)
+        // The pass met or set a down value, has a record in flight, and is about nothing else: it
         // has neither the position locked nor a turn.
-        requires stranded { IsStrandedSeat seat.old.me.0 }
-        ensures view { seat.new.me ≡ (seat_without_work seat.old.me.0, seat.old.me.1) }
-        ensures seat { IsSeatOn self.now seat.new }
+        requires stranded { IsStranded (view_of self.old) }
+        ensures view { HasView (without_work (view_of self.old)) self.old self.new }
     {
-        drop(self.table.shared.split_seat::<GivesUp>(seat));
-        self.look(seat);
+        drop(
+            self.table
+                .table
+                .shared
+                .split_seat::<GivesCopyUp>(&mut self.seat),
+        );
+        self.table.look(&mut self.seat);
     }
 }

@@ -5,7 +5,8 @@
 // gone, and nobody reserves under its number again. Both tell views alone, so a load that changes
 // nothing (`look`) follows: by it the view stands in the state that the load finds.
 ghost use Rattle.std.specs.Prelude.{◌≡◌, ◌<◌, [], true};
-ghost use Rattle.wal_rule.specs.Seats.{IsAtRest, seat_after_join, seat_after_split, seat_spent, seat_split_off};
+ghost use Rattle.wal_core.specs.Steps.{IsResting};
+ghost use Rattle.wal_core.specs.Moves.{after_join, after_split, spent, split_off};
 ghost use Rattle.wal_rule.specs.Stepping.{Stands};
 ghost use Rattle.wal_rule.specs.Tables.{IsSeatOn, table_number};
 
@@ -19,9 +20,9 @@ impl<D: Disk> LogTable<D> {
     pub fn split(&self, seat: &mut LogSeat<D>) -> LogSeat<D>
         requires seat { IsSeatOn self.now seat.old }
         requires spare { seat.old.me.0.reserving.spare < seat.old.me.0.reserving.spare_end }
-        ensures view { seat.new.me ≡ (seat_after_split seat.old.me.0, seat.old.me.1) }
+        ensures view { seat.new.me ≡ (after_split seat.old.me.0, seat.old.me.1) }
         ensures seat { IsSeatOn self.now seat.new }
-        ensures new { (result.me ≡ (seat_split_off seat.old.me.0, []))
+        ensures new { (result.me ≡ (split_off seat.old.me.0, []))
             × IsSeatOn self.now result }
     {
         let mut other = self.table.shared.split_seat::<SplitsOff>(seat);
@@ -34,8 +35,8 @@ impl<D: Disk> LogTable<D> {
     pub fn join(&self, seat: &mut LogSeat<D>, other: LogSeat<D>)
         requires seat { IsSeatOn self.now seat.old }
         requires other { IsSeatOn self.now other }
-        requires rests { IsAtRest other.me.0 × (other.me.1 ≡ []) }
-        ensures view { seat.new.me ≡ (seat_after_join seat.old.me.0 other.me.0, seat.old.me.1) }
+        requires rests { IsResting other.me.0 × (other.me.1 ≡ []) }
+        ensures view { seat.new.me ≡ (after_join seat.old.me.0 other.me.0, seat.old.me.1) }
         ensures seat { IsSeatOn self.now seat.new }
     {
         self.join_leaving::<Brand>(seat, other);
@@ -45,9 +46,9 @@ impl<D: Disk> LogTable<D> {
     fn join_leaving<B: Leaves>(&self, seat: &mut LogSeat<D>, other: LogSeat<D>)
         requires seat { IsSeatOn self.now seat.old }
         requires other { IsSeatOn self.now other }
-        requires rests { IsAtRest other.me.0 × (other.me.1 ≡ []) }
-        requires left { B.left ≡ seat_spent other.me.0 }
-        ensures view { seat.new.me ≡ (seat_after_join seat.old.me.0 other.me.0, seat.old.me.1) }
+        requires rests { IsResting other.me.0 × (other.me.1 ≡ []) }
+        requires left { B.left ≡ spent other.me.0 }
+        ensures view { seat.new.me ≡ (after_join seat.old.me.0 other.me.0, seat.old.me.1) }
         ensures seat { IsSeatOn self.now seat.new }
     {
         self.table.shared.join_seat::<TakesIn<B>>(seat, other);

@@ -2,10 +2,11 @@
 //! machine's invariant.
 //!
 //! Each kind of step of the machine is one call: one load, store or exchange of one word, or one
-//! call of the device with the load by which the view is told of it. Its caller has a live seat of
-//! the table (`seat`) whose view lets it make that step (`may`). The step may come between any two
-//! steps of others; behind it the seat's view is the machine's (`steps`). What a word held when it
-//! was met is told (`met`); what it holds later only the view can say, since others step meanwhile.
+//! call of the device with the load by which the view is told of it. It is made by a pass that is
+//! seated at the table (`SeatedPass`), if its view lets it make that step (`may`). The step may
+//! come between any two steps of others; behind it the pass's view is the machine's (`steps`). What
+//! a word held when it was met is told (`met`); what it holds later only the view can say, since
+//! others step meanwhile.
 #![tactic(auto)]
 
 pub mod beginnings;
@@ -24,6 +25,7 @@ mod positions;
 mod quiet;
 mod reserving;
 mod ring;
+mod seated;
 mod seats;
 mod table;
 mod turns;
@@ -32,6 +34,7 @@ mod writer;
 pub use opening::OpenErr;
 pub use pass::Pass;
 pub use plays::OfKind;
+pub use seated::SeatedPass;
 pub use seats::{Founding, PassView};
 pub use table::{LogRule, LogSeat, LogTable};
 pub use writer::LogWriter;

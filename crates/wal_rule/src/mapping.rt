@@ -5,15 +5,15 @@
 // buffer's words are zeroed, the new page's end word is stored, and behind it the initialised end.
 // So no word is lost that is not written, and nobody stores into the buffer while its end word is
 // 0. Before the end word is cleared the turn may be given back, and behind the last store, but not
-// between. As each step of the table (quiet.rt) these ask for a live seat whose view lets it step.
+// between. As each step (quiet.rt) these are made by a seated pass whose view lets it step.
 ghost use Rattle.std.specs.Prelude.{◌≡◌, ◌<◌};
-ghost use Rattle.wal_core.specs.Steps.{clear_end, load_initialised_end, publish_end, publish_initialised_end, release_mapping_turn, take_mapping_turn, zero_ring_word};
-ghost use Rattle.wal_rule.specs.Stepping.{MaySeat, Meets, SeatSteps, value_left, word_at_step};
-ghost use Rattle.wal_rule.specs.Tables.{IsSeatOn};
+ghost use Rattle.wal_core.specs.Steps.{clear_end, load_initialised_end, publish_end, publish_initialised_end, release_mapping_turn, take_mapping_turn, zero_ring_word, MayStep, value_behind, word_of_step};
+ghost use Rattle.wal_rule.specs.Stepping.{Meets};
+ghost use Rattle.wal_rule.specs.SeatedPasses.{Steps, view_of};
 
 use crate::plays::OfKind;
 use crate::quiet::NO_OPERANDS;
-use crate::table::{LogSeat, LogTable};
+use crate::seated::SeatedPass;
 use machine_words::layout::{INITIALISED_END, MAPPING_TURN};
 use segment_disk::Disk;
 
@@ -59,92 +59,71 @@ impl OfKind for ReleasesMappingTurn {
     ghost kind = { release_mapping_turn };
 }
 
-impl<D: Disk> LogTable<D> {
-    /// Takes the turn to map a page where it is free, which is where the word found is 0. The seat
+impl<'a, D: Disk> SeatedPass<'a, D> {
+    /// Takes the turn to map a page where it is free, which is where the word found is 0. The pass
     /// does not have it, and stores one more than its pass's number.
-    pub fn take_mapping_turn(&self, seat: &mut LogSeat<D>, number: u32) -> u64
-        requires seat { IsSeatOn self.now seat.old }
-        requires may { MaySeat seat.old.me.0 take_mapping_turn }
-        requires number { number ≡ seat.old.me.0.reserving.number }
-        ensures steps { SeatSteps take_mapping_turn result seat.old seat.new }
-        ensures met { Meets seat.old.me.0 take_mapping_turn result }
-        ensures seat { IsSeatOn self.now seat.new }
+    pub fn take_mapping_turn(&mut self) -> u64
+        requires may { MayStep (view_of self.old) take_mapping_turn }
+        ensures steps { Steps take_mapping_turn result self.old self.new }
+        ensures met { Meets (view_of self.old) take_mapping_turn result }
     {
-        self.exchanges::<TakesMappingTurn>(
-            seat,
-            MAPPING_TURN,
-            0,
-            u64::from(number) + 1,
-            NO_OPERANDS,
-        )
+        self.exchanges::<TakesMappingTurn>(MAPPING_TURN, 0, u64::from(self.number) + 1, NO_OPERANDS)
     }
 
     /// The address below which each page has been mapped. Anybody may load it; to who has just
     /// taken the turn it says where the page begins that is to be mapped.
-    pub fn load_initialised_end(&self, seat: &mut LogSeat<D>) -> u64
-        requires seat { IsSeatOn self.now seat.old }
-        ensures steps { SeatSteps load_initialised_end result seat.old seat.new }
-        ensures seat { IsSeatOn self.now seat.new }
+    pub fn load_initialised_end(&mut self) -> u64
+        ensures steps { Steps load_initialised_end result self.old self.new }
     {
-        self.loads::<LoadsInitialisedEnd>(seat, INITIALISED_END, NO_OPERANDS)
+        self.loads::<LoadsInitialisedEnd>(INITIALISED_END, NO_OPERANDS)
     }
 
     /// Clears the end word of the page's buffer, by its number among all words: the page that it
-    /// held is given up. What the seat has loaded as written reaches that page's end. From now on
+    /// held is given up. What the pass has loaded as written reaches that page's end. From now on
     /// the turn is not given back until the new page is there.
-    pub fn clear_end(&self, seat: &mut LogSeat<D>, end: usize)
-        requires seat { IsSeatOn self.now seat.old }
-        requires end { end ≡ word_at_step seat.old.me.0 clear_end }
-        requires may { MaySeat seat.old.me.0 clear_end }
-        ensures steps { SeatSteps clear_end 0 seat.old seat.new }
-        ensures seat { IsSeatOn self.now seat.new }
+    pub fn clear_end(&mut self, end: usize)
+        requires end { end ≡ word_of_step (view_of self.old) clear_end }
+        requires may { MayStep (view_of self.old) clear_end }
+        ensures steps { Steps clear_end 0 self.old self.new }
     {
-        self.stores::<ClearsEnd>(seat, end, 0, NO_OPERANDS);
+        self.stores::<ClearsEnd>(end, 0, NO_OPERANDS);
     }
 
     /// Zeroes the page's next word, by its number among all words.
-    pub fn zero_ring_word(&self, seat: &mut LogSeat<D>, place: usize)
-        requires seat { IsSeatOn self.now seat.old }
-        requires place { place ≡ word_at_step seat.old.me.0 zero_ring_word }
-        requires may { MaySeat seat.old.me.0 zero_ring_word }
-        ensures steps { SeatSteps zero_ring_word 0 seat.old seat.new }
-        ensures seat { IsSeatOn self.now seat.new }
+    pub fn zero_ring_word(&mut self, place: usize)
+        requires place { place ≡ word_of_step (view_of self.old) zero_ring_word }
+        requires may { MayStep (view_of self.old) zero_ring_word }
+        ensures steps { Steps zero_ring_word 0 self.old self.new }
     {
-        self.stores::<ZeroesRingWord>(seat, place, 0, NO_OPERANDS);
+        self.stores::<ZeroesRingWord>(place, 0, NO_OPERANDS);
     }
 
     /// Stores the page's end, by the number of its buffer's end word: from now on the page is
     /// there, and copies that meet its end may store their words on it. All its words are zeroed.
-    pub fn publish_end(&self, seat: &mut LogSeat<D>, end: usize, page_end: u64)
-        requires seat { IsSeatOn self.now seat.old }
-        requires end { end ≡ word_at_step seat.old.me.0 publish_end }
-        requires may { MaySeat seat.old.me.0 publish_end }
-        requires value { page_end ≡ value_left seat.old.me.0 publish_end 0 }
-        ensures steps { SeatSteps publish_end 0 seat.old seat.new }
-        ensures seat { IsSeatOn self.now seat.new }
+    pub fn publish_end(&mut self, end: usize, page_end: u64)
+        requires end { end ≡ word_of_step (view_of self.old) publish_end }
+        requires may { MayStep (view_of self.old) publish_end }
+        requires value { page_end ≡ value_behind (view_of self.old) publish_end 0 }
+        ensures steps { Steps publish_end 0 self.old self.new }
     {
-        self.stores::<PublishesEnd>(seat, end, page_end, NO_OPERANDS);
+        self.stores::<PublishesEnd>(end, page_end, NO_OPERANDS);
     }
 
     /// Stores that all below the page's end has been mapped, behind its end word: so who loads the
     /// initialised end finds the pages below it, as far as they are not given up.
-    pub fn publish_initialised_end(&self, seat: &mut LogSeat<D>, page_end: u64)
-        requires seat { IsSeatOn self.now seat.old }
-        requires may { MaySeat seat.old.me.0 publish_initialised_end }
-        requires value { page_end ≡ value_left seat.old.me.0 publish_initialised_end 0 }
-        ensures steps { SeatSteps publish_initialised_end 0 seat.old seat.new }
-        ensures seat { IsSeatOn self.now seat.new }
+    pub fn publish_initialised_end(&mut self, page_end: u64)
+        requires may { MayStep (view_of self.old) publish_initialised_end }
+        requires value { page_end ≡ value_behind (view_of self.old) publish_initialised_end 0 }
+        ensures steps { Steps publish_initialised_end 0 self.old self.new }
     {
-        self.stores::<PublishesInitialisedEnd>(seat, INITIALISED_END, page_end, NO_OPERANDS);
+        self.stores::<PublishesInitialisedEnd>(INITIALISED_END, page_end, NO_OPERANDS);
     }
 
     /// Gives the turn to map back, before anything was changed or once the page is there.
-    pub fn release_mapping_turn(&self, seat: &mut LogSeat<D>)
-        requires seat { IsSeatOn self.now seat.old }
-        requires may { MaySeat seat.old.me.0 release_mapping_turn }
-        ensures steps { SeatSteps release_mapping_turn 0 seat.old seat.new }
-        ensures seat { IsSeatOn self.now seat.new }
+    pub fn release_mapping_turn(&mut self)
+        requires may { MayStep (view_of self.old) release_mapping_turn }
+        ensures steps { Steps release_mapping_turn 0 self.old self.new }
     {
-        self.stores::<ReleasesMappingTurn>(seat, MAPPING_TURN, 0, NO_OPERANDS);
+        self.stores::<ReleasesMappingTurn>(MAPPING_TURN, 0, NO_OPERANDS);
     }
 }

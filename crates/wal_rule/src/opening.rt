@@ -7,12 +7,11 @@
 // ended and the disk comes back, of which no call was counted.
 ghost use Rattle.std.specs.Prelude.{◌≡◌, [], ◌∷◌, IfErr, IfOk, IfSome, None};
 ghost use Rattle.segment_disk.specs.Tape.{page_of_segment, state_now};
-ghost use Rattle.wal_core.specs.Opened.{AreFirstWords, IsFirstWriter, IsNew};
+ghost use Rattle.wal_core.specs.Opened.{AreFirstWords, IsNew, first_view};
 ghost use Rattle.wal_rule.specs.Beginning.{IsUncalledWriter, reading_view, waiting_view};
 ghost use Rattle.wal_rule.specs.Founded.{disk_of_founding, founded_opening};
-ghost use Rattle.wal_rule.specs.Opening.{TellsOpenErr};
-ghost use Rattle.wal_rule.specs.Seats.{first_seat_view};
-ghost use Rattle.wal_rule.specs.Slotted.{slot_disk, slot_plain, slot_segment_size};
+ghost use Rattle.wal_rule.specs.Opening.{IsFoundedWriter, TellsOpenErr};
+ghost use Rattle.wal_rule.specs.Slotted.{slot_disk};
 ghost use Rattle.wal_rule.specs.Tables.{IsSeatOn, began_of_table, opening_of_table, table_number};
 
 use crate::plays::{BeganOn, Begins, GoesToRead, WaitsAgain};
@@ -20,6 +19,7 @@ use crate::seats::Founding;
 use crate::table::{LogSeat, LogTable};
 use crate::writer::LogWriter;
 use atomic_table::{Refused, Table};
+use machine_words::LogShape;
 use machine_words::layout::WRITE_TURN;
 use segment_disk::Disk;
 use std::alloc::{AllocFailed, Global};
@@ -43,21 +43,19 @@ impl<D: Disk> LogTable<D> {
         alloc: Global,
         words: &[u64],
         writer: LogWriter<D>,
+        shape: LogShape,
         founding: &Founding<D>,
     ) -> Result<(LogTable<D>, LogSeat<D>), OpenErr<D>>
         // The words and the writer are those of a new log, and what is fixed of the table is what
-        // the writer's disk tells now: its content, its moment (by `writer`), its count of faults.
+        // the writer's disk tells now.
         requires new { IsNew (founded_opening founding.now) }
+        requires shape { shape ≡ founding.now.setup }
         requires words { AreFirstWords (founded_opening founding.now) words.now }
-        requires writer { IsFirstWriter (founded_opening founding.now)
-            (slot_plain D.tape D.moment writer) }
-        requires disk { disk_of_founding founding.now ≡ slot_disk writer }
-        requires size { slot_segment_size writer ≡ founding.now.setup.segment_size }
-        requires failed { founding.now.faults ≡ D.faults (slot_disk writer) }
+        requires writer { IsFoundedWriter D.tape D.moment D.faults founding.now writer }
         // At Ok the seat is the first pass's, and the disk had no page 0 of segment 1.
         ensures key { IfOk result (λ t. t.0.table.shared.key ≡ founding.now) }
         ensures seat { IfOk result (λ t. (t.1.me
-            ≡ (first_seat_view (founded_opening founding.now), [])) × IsSeatOn t.0 t.1) }
+            ≡ (first_view (founded_opening founding.now), [])) × IsSeatOn t.0 t.1) }
         ensures empty { IfOk result (λ t. IfSome (D.tape (slot_disk writer))
             (λ t. page_of_segment (state_now t 1) 0 ≡ None)) }
         ensures refused { IfErr result
@@ -70,7 +68,7 @@ impl<D: Disk> LogTable<D> {
             return Err(OpenErr::Memory(value.into_disk()));
         }
         match Table::new(alloc, words, slots, founding) {
-            Ok((table, seat)) => LogTable { table }.begin::<Brand>(seat),
+            Ok((table, seat)) => LogTable { table, shape }.begin::<Brand>(seat),
             Err(Refused { slots }) => Err(OpenErr::Memory(only_one(slots).into_disk())),
         }
     }
@@ -95,7 +93,7 @@ impl<D: Disk> LogTable<D> {
         // the disk comes back.
         ensures same { IfOk result (λ t. t.0 ≡ self) }
         ensures seat { IfOk result (λ t. (t.1.me
-            ≡ (first_seat_view (opening_of_table self), [])) × IsSeatOn self t.1) }
+            ≡ (first_view (opening_of_table self), [])) × IsSeatOn self t.1) }
         ensures empty { IfOk result (λ t. IfSome (began_of_table D.tape self)
             (λ t. page_of_segment (state_now t 1) 0 ≡ None)) }
         ensures refused { IfErr result (λ e. TellsOpenErr D.tape D.moment D.faults
@@ -140,7 +138,7 @@ impl<D: Disk> LogTable<D> {
             (began_of_table D.tape self.now) w
             × (D.faults (slot_disk w) ≡ (opening_of_table self.now).faults)
             × (seat.old.me ≡ (reading_view (opening_of_table self.now), (0, w) ∷ [])) }
-        ensures view { seat.new.me ≡ (first_seat_view (opening_of_table self.now), []) }
+        ensures view { seat.new.me ≡ (first_view (opening_of_table self.now), []) }
         ensures seat { IsSeatOn self.now seat.new }
     {
         self.table.shared.load::<Begins>(seat, WRITE_TURN);
@@ -158,7 +156,7 @@ impl<D: Disk> LogTable<D> {
             → D.faults result ≡ D.faults (slot_disk w) }
     {
         self.wait_again(&mut seat);
-        let LogTable { table } = self;
+        let LogTable { table, shape: _ } = self;
         let mut closed = table.close_with(seat);
         let writer = closed.take(0);
         closed.free();

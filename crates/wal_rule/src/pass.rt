@@ -1,16 +1,19 @@
-// A pass: a seat between two calls, with its numbers. A call takes the seat out (`seat`), steps
-// with it, and puts it back (`put_back`); between, the pass is none, and its numbers stay. The
-// numbers are those of the seat's view (`HasNumbers`). No two passes of a table share one, so a
-// split gives a number away that nobody else has or can give. A pass holds no slot, since its seat
-// has the writer in hand at most within a call.
+// A pass: a seat between two calls, with its numbers. A call seats it (`seat`), makes its steps,
+// and puts it back (`put_back`); between, the pass is none, and its numbers stay. The numbers are
+// those of the seat's view (`HasNumbers`). No two passes of a table share one, so a split gives a
+// number away that nobody else has or can give. A pass holds no slot, since its seat has the writer
+// in hand at most within a call.
 ghost use Rattle.std.specs.Prelude.{◌≡◌, ◌-◌, ◌<◌, ◌≤◌, []};
 ghost use Rattle.atomic_table.specs.Seated.{TableId};
 ghost use Rattle.wal_core.specs.Words.{Opening};
 ghost use Rattle.wal_rule.specs.Passes.{HasNumbers, IsPassOf, SamePass, view_of_pass};
-ghost use Rattle.wal_rule.specs.Seats.{IsAtRest, seat_after_join, seat_after_split, seat_split_off};
+ghost use Rattle.wal_core.specs.Steps.{IsResting};
+ghost use Rattle.wal_core.specs.Moves.{after_join, after_split, split_off};
 ghost use Rattle.wal_rule.specs.Stepping.{IsSeatOf};
+ghost use Rattle.wal_rule.specs.SeatedPasses.{hand_of, view_of};
 ghost use Rattle.wal_rule.specs.Tables.{IsPassOn};
 
+use crate::seated::SeatedPass;
 use crate::seats::PassView;
 use crate::table::{LogSeat, LogTable};
 use atomic_table::Badge;
@@ -58,8 +61,38 @@ impl Pass {
         self.spare_end.saturating_sub(self.spare)
     }
 
-    /// The seat, for the steps of a call; the pass is none until it is put back.
-    pub fn seat<D>(&mut self) -> LogSeat<D>
+    /// Seats the pass at the table of its log, for the steps of a call; it is none until it is put
+    /// back.
+    pub fn seat<'a, D: Disk>(&mut self, table: &'a LogTable<D>) -> SeatedPass<'a, D>
+        requires pass { IsPassOn table.now self.old }
+        // It has the pass's view and nothing in hand; the pass keeps its numbers.
+        ensures table { result.table.now ≡ table.now }
+        ensures view { result.seat.me ≡ (view_of_pass self.old, []) }
+        ensures numbers { SamePass self.old self.new }
+    {
+        let number = self.number;
+        SeatedPass {
+            table,
+            seat: self.take_seat(),
+            number,
+        }
+    }
+
+    /// The seat goes back into its pass, with the same numbers.
+    pub fn put_back<'a, D: Disk>(&mut self, seated: SeatedPass<'a, D>)
+        // It has put the writer back, and its view has the numbers that the pass kept.
+        requires none_held { hand_of seated ≡ [] }
+        requires numbers { HasNumbers self.old.number self.old.spare self.old.spare_end
+            (view_of seated) }
+        ensures pass { IsPassOn seated.entry.table.now self.new }
+        ensures view { view_of_pass self.new ≡ view_of seated.entry }
+        ensures numbers { SamePass self.old self.new }
+    {
+        self.keep_seat(seated.seat);
+    }
+
+    // The seat, out of the pass, which is none until it has one again.
+    pub(crate) fn take_seat<D>(&mut self) -> LogSeat<D>
         requires { (table : TableId) × (opening : Opening) × IsPassOf table opening self.old }
         // The seat has the pass's view and nothing in its slots; the pass keeps its numbers.
         ensures view { result.me ≡ (view_of_pass self.old, []) }
@@ -70,8 +103,8 @@ impl Pass {
         mem::replace(&mut self.badge, Badge::blank()).into_seat()
     }
 
-    /// The seat goes back into its pass, with the same numbers.
-    pub fn put_back<D>(&mut self, seat: LogSeat<D>)
+    // A seat goes into the pass that it was taken from.
+    fn keep_seat<D>(&mut self, seat: LogSeat<D>)
         // The seat has put the writer back, and its view has the numbers that the pass kept.
         requires none_held { seat.me.1 ≡ [] }
         requires numbers { HasNumbers self.old.number self.old.spare self.old.spare_end seat.me.0 }
@@ -90,15 +123,15 @@ impl Pass {
         // The pass keeps its number, and has one spare number less; the new one has that, and none
         // to give.
         ensures left { IsPassOn table.now self.new
-            × (view_of_pass self.new ≡ seat_after_split (view_of_pass self.old)) }
+            × (view_of_pass self.new ≡ after_split (view_of_pass self.old)) }
         ensures right { IsPassOn table.now result
-            × (view_of_pass result ≡ seat_split_off (view_of_pass self.old)) }
+            × (view_of_pass result ≡ split_off (view_of_pass self.old)) }
     {
         let number = self.spare;
-        let mut seat = self.seat();
+        let mut seat = self.take_seat();
         let other = table.split(&mut seat);
         self.spare = number + 1;
-        self.put_back(seat);
+        self.keep_seat(seat);
         Pass::of_seat(other, number, 0, 0)
     }
 
@@ -109,15 +142,15 @@ impl Pass {
         // The other pass is of the same table, and about nothing: it holds no lock, turn or record
         // in flight.
         requires other { IsPassOn table.now other }
-        requires rests { IsAtRest (view_of_pass other) }
+        requires rests { IsResting (view_of_pass other) }
         ensures pass { IsPassOn table.now self.new }
         ensures view { view_of_pass self.new
-            ≡ seat_after_join (view_of_pass self.old) (view_of_pass other) }
+            ≡ after_join (view_of_pass self.old) (view_of_pass other) }
     {
-        let mut seat = self.seat();
-        table.join(&mut seat, other.seat());
+        let mut seat = self.take_seat();
+        table.join(&mut seat, other.take_seat());
         (self.spare, self.spare_end) = self.spares_of(&other);
-        self.put_back(seat);
+        self.keep_seat(seat);
     }
 
     // The spare numbers behind a join: its own where it has some, else the other's.

@@ -6,11 +6,14 @@ ghost use Rattle.std.specs.Prelude.{◌≡◌, [], ◌∷◌, None, Ok, Option, 
 ghost use mathlib.Core.Option.{none};
 ghost use Rattle.segment_disk.specs.Tape.{Tape};
 ghost use Rattle.flush_core.specs.declared.writer.DiskFault.{DiskFault};
-ghost use Rattle.wal_core.specs.Steps.{StepKind, load_position, slot_in};
+ghost use Rattle.wal_core.specs.Steps.{StepKind, load_position, slot_in, view_behind};
 ghost use Rattle.wal_rule.specs.Beginning.{IsUncalledWriter, reading_view, waiting_view};
 ghost use Rattle.wal_rule.specs.Called.{DeviceCall, DeviceCallEnds, syncs};
 ghost use Rattle.wal_rule.specs.Ruled.{IsOutOf};
-ghost use Rattle.wal_rule.specs.Seats.{SeatView, behind, first_seat_view, no_view, seat_after_join, seat_after_split, seat_orphan, seat_split_off, seat_without_work};
+ghost use Rattle.wal_core.specs.Views.{View};
+ghost use Rattle.wal_core.specs.Opened.{first_view};
+ghost use Rattle.wal_rule.specs.Passes.{no_view};
+ghost use Rattle.wal_core.specs.Moves.{after_join, after_split, orphan_of, split_off, without_work};
 ghost use Rattle.wal_rule.specs.Slotted.{slot_disk};
 ghost use Rattle.wal_rule.specs.Stepping.{Meets, Stands};
 
@@ -35,7 +38,7 @@ pub struct Quietly<K: OfKind> {
 }
 
 impl<D, K: OfKind> Play<LogWriter<D>, PassView> for Quietly<K> {
-    ghost then = { λ st m r n. (n ≡ (behind K.kind r none m.0, m.1)) × Stands n.0 };
+    ghost then = { λ st m r n. (n ≡ (view_behind m.0 K.kind r none, m.1)) × Stands n.0 };
 }
 
 /// A load or an exchange that moves no writer, which tells also that its number was met.
@@ -44,7 +47,7 @@ pub struct Finds<K: OfKind> {
 }
 
 impl<D, K: OfKind> Play<LogWriter<D>, PassView> for Finds<K> {
-    ghost then = { λ st m r n. (n ≡ (behind K.kind r none m.0, m.1)) × Stands n.0
+    ghost then = { λ st m r n. (n ≡ (view_behind m.0 K.kind r none, m.1)) × Stands n.0
         × Meets m.0 K.kind r };
 }
 
@@ -52,23 +55,23 @@ impl<D, K: OfKind> Play<LogWriter<D>, PassView> for Finds<K> {
 pub struct SplitsOff;
 
 impl Split<PassView> for SplitsOff {
-    ghost left = { seat_after_split };
+    ghost left = { after_split };
 
-    ghost right = { seat_split_off };
+    ghost right = { split_off };
 }
 
 /// A pass gives up its copy, which stays with a view of its own.
-pub struct GivesUp;
+pub struct GivesCopyUp;
 
-impl Split<PassView> for GivesUp {
-    ghost left = { seat_without_work };
+impl Split<PassView> for GivesCopyUp {
+    ghost left = { without_work };
 
-    ghost right = { seat_orphan };
+    ghost right = { orphan_of };
 }
 
 /// What is left of a pass that was taken in, which its call picks for the proof alone.
 pub trait Leaves {
-    ghost left: { SeatView };
+    ghost left: { View };
 }
 
 impl Leaves for Brand {
@@ -81,7 +84,7 @@ pub struct TakesIn<B: Leaves> {
 }
 
 impl<B: Leaves> Join<PassView> for TakesIn<B> {
-    ghost both = { seat_after_join };
+    ghost both = { after_join };
 
     ghost spent = { B.left };
 }
@@ -110,7 +113,7 @@ impl<D: Disk, B: BeganOn> Play<LogWriter<D>, PassView> for SlotOut<D, B> {
 pub struct SlotIn;
 
 impl<D> Play<LogWriter<D>, PassView> for SlotIn {
-    ghost then = { λ st m r n. (n ≡ (behind slot_in r none m.0, [])) × Stands n.0 };
+    ghost then = { λ st m r n. (n ≡ (view_behind m.0 slot_in r none, [])) × Stands n.0 };
 }
 
 /// The writer of a table that is not begun goes out, and its disk may be read.
@@ -122,7 +125,7 @@ pub struct GoesToRead<D, B: BeganOn> {
 impl<D: Disk, B: BeganOn> Play<LogWriter<D>, PassView> for GoesToRead<D, B> {
     ghost then = { λ st m r n. (w : _)
         × IsUncalledWriter D.tape D.moment (m.0).opening B.began w
-        × (D.faults (slot_disk w) ≡ (m.0).down_set)
+        × (D.faults (slot_disk w) ≡ (m.0).writing.down_set)
         × (n ≡ (reading_view (m.0).opening, (0, w) ∷ [])) };
 }
 
@@ -130,7 +133,7 @@ impl<D: Disk, B: BeganOn> Play<LogWriter<D>, PassView> for GoesToRead<D, B> {
 pub struct Begins;
 
 impl<D> Play<LogWriter<D>, PassView> for Begins {
-    ghost then = { λ st m r n. (n ≡ (first_seat_view (m.0).opening, [])) × Stands n.0 };
+    ghost then = { λ st m r n. (n ≡ (first_view (m.0).opening, [])) × Stands n.0 };
 }
 
 /// The writer comes back, and the table is still not begun.

@@ -1,18 +1,18 @@
 // Steps that move no writer and call no device: one load, store or exchange each. Each kind is a
 // call in one of the files beside this one, by one of these three functions. Such a call picks the
-// kind (`K`) and shows what holds of it: the seat's view lets it make the step (`may`); the word
+// kind (`K`) and shows what holds of it: the pass's view lets it make the step (`may`); the word
 // and the value are the machine's own for this kind (`word`, `loads`, `stores`, `exchanges`); the
 // table has that word (`there`). Then the step keeps the rule, whatever others do between, and the
 // view behind it is the machine's (`steps`). A store meets nothing: the view behind it is the same
 // whatever the word held (`meets_none`).
 ghost use Rattle.std.specs.Prelude.{◌≡◌, ℕ, ◌<◌, ◌==◌, if◌then◌else◌};
 ghost use mathlib.Core.Option.{none};
-ghost use Rattle.wal_rule.specs.Seats.{behind};
-ghost use Rattle.wal_rule.specs.Stepping.{IsQuiet, MaySeat, Meets, SeatSteps, value_left, word_at_step};
-ghost use Rattle.wal_rule.specs.Tables.{IsSeatOn};
+ghost use Rattle.wal_core.specs.Steps.{view_behind, MayStep, value_behind, word_of_step};
+ghost use Rattle.wal_rule.specs.Stepping.{IsQuiet, Meets};
+ghost use Rattle.wal_rule.specs.SeatedPasses.{Steps, view_of};
 
 use crate::plays::{Finds, OfKind, Quietly};
-use crate::table::{LogSeat, LogTable};
+use crate::seated::SeatedPass;
 use segment_disk::Disk;
 
 /// The operands of a step's kind, by which its call picks the kind for the proof; nothing else
@@ -28,72 +28,62 @@ pub const NO_OPERANDS: Operands = Operands {
     second: 0,
 };
 
-impl<D: Disk> LogTable<D> {
+impl<'a, D: Disk> SeatedPass<'a, D> {
     // A step of a kind that loads a word, and leaves it as it was.
-    pub(crate) fn loads<K: OfKind>(
-        &self,
-        seat: &mut LogSeat<D>,
-        word: usize,
-        operands: Operands,
-    ) -> u64
-        requires seat { IsSeatOn self.now seat.old }
+    pub(crate) fn loads<K: OfKind>(&mut self, word: usize, operands: Operands) -> u64
         requires quiet { IsQuiet K.kind }
-        requires word { word ≡ word_at_step seat.old.me.0 K.kind }
-        requires there { word < self.now.table.shared.table_id.words }
-        requires may { MaySeat seat.old.me.0 K.kind }
-        requires loads { (met : ℕ) → met ≡ value_left seat.old.me.0 K.kind met }
-        ensures steps { SeatSteps K.kind result seat.old seat.new }
-        ensures met { Meets seat.old.me.0 K.kind result }
-        ensures seat { IsSeatOn self.now seat.new }
+        requires word { word ≡ word_of_step (view_of self.old) K.kind }
+        requires there { word < self.old.table.now.table.shared.table_id.words }
+        requires may { MayStep (view_of self.old) K.kind }
+        requires loads { (met : ℕ) → met ≡ value_behind (view_of self.old) K.kind met }
+        ensures steps { Steps K.kind result self.old self.new }
+        ensures met { Meets (view_of self.old) K.kind result }
     {
-        self.table.shared.load::<Finds<K>>(seat, word)
+        self.table
+            .table
+            .shared
+            .load::<Finds<K>>(&mut self.seat, word)
     }
 
     // A step of a kind that stores a word, whatever it held.
-    pub(crate) fn stores<K: OfKind>(
-        &self,
-        seat: &mut LogSeat<D>,
-        word: usize,
-        value: u64,
-        operands: Operands,
-    )
-        requires seat { IsSeatOn self.now seat.old }
+    pub(crate) fn stores<K: OfKind>(&mut self, word: usize, value: u64, operands: Operands)
         requires quiet { IsQuiet K.kind }
-        requires word { word ≡ word_at_step seat.old.me.0 K.kind }
-        requires there { word < self.now.table.shared.table_id.words }
-        requires may { MaySeat seat.old.me.0 K.kind }
-        requires stores { (met : ℕ) → value ≡ value_left seat.old.me.0 K.kind met }
+        requires word { word ≡ word_of_step (view_of self.old) K.kind }
+        requires there { word < self.old.table.now.table.shared.table_id.words }
+        requires may { MayStep (view_of self.old) K.kind }
+        requires stores { (met : ℕ) → value ≡ value_behind (view_of self.old) K.kind met }
         requires meets_none { (met other : ℕ)
-            → behind K.kind met none seat.old.me.0 ≡ behind K.kind other none seat.old.me.0 }
-        ensures steps { SeatSteps K.kind 0 seat.old seat.new }
-        ensures seat { IsSeatOn self.now seat.new }
+            → view_behind (view_of self.old) K.kind met none ≡ view_behind
+            (view_of self.old) K.kind other none }
+        ensures steps { Steps K.kind 0 self.old self.new }
     {
-        self.table.shared.store::<Quietly<K>>(seat, word, value)
+        self.table
+            .table
+            .shared
+            .store::<Quietly<K>>(&mut self.seat, word, value)
     }
 
     // A step of a kind that exchanges a word where it meets what it expects, and else leaves it. It
     // answers what it met, so that the caller knows which it was.
     pub(crate) fn exchanges<K: OfKind>(
-        &self,
-        seat: &mut LogSeat<D>,
+        &mut self,
         word: usize,
         expected: u64,
         value: u64,
         operands: Operands,
     ) -> u64
-        requires seat { IsSeatOn self.now seat.old }
         requires quiet { IsQuiet K.kind }
-        requires word { word ≡ word_at_step seat.old.me.0 K.kind }
-        requires there { word < self.now.table.shared.table_id.words }
-        requires may { MaySeat seat.old.me.0 K.kind }
+        requires word { word ≡ word_of_step (view_of self.old) K.kind }
+        requires there { word < self.old.table.now.table.shared.table_id.words }
+        requires may { MayStep (view_of self.old) K.kind }
         requires exchanges { (met : ℕ) → (if met == expected then value else met)
-            ≡ value_left seat.old.me.0 K.kind met }
-        ensures steps { SeatSteps K.kind result seat.old seat.new }
-        ensures met { Meets seat.old.me.0 K.kind result }
-        ensures seat { IsSeatOn self.now seat.new }
+            ≡ value_behind (view_of self.old) K.kind met }
+        ensures steps { Steps K.kind result self.old self.new }
+        ensures met { Meets (view_of self.old) K.kind result }
     {
         self.table
+            .table
             .shared
-            .compare_exchange::<Finds<K>>(seat, word, expected, value)
+            .compare_exchange::<Finds<K>>(&mut self.seat, word, expected, value)
     }
 }

@@ -3,18 +3,18 @@
 // it is still the one met; the last start (word 1) is loaded, and the record's own start stored for
 // the next one; the position behind the record is stored, which unlocks it. Nobody else stores into
 // words 0 and 1 between. From the last store on the record stands in the order, in flight under
-// insertion locks that the seat held before: who sees it reserved, and then visits the locks, finds
+// insertion locks that the pass held before: who sees it reserved, and then visits the locks, finds
 // it. Where it does not fit, the position is stored as it was, before word 1 is loaded. As each
-// step of the table (quiet.rt) these ask for a live seat whose view lets it step.
+// step (quiet.rt) these are made by a seated pass whose view lets it step.
 ghost use Rattle.std.specs.Prelude.{◌≡◌, ℕ, List};
 ghost use Rattle.wal_types.specs.declared.record.Record.{Record};
-ghost use Rattle.wal_core.specs.Steps.{give_position_back, load_prev, lock_position, store_position, store_prev};
-ghost use Rattle.wal_rule.specs.Stepping.{MaySeat, Meets, SeatSteps, value_left};
-ghost use Rattle.wal_rule.specs.Tables.{IsSeatOn};
+ghost use Rattle.wal_core.specs.Steps.{give_position_back, load_prev, lock_position, store_position, store_prev, MayStep, value_behind};
+ghost use Rattle.wal_rule.specs.Stepping.{Meets};
+ghost use Rattle.wal_rule.specs.SeatedPasses.{Steps, view_of};
 
 use crate::plays::OfKind;
 use crate::quiet::NO_OPERANDS;
-use crate::table::{LogSeat, LogTable};
+use crate::seated::SeatedPass;
 use machine_words::layout::{LAST_START, POSITION};
 use segment_disk::Disk;
 use std::marker::Brand;
@@ -31,69 +31,59 @@ impl OfKind for StoresPrev {
     ghost kind = { store_prev };
 }
 
-impl<D: Disk> LogTable<D> {
-    /// Locks the position where it is still the expected one, which is a byte position. The seat
+impl<'a, D: Disk> SeatedPass<'a, D> {
+    /// Locks the position where it is still the expected one, which is a byte position. The pass
     /// has none locked; it has this one, and nobody else, where the word found is the expected one.
-    pub fn lock_position(&self, seat: &mut LogSeat<D>, expected: u64) -> u64
-        requires seat { IsSeatOn self.now seat.old }
-        requires may { MaySeat seat.old.me.0 (lock_position expected) }
-        ensures steps { SeatSteps (lock_position expected) result seat.old seat.new }
-        ensures met { Meets seat.old.me.0 (lock_position expected) result }
-        ensures seat { IsSeatOn self.now seat.new }
+    pub fn lock_position(&mut self, expected: u64) -> u64
+        requires may { MayStep (view_of self.old) (lock_position expected) }
+        ensures steps { Steps (lock_position expected) result self.old self.new }
+        ensures met { Meets (view_of self.old) (lock_position expected) result }
     {
-        self.exchanges::<Brand>(seat, POSITION, expected, expected + 1, NO_OPERANDS)
+        self.exchanges::<Brand>(POSITION, expected, expected + 1, NO_OPERANDS)
     }
 
-    /// The address at which the last reserved record starts, 0 where there is none. The seat has
+    /// The address at which the last reserved record starts, 0 where there is none. The pass has
     /// the position locked, so that no other record is reserved meanwhile.
-    pub fn load_prev(&self, seat: &mut LogSeat<D>) -> u64
-        requires seat { IsSeatOn self.now seat.old }
-        requires may { MaySeat seat.old.me.0 load_prev }
-        ensures steps { SeatSteps load_prev result seat.old seat.new }
-        ensures seat { IsSeatOn self.now seat.new }
+    pub fn load_prev(&mut self) -> u64
+        requires may { MayStep (view_of self.old) load_prev }
+        ensures steps { Steps load_prev result self.old self.new }
     {
-        self.loads::<LoadsPrev>(seat, LAST_START, NO_OPERANDS)
+        self.loads::<LoadsPrev>(LAST_START, NO_OPERANDS)
     }
 
     /// Stores, for the next record, the address at which this one starts: that of the position that
-    /// the seat has locked. The start before it was loaded.
-    pub fn store_prev(&self, seat: &mut LogSeat<D>, start: u64)
-        requires seat { IsSeatOn self.now seat.old }
-        requires may { MaySeat seat.old.me.0 store_prev }
-        requires value { start ≡ value_left seat.old.me.0 store_prev 0 }
-        ensures steps { SeatSteps store_prev 0 seat.old seat.new }
-        ensures seat { IsSeatOn self.now seat.new }
+    /// the pass has locked. The start before it was loaded.
+    pub fn store_prev(&mut self, start: u64)
+        requires may { MayStep (view_of self.old) store_prev }
+        requires value { start ≡ value_behind (view_of self.old) store_prev 0 }
+        ensures steps { Steps store_prev 0 self.old self.new }
     {
-        self.stores::<StoresPrev>(seat, LAST_START, start, NO_OPERANDS);
+        self.stores::<StoresPrev>(LAST_START, start, NO_OPERANDS);
     }
 
     /// Stores the byte position behind the record, and so reserves its place. The locks under which
     /// the record stands, and the record, are picked with the kind.
-    pub fn store_position<K: OfKind>(&self, seat: &mut LogSeat<D>, position: u64)
-        requires seat { IsSeatOn self.now seat.old }
+    pub fn store_position<K: OfKind>(&mut self, position: u64)
         requires kind { (locks : List ℕ) × (value : Record)
             × (K.kind ≡ store_position locks value) }
         // The next start is stored, the record can be written and fits, and nothing is in flight;
-        // the locks are some that the seat holds.
-        requires may { MaySeat seat.old.me.0 K.kind }
-        requires value { position ≡ value_left seat.old.me.0 K.kind 0 }
-        ensures steps { SeatSteps K.kind 0 seat.old seat.new }
-        ensures seat { IsSeatOn self.now seat.new }
+        // the locks are some that the pass holds.
+        requires may { MayStep (view_of self.old) K.kind }
+        requires value { position ≡ value_behind (view_of self.old) K.kind 0 }
+        ensures steps { Steps K.kind 0 self.old self.new }
     {
-        self.stores::<K>(seat, POSITION, position, NO_OPERANDS);
+        self.stores::<K>(POSITION, position, NO_OPERANDS);
     }
 
     /// Stores the position as it was before it was locked, where too few bytes are left for the
     /// record, which is picked with the kind.
-    pub fn give_position_back<K: OfKind>(&self, seat: &mut LogSeat<D>, position: u64)
-        requires seat { IsSeatOn self.now seat.old }
+    pub fn give_position_back<K: OfKind>(&mut self, position: u64)
         requires kind { (value : Record) × (K.kind ≡ give_position_back value) }
         // The position is locked, and nothing was loaded or stored since: so no trace is left.
-        requires may { MaySeat seat.old.me.0 K.kind }
-        requires value { position ≡ value_left seat.old.me.0 K.kind 0 }
-        ensures steps { SeatSteps K.kind 0 seat.old seat.new }
-        ensures seat { IsSeatOn self.now seat.new }
+        requires may { MayStep (view_of self.old) K.kind }
+        requires value { position ≡ value_behind (view_of self.old) K.kind 0 }
+        ensures steps { Steps K.kind 0 self.old self.new }
     {
-        self.stores::<K>(seat, POSITION, position, NO_OPERANDS);
+        self.stores::<K>(POSITION, position, NO_OPERANDS);
     }
 }

@@ -5,25 +5,25 @@
 // it never changes, so each seat's steps speak of the same log and of the same opening.
 ghost use Rattle.std.specs.Prelude.{◌≡◌};
 ghost use Rattle.wal_rule.specs.Founded.{disk_of_founding, empty_log_opening, founded_opening};
-ghost use Rattle.wal_rule.specs.Seats.{SeatView};
+ghost use Rattle.wal_core.specs.Views.{View};
 
 use segment_disk::Disk;
 use std::marker::{Model, PhantomData};
 use std::snapshot::Snapshot;
 use wal_core::Setup;
 
-/// What a pass knows and is about: the machine's view, but for what the disk held at first.
+/// What a pass knows and is about: the machine's view.
 #[derive(Drop)]
 pub struct PassView {
     marker: PhantomData<u8>,
-    pub ghost known: { SeatView },
+    pub ghost known: { View },
 }
 
 impl Model for PassView {
     ghost use Rattle.std.specs.Borrow.{ftrue};
-    ghost use Rattle.wal_rule.specs.Seats.{SeatView};
+    ghost use Rattle.wal_core.specs.Views.{View};
 
-    ghost Value = { SeatView };
+    ghost Value = { View };
 
     ghost view = { λ v. v.known };
 

@@ -13,6 +13,7 @@ ghost use Rattle.wal_rule.specs.Founded.{disk_of_founding, founded_opening};
 use crate::seats::{Founding, PassView};
 use crate::writer::LogWriter;
 use atomic_table::{Seat, Table, TableRule};
+use machine_words::LogShape;
 use segment_disk::Disk;
 use std::alloc::Global;
 use std::marker::PhantomData;
@@ -32,10 +33,13 @@ impl<D: Disk> TableRule<LogWriter<D>, PassView, Founding<D>> for LogRule<D> {
 /// A seat of the table: what one backend steps with.
 pub type LogSeat<D> = Seat<LogWriter<D>, PassView>;
 
-/// The table of a log's shared words, in the machine's numbering, with the writer in slot 0.
+/// The table of a log's shared words, in the machine's numbering, with the writer in slot 0; and
+/// the log's shape.
 #[derive(Drop)]
 pub struct LogTable<D: Disk> {
     pub table: Table<LogWriter<D>, PassView, Founding<D>, LogRule<D>, Global>,
+    pub shape: LogShape,
+    pub ghost shaped: { shape ≡ table.shared.key.setup },
     pub ghost wide: { table.shared.table_id.words ≡ word_count table.shared.key.setup },
     pub ghost one_slot: { table.shared.table_id.slots ≡ 1 },
 }

@@ -3,19 +3,19 @@
 // with the writer in hand the device is called, and written, moment, flushed and down are stored:
 // so the device's calls come one after another. The writer goes back once its written address is
 // stored, or, behind a fault, once down is set: so whoever takes it next finds in the words how far
-// it came. Then the turn is given back. As each step of the table (quiet.rt) these ask for a live
-// seat whose view lets it step.
+// it came. Then the turn is given back. As each step (quiet.rt) these are made by a seated pass
+// whose view lets it step.
 ghost use Rattle.std.specs.Prelude.{◌≡◌, ◌≢◌, ℕ, true, false, []};
 ghost use mathlib.Core.Option.{none};
-ghost use Rattle.wal_core.specs.Steps.{release_write_turn, slot_in, slot_out, take_write_turn};
+ghost use Rattle.wal_core.specs.Steps.{release_write_turn, slot_in, slot_out, take_write_turn, view_behind, MayStep};
 ghost use Rattle.wal_rule.specs.Ruled.{HasInHand, HasTaken, IsOutOf};
-ghost use Rattle.wal_rule.specs.Seats.{SeatLent, behind};
-ghost use Rattle.wal_rule.specs.Stepping.{MaySeat, Meets, SeatSteps};
-ghost use Rattle.wal_rule.specs.Tables.{IsSeatOn, began_of_table, opening_of_table};
+ghost use Rattle.wal_core.specs.Views.{Lent};
+ghost use Rattle.wal_rule.specs.Stepping.{Meets};
+ghost use Rattle.wal_rule.specs.SeatedPasses.{Steps, began_of, hand_of, opening_of, view_of};
 
 use crate::plays::{BeganOn, OfKind, SlotIn, SlotOut};
 use crate::quiet::NO_OPERANDS;
-use crate::table::{LogSeat, LogTable};
+use crate::seated::SeatedPass;
 use machine_words::layout::WRITE_TURN;
 use segment_disk::Disk;
 use std::marker::Brand;
@@ -32,89 +32,86 @@ impl OfKind for ReleasesWriteTurn {
     ghost kind = { release_write_turn };
 }
 
-impl<D: Disk> LogTable<D> {
-    /// Takes the turn to write where it is free, which is where the word found is 0. The seat does
+impl<'a, D: Disk> SeatedPass<'a, D> {
+    /// Takes the turn to write where it is free, which is where the word found is 0. The pass does
     /// not have it, and stores one more than its pass's number.
-    pub fn take_write_turn(&self, seat: &mut LogSeat<D>, number: u32) -> u64
-        requires seat { IsSeatOn self.now seat.old }
-        requires may { MaySeat seat.old.me.0 take_write_turn }
-        requires number { number ≡ seat.old.me.0.reserving.number }
-        ensures steps { SeatSteps take_write_turn result seat.old seat.new }
-        ensures met { Meets seat.old.me.0 take_write_turn result }
-        ensures seat { IsSeatOn self.now seat.new }
+    pub fn take_write_turn(&mut self) -> u64
+        requires may { MayStep (view_of self.old) take_write_turn }
+        ensures steps { Steps take_write_turn result self.old self.new }
+        ensures met { Meets (view_of self.old) take_write_turn result }
     {
-        self.exchanges::<TakesWriteTurn>(seat, WRITE_TURN, 0, u64::from(number) + 1, NO_OPERANDS)
+        self.exchanges::<TakesWriteTurn>(WRITE_TURN, 0, u64::from(self.number) + 1, NO_OPERANDS)
     }
 
-    /// Takes the writer out of its slot. The seat has the turn to write. It is the log's writer, as
-    /// the last one left it who had it. With it the view keeps as known what the seat's watch has
+    /// Takes the writer out of its slot. The pass has the turn to write. It is the log's writer, as
+    /// the last one left it who had it. With it the view keeps as known what the pass's watch has
     /// found to be copied, where that has visited all eight locks, and else nothing.
-    pub fn slot_out(&self, seat: &mut LogSeat<D>)
-        requires seat { IsSeatOn self.now seat.old }
-        requires may { MaySeat seat.old.me.0 slot_out }
+    pub fn slot_out(&mut self)
+        requires may { MayStep (view_of self.old) slot_out }
         ensures out { (met : ℕ) × (w : _) × IsOutOf D.tape D.moment D.faults
-            (began_of_table D.tape self.now) (opening_of_table self.now) met w seat.old.me
-            seat.new.me }
-        ensures seat { IsSeatOn self.now seat.new }
+            (began_of D.tape self.old) (opening_of self.old) met w self.old.seat.me
+            self.new.seat.me }
+        ensures table { self.new.table ≡ self.old.table }
     {
-        self.slot_out_on::<Brand>(seat);
+        self.slot_out_on::<Brand>();
     }
 
     // The same, with the tape at the opening picked for the proof.
-    fn slot_out_on<B: BeganOn>(&self, seat: &mut LogSeat<D>)
-        requires seat { IsSeatOn self.now seat.old }
-        requires may { MaySeat seat.old.me.0 slot_out }
-        requires began { B.began ≡ began_of_table D.tape self.now }
+    fn slot_out_on<B: BeganOn>(&mut self)
+        requires may { MayStep (view_of self.old) slot_out }
+        requires began { B.began ≡ began_of D.tape self.old }
         ensures out { (met : ℕ) × (w : _) × IsOutOf D.tape D.moment D.faults
-            B.began (opening_of_table self.now) met w seat.old.me seat.new.me }
-        ensures seat { IsSeatOn self.now seat.new }
+            B.began (opening_of self.old) met w self.old.seat.me self.new.seat.me }
+        ensures table { self.new.table ≡ self.old.table }
     {
-        self.table.shared.load::<SlotOut<D, B>>(seat, WRITE_TURN);
+        self.table
+            .table
+            .shared
+            .load::<SlotOut<D, B>>(&mut self.seat, WRITE_TURN);
     }
 
-    /// Puts the writer back into its slot, as the seat's view keeps it. Its written address is
-    /// stored as written and it met no fault, or the seat has set down.
-    pub fn slot_in(&self, seat: &mut LogSeat<D>)
-        requires seat { IsSeatOn self.now seat.old }
-        requires may { MaySeat seat.old.me.0 slot_in }
-        requires out { (l : SeatLent) × (w : _) × HasInHand D.tape D.moment D.faults
-            (began_of_table D.tape self.now) (opening_of_table self.now) seat.old.me l w }
-        ensures view { (met : ℕ) × (seat.new.me ≡ (behind slot_in met none seat.old.me.0, [])) }
-        ensures seat { IsSeatOn self.now seat.new }
+    /// Puts the writer back into its slot, as the pass's view keeps it. Its written address is
+    /// stored as written and it met no fault, or the pass has set down.
+    pub fn slot_in(&mut self)
+        requires may { MayStep (view_of self.old) slot_in }
+        requires out { (l : Lent) × (w : _) × HasInHand D.tape D.moment D.faults
+            (began_of D.tape self.old) (opening_of self.old) self.old.seat.me l w }
+        ensures view { (met : ℕ)
+            × (self.new.seat.me ≡ (view_behind (view_of self.old) slot_in met none, [])) }
+        ensures table { self.new.table ≡ self.old.table }
     {
-        self.table.shared.load::<SlotIn>(seat, WRITE_TURN);
+        self.table
+            .table
+            .shared
+            .load::<SlotIn>(&mut self.seat, WRITE_TURN);
     }
 
     /// Gives the turn to write back, with the writer in its slot.
-    pub fn release_write_turn(&self, seat: &mut LogSeat<D>)
-        requires seat { IsSeatOn self.now seat.old }
-        requires may { MaySeat seat.old.me.0 release_write_turn }
-        ensures steps { SeatSteps release_write_turn 0 seat.old seat.new }
-        ensures seat { IsSeatOn self.now seat.new }
+    pub fn release_write_turn(&mut self)
+        requires may { MayStep (view_of self.old) release_write_turn }
+        ensures steps { Steps release_write_turn 0 self.old self.new }
     {
-        self.stores::<ReleasesWriteTurn>(seat, WRITE_TURN, 0, NO_OPERANDS);
+        self.stores::<ReleasesWriteTurn>(WRITE_TURN, 0, NO_OPERANDS);
     }
 
     /// Where the turn to write is free, takes it and the writer. A call that waits tries again
     /// where the answer is false.
-    pub fn take_writer(&self, seat: &mut LogSeat<D>, number: u32) -> bool
-        requires seat { IsSeatOn self.now seat.old }
-        requires may { MaySeat seat.old.me.0 take_write_turn }
-        requires none_out { seat.old.me.1 ≡ [] }
-        requires number { number ≡ seat.old.me.0.reserving.number }
-        // At true the seat has the turn and the writer, and nothing else has changed for it; at
+    pub fn take_writer(&mut self) -> bool
+        requires may { MayStep (view_of self.old) take_write_turn }
+        requires none_out { hand_of self.old ≡ [] }
+        // At true the pass has the turn and the writer, and nothing else has changed for it; at
         // false the turn was somebody's, and nothing has.
         ensures taken { result ≡ true → HasTaken D.tape D.moment D.faults
-            (began_of_table D.tape self.now) (opening_of_table self.now) seat.old.me seat.new.me }
-        ensures same { result ≡ false → seat.new.me ≡ seat.old.me }
+            (began_of D.tape self.old) (opening_of self.old) self.old.seat.me self.new.seat.me }
+        ensures same { result ≡ false → self.new.seat.me ≡ self.old.seat.me }
+        ensures table { self.new.table ≡ self.old.table }
         ensures met { result ≡ false
-            → (turn : ℕ) × (turn ≢ 0) × Meets seat.old.me.0 take_write_turn turn }
-        ensures seat { IsSeatOn self.now seat.new }
+            → (turn : ℕ) × (turn ≢ 0) × Meets (view_of self.old) take_write_turn turn }
     {
-        if self.take_write_turn(seat, number) != 0 {
+        if self.take_write_turn() != 0 {
             return false;
         }
-        self.slot_out(seat);
+        self.slot_out();
         true
     }
 }

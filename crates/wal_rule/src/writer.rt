@@ -171,6 +171,7 @@ impl<D: Disk> LogWriter<D> {
         ensures there { IfOk result (λ there. IfSome (D.tape (slot_disk self.old)) (λ t.
             IsTrue there ↔ IsSome (page_of_segment (state_now t 1) 0))) }
         ensures same { slot_plain D.tape D.moment self.new ≡ slot_plain D.tape D.moment self.old }
+        ensures tape { D.tape (slot_disk self.new) ≡ D.tape (slot_disk self.old) }
         ensures size { slot_segment_size self.new ≡ slot_segment_size self.old }
         ensures cause { HasCause (D.faults (slot_disk self.old)) (D.faults (slot_disk self.new))
             result }

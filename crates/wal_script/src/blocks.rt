@@ -11,10 +11,7 @@ use crate::line_error::LineError;
 use decimal_numbers::number;
 use std::alloc::Global;
 use text_parts::Parts;
-use wal_types::{Block, BlockList, Rel};
-
-// The largest number of a block (PostgreSQL's MaxBlockNumber of block.h).
-const MAX_BLOCK_NUMBER: u64 = 4_294_967_294;
+use wal_types::{Block, BlockList, MAX_BLOCK_NUMBER, Rel};
 
 /// A relation's fork, and whether redo makes the page anew.
 #[derive(Clone, Copy)]
@@ -49,7 +46,7 @@ fn block(alloc: Global, id: u8, mut parts: Parts) -> Result<Block, LineError>
     }
     let rel = relation(Parts::of(rel, b'/'))?;
     let fork = fork_of(fork).ok_or(ScriptFault::Block)?;
-    let blk = number(blk, MAX_BLOCK_NUMBER).ok_or(ScriptFault::Number)? as u32;
+    let blk = number(blk, u64::from(MAX_BLOCK_NUMBER)).ok_or(ScriptFault::Number)? as u32;
     Ok(Block {
         id,
         rel,

@@ -9,11 +9,10 @@ use crate::line::ScriptFault;
 use crate::line_error::LineError;
 use crate::text::is_dash;
 use decimal_numbers::number;
+use record_spelling::layout::PAGE_LEN;
 use std::alloc::Global;
 use text_parts::Parts;
 use wal_types::{Bytes, Image};
-
-const PAGE_LEN: u16 = 8192;
 
 /// The byte that an image has outside its hole, and whether redo applies the image.
 #[derive(Clone, Copy)]

@@ -10,10 +10,7 @@ use crate::line_error::LineError;
 use record_spelling::Body;
 use std::alloc::{AllocError, Global};
 use text_parts::Parts;
-use wal_types::{BlockList, Bytes, Record, Xid};
-
-// The resource manager of transactions (PostgreSQL's rmgrlist.h).
-const TRANSACTION_MANAGER: u8 = 1;
+use wal_types::{BlockList, Bytes, Record, TRANSACTION_MANAGER, Xid};
 
 /// The record of a line `I`, assembled.
 pub(crate) fn insert(alloc: Global, fields: Parts) -> Result<Body, LineError>

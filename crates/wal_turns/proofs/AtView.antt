@@ -12,6 +12,7 @@ use Rattle.wal_core.specs.Views.{Place, Free, Locked, Loaded, Stored, Stage, Awa
 use Rattle.wal_core.specs.Ordered.{AtPlace}
 use Rattle.wal_core.specs.Locked.{StandsTo}
 use Rattle.wal_core.specs.Steps.{StepKind, load_prev, give_position_back, take_lock, load_lock, zero_ring_word, publish_end, slot_in, IsLive, returned, home_behind}
+use Rattle.wal_core.specs.Aligned.{LearnsAligned}
 use Rattle.wal_core.specs.Sound.{IsSound}
 use Rattle.wal_core.proofs.Lists.{part_at}
 use Rattle.wal_turns.specs.Doing.{Ask, Inserts, Commits, Flushes, Purpose, Doing, Begins, Tries, Reserves, Looks, Copies, Maps, GivesTurn, Tells, Releases, FlushBegins, LoadsPosition, LoadsFlushed, LoadsMoment, Visits, TakesTurn, LoadsDown, TakesOut, LoadsPage, Creates, Writes, SyncsFull, SyncsLast, StoresWritten, StoresMoment, StoresFlushed, SetsDown, PutsBack, GivesWriteTurn, Machine}
@@ -75,8 +76,8 @@ module _ (m : Machine) (run : IsRunning m) (number : ℕ) (v : View)
   pub own : v.opening ≡ m.opening
   own = ((run.sound).grounded id v live.0).opening_is live.1
 
-  pub sound : IsSound v.opening words home views
-  sound = subst (λ (o : Opening). IsSound o words home views) (sym own) run.sound
+  pub sound : IsSound m.first v.opening words home views
+  sound = subst (λ (o : Opening). IsSound m.first o words home views) (sym own) run.sound
 
   valid : IsSegmentSize size
   valid = (sound.setup_is).size
@@ -86,6 +87,9 @@ module _ (m : Machine) (run : IsRunning m) (number : ℕ) (v : View)
 
   told : (v.opening).faults ≡ (m.opening).faults
   told = ap (λ (o : Opening). o.faults) own
+
+  learns : LearnsAligned v
+  learns = (sound.aligned).views id v live.0
 
   -- ---- the position
 
@@ -111,7 +115,7 @@ module _ (m : Machine) (run : IsRunning m) (number : ℕ) (v : View)
 
   -- ---- the writer
 
-  pub to_writer_of : (o : Opening) (k : IsSound o words home views) (h : Hold)
+  pub to_writer_of : (o : Opening) (k : IsSound m.first o words home views) (h : Hold)
       → (v.writing).hold ≡ h
       → StandsTo (write_turn words) ((k.locks).writing).holder home k.writer id
       (v.reserving).number h
@@ -161,19 +165,19 @@ module _ (m : Machine) (run : IsRunning m) (number : ℕ) (v : View)
   goes (Copies lock) at_out s can up = copies_goes m ask lock v valid s
   goes (Maps lock) at_out s can up = maps_goes m ask lock v s can
   goes (GivesTurn lock end) at_out s can up = gives_turn_goes m ask lock end v s
-  goes (Tells lock end) at_out s can up = tells_goes m ask lock end v s
+  goes (Tells lock end) at_out s can up = tells_goes m ask lock end v valid s
   goes (Releases lock full) at_out s can up = releases_goes m ask lock full v s
   goes FlushBegins at_out s can up = flush_begins_goes m ask v (knows_no_down (up refl)) s
   goes LoadsPosition at_out s can up = loads_position_goes m ask v s
   goes LoadsFlushed at_out s can up = loads_flushed_goes m ask v s
   goes LoadsMoment at_out s can up = loads_moment_goes m ask v s
-  goes (Visits purpose lock) at_out s can up = visits_goes m ask purpose lock v s
+  goes (Visits purpose lock) at_out s can up = visits_goes m ask purpose lock v valid learns.seen s
   goes (TakesTurn purpose) at_out s can up = takes_turn_goes m ask purpose v s can
   goes (LoadsDown purpose) at_out s can up = loads_down_goes m ask purpose v s
   goes (TakesOut purpose) at_out s can up = takes_out_now purpose at_out s
   goes (LoadsPage purpose k) at_out s can up = loads_page_goes m ask purpose k v s
   goes (Creates purpose) at_out s can up = creates_goes m ask v told purpose valid near s
-  goes (Writes purpose) at_out s can up = writes_goes m ask v told purpose valid s
+  goes (Writes purpose) at_out s can up = writes_goes m ask v told purpose valid learns.known s
   goes (SyncsFull purpose) at_out s can up = syncs_full_goes m ask v told purpose s
   goes SyncsLast at_out s can up = syncs_last_goes m ask v told s
   goes (StoresWritten purpose) at_out s can up = stores_written_goes m ask purpose v s

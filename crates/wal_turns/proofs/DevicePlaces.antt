@@ -7,6 +7,7 @@ use mathlib.Core.Option.{Option, some, none}
 use Rattle.byte_position.specs.Geometry.{IsSegmentSize, pages_of}
 use Rattle.byte_position.proofs.SegmentSizes.{segment_size_in_pages}
 use Rattle.segment_disk.specs.Tape.{create_call, sync_call, write_call}
+use Rattle.wal_core.specs.Aligned.{IsKnownAligned}
 use Rattle.wal_core.specs.Views.{Lent, Out, View}
 use Rattle.wal_core.specs.Moves.{CallOutcome, Done, Failed, after_create, after_write, after_sync, is_done}
 use Rattle.wal_core.specs.Steps.{StepKind, MayStep, IsNextCreate, IsNextWrite, create, write, sync, word_of_step, view_behind}
@@ -115,12 +116,12 @@ module _ (m : Machine) (ask : Ask) where
           ),
         )
 
-    next_write : IsSegmentSize size → LoadsOn size 1024 l
+    next_write : IsSegmentSize size → l.known % 8 ≡ 0 → LoadsOn size 1024 l
         → segment_next size l.writer ≤ (l.writer).made
         → IsNextWrite (v.opening).setup (segment_next size l.writer)
         ((l.writer).written / 8192 % pages_of size)
         (min l.known ((l.writer).written / 8192 * 8192 + 8192)) (page_staged here) l
-    next_write valid on made =
+    next_write valid known on made =
         let written = (l.writer).written in
         let page = written / 8192 in
         let count : ℕ = pages_of size in
@@ -139,13 +140,14 @@ module _ (m : Machine) (ask : Ask) where
           behind_start = le-min (omega (arith, left, start)) (omega arith);
           within = (let low = min-le_right l.known (page * 8192 + 8192) in omega (arith, low));
           copied = min-le_left l.known (page * 8192 + 8192);
+          aligned = omega (arith, known);
           whole = bytes-length here page 1024 l.staged on.loaded;
           loaded = bytes-words here page 1024 l.staged on.loaded;
         }
 
-    writes_at : IsSegmentSize size → LoadsOn size 1024 l
+    writes_at : IsSegmentSize size → l.known % 8 ≡ 0 → LoadsOn size 1024 l
         → segment_next size l.writer ≤ (l.writer).made → Goes m ask (Writes purpose) here
-    writes_at valid on made =
+    writes_at valid known on made =
         let written = (l.writer).written in
         let page = written / 8192 in
         let segment = segment_next size l.writer in
@@ -153,7 +155,7 @@ module _ (m : Machine) (ask : Ask) where
         let call = write_call size segment (page % pages_of size) (page_staged here) in
         let behind : CallOutcome → Lent = λ (o : CallOutcome).
         record l { writer = after_write segment upto call o l.writer } in
-        let may = next_write valid on made in
+        let may = next_write valid known on made in
         let event : CallOutcome → StepKind = λ (o : CallOutcome).
         write segment (page % pages_of size) upto (page_staged here) o in
         let met = slice_index (m.state).words 11 in
@@ -249,11 +251,13 @@ module _ (m : Machine) (ask : Ask) where
         (near l is))
 
     pub writes_goes : (purpose : Purpose) → IsSegmentSize ((v.opening).setup).segment_size
-        → StandsToDo v (Writes purpose) ask → Goes m ask (Writes purpose) v
-    writes_goes purpose valid stands =
+        → IsKnownAligned (v.writing).hold → StandsToDo v (Writes purpose) ask → Goes m ask (Writes purpose) v
+    writes_goes purpose valid known stands =
         let l = stands.0 in
-        of_hold (Goes m ask (Writes purpose)) (Out l) v (hold_of purpose ask (Out l) v stands.1)
-        (writes_at purpose l v (again purpose l stands.1) told valid stands.2.0 stands.2.1)
+        let is = hold_of purpose ask (Out l) v stands.1 in
+        of_hold (Goes m ask (Writes purpose)) (Out l) v is
+        (writes_at purpose l v (again purpose l stands.1) told valid (subst IsKnownAligned is known)
+        stands.2.0 stands.2.1)
 
     pub syncs_full_goes : (purpose : Purpose) → StandsToDo v (SyncsFull purpose) ask
         → Goes m ask (SyncsFull purpose) v

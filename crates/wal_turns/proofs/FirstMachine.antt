@@ -3,6 +3,7 @@ use Rattle.std.proofs.Common.{◌≡◌, inl, inr, ℕ, zero, suc, ◌+◌, ◌<
 use Rattle.std.proofs.lemmas.Bool.{cases_lt}
 use Rattle.std.proofs.lemmas.List.{length-append}
 use mathlib.Core.Option.{none, some, some-injective}
+use Rattle.segment_disk.specs.Tape.{DiskState}
 use Rattle.wal_core.specs.Words.{Opening, down_word}
 use Rattle.wal_core.specs.Views.{HasAt, Plain}
 use Rattle.wal_core.specs.Moves.{split_off}
@@ -84,18 +85,20 @@ module _ (opening : Opening) where
       views = refl;
     }
 
-    split_sound : IsSound opening words (some writer) (first_view opening ∷ []) → (n : ℕ)
+    split_sound : {first : DiskState}
+        → IsSound first opening words (some writer) (first_view opening ∷ []) → (n : ℕ)
         → n < (opening.setup).passes
-        → IsSound opening words (some writer) (splitting_view opening n ∷ views_split_off opening n)
-    split_sound first zero low = first
-    split_sound first (suc n) low =
+        → IsSound first opening words (some writer)
+        (splitting_view opening n ∷ views_split_off opening n)
+    split_sound begun zero low = begun
+    split_sound begun (suc n) low =
         splits_keep opening (state_split n) (state_split (suc n)) 0
-        (split_sound first n (omega arith)) (splits n (omega arith))
+        (split_sound begun n (omega arith)) (splits n (omega arith))
 
-    module _ (failing : List ℕ) (lines : List (List Ask))
+    module _ (first : DiskState) (failing : List ℕ) (lines : List (List Ask))
         (may : MayBeginRunning opening words writer lines) where
       abbrev begun : Machine
-      begun = first_machine opening words writer failing lines
+      begun = first_machine first opening words writer failing lines
 
       stands_first : (asks : List Ask) → All IsLine asks → (j : ℕ)
           → StandsFor (first_backend asks) (split_off (splitting_view opening j))
@@ -113,7 +116,7 @@ module _ (opening : Opening) where
 
       pub runs_first : IsRunning begun
       runs_first = record {
-        sound = split_sound (logs_begin opening words writer may.is_new may.first_words
+        sound = split_sound (logs_begin first opening words writer may.is_new may.first_words
             may.first_writer) (length lines) may.passes;
         lines = λ j b is.
             let found = got_image first_backend lines j b is in

@@ -1,9 +1,11 @@
 -- At the places of a flush but for the calls of the device: the step that the order names may be
 -- made, and the view behind it stands at the next place.
-use Rattle.std.proofs.Common.{◌≡◌, inl, inr, ⊎_elim, ℕ, suc, ◌+◌, ◌*◌, ◌/◌, ◌<◌, Bool, true, false, cond, eqb, eqb-true, List, [], ◌∷◌, slice_index, refl, sym, ap, ◌∙◌, subst, arith}
+use Rattle.std.proofs.Common.{◌≡◌, inl, inr, ⊎_elim, ℕ, suc, ◌+◌, ◌*◌, ◌/◌, ◌%◌, ◌<◌, Bool, true, false, cond, eqb, eqb-true, List, [], ◌∷◌, slice_index, refl, sym, ap, ◌∙◌, subst, arith}
 use Rattle.std.proofs.Math.Dec.{ltb, leb}
 use Rattle.std.proofs.lemmas.Bool.{ltb-true, eqb-false}
 use mathlib.Core.Option.{Option, none, some}
+use Rattle.byte_position.specs.Geometry.{IsSegmentSize}
+use Rattle.byte_position.proofs.Words.{end_address_of-mod_word}
 use Rattle.wal_core.specs.Words.{Opening, end_form}
 use Rattle.wal_core.specs.Views.{Free, Flight, Landed, Copying, Away, Plain, Lent, Hold, Idle, Turned as HasTurned, Out, View, Working}
 use Rattle.wal_core.specs.Moves.{with_hold, after_set_down, hardened, lent, is_done}
@@ -99,14 +101,18 @@ module _ (m : Machine) (ask : Ask) where
       (tt, inl (resting_posed _ (at_rest_on v _ stands (refl, refl, refl, refl) refl)))
 
   pub visits_goes : (purpose : Purpose) (lock : ℕ) (v : View)
+      → IsSegmentSize ((v.opening).setup).segment_size → (v.reserving).seen % 8 ≡ 0
       → StandsToDo v (Visits purpose lock) ask → Goes m ask (Visits purpose lock) v
-  visits_goes purpose lock v stands =
+  visits_goes purpose lock v valid whole stands =
       let e = load_lock lock
       (end_form (v.opening).setup (v.reserving).seen) in
       let w = view_behind v e (slice_index words (2 + lock)) (m.state).home in
       let still = writes_on purpose ask Idle Idle v w stands.0 (refl, refl, refl, refl)
       (hold_of purpose ask Idle v stands.0) in (
-        stands.1,
+        (
+          stands.1,
+          end_address_of-mod_word ((v.opening).setup).segment_size valid (v.reserving).seen whole,
+        ),
         bool_cases
             (λ (b : Bool). StandsNext (cond b (goes_on (TakesTurn purpose))
             (goes_on (Visits purpose (lock + 1)))) ask w)

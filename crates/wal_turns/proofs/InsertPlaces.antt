@@ -93,7 +93,7 @@ module _ (m : Machine) (ask : Ask) where
             (sym free) ((Free, is_posed Free (lock ∷ []) Landed Away Idle v, tt), insert),
       ))
       (λ taken. (
-        low,
+        (low, refl),
         subst (λ (c : Bool). StandsNext
             (cond c (goes_on (Reserves lock))
             (cond (eqb (n + 1) 8) (goes_on Begins)

@@ -4,6 +4,8 @@ use Rattle.std.proofs.Common.{◌≡◌, inl, ℕ, ◌+◌, ◌-◌, ◌*◌, �
 use Rattle.std.proofs.Math.Dec.{ltb, leb}
 use Rattle.std.proofs.lemmas.Bool.{leb-false, ltb-true}
 use mathlib.Core.Option.{Option, none, some}
+use Rattle.byte_position.specs.Geometry.{IsSegmentSize}
+use Rattle.byte_position.proofs.Words.{end_address_of-mod_word}
 use Rattle.wal_core.specs.Views.{Free, Copy, Flight, Landed, Copying, Stage, Away, Taken, Looked, Ready, Zeroing, Published, Idle, View, is_among}
 use Rattle.wal_core.specs.Moves.{landed, standing, without_lock}
 use Rattle.wal_core.specs.Paged.{IsOpen}
@@ -148,8 +150,9 @@ module _ (m : Machine) (ask : Ask) where
     gives_turn_at s (some end) may =
         (may, ((c, is_posed Free (lock ∷ []) (Copying c) Away Idle v, under, left), insert))
 
-    tells_at : (end : ℕ) → Goes m ask (Tells lock end) (at_map lock c Away v)
-    tells_at end = (
+    tells_at : IsSegmentSize ((v.opening).setup).segment_size → (end : ℕ)
+        → Goes m ask (Tells lock end) (at_map lock c Away v)
+    tells_at valid end = (
       (
         (0, omega arith, refl),
         (
@@ -159,6 +162,11 @@ module _ (m : Machine) (ask : Ask) where
             subst
                 (λ (ls : List ℕ). Contains ls lock) (sym under.locks_are) (0, omega arith, refl),
             omega arith,
+            omega (
+              arith,
+              end_address_of-mod_word ((v.opening).setup).segment_size valid (c.entry).start
+                  under.whole,
+            ),
           ),
         ),
       ),
@@ -187,12 +195,12 @@ module _ (m : Machine) (ask : Ask) where
       of_posed (Goes m ask (GivesTurn lock end)) Free (lock ∷ []) (Copying c) s Idle v copies.1
       (gives_turn_at lock c v copies.2 copies.3 stands.1 s end stands.0.2)
 
-  pub tells_goes : (lock end : ℕ) (v : View) → StandsToDo v (Tells lock end) ask
-      → Goes m ask (Tells lock end) v
-  tells_goes lock end v stands =
+  pub tells_goes : (lock end : ℕ) (v : View) → IsSegmentSize ((v.opening).setup).segment_size
+      → StandsToDo v (Tells lock end) ask → Goes m ask (Tells lock end) v
+  tells_goes lock end v valid stands =
       let c = stands.0.0 in
       of_posed (Goes m ask (Tells lock end)) Free (lock ∷ []) (Copying c) Away Idle v stands.0.1
-      (tells_at lock c v stands.0.2 stands.0.3 stands.1 end)
+      (tells_at lock c v stands.0.2 stands.0.3 stands.1 valid end)
 
   -- ---- the release
 

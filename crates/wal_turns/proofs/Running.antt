@@ -11,7 +11,7 @@ use Rattle.wal_core.proofs.WordLists.{word_again}
 use Rattle.machine_laws.proofs.EveryStep.{step_keeps}
 use Rattle.wal_core.specs.Moves.{is_done}
 use Rattle.wal_turns.specs.Doing.{Ask, Inserts, Commits, Flushes, Doing, Backend, Machine}
-use Rattle.wal_turns.specs.Turned.{Turn, Waits, Next, goes_on, answers, can_step, looks_down, event_named, next_of, outcome, with_answer, with_next, tells_full, line_start, state_stepped, moved_on, fallen, word_waited, turned_by}
+use Rattle.wal_turns.specs.Turned.{TurnMade, Waits, Next, goes_on, answers, can_step, looks_down, event_named, next_of, outcome, with_answer, with_next, tells_full, line_start, state_stepped, moved_on, fallen, word_waited, turned_by}
 use Rattle.wal_turns.specs.Standing.{IsRunning, HasBackend, HasLeft, IsLine, IsTurnTold, MayBegin, StandsToDo, StandsFor, UpFor}
 use Rattle.wal_turns.proofs.Poses.{StandsNext, bool_cases}
 use Rattle.wal_turns.proofs.FlushPlaces.{hold_of}
@@ -71,7 +71,7 @@ next_up_for b (answers full) d up = up_start (slice_get b.asks (b.answered + 1))
 
 -- ---- a turn
 
-abbrev pub Good : Machine → ℕ → Turn × Machine → Type 0
+abbrev pub Good : Machine → ℕ → TurnMade × Machine → Type 0
 Good m number x = IsTurnTold m number x.0 x.1 × IsRunning x.1
 
 module _ (m : Machine) (run : IsRunning m) (number : ℕ) (b : Backend) (here : HasBackend m number b)
@@ -136,7 +136,7 @@ module _ (m : Machine) (run : IsRunning m) (number : ℕ) (b : Backend) (here : 
       → StandsFor c (behind e) → HomeBy m run number v live ask e
       → UpFor c.doing (down_word (later e).words) → IsRunning (with_backend e c full)
   runs_on e may c full lines mine at_home up = record {
-    sound = step_keeps m.opening m.state (later e) run.sound
+    sound = step_keeps m.first m.opening m.state (later e) run.sound
         (Moves id e (slice_index words (word_of_step v e)) (makes e may));
     lines = λ j d is. ⊎_elim
         (λ (h : (j ≡ number) × (c ≡ d)). subst (λ (x : Backend). All IsLine x.asks) h.1 lines)
@@ -230,7 +230,7 @@ module _ (m : Machine) (run : IsRunning m) (number : ℕ) (b : Backend) (here : 
       let down = down_word words in
       let can = can_step m v ask b.doing in
       let looks = looks_down m v ask b.doing in
-      let waits : Turn × Machine = (
+      let waits : TurnMade × Machine = (
         Waits (word_waited m v ask b.doing)
             (slice_index words (word_waited m v ask b.doing)),
         m,

@@ -4,11 +4,11 @@ use Rattle.std.specs.Prelude.{Option}
 use mathlib.Core.Option.{some-ne-none, none, some}
 use lib.ListN.{get_elem?}
 use Rattle.wal_core.specs.Views.{View}
-use Rattle.wal_core.specs.Steps.{IsLive, State, Step, Moves, load_down}
+use Rattle.wal_core.specs.Steps.{IsLive, State, MachineStep, Moves, load_down}
 use Rattle.wal_core.proofs.Lists.{at_same}
 use Rattle.machine_laws.specs.Runs.{Runs}
 use Rattle.wal_turns.specs.Doing.{Ask, Backend, Machine}
-use Rattle.wal_turns.specs.Turned.{Turn, Moved, Waits, AllDone, IsDown, turned, turned_for, turned_of, machine_behind}
+use Rattle.wal_turns.specs.Turned.{TurnMade, Moved, Waits, AllDone, IsDown, turned, turned_for, turned_of, machine_behind}
 use Rattle.wal_turns.specs.Standing.{HasLeft, IsTurnTold, HasBackend, IsRunning, RunsOn, StandsFor}
 use Rattle.wal_turns.proofs.Running.{Good, turn_good}
 
@@ -49,12 +49,12 @@ module _ (m : Machine) (run : IsRunning m) (number : ℕ) where
       refl refl
 
 -- a step before a run
-earlier : (n : ℕ) (s u t : State) → Step s u → Runs n u t → Runs (suc n) s t
-earlier zero s u t step same = (s, refl, subst (Step s) same step)
+earlier : (n : ℕ) (s u t : State) → MachineStep s u → Runs n u t → Runs (suc n) s t
+earlier zero s u t step same = (s, refl, subst (MachineStep s) same step)
 earlier (suc n) s u t step run = (run.0, earlier n s u run.0 step run.1, run.2)
 
-step_or_same : (m : Machine) (number : ℕ) (t : Turn) (n : Machine) → IsTurnTold m number t n
-    → (n.state ≡ m.state) ⊎ Step m.state n.state
+step_or_same : (m : Machine) (number : ℕ) (t : TurnMade) (n : Machine) → IsTurnTold m number t n
+    → (n.state ≡ m.state) ⊎ MachineStep m.state n.state
 step_or_same m number (Moved e) n told = inr (Moves (number + 1) e told.0 told.1)
 step_or_same m number (Waits on value) n told = inl (ap (λ (x : Machine). x.state) told.0)
 step_or_same m number AllDone n told = inl (ap (λ (x : Machine). x.state) told.0)
@@ -76,7 +76,7 @@ schedule_good (number ∷ schedule) m run =
             omega (arith, within),
             subst (λ (s : State). Runs behind.0 s last) same behind.2,
           ))
-          (λ (step : Step m.state n.state). (
+          (λ (step : MachineStep m.state n.state). (
             suc behind.0,
             omega (arith, within),
             earlier behind.0 m.state n.state last step behind.2,

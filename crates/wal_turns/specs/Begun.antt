@@ -2,6 +2,7 @@
 -- backend, and each backend is at its first line.
 use Rattle.std.specs.Prelude.{ℕ, zero, suc, ◌<◌, false, All, List, [], ◌∷◌, ◌++◌, length, map, slice_get}
 use mathlib.Core.Option.{some}
+use Rattle.segment_disk.specs.Tape.{DiskState}
 use Rattle.wal_core.specs.Words.{Opening}
 use Rattle.wal_core.specs.Views.{Plain, View}
 use Rattle.wal_core.specs.Moves.{after_split, split_off}
@@ -28,9 +29,10 @@ first_backend asks = record {
   doing = line_start (slice_get asks 0);
 }
 
--- a machine with these lines, one list for each backend
-abbrev pub first_machine : Opening → List ℕ → Plain → List ℕ → List (List Ask) → Machine
-first_machine opening words writer failing lines = record {
+-- a machine with these lines, one list for each backend, on a disk that held this at first
+abbrev pub first_machine : DiskState → Opening → List ℕ → Plain → List ℕ → List (List Ask) → Machine
+first_machine first opening words writer failing lines = record {
+  first = first;
   opening = opening;
   state = record {
     words = words;

@@ -7,6 +7,7 @@
 use Rattle.std.specs.Prelude.{ℕ, Bool, List}
 use mathlib.Core.Option.{Option}
 use Rattle.wal_types.specs.declared.record.Record.{Record}
+use Rattle.segment_disk.specs.Tape.{DiskState}
 use Rattle.wal_core.specs.Words.{Opening}
 use Rattle.wal_core.specs.Steps.{State}
 
@@ -68,9 +69,11 @@ pub record Backend : Type 0 where
   pub answered : ℕ
   pub doing : Doing
 
--- the machine with its backends, of which number b steps with view b + 1: the counted calls that
--- fail, by their numbers from 1, and whether a line was answered that the log is full
+-- the machine with its backends, of which number b steps with view b + 1: what its disk held at
+-- first, the counted calls that fail, by their numbers from 1, and whether a line was answered that
+-- the log is full
 pub record Machine : Type 0 where
+  pub first : DiskState
   pub opening : Opening
   pub state : State
   pub failing : List ℕ

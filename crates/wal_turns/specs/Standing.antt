@@ -15,7 +15,7 @@ use Rattle.wal_core.specs.Steps.{IsLive, IsResting, Makes, load_down}
 use Rattle.wal_core.specs.Sound.{IsSound}
 use Rattle.wal_turns.specs.Doing.{Ask, Inserts, Commits, Flushes, Purpose, ForLine, ForPage, Doing, Begins, Tries, Reserves, Looks, Copies, Maps, GivesTurn, Tells, Releases, FlushBegins, LoadsPosition, LoadsFlushed, LoadsMoment, Visits, TakesTurn, LoadsDown, TakesOut, LoadsPage, Creates, Writes, SyncsFull, SyncsLast, StoresWritten, StoresMoment, StoresFlushed, SetsDown, PutsBack, GivesWriteTurn, Backend, Machine}
 use Rattle.machine_laws.specs.Runs.{Runs}
-use Rattle.wal_turns.specs.Turned.{Turn, Moved, Waits, AllDone, IsDown, fits, machine_behind}
+use Rattle.wal_turns.specs.Turned.{TurnMade, Moved, Waits, AllDone, IsDown, fits, machine_behind}
 
 -- ---- what a line asks for
 
@@ -223,7 +223,7 @@ HasBackend m number b = slice_get m.backends number ≡ Some b
 -- b + 1, is live and stands at its place. The writer at home, unless a call failed, awaits a sync
 -- of one segment at most, and who is to take it out has met no failed disk
 pub record IsRunning (m : Machine) : Type 0 where
-  pub sound : IsSound m.opening (m.state).words (m.state).home (m.state).views
+  pub sound : IsSound m.first m.opening (m.state).words (m.state).home (m.state).views
   pub lines : (number : ℕ) (b : Backend) → HasBackend m number b → All IsLine b.asks
   pub views : (number : ℕ) (b : Backend) → HasBackend m number b
       → (v : View) × IsLive m.state (number + 1) v × StandsFor b v
@@ -235,7 +235,7 @@ pub record IsRunning (m : Machine) : Type 0 where
 -- what a turn of a backend tells is so: its view made a step of this kind; it waits for this word,
 -- which holds this value, and no disk has failed; all its lines are answered; or the disk has
 -- failed, as the load of the down word shows. A backend that waits or is done changes nothing
-abbrev pub IsTurnTold : Machine → ℕ → Turn → Machine → Type 0
+abbrev pub IsTurnTold : Machine → ℕ → TurnMade → Machine → Type 0
 IsTurnTold m number (Moved e) n = (met : ℕ) × Makes (number + 1) e met m.state n.state
 IsTurnTold m number (Waits on value) n =
     (n ≡ m) × (value ≡ slice_index (m.state).words on) × (down_word (m.state).words ≡ 0)

@@ -21,11 +21,11 @@ use Rattle.wal_turns.specs.Doing.{Ask, Inserts, Commits, Flushes, Purpose, ForLi
 
 -- what a turn tells: the step that was made; the word that holds it up, with its value; that all
 -- lines are answered; that the disk has failed
-pub data Turn : Type 0 where
-  Moved : StepKind → Turn
-  Waits : (on value : ℕ) → Turn
-  AllDone : Turn
-  IsDown : (faults : ℕ) → Turn
+pub data TurnMade : Type 0 where
+  Moved : StepKind → TurnMade
+  Waits : (on value : ℕ) → TurnMade
+  AllDone : TurnMade
+  IsDown : (faults : ℕ) → TurnMade
 
 -- ---- what a backend's view says of its next step
 
@@ -367,7 +367,7 @@ state_stepped id v e s =
 
 module _ (m : Machine) (number : ℕ) (b : Backend) (v : View) (ask : Ask) where
   -- the step is made, and what comes behind it
-  abbrev pub moved_on : StepKind → Turn × Machine
+  abbrev pub moved_on : StepKind → TurnMade × Machine
   moved_on e =
       let met = slice_index (m.state).words (word_of_step v e) in
       let next = next_of v (view_behind v e met (m.state).home) ask met
@@ -382,7 +382,7 @@ module _ (m : Machine) (number : ℕ) (b : Backend) (v : View) (ask : Ask) where
 
   -- the down word says that the disk has failed: the line is answered by it. A lock, an entry and
   -- the turn to write that the backend has stay with it, since from then on every line ends so
-  abbrev pub fallen : Turn × Machine
+  abbrev pub fallen : TurnMade × Machine
   fallen = (
     IsDown (down_word (m.state).words),
     record m {
@@ -391,7 +391,7 @@ module _ (m : Machine) (number : ℕ) (b : Backend) (v : View) (ask : Ask) where
     },
   )
 
-  abbrev pub turned_by : Turn × Machine
+  abbrev pub turned_by : TurnMade × Machine
   turned_by =
       let down = down_word (m.state).words in
       let can = can_step m v ask b.doing in
@@ -404,16 +404,16 @@ module _ (m : Machine) (number : ℕ) (b : Backend) (v : View) (ask : Ask) where
       ))
 
 module _ (m : Machine) (number : ℕ) where
-  abbrev pub turned_for : Backend → View → Option Ask → Turn × Machine
+  abbrev pub turned_for : Backend → View → Option Ask → TurnMade × Machine
   turned_for b v None = (AllDone, m)
   turned_for b v (Some ask) = turned_by m number b v ask
 
-  abbrev pub turned_of : Option Backend → mathlib.Core.Option.Option View → Turn × Machine
+  abbrev pub turned_of : Option Backend → mathlib.Core.Option.Option View → TurnMade × Machine
   turned_of None view = (AllDone, m)
   turned_of (Some b) none = (AllDone, m)
   turned_of (Some b) (some v) = turned_for b v (slice_get b.asks b.answered)
 
-abbrev pub turned : Machine → ℕ → Turn × Machine
+abbrev pub turned : Machine → ℕ → TurnMade × Machine
 turned m number =
     turned_of m number (slice_get m.backends number) (get_elem? (m.state).views (number + 1))
 

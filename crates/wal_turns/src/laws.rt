@@ -1,6 +1,7 @@
 //! Laws of turns, each proved by a function that does nothing.
 
 ghost use Rattle.std.specs.Prelude.{List, ℕ};
+ghost use Rattle.segment_disk.specs.Tape.{DiskState};
 ghost use Rattle.wal_core.specs.Views.{Plain};
 ghost use Rattle.wal_core.specs.Words.{Opening};
 ghost use Rattle.wal_turns.specs.Begun.{MayBeginRunning, first_machine};
@@ -12,9 +13,10 @@ ghost use Rattle.wal_turns.specs.Turned.{machine_behind, turned};
 /// whatever records that can be written its lines ask for, and whichever calls of the device are to
 /// fail.
 pub fn machines_begin_running()
-    ensures { (opening : Opening) (words : List ℕ) (writer : Plain) (failing : List ℕ)
+    ensures { (first : DiskState) (opening : Opening) (words : List ℕ) (writer : Plain)
+        (failing : List ℕ)
         (lines : List (List Ask)) → MayBeginRunning opening words writer lines
-        → IsRunning (first_machine opening words writer failing lines) }
+        → IsRunning (first_machine first opening words writer failing lines) }
 {}
 
 /// In a machine that runs the step that the order names for a backend may be made, so each turn is

@@ -12,4 +12,6 @@ pub use answers::{Cause, Hard, Receipt, Refused, Sealed};
 pub use bytes::Bytes;
 pub use hexadecimal::upper_hexadecimal;
 pub use lsn::{Lsn, LsnText};
-pub use record::{Block, BlockList, Image, Record, Rel, Xid};
+pub use record::{
+    Block, BlockList, Image, MAX_BLOCK_NUMBER, Record, Rel, TRANSACTION_MANAGER, Xid,
+};

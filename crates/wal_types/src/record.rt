@@ -75,6 +75,12 @@ impl BlockList {
     }
 }
 
+/// The resource manager of transactions (PostgreSQL's rmgrlist.h).
+pub const TRANSACTION_MANAGER: u8 = 1;
+
+/// The largest number of a relation's block (PostgreSQL's MaxBlockNumber of block.h).
+pub const MAX_BLOCK_NUMBER: u32 = 0xFFFF_FFFE;
+
 /// A record of the log: its header's own fields and what it carries (PostgreSQL's xlogrecord.h).
 #[derive(Debug, Drop)]
 pub struct Record {

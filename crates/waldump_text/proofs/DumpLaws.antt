@@ -8,7 +8,8 @@ use Rattle.segment_disk.specs.Tape.{Tape, state_now}
 use Rattle.wal_types.specs.declared.lsn.Lsn.{Lsn}
 use Rattle.wal_reader.specs.Cache.{log_of}
 use Rattle.wal_reader.specs.PageCursor.{IsLogOf}
-use Rattle.wal_reader.specs.LogReader.{ReaderState, GivesRecords, IsNext, Knows, reader_state}
+use Rattle.wal_reader.specs.LogReader.{ReaderState, GivesRecords, Knows, reader_state}
+use Rattle.wal_reader.specs.StepIn.{IsStepIn}
 use Rattle.wal_reader.specs.Pages.{Pages}
 use Rattle.wal_reader.specs.declared.found.Answer.{Answer}
 use Rattle.wal_reader.specs.declared.found.Answer.TheVariants as answers
@@ -40,7 +41,7 @@ unread size by = record { size = size; start = by.start.0; end = option_map (λ 
 
 -- a step of a reader of a disk's log
 abbrev pub Steps : Option Tape → Reader → Reader → Result Step ReadErr → Type 0
-Steps tape old new result = (pages : Pages) → IsLogOf tape (reader_state old).size pages → Knows old pages → Knows new pages × IsNext pages (reader_state old) (reader_state new) result
+Steps tape old new result = (pages : Pages) → IsLogOf tape (reader_state old).size pages → Knows old pages → IsStepIn pages old new result
 
 -- the log of a disk that tells is listed as far as the reader has come, so many records
 abbrev pub ListsLog : Option Tape → ℕ → Filter → Reader → Option (List ℕ) → Option (List ℕ) → ℕ → Type 0
@@ -60,7 +61,7 @@ module _ (size : ℕ) (by : Filter) (valid : IsSegmentSize size) (old : Option (
 
   module _ (reader : Reader) (sized : (reader_state reader).size ≡ size) (mid : Option (List ℕ)) (count : ℕ) where
     -- a step of it, of the log
-    step_of : (t : Tape) (next : Reader) (result : Result Step ReadErr) → Steps (Some t) reader next result → Knows reader (log_of t size) → Knows next (log_of t size) × IsNext (log_of t size) (reader_state reader) (reader_state next) result
+    step_of : (t : Tape) (next : Reader) (result : Result Step ReadErr) → Steps (Some t) reader next result → Knows reader (log_of t size) → IsStepIn (log_of t size) reader next result
     step_of t next result steps knows = steps (log_of t size) (ap (log_of t) (sym sized)) knows
 
     -- what it gives still
@@ -75,7 +76,7 @@ module _ (size : ℕ) (by : Filter) (valid : IsSegmentSize size) (old : Option (
     ListsLog-more None next f kept kept_is new lists steps taken = tt
     ListsLog-more (Some t) next f kept kept_is new lists steps taken =
         let step = step_of t next (Ok (given_as f)) steps lists.0 in
-        (step.0, IsUnderway-more by (log_of t size) (unread size by) old (reader_state reader) mid count lists.1 (reader_state next) f step.1 kept kept_is new taken)
+        (step.knows, IsUnderway-more by (log_of t size) (unread size by) old (reader_state reader) mid count lists.1 (reader_state next) f step.next kept kept_is new taken)
 
     module _ (within : IsWithin by.limit count) where
       put_front : (t : Tape) → ListsLog (Some t) size by reader old mid count → ListsFront size by t old mid
@@ -87,7 +88,7 @@ module _ (size : ℕ) (by : Filter) (valid : IsSegmentSize size) (old : Option (
       pub dump_ended : (tape : Option Tape) (next : Reader) (at : Lsn) → ListsLog tape size by reader old mid count → Steps tape reader next (Ok (End at)) → IfSome tape (IsDump size by old mid (Ok count))
       dump_ended None next at lists steps = tt
       dump_ended (Some t) next at lists steps =
-          let all = listed_all by (log_of t size) (unread size by) old (reader_state reader) mid count lists.1 within (answers.End at) (step_of t next (Ok (End at)) steps lists.0).1 in
+          let all = listed_all by (log_of t size) (unread size by) old (reader_state reader) mid count lists.1 within (answers.End at) (step_of t next (Ok (End at)) steps lists.0).next in
           record { found = lists.1.given; answer = answers.End at; puts = record { decodes = all.0; put = all.1 }; ends = inl tt; count_is = all.2 }
 
       -- once the limit is listed nothing more is read
@@ -111,7 +112,7 @@ module _ (size : ℕ) (by : Filter) (valid : IsSegmentSize size) (old : Option (
       dump_failed (Some t) next (Disk faults) lists steps unreached = put_front t lists
       dump_failed (Some t) next (Stopped stop) lists steps unreached =
           let pages = log_of t size in
-          let all = listed_all by pages (unread size by) old (reader_state reader) mid count lists.1 within (answers.Stopped stop) (step_of t next (Err (Stopped stop)) steps lists.0).1 in
+          let all = listed_all by pages (unread size by) old (reader_state reader) mid count lists.1 within (answers.Stopped stop) (step_of t next (Err (Stopped stop)) steps lists.0).next in
           record { found = lists.1.given; puts = record { decodes = all.0; put = all.1 }; below_limit = limit_unlisted by pages (unread size by) old (reader_state reader) mid count lists.1 unreached }
 
   -- the sink fails at a record's line
@@ -120,7 +121,7 @@ module _ (size : ℕ) (by : Filter) (valid : IsSegmentSize size) (old : Option (
   dump_cut reader next sized next_sized mid new count None f kept kept_is fault lists steps within front = tt
   dump_cut reader next sized next_sized mid new count (Some t) f kept kept_is fault lists steps within front =
       let underway = lists.1 in
-      let is = (step_of reader sized mid count t next (Ok (given_as f)) steps lists.0).1 in
+      let is = (step_of reader sized mid count t next (Ok (given_as f)) steps lists.0).next in
       let left = still next next_sized new count t in
       let decodes = underway.whole (f ∷ left.0) left.1 (is left.0 left.1 left.2) in
       front_of t new (underway.given ++ f ∷ left.0) left.1 decodes (listed_front_of_next by (log_of t size) (unread size by) old (reader_state reader) mid count underway (reader_state next) f is kept kept_is new within left.0 front)

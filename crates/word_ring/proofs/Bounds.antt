@@ -1,5 +1,7 @@
 -- The initialised end and the written address that a mapper loads are far below the last address.
 use Rattle.std.proofs.Common.{◌≡◌, ℕ, ◌^◌, ◌<◌, sym, ◌∙◌, subst, arith}
+use Rattle.std.proofs.Math.Logic.{∥∥₁_elim}
+use Rattle.std.specs.Coded.{le_prop, ×_prop}
 use Rattle.atomic_table.proofs.Lists.{at_map}
 use Rattle.byte_position.specs.Position.{end_address_of}
 use Rattle.byte_position.proofs.EndAddresses.{end_address_of-le_address_of}
@@ -10,16 +12,15 @@ use Rattle.wal_core.specs.Words.{Opening, initialised_word, word_of_ring, writte
 use Rattle.wal_core.specs.Locked.{HasTurn}
 use Rattle.wal_core.specs.Paged.{AtStage}
 use Rattle.wal_core.specs.Sound.{IsSound}
-use Rattle.wal_core.specs.Views.{Ready, Stage, mapper_of}
-use Rattle.wal_rule.specs.Seats.{SeatView, view_on}
+use Rattle.wal_core.specs.Views.{Ready, Stage, mapper_of, View}
 use Rattle.wal_rule.specs.Stepping.{Stands}
 
-module _ (v : SeatView) (at written : ℕ) (stands : Stands v)
+module _ (v : View) (at written : ℕ) (stands : Stands v)
     (ready : (v.mapping).stage ≡ Ready at written) where
   abbrev opening : Opening
   opening = v.opening
 
-  abbrev sound : IsSound opening stands.words stands.home stands.views
+  abbrev sound : IsSound stands.first opening stands.words stands.home stands.views
   sound = stands.sound
 
   abbrev end : ℕ
@@ -44,7 +45,7 @@ module _ (v : SeatView) (at written : ℕ) (stands : Stands v)
   stage_is =
       let m : ℕ × Stage = ((v.reserving).number, (v.mapping).stage) in
       let own = ((sound.locks).mapping).each stands.id m
-      (at_map mapper_of stands.views stands.id (view_on stands.first v) stands.here)
+      (at_map mapper_of stands.views stands.id v stands.here)
       (subst HasTurn (sym ready) tt) in
       own.1 ∙ ready
 
@@ -62,8 +63,8 @@ module _ (v : SeatView) (at written : ℕ) (stands : Stands v)
       let reserved = (sound.positions).reserved in
       omega (arith, low, below, reserved)
 
-  pub ready_low : (at < 2 ^ 60) × (written < 2 ^ 60)
-  ready_low =
+  lows : (at < 2 ^ 60) × (written < 2 ^ 60)
+  lows =
       let low = written_low in
       let stage = at_stage in
       let given_up = (sound.pages).given_up in
@@ -71,3 +72,8 @@ module _ (v : SeatView) (at written : ℕ) (stands : Stands v)
         omega (arith, low, stage.0.0, stage.0.1, stage.1, given_up, few),
         omega (arith, low, stage.2),
       )
+
+pub ready_low : (v : View) (at written : ℕ) → ∥ Stands v ∥₁ → (v.mapping).stage ≡ Ready at written
+    → (at < 2 ^ 60) × (written < 2 ^ 60)
+ready_low v at written stands ready = ∥∥₁_elim stands (×_prop le_prop le_prop)
+    (λ (s : Stands v). lows v at written s ready)

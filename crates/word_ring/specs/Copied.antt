@@ -1,12 +1,11 @@
 -- Words of a record are copied to a page: what a pass's view is behind so many of them.
-use Rattle.std.specs.Prelude.{◌≡◌, ℕ, ◌+◌, ◌*◌, ◌/◌}
+use Rattle.std.specs.Prelude.{◌≡◌, ℕ, ◌+◌, ◌*◌, ◌/◌, ◌<◌}
 use Rattle.record_spelling.specs.Spelling.{assembled}
 use Rattle.wal_page.specs.EntryWords.{address_of_word}
 use Rattle.wal_page.specs.Placed.{PlacedState, placed_end}
 use Rattle.wal_core.specs.declared.setup.Setup.{Setup}
 use Rattle.wal_core.specs.Steps.{ring_number, ring_place}
-use Rattle.wal_core.specs.Views.{Copy, Copying, Flight, Landed}
-use Rattle.wal_rule.specs.Seats.{SeatView}
+use Rattle.wal_core.specs.Views.{Copy, Copying, Flight, Landed, View}
 use Rattle.word_ring.specs.declared.copying.Copied.{Copied}
 use Rattle.word_ring.specs.declared.copying.Copied.TheVariants.{Whole, PageEnd}
 
@@ -15,7 +14,7 @@ abbrev pub further : ℕ → Flight → Flight
 further count Landed = Landed
 further count (Copying c) = Copying (record c { copied = c.copied + count })
 
-abbrev pub copied_view : ℕ → SeatView → SeatView
+abbrev pub copied_view : ℕ → View → View
 copied_view count v =
     record v { working = record v.working { flight = further count (v.working).flight } }
 
@@ -31,7 +30,7 @@ rest_of setup c = record {
 }
 
 -- a pass copies an entry, of which this record at its place gives the words that are left
-abbrev pub IsRestOf : Setup → SeatView → PlacedState → Type 0
+abbrev pub IsRestOf : Setup → View → PlacedState → Type 0
 IsRestOf setup v placed =
     (c : Copy) × ((v.working).flight ≡ Copying c) × (placed ≡ rest_of setup c)
 
@@ -43,13 +42,13 @@ IsPlaceOf setup address place = place ≡ ring_number setup (ring_place setup (a
 abbrev pub page_end_at : ℕ → ℕ
 page_end_at address = (address / 8192 + 1) * 8192
 
--- a copy stops where the record ends, or its page
+-- a copy stops where the record ends, or before that where its page ends
 abbrev pub StopsAt : (old new : PlacedState) → Copied → Type 0
 StopsAt old new Whole = new.next ≡ placed_end old
-StopsAt old new PageEnd = new.next ≡ page_end_at old.next
+StopsAt old new PageEnd = (new.next ≡ page_end_at old.next) × (new.next < placed_end old)
 
 -- so many words were copied to a page, and the record at its place gives those behind them
-pub record CopiesPage (old new : SeatView) (placed_old placed_new : PlacedState) (stop : Copied)
+pub record CopiesPage (old new : View) (placed_old placed_new : PlacedState) (stop : Copied)
     : Type 0 where
   pub count : ℕ
   pub view_is : new ≡ copied_view count old

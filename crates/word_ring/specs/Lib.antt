@@ -1,3 +1,4 @@
 pub mod Ring
 pub mod Mapped
 pub mod Copied
+pub mod CopyRuns

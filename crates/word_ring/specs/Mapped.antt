@@ -1,9 +1,8 @@
 -- A try to map the next page: what it leaves of its pass's view, and when it maps none.
 use Rattle.std.specs.Prelude.{◌≡◌, ◌≢◌, ℕ, ◌+◌, ◌*◌, ◌<◌, ◌≤◌}
 use Rattle.wal_core.specs.declared.setup.Setup.{Setup}
-use Rattle.wal_core.specs.Views.{Stage}
+use Rattle.wal_core.specs.Views.{Stage, View}
 use Rattle.wal_core.specs.Steps.{take_mapping_turn}
-use Rattle.wal_rule.specs.Seats.{SeatView}
 use Rattle.wal_rule.specs.Stepping.{Meets}
 use Rattle.word_ring.specs.Ring.{confirmed_view, end_of_page}
 use Rattle.word_ring.specs.declared.mapping.MapTry.{MapTry}
@@ -12,15 +11,15 @@ use Rattle.word_ring.specs.declared.mapping.MapTry.TheVariants.{Mapped, There, T
 -- ---- a pass's view behind steps: all that is not named is as it was
 
 -- it is so far with mapping a page
-abbrev pub staged_view : Stage → SeatView → SeatView
+abbrev pub staged_view : Stage → View → View
 staged_view stage v = record v { mapping = record v.mapping { stage = stage } }
 
 -- it loaded this address as written
-abbrev pub written_view : ℕ → SeatView → SeatView
-written_view written v = record v { written = written }
+abbrev pub written_view : ℕ → View → View
+written_view written v = record v { writing = record v.writing { written = written } }
 
 -- it loaded the initialised end `at` and the written address
-abbrev pub looked_view : (at written : ℕ) → SeatView → SeatView
+abbrev pub looked_view : (at written : ℕ) → View → View
 looked_view at written v = written_view written (confirmed_view at v)
 
 -- ---- a try
@@ -32,7 +31,7 @@ IsOldPageUnwritten setup at written = written + setup.ring_pages * 8192 < at + 8
 -- what a try tells, and what it leaves of the view, which is not mapping: somebody else had the
 -- turn, whose word was met; or it had the turn, and met the initialised end `at` and the written
 -- address
-abbrev pub TriesMapping : Setup → (page : ℕ) → (old new : SeatView) → MapTry → Type 0
+abbrev pub TriesMapping : Setup → (page : ℕ) → (old new : View) → MapTry → Type 0
 TriesMapping setup page old new (Taken turn) = (turn ≢ 0) × (new ≡ old)
     × Meets old take_mapping_turn turn
 TriesMapping setup page old new There = (at written : ℕ) × (end_of_page page ≤ at)

@@ -1,6 +1,6 @@
 -- Whether a page is in its buffer, and what a pass's view is that met a page's end.
 use Rattle.std.specs.Prelude.{◌≡◌, ◌≢◌, ℕ, ◌+◌, ◌*◌, max}
-use Rattle.wal_rule.specs.Seats.{SeatView}
+use Rattle.wal_core.specs.Views.{View}
 use Rattle.word_ring.specs.declared.confirming.Presence.{Presence}
 use Rattle.word_ring.specs.declared.confirming.Presence.TheVariants.{Present, Other}
 
@@ -9,7 +9,7 @@ abbrev pub end_of_page : ℕ → ℕ
 end_of_page page = (page + 1) * 8192
 
 -- it met this end of a page; all else is as it was
-abbrev pub confirmed_view : ℕ → SeatView → SeatView
+abbrev pub confirmed_view : ℕ → View → View
 confirmed_view end v =
     record v { mapping = record v.mapping { confirmed = max (v.mapping).confirmed end } }
 

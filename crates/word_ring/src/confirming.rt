@@ -3,16 +3,15 @@
 // need hold no lock or turn. If it meets the page's own end, its view keeps that, and the pass may
 // store there the words that its record owns on the page, without a further look: while one of them
 // is to be copied, the log is not written up to the page's end, so the page is not replaced.
-ghost use Rattle.std.specs.Prelude.{◌≡◌, ℕ, ◌%◌, ◌<◌, ◌^◌};
+ghost use Rattle.std.specs.Prelude.{ℕ, ◌%◌, ◌<◌, ◌^◌};
 ghost use Rattle.wal_core.specs.Steps.{load_buffer_end};
+ghost use Rattle.wal_rule.specs.SeatedPasses.{HasView, setup_of, view_of};
 ghost use Rattle.wal_rule.specs.Stepping.{Meets};
-ghost use Rattle.wal_rule.specs.Tables.{IsSeatOn, opening_of_table};
 ghost use Rattle.word_ring.specs.Ring.{Confirms, confirmed_view};
 
 use byte_position::PAGE_SIZE;
-use machine_words::LogShape;
 use segment_disk::Disk;
-use wal_rule::{LogSeat, LogTable};
+use wal_rule::SeatedPass;
 
 /// Whether a page is in its buffer.
 #[derive(Clone, Copy, Debug, PartialEq, Eq)]
@@ -23,23 +22,16 @@ pub enum Presence {
 }
 
 /// Loads the end word of a page's buffer. A page is counted from the log's address 0.
-pub fn confirm<D: Disk>(
-    table: &LogTable<D>,
-    seat: &mut LogSeat<D>,
-    shape: &LogShape,
-    page: u64,
-) -> Presence
-    requires seat { IsSeatOn table.now seat.old }
-    requires shape { shape.now ≡ (opening_of_table table.now).setup }
+pub fn confirm<'p, D: Disk>(seated: &mut SeatedPass<'p, D>, page: u64) -> Presence
     requires low { page < 2 ^ 40 }
-    // The view has met the end that was loaded, which is told unless it is the page's own.
+    // The pass has met the end that was loaded, which is told unless it is the page's own.
     ensures met { (end : ℕ) × Confirms page end result
-        × (seat.new.me ≡ (confirmed_view end seat.old.me.0, seat.old.me.1))
-        × Meets seat.old.me.0 (load_buffer_end (page % shape.now.ring_pages)) end }
-    ensures seat { IsSeatOn table.now seat.new }
+        × HasView (confirmed_view end (view_of seated.old)) seated.old seated.new
+        × Meets (view_of seated.old) (load_buffer_end (page % (setup_of seated.old).ring_pages))
+        end }
 {
-    let buffer = (page % u64::from(shape.ring_pages())) as u32;
-    let end = table.load_buffer_end(seat, buffer);
+    let buffer = (page % u64::from(seated.shape().ring_pages())) as u32;
+    let end = seated.load_buffer_end(buffer);
     if end == (page + 1) * PAGE_SIZE {
         Presence::Present
     } else {

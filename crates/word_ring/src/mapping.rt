@@ -10,8 +10,8 @@ ghost use Rattle.std.specs.Prelude.{◌≡◌, ◌≢◌, ℕ, ◌+◌, ◌*◌,
 ghost use Rattle.wal_core.specs.Paged.{IsOpen};
 ghost use Rattle.wal_core.specs.Steps.{buffer_of, take_mapping_turn};
 ghost use Rattle.wal_core.specs.Views.{Away, Ready, Taken, Zeroing};
+ghost use Rattle.wal_rule.specs.SeatedPasses.{HasView, StaysSeated, setup_of, view_of};
 ghost use Rattle.wal_rule.specs.Stepping.{Meets};
-ghost use Rattle.wal_rule.specs.Tables.{IsSeatOn, opening_of_table};
 ghost use Rattle.word_ring.specs.Mapped.{TriesMapping, looked_view, staged_view};
 ghost use Rattle.word_ring.specs.Ring.{confirmed_view};
 
@@ -19,7 +19,7 @@ use byte_position::PAGE_SIZE;
 use machine_words::LogShape;
 use machine_words::layout::BUFFER_ENDS;
 use segment_disk::Disk;
-use wal_rule::{LogSeat, LogTable};
+use wal_rule::SeatedPass;
 
 const PAGE_WORDS: usize = byte_position::PAGE_WORDS as usize;
 
@@ -38,117 +38,95 @@ pub enum MapTry {
 
 /// Tries once to map the page at the initialised end, so that one page more is there of those up to
 /// the one asked for.
-pub fn try_map<D: Disk>(
-    table: &LogTable<D>,
-    seat: &mut LogSeat<D>,
-    shape: &LogShape,
-    number: u32,
-    page: u64,
-) -> MapTry
-    requires seat { IsSeatOn table.now seat.old }
-    requires shape { shape.now ≡ (opening_of_table table.now).setup }
+pub fn try_map<'p, D: Disk>(seated: &mut SeatedPass<'p, D>, page: u64) -> MapTry
     // The pass has not the turn to map, and has it no more behind the try. Of its view only the
     // highest end met and the written address loaded have changed, and neither if the turn was
     // somebody else's.
-    requires number { number ≡ seat.old.me.0.reserving.number }
-    requires away { seat.old.me.0.mapping.stage ≡ Away }
+    requires away { (view_of seated.old).mapping.stage ≡ Away }
     requires low { page < 2 ^ 40 }
-    ensures tries { TriesMapping shape.now page seat.old.me.0 seat.new.me.0 result }
-    ensures slots { seat.new.me.1 ≡ seat.old.me.1 }
-    ensures seat { IsSeatOn table.now seat.new }
+    ensures tries { TriesMapping (setup_of seated.old) page (view_of seated.old)
+        (view_of seated.new) result }
+    ensures stays { StaysSeated seated.old seated.new }
 {
-    let turn = take_turn(table, seat, number);
+    let turn = take_turn(seated);
     if turn != 0 {
         return MapTry::Taken { turn };
     }
-    let (at, written) = look(table, seat);
-    let ring = u64::from(shape.ring_pages()) * PAGE_SIZE;
+    let (at, written) = look(seated);
+    let ring = u64::from(seated.shape().ring_pages()) * PAGE_SIZE;
     if (page + 1) * PAGE_SIZE <= at {
-        give_turn_back(table, seat);
+        give_turn_back(seated);
         MapTry::There
     } else if written + ring < at + PAGE_SIZE {
-        give_turn_back(table, seat);
+        give_turn_back(seated);
         MapTry::Unwritten { written }
     } else {
-        replace(table, seat, shape, at);
+        replace(seated, at);
         MapTry::Mapped
     }
 }
 
 // Takes the turn to map where it is free, which is where the word met is 0. Else the pass has what
 // it had, and no turn.
-fn take_turn<D: Disk>(table: &LogTable<D>, seat: &mut LogSeat<D>, number: u32) -> u64
-    requires seat { IsSeatOn table.now seat.old }
-    requires number { number ≡ seat.old.me.0.reserving.number }
-    requires away { seat.old.me.0.mapping.stage ≡ Away }
+fn take_turn<'p, D: Disk>(seated: &mut SeatedPass<'p, D>) -> u64
+    requires away { (view_of seated.old).mapping.stage ≡ Away }
     ensures taken { result ≡ 0
-        → seat.new.me ≡ (staged_view Taken seat.old.me.0, seat.old.me.1) }
-    ensures vain { result ≢ 0 → seat.new.me ≡ seat.old.me }
-    ensures met { Meets seat.old.me.0 take_mapping_turn result }
-    ensures seat { IsSeatOn table.now seat.new }
+        → HasView (staged_view Taken (view_of seated.old)) seated.old seated.new }
+    ensures vain { result ≢ 0 → HasView (view_of seated.old) seated.old seated.new }
+    ensures met { Meets (view_of seated.old) take_mapping_turn result }
 {
-    table.take_mapping_turn(seat, number)
+    seated.take_mapping_turn()
 }
 
 // The initialised end, and the written address, loaded with the turn had. Until it is given back
 // nobody else maps a page, and what is written never falls; so a page that may be replaced by these
 // two may be so later.
-fn look<D: Disk>(table: &LogTable<D>, seat: &mut LogSeat<D>) -> (u64, u64)
-    requires seat { IsSeatOn table.now seat.old }
-    requires taken { seat.old.me.0.mapping.stage ≡ Taken }
-    ensures view { seat.new.me ≡ (
-      staged_view (Ready result.0 result.1) (looked_view result.0 result.1 seat.old.me.0),
-      seat.old.me.1,
-    ) }
+fn look<'p, D: Disk>(seated: &mut SeatedPass<'p, D>) -> (u64, u64)
+    requires taken { (view_of seated.old).mapping.stage ≡ Taken }
+    ensures view { HasView (staged_view (Ready result.0 result.1)
+        (looked_view result.0 result.1 (view_of seated.old))) seated.old seated.new }
     ensures low { (result.0 < 2 ^ 60) × (result.1 < 2 ^ 60) }
-    ensures seat { IsSeatOn table.now seat.new }
 {
-    let at = table.load_initialised_end(seat);
-    (at, table.load_written(seat))
+    let at = seated.load_initialised_end();
+    (at, seated.load_written())
 }
 
 // Gives the turn back, with no page under way.
-fn give_turn_back<D: Disk>(table: &LogTable<D>, seat: &mut LogSeat<D>)
-    requires seat { IsSeatOn table.now seat.old }
-    requires open { IsOpen seat.old.me.0.mapping.stage }
-    ensures view { seat.new.me ≡ (staged_view Away seat.old.me.0, seat.old.me.1) }
-    ensures seat { IsSeatOn table.now seat.new }
+fn give_turn_back<'p, D: Disk>(seated: &mut SeatedPass<'p, D>)
+    requires open { IsOpen (view_of seated.old).mapping.stage }
+    ensures view { HasView (staged_view Away (view_of seated.old)) seated.old seated.new }
 {
-    table.release_mapping_turn(seat);
+    seated.release_mapping_turn();
 }
 
 // Maps the page at an address in place of the one in its buffer, which is written, and gives the
 // turn back. The pass has the turn, and behind it has met the new page's end.
-fn replace<D: Disk>(table: &LogTable<D>, seat: &mut LogSeat<D>, shape: &LogShape, at: u64)
-    requires seat { IsSeatOn table.now seat.old }
-    requires shape { shape.now ≡ (opening_of_table table.now).setup }
-    requires ready { (written : ℕ) × (seat.old.me.0.mapping.stage ≡ Ready at written)
-        × (at + 8192 ≤ written + shape.now.ring_pages * 8192) }
+fn replace<'p, D: Disk>(seated: &mut SeatedPass<'p, D>, at: u64)
+    requires ready { (written : ℕ) × ((view_of seated.old).mapping.stage ≡ Ready at written)
+        × (at + 8192 ≤ written + (setup_of seated.old).ring_pages * 8192) }
     requires low { at < 2 ^ 60 }
-    ensures view { seat.new.me
-        ≡ (confirmed_view (at + 8192) (staged_view Away seat.old.me.0), seat.old.me.1) }
-    ensures seat { IsSeatOn table.now seat.new }
+    ensures view { HasView (confirmed_view (at + 8192) (staged_view Away (view_of seated.old)))
+        seated.old seated.new }
 {
-    let end = BUFFER_ENDS + buffer_at(shape, at);
-    table.clear_end(seat, end);
-    zero_page(table, seat, shape, at);
-    table.publish_end(seat, end, at + PAGE_SIZE);
-    table.publish_initialised_end(seat, at + PAGE_SIZE);
-    give_turn_back(table, seat);
+    let end = BUFFER_ENDS + buffer_at(seated.shape(), at);
+    seated.clear_end(end);
+    zero_page(seated, at);
+    seated.publish_end(end, at + PAGE_SIZE);
+    seated.publish_initialised_end(at + PAGE_SIZE);
+    give_turn_back(seated);
 }
 
 // Zeroes the words of the buffer of the page at an address, whose end word is cleared: a word that
 // no record owns yet is 0 in every write of the page.
-fn zero_page<D: Disk>(table: &LogTable<D>, seat: &mut LogSeat<D>, shape: &LogShape, at: u64)
-    requires seat { IsSeatOn table.now seat.old }
-    requires shape { shape.now ≡ (opening_of_table table.now).setup }
-    requires cleared { seat.old.me.0.mapping.stage ≡ Zeroing at 0 }
-    ensures view { seat.new.me ≡ (staged_view (Zeroing at 1024) seat.old.me.0, seat.old.me.1) }
-    ensures seat { IsSeatOn table.now seat.new }
+fn zero_page<'p, D: Disk>(seated: &mut SeatedPass<'p, D>, at: u64)
+    requires cleared { (view_of seated.old).mapping.stage ≡ Zeroing at 0 }
+    ensures view { HasView (staged_view (Zeroing at 1024) (view_of seated.old))
+        seated.old seated.new }
 {
+    let shape = seated.shape();
     let first = BUFFER_ENDS + shape.ring_pages() as usize + buffer_at(shape, at) * PAGE_WORDS;
     for n in 0..PAGE_WORDS {
-        table.zero_ring_word(seat, first + n);
+        seated.zero_ring_word(first + n);
     }
 }
 

@@ -9,7 +9,7 @@ use wal_crc32c::Crc;
 
 const SEGMENT_SIZE: u64 = 1 << 20;
 
-const PAGE_SIZE: usize = 8192;
+const PAGE_SIZE: usize = byte_position::PAGE_SIZE as usize;
 
 // How many segments a disk has room for that is made anew, and how many calls are counted on it.
 pub const SEGMENTS: u32 = 4;

@@ -16,9 +16,11 @@ use Rattle.wal_reader.specs.declared.found.FoundRecord.{FoundRecord}
 use Rattle.wal_reader.specs.declared.found.Answer.{Answer}
 use Rattle.wal_reader.specs.declared.found.DamageKind.TheVariants as damages
 use Rattle.written_log.specs.Agreeing.{AreWhole, AgreeingLogsDecodeAlike}
-use Rattle.wal_reader.specs.Decodes.{ReadsFrom, ReadsRecords, begin_at, begin_in, beginning, continuation_rows, continuation_rows_of, crc_rows, damaged, ended, header_rows, is_at_end, is_zero_word, opening_rows, overwritten, page_answers, page_of_byte, place_behind, record_rows, rest_rows, rows_of_pages, size_rows}
+use Rattle.wal_reader.specs.Decodes.{ReadsFrom, ReadsRecords, begin_at, begin_in, beginning, continuation_rows, continuation_rows_of, crc_rows, damaged, ended, header_rows, is_at_end, is_zero_word, opening_rows, page_answers, page_of_byte, place_behind, record_rows, rest_rows, rows_of_pages, size_rows}
 use Rattle.wal_reader.specs.ReadAt.{ReadsComputed, answer_or, read_at, read_in}
-use Rattle.wal_reader.specs.Pages.{Pages, as_byte, byte_at, byte_in_page, bytes_from}
+use Rattle.wal_reader.specs.Pages.{Pages, as_byte, byte_at, bytes_from}
+use Rattle.wal_reader.proofs.PageCheckLaws.{overwritten}
+use Rattle.written_log.proofs.LogPages.{byte_in_page}
 use Rattle.wal_reader.proofs.ReadAtLaws.{records_computed}
 use Rattle.wal_reader.proofs.SettledLaws.{passes_both, passes_row, same_read, size-passed, size_in_header, total_of}
 

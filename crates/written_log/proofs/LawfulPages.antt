@@ -17,7 +17,8 @@ use Rattle.wal_page.proofs.LogWordLaws.{log_word_byte, log_word_bytes}
 use Rattle.wal_page.proofs.OwnerLaws.{owner_at-some}
 use Rattle.segment_disk.specs.ImageWords.{HasPageAt, image_word, segment_word, zero_word}
 use Rattle.flush_core.specs.Lawful.{IsLawful}
-use Rattle.wal_reader.specs.Pages.{Pages, byte_at, byte_in_page, page_of_image, pages_in}
+use Rattle.wal_reader.specs.Pages.{Pages, byte_at, page_of_image, pages_in}
+use Rattle.written_log.proofs.LogPages.{byte_in_page}
 use Rattle.written_log.proofs.LogPositions.{page_of-start}
 
 -- pages that hold nothing but words of a log: each word is 0 or the log's, each byte below `upto` is the log's, and each page that begins below it and below the log's end is there

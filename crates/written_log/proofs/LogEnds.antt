@@ -16,7 +16,7 @@ use Rattle.wal_page.proofs.OwnerLaws.{owner_of-none_behind}
 use Rattle.wal_page.proofs.LogByteLaws.{log_byte-stream}
 use Rattle.wal_page.proofs.StreamLaws.{length-stream_of}
 use Rattle.wal_types.specs.declared.lsn.Lsn.{Lsn}
-use Rattle.wal_reader.specs.Pages.{Pages, byte_in_page, bytes_from}
+use Rattle.wal_reader.specs.Pages.{Pages, bytes_from}
 use Rattle.wal_reader.specs.Decodes.{is_zero_word, opens_page, ended}
 use Rattle.wal_reader.specs.ReadAt.{read_at}
 use Rattle.written_log.specs.WrittenLog.{BeginsAsLogPage, HavePagesOfLog}
@@ -25,7 +25,7 @@ use Rattle.written_log.proofs.RecordRows.{IsIn, zero_word_ends, no_page_ends, ze
 use Rattle.written_log.proofs.LogPositions.{page_begins, page_from_first, page_of-start}
 use Rattle.written_log.proofs.LogHeader.{sound_answers}
 use Rattle.written_log.proofs.LogReads.{log_place}
-use Rattle.written_log.proofs.LogPages.{IsWritten, some_is, log_byte-page_header, page_is_sound, owner_here, not_opening}
+use Rattle.written_log.proofs.LogPages.{IsWritten, byte_in_page, some_is, log_byte-page_header, page_is_sound, owner_here, not_opening}
 
 -- the first word of bytes that begin with eight zeros
 pub zero_word : (bytes : List ℕ) → ((k : ℕ) → k < 8 → get_or bytes k 0 ≡ 0) → is_zero_word bytes ≡ true

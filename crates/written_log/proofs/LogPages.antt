@@ -1,6 +1,7 @@
 -- What stands in pages that hold an order's log below its end: each header, and each byte of the records.
-use Rattle.std.proofs.Common.{◌≡◌, ℕ, zero, suc, ◌+◌, ◌-◌, ◌*◌, ◌/◌, ◌%◌, ◌^◌, ◌<◌, ◌≤◌, false, List, ◌∷◌, ◌++◌, length, get_or, take, drop, Option, Some, None, refl, sym, ap, ◌∙◌, inl, inr, arith}
+use Rattle.std.proofs.Common.{◌≡◌, ℕ, zero, suc, ◌+◌, ◌-◌, ◌*◌, ◌/◌, ◌%◌, ◌^◌, ◌<◌, ◌≤◌, false, List, [], ◌∷◌, ◌++◌, length, get_or, take, drop, Option, Some, None, refl, sym, ap, ◌∙◌, inl, inr, arith}
 use Rattle.std.specs.Prelude.{IsSome}
+use Rattle.std.specs.Option.{unwrap_or}
 use Rattle.std.proofs.lemmas.Bool.{false≢true, cases_Bool, eqb-true}
 use Rattle.std.proofs.lemmas.List.{ext_get_or, get_or-take, length-take-le, take-append-drop, drop_more}
 use Rattle.byte_position.specs.Geometry.{IsSegmentSize, pages_of}
@@ -21,6 +22,10 @@ use Rattle.wal_reader.proofs.PagesLaws.{as_byte-of}
 use Rattle.wal_reader.specs.Decodes.{opens_page, timeline_or}
 use Rattle.written_log.proofs.LogHeader.{IsSound, log_header_is_sound}
 use Rattle.written_log.proofs.LogPositions.{address_of-below_end, opening_position, page_of-start, position_of-log_page, start-le-address_of}
+
+-- a byte of a page, 0 where the page is not there
+abbrev pub byte_in_page : Option (List ℕ) → ℕ → ℕ
+byte_in_page here k = get_or (unwrap_or here []) k 0
 
 -- an order's log stands in pages below the log's end: each page that begins there is there, and each byte is the log's
 pub record IsWritten (size sysid : ℕ) (pages : Pages) (es : List Entry) : Type 0 where

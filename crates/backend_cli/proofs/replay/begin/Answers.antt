@@ -1,8 +1,8 @@
 -- A log can have the setup, and has more passes than there are backends.
 use Rattle.std.proofs.Common.{◌≡◌, ◌+◌, ◌<◌, List, length, map, ap, ◌∙◌, arith}
-use Rattle.machine_turns.specs.declared.script.Line.{Line as MachineLine}
+use Rattle.machine_turns.specs.declared.script.PlainLine.{PlainLine as MachineLine}
 use Rattle.wal_core.specs.declared.setup.Setup.{Setup}
-use Rattle.backend_cli.specs.Replaying.{setup_of}
+use Rattle.backend_cli.specs.Replaying.{setup_asked}
 use Rattle.backend_cli.proofs.ReplayLaws.{begun_as}
 use Rattle.backend_cli.proofs.ReplayScripts.{as_many_scripts}
 use Rattle.backend_cli.proofs.replay.begin.Goals as goal
@@ -10,14 +10,14 @@ use Rattle.backend_cli.proofs.replay.begin.Goals as goal
 pub unreachable-requires : goal.unreachable-requires
 unreachable-requires c =
     let scripts : length c.in_ok-scripts.scripts.items ≡ length c.args.backends.items = ap (λ (s : List (List MachineLine)). length s) c.in_ok-scripts.ensures ∙ as_many_scripts c.args.backends.items in
-    let passes : c.setup_of-setup.result.passes ≡ c.len.result + 1 = ap (λ (s : Setup). s.passes) c.setup_of-setup.ensures.value in
-    let fewer : length c.in_ok-scripts.scripts.items < c.setup_of-setup.result.passes = omega (arith, scripts, passes, c.len.ensures, c.requires.few) in
-    c.in-Err-BadSetup.ensures.bad_setup.0 c.in-Err-BadSetup.field-0-is (c.setup_of-setup.ensures.can_be, fewer)
+    let passes : c.setup_asked-setup.result.passes ≡ c.len.result + 1 = ap (λ (s : Setup). s.passes) c.setup_asked-setup.ensures.value in
+    let fewer : length c.in_ok-scripts.scripts.items < c.setup_asked-setup.result.passes = omega (arith, scripts, passes, c.len.ensures, c.requires.few) in
+    c.in-Err-BadSetup.ensures.bad_setup.0 c.in-Err-BadSetup.field-0-is (c.setup_asked-setup.ensures.can_be, fewer)
 
 pub returns-in-Ok : goal.returns-in-Ok
 returns-in-Ok c = λ asked are.
     let len : c.len.result ≡ length c.args.backends.items = omega (arith, c.len.ensures) in
-    let setup_is = c.setup_of-setup.ensures.value ∙ ap (setup_of c.args.options.now) len in
+    let setup_is = c.setup_asked-setup.ensures.value ∙ ap (setup_asked c.args.options.now) len in
     let counts = c.in_ok-line_counts.ensures ∙ ap (map (λ (lines : List MachineLine). length lines)) c.deref.ensures.value in
-    begun_as c.args.options.now asked c.args.backends.items c.setup_of-setup.result c.in_ok-scripts.scripts.items c.new.result.items (record { core = c.in-Ok.core; line_counts = c.in_ok-line_counts.line_counts })
+    begun_as c.args.options.now asked c.args.backends.items c.setup_asked-setup.result c.in_ok-scripts.scripts.items c.new.result.items (record { core = c.in-Ok.core; line_counts = c.in_ok-line_counts.line_counts })
     are setup_is c.in_ok-scripts.ensures c.new.ensures.items counts c.in-Ok.ensures.begun c.in-Ok.ensures.plays c.in-Ok.ensures.played

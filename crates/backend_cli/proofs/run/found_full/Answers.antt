@@ -3,14 +3,14 @@ use Rattle.std.proofs.lemmas.Iterator.{cases_from_any, YieldsList-from_slice}
 use Rattle.std.specs.Prelude.{◌↔◌, IsTrue}
 use Rattle.told_lines.specs.Told.{IsFullAnswer, SomeAnswer, SomeTold}
 use Rattle.backend_lanes.specs.Backends.{lists_of}
-use Rattle.backend_lanes.specs.declared.backend.Backend.{Backend}
+use Rattle.backend_lanes.specs.declared.backend.AnsweredLines.{AnsweredLines}
 use Rattle.backend_cli.proofs.AnySome.{some_from_any}
 use Rattle.backend_cli.proofs.run.found_full.Goals as goal
 
 pub returns : goal.returns
 returns c =
     let backends = c.args.backends.now in
-    let Finds : Backend → Type 0 = λ b. SomeAnswer IsFullAnswer b.told.items in
+    let Finds : AnsweredLines → Type 0 = λ b. SomeAnswer IsFullAnswer b.told.items in
     let decides : IsTrue c.any.result ↔ SomeTold IsFullAnswer (lists_of backends) =
     some_from_any (λ bs. SomeTold IsFullAnswer (lists_of bs)) Finds (λ none. none) (λ x xs found. found) (λ x xs found. found) backends c.any.result
     (cases_from_any _ _ _ Finds (λ b. Finds b → ⊥) c.any.ensures.ran (YieldsList-from_slice backends cc) (λ x q k. search (rules, tests)) (λ x q k. search (rules, tests))) in

@@ -20,8 +20,8 @@ overflow_cast-len g c =
     let ready = c.requires.prepared in
     omega (arith, c.len.ensures, as_many_prepared ready.0 c.args.room ready.1, (ready.1).few)
 
-pub setup_of-setup-requires-clause-few : goal.setup_of-setup-requires-clause-few
-setup_of-setup-requires-clause-few g c =
+pub setup_asked-setup-requires-clause-few : goal.setup_asked-setup-requires-clause-few
+setup_asked-setup-requires-clause-few g c =
     let ready = c.requires.prepared in
     omega (arith, c.len.ensures, as_many_prepared ready.0 c.args.room ready.1, (ready.1).few)
 
@@ -45,7 +45,7 @@ pub conclude-requires-clause-few : goal.conclude-requires-clause-few
 conclude-requires-clause-few g c =
     let ready = c.requires.prepared in
     let played = c.play_backends-played.ensures ready.0 (ready.1).lines in
-    few_reserved _ _ _ _ c.args.options.now _ _ c.setup_of-setup.ensures.value _ _
+    few_reserved _ _ _ _ c.args.options.now _ _ c.setup_asked-setup.ensures.value _ _
     c.in-Ok.ensures.opened c.calls_are_counted.ensures _ _ _ played
 
 pub conclude-requires-clause-end : goal.conclude-requires-clause-end
@@ -53,7 +53,7 @@ conclude-requires-clause-end g c =
     let ready = c.requires.prepared in
     let played = c.play_backends-played.ensures ready.0 (ready.1).lines in (
       _,
-      end_told _ _ _ _ c.args.options.now _ _ c.setup_of-setup.ensures.value _ _
+      end_told _ _ _ _ c.args.options.now _ _ c.setup_asked-setup.ensures.value _ _
           c.in-Ok.ensures.opened c.calls_are_counted.ensures _ _ _ played,
     )
 
@@ -76,13 +76,13 @@ returns-in-Ok-clause-holds g c = λ before after script ready.
     let size = options.geometry in
     let capacity = capacity_of size options.cap_segments in
     let played = c.play_backends-played.ensures script ready.lines in
-    let setup_is = c.setup_of-setup.ensures.value in
+    let setup_is = c.setup_asked-setup.ensures.value in
     let opened = c.in-Ok.ensures.opened in
     let counts = c.calls_are_counted.ensures in
     let concluded = c.conclude.ensures.concluded _
     (end_told _ _ _ _ options _ _ setup_is _ _ opened counts _ _ _ played) in
     let valid = subst (λ (s : Setup). IsSegmentSize s.segment_size) setup_is
-    c.setup_of-setup.ensures.can_be.size in
+    c.setup_asked-setup.ensures.can_be.size in
     let holds = told_holds
     (outside_of before after tape moment faults disk closed.disk sunk sink_faults out out_now)
     size capacity options.list outcome script backends ready.some played.each
@@ -101,7 +101,7 @@ returns-in-Ok-clause-as_handed_in g c = λ is.
     let ready = c.requires.prepared in
     let played = c.play_backends-played.ensures ready.0 (ready.1).lines in
     let concluded = c.conclude.ensures.concluded _
-    (end_told _ _ _ _ c.args.options.now _ _ c.setup_of-setup.ensures.value _ _
+    (end_told _ _ _ _ c.args.options.now _ _ c.setup_asked-setup.ensures.value _ _
     c.in-Ok.ensures.opened c.calls_are_counted.ensures _ _ _ played) in
     absurd (no_memory _ _ _ _ concluded.concludes is)
 
@@ -120,8 +120,8 @@ returns-in-Err-clause-holds g c = λ before after script ready.
     let capacity = capacity_of size options.cap_segments in
     let outside = outside_of before after tape moment faults c.args.disk c.in-Err.fault.disk sunk
     sink_faults out out in
-    let holds = unopened_holds tape moment faults c.setup_of-setup.result
-    c.setup_of-setup.ensures.can_be c.args.disk c.in-Err.fault.disk sunk sink_faults out before
+    let holds = unopened_holds tape moment faults c.setup_asked-setup.result
+    c.setup_asked-setup.ensures.can_be c.args.disk c.in-Err.fault.disk sunk sink_faults out before
     after script size capacity options.list c.in-Err.fault.kind c.in-Err.ensures.refused in
     subst (PlayHolds outside size capacity options.list c.outcome_unopened.result script)
     (sym c.none.ensures)
@@ -130,6 +130,6 @@ returns-in-Err-clause-holds g c = λ before after script ready.
 
 pub returns-in-Err-clause-as_handed_in : goal.returns-in-Err-clause-as_handed_in
 returns-in-Err-clause-as_handed_in g c = λ is.
-    same_without_memory g.D.Disk.tape g.D.Disk.moment g.D.Disk.faults c.setup_of-setup.result
-    c.setup_of-setup.ensures.can_be c.args.disk c.in-Err.fault.disk c.in-Err.fault.kind
+    same_without_memory g.D.Disk.tape g.D.Disk.moment g.D.Disk.faults c.setup_asked-setup.result
+    c.setup_asked-setup.ensures.can_be c.args.disk c.in-Err.fault.disk c.in-Err.fault.kind
     c.in-Err.ensures.refused (subst (λ (o : Outcome). o ≡ OutOfMemory) c.outcome_unopened.ensures is)

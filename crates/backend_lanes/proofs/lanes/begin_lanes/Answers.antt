@@ -1,7 +1,7 @@
 use Rattle.std.proofs.Common.{List, arith, subst, sym}
 use Rattle.std.proofs.lemmas.List.{nil_from_length}
 use Rattle.wal_log.specs.Logs.{setup_of_log}
-use Rattle.backend_lanes.specs.declared.backend.Backend.{Backend}
+use Rattle.backend_lanes.specs.declared.backend.AnsweredLines.{AnsweredLines}
 use Rattle.backend_lanes.proofs.BeginLanes.{AreBeginning, all_begun, none_begun, one_more_begun}
 use Rattle.backend_lanes.proofs.lanes.begin_lanes.Goals as goal
 
@@ -13,7 +13,7 @@ loop-backend-init g c =
     let len = c.args.backends.ok.0 in
     let spare = c.requires.spare in
     let room = c.requires.lanes_room in
-    subst (λ (rest : List Backend). AreBeginning log first all rest c.args.lanes first)
+    subst (λ (rest : List AnsweredLines). AreBeginning log first all rest c.args.lanes first)
     (sym c.into_iter-backend-iterator.ensures.into_iter_gives.0)
     (none_begun log first all c.args.lanes c.requires.pass (omega (arith, len, spare))
     c.requires.room c.requires.none (omega (arith, len, room))
@@ -24,7 +24,7 @@ loop-backend-preserved g c =
     let log = c.args.log.now in
     one_more_begun log c.args.first.now c.loop-backend.first c.split-pass.new.pass
     c.args.backends.items c.next.new.self.rest.items c.loop-backend.lanes c.push_reserved.new.self _
-    (subst (λ (rest : List Backend). AreBeginning log c.args.first.now c.args.backends.items rest
+    (subst (λ (rest : List AnsweredLines). AreBeginning log c.args.first.now c.args.backends.items rest
     c.loop-backend.lanes c.loop-backend.first) c.in-Some.ensures.steps.0 c.loop-backend.invariant)
     c.push_reserved.ensures.items c.push_reserved.ensures.capacity c.split-pass.ensures.left
     c.split-pass.ensures.right c.requires.start

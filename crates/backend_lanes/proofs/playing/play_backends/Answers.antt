@@ -1,10 +1,8 @@
 use Rattle.std.proofs.Common.{ℕ, drop, length, subst, sym}
 use Rattle.machine_laws.specs.ClosedLogs.{HasAllNumbers}
 use Rattle.wal_rule.specs.Passes.{view_of_pass}
-use Rattle.wal_rule.specs.Seats.{SeatView}
-use Rattle.wal_rule.specs.Slotted.{first_on}
-use Rattle.wal_rule.specs.Tables.{began_of_table}
-use Rattle.wal_log.specs.Logs.{opening_of_log, setup_of_log, table_of}
+use Rattle.wal_core.specs.Views.{View}
+use Rattle.wal_log.specs.Logs.{opening_of_log, setup_of_log}
 use Rattle.backend_lanes.specs.Backends.{lists_of}
 use Rattle.backend_lanes.specs.Lanes.{BegunLanes}
 use Rattle.backend_lanes.proofs.Answering.{has_setup, has_valid_size}
@@ -30,7 +28,7 @@ join_lanes-backends-requires-clause-numbers g c =
     c.calls_keep_numbers.ensures
     (c.passes_share_numbers.ensures.kept passes first)
     (c.begin_lanes-lanes.ensures.numbers
-    (subst (λ (v : SeatView). HasAllNumbers passes v.reserving) (sym c.requires.fresh)
+    (subst (λ (v : View). HasAllNumbers passes v.reserving) (sym c.requires.fresh)
     (c.seats_keep_numbers.ensures.first (opening_of_log c.args.log)).1))
 
 pub close-requires-clause-numbers : goal.close-requires-clause-numbers
@@ -55,14 +53,13 @@ returns g c = λ script are.
     begun in
     let idle = c.begin_lanes-lanes.ensures.idle
     (first_is_idle (opening_of_log log) first c.requires.fresh) in
-    let held = first_on (began_of_table g.D.Disk.tape (table_of log)) in
     record {
       pass = c.flush.new.pass;
       closes = c.close.ensures;
       each = joined.ensures.lines script played;
-      taken = taken_behind_flush (opening_of_log log) held joined.result.end.0 old new
+      taken = taken_behind_flush (opening_of_log log) joined.result.end.0 old new
           c.flush.result c.flush.ensures.flushes c.flush.ensures.keeps script (lists_of told)
-          (joined.ensures.taken script played idle held);
+          (joined.ensures.taken script played idle);
       flushed = flushed_all (setup_of_log log)
           (has_valid_size log joined.new.first joined.ensures.pass) joined.result.end.0 old new
           (has_setup log joined.new.first joined.ensures.pass) (lists_of told) c.flush.result

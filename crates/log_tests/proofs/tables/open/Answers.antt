@@ -1,6 +1,8 @@
 -- The words and the writer are those of the log that the table is of.
 use Rattle.std.proofs.Common.{◌≡◌, ◌∙◌, ap, sym, subst, refl}
+use Rattle.segment_disk.specs.declared.memory.disk.MemDisk.{MemDisk}
 use Rattle.wal_core.specs.Words.{Opening}
+use Rattle.wal_core.specs.declared.setup.Setup.{Setup}
 use Rattle.wal_core.specs.Views.{Plain}
 use Rattle.wal_core.specs.Opened.{AreFirstWords, IsFirstWriter}
 use Rattle.wal_rule.specs.Founded.{founded_opening}
@@ -18,9 +20,14 @@ open-requires-clause-words c =
 
 pub open-requires-clause-writer : goal.open-requires-clause-writer
 open-requires-clause-writer c =
-    first_of _ _ _ c.of-founding.ensures.opening
-    (c.new-writer.ensures.first c.args.setup (ap (λ s. s.segment_size) (sym c.requires) ∙ sym c.geometry.ensures))
-
-pub open-requires-clause-size : goal.open-requires-clause-size
-open-requires-clause-size c = c.new-writer.ensures.size ∙ c.geometry.ensures ∙ ap (λ s. s.segment_size) c.requires
-    ∙ sym (ap (λ (o : Opening). (o.setup).segment_size) c.of-founding.ensures.opening)
+    let opening = c.of-founding.ensures.opening in
+    let size = ap (λ (s : Setup). s.segment_size) (sym c.in_ok-shape.ensures)
+    ∙ sym c.geometry.ensures in
+    record {
+      first = first_of _ _ _ opening (c.new-writer.ensures.first _ size);
+      disk = c.of-founding.ensures.disk ∙ sym c.new-writer.ensures.disk;
+      size = c.new-writer.ensures.size ∙ sym size
+          ∙ sym (ap (λ (o : Opening). (o.setup).segment_size) opening);
+      failed = ap (λ (o : Opening). o.faults) opening
+          ∙ ap (λ (d : MemDisk). d.calls.faults) (sym c.new-writer.ensures.disk);
+    }

@@ -2,7 +2,7 @@ use Rattle.std.proofs.Common.{ℕ, List, arith, map, subst, sym}
 use Rattle.std.proofs.lemmas.List.{nil_from_length}
 use Rattle.std.proofs.lemmas.List.Elements.{All-head, All-tail}
 use Rattle.wal_rule.specs.Passes.{view_of_pass}
-use Rattle.wal_rule.specs.Seats.{SeatView}
+use Rattle.wal_core.specs.Views.{View}
 use Rattle.wal_log.specs.Logs.{setup_of_log}
 use Rattle.wal_log.specs.Sharing.{ShareNumbers}
 use Rattle.log_workers.specs.Workers.{AreWorkersOf, IsWorkerOf, view_of_worker}
@@ -10,7 +10,7 @@ use Rattle.log_workers.specs.declared.worker.Worker.{Worker}
 use Rattle.log_workers.proofs.workers.join_workers.Goals as goal
 
 -- a view and workers share so many numbers
-abbrev Share : ℕ → SeatView → List Worker → Type 0
+abbrev Share : ℕ → View → List Worker → Type 0
 Share passes v workers = ShareNumbers passes v (map (λ worker. view_of_worker worker) workers)
 
 pub loop-worker-init : goal.loop-worker-init
@@ -35,7 +35,7 @@ loop-worker-preserved g c =
     let workers = subst (AreWorkersOf c.args.log.now) next c.loop-worker.invariant.1 in (
       c.join.ensures.pass,
       All-tail (IsWorkerOf c.args.log.now) _ _ workers,
-      subst (λ (v : SeatView). Share passes v rest) (sym c.join.ensures.view)
+      subst (λ (v : View). Share passes v rest) (sym c.join.ensures.view)
           (c.passes_share_numbers.ensures.join passes first (view_of_worker c.in-Some.worker)
           (map (λ worker. view_of_worker worker) rest)
           (All-head (IsWorkerOf c.args.log.now) _ _ workers).none_to_give

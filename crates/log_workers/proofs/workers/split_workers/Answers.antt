@@ -1,7 +1,7 @@
 use Rattle.std.proofs.Common.{◌≡◌, ◌++◌, [], ◌∷◌, Vec, Global, List, length, map, ap, arith, subst, sym}
 use Rattle.std.proofs.lemmas.List.Elements.{All-nil, All-push}
 use Rattle.wal_rule.specs.Passes.{view_of_pass}
-use Rattle.wal_rule.specs.Seats.{SeatView}
+use Rattle.wal_core.specs.Views.{View}
 use Rattle.wal_log.specs.Logs.{setup_of_log}
 use Rattle.wal_log.specs.declared.wal.Wal.{Wal}
 use Rattle.wal_log.specs.Sharing.{ShareNumbers}
@@ -39,8 +39,8 @@ loop-jobs-preserved g c =
     let right = c.split-pass.ensures.right in
     let mine = (c.loop-jobs.invariant.0).of_log.numbers in
     let theirs = (left.0).of_log.numbers in
-    let low = ap (λ (v : SeatView). (v.reserving).spare) left.1 in
-    let high = ap (λ (v : SeatView). (v.reserving).spare_end) left.1 in
+    let low = ap (λ (v : View). (v.reserving).spare) left.1 in
+    let high = ap (λ (v : View). (v.reserving).spare_end) left.1 in
     let next = ap (λ (x : List (Vec Job Global)). length x) c.in-Some.ensures.steps.0 in
     let pushed = c.in_ok-push.ensures.items in (
       left.0,
@@ -49,7 +49,7 @@ loop-jobs-preserved g c =
           omega (arith, enough, next, a, b, x, y, low, high)),
       one_worker_more c.args.log.now _ _ _ pushed c.loop-jobs.invariant.2 (record {
         pass = right.0;
-        none_to_give = ap (λ (v : SeatView). (v.reserving).spare_end) right.1;
+        none_to_give = ap (λ (v : View). (v.reserving).spare_end) right.1;
       }),
       rw (left.1, views_with_one_more (λ worker. view_of_worker worker) _ _ _ _ pushed right.1)
           (c.passes_share_numbers.ensures.split passes first

@@ -4,17 +4,17 @@ use Rattle.machine_laws.proofs.DurableViewSteps.{set_down_keeps, store_flushed_k
 use Rattle.machine_laws.proofs.durable_steps.stores_keep_durability.Goals as goal
 
 pub returns-clause-written : goal.returns-clause-written
-returns-clause-written c = λ o order flushed moment down home writer parts id met v h here.
+returns-clause-written c = λ first o order flushed moment down home writer parts id met v h here.
     store_written_keeps o order flushed moment down home writer parts h id v here
 
 pub returns-clause-moment : goal.returns-clause-moment
-returns-clause-moment c = λ o order flushed moment down home writer parts id met v turn writers h
+returns-clause-moment c = λ first o order flushed moment down home writer parts id met v turn writers h
     here has at may.
     store_moment_keeps o order flushed moment down home writer parts h id v here turn writers has
     at met may
 
 pub returns-clause-flushed : goal.returns-clause-flushed
-returns-clause-flushed c = λ o order flushed moment down home writer parts id met v turn writers
+returns-clause-flushed c = λ first o order flushed moment down home writer parts id met v turn writers
     written flights writings h here setup has at positions may.
     let low : flushed ≤ writer.written = omega (
       arith,
@@ -27,7 +27,7 @@ returns-clause-flushed c = λ o order flushed moment down home writer parts id m
     at met some_flushed low may
 
 pub returns-clause-down : goal.returns-clause-down
-returns-clause-down c = λ o order flushed moment down home writer parts id met v turn writers h
+returns-clause-down c = λ first o order flushed moment down home writer parts id met v turn writers h
     here has at may.
     set_down_keeps o order flushed moment down home writer parts h id v here turn writers has at
     met may

@@ -5,4 +5,4 @@ pub returns-clause-step : goal.returns-clause-step
 returns-clause-step c = step_keeps
 
 pub returns-clause-run : goal.returns-clause-run
-returns-clause-run c = λ opening n s t k run. run_keeps opening n s t k run
+returns-clause-run c = λ first opening n s t k run. run_keeps first opening n s t k run

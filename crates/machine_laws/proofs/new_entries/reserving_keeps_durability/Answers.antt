@@ -3,5 +3,5 @@ use Rattle.machine_laws.proofs.new_entries.reserving_keeps_durability.Goals as g
 
 pub returns : goal.returns
 returns c = record {
-  store_position = store_position_keeps;
+  store_position = λ first. store_position_keeps;
 }

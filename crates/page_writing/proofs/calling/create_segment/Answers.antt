@@ -1,24 +1,23 @@
-use Rattle.page_writing.proofs.Calls.{created, may_create}
+use Rattle.std.proofs.Common.{refl}
+use Rattle.wal_rule.specs.Called.{creates}
+use Rattle.page_writing.specs.Written.{IsSegmentMade}
+use Rattle.page_writing.proofs.Calls.{may_create}
+use Rattle.page_writing.proofs.HandLaws.{ended}
 use Rattle.page_writing.proofs.calling.create_segment.Goals as goal
 
 pub create-requires-clause-may : goal.create-requires-clause-may
 create-requires-clause-may g c =
-    may_create c.args.seat.now.me.0 (c.requires.ready.hand.out.0, c.requires.ready.hand.out.2.hold) _
-    c.requires.ready.hand.seat_is.own c.requires.ready.up c.args.segment c.requires.next c.requires.behind
-    c.requires.asked c.requires.alone
+    may_create g.D.Disk.tape g.D.Disk.moment g.D.Disk.faults c.args.seated.now c.requires.hand
+    c.args.segment c.requires.next
 
-pub returns-clause-ends : goal.returns-clause-ends
-returns-clause-ends g c =
-    created c.args.seat.now.me.0 (c.requires.ready.hand.out.0, c.requires.ready.hand.out.2.hold) _
-    c.requires.ready.hand.seat_is.own c.requires.ready.up c.create.new.seat.me.0 c.create.ensures.ended.outcome
-    c.create.result c.create.ensures.ended.ends c.args.segment c.create.ensures.ended.view_is
-
-pub returns-clause-hand : goal.returns-clause-hand
-returns-clause-hand g c = record {
-  seat_is = c.create.ensures.seat;
-  out = (
-    c.create.ensures.ended.lent,
-    c.create.ensures.ended.writer,
-    c.create.ensures.ended.in_hand,
-  );
+pub returns : goal.returns
+returns g c = record {
+  ends = ended g.D.Disk.tape g.D.Disk.moment g.D.Disk.faults c.args.seated.now c.create.new.self
+      c.requires.hand (creates c.args.segment) c.create.result (IsSegmentMade c.args.segment)
+      (record {
+        up = c.requires.next.up;
+        written = refl;
+        made = refl;
+        waiting = refl;
+      }) c.create.ensures.ended c.create.ensures.table;
 }

@@ -1,27 +1,25 @@
-use Rattle.std.proofs.Common.{arith}
-use Rattle.page_writing.proofs.Calls.{may_write, put}
+use Rattle.std.proofs.Common.{refl}
+use Rattle.wal_rule.specs.Called.{writes}
+use Rattle.page_writing.specs.Written.{IsPagePut}
+use Rattle.page_writing.proofs.Calls.{may_write}
+use Rattle.page_writing.proofs.HandLaws.{ended}
 use Rattle.page_writing.proofs.calling.put_page.Goals as goal
 
 pub write_page-requires-clause-may : goal.write_page-requires-clause-may
 write_page-requires-clause-may g c =
-    may_write c.args.seat.now.me.0 (c.requires.ready.hand.out.0, c.requires.ready.hand.out.2.hold) _
-    c.requires.ready.hand.seat_is.own c.requires.ready.up c.args.segment c.args.page c.args.upto c.args.bytes.now
-    c.requires.page c.requires.on_segment c.requires.is_made c.requires.alone c.requires.rises
-    c.requires.within c.requires.copied (omega arith) c.requires.loaded
+    may_write g.D.Disk.tape g.D.Disk.moment g.D.Disk.faults c.args.seated.now c.requires.hand
+    c.args.segment c.args.page c.args.upto
+    c.args.bytes.now c.requires.next
 
-pub returns-clause-ends : goal.returns-clause-ends
-returns-clause-ends g c =
-    put c.args.seat.now.me.0 (c.requires.ready.hand.out.0, c.requires.ready.hand.out.2.hold) _
-    c.requires.ready.hand.seat_is.own c.requires.ready.up c.write_page.new.seat.me.0
-    c.write_page.ensures.ended.outcome c.write_page.result c.write_page.ensures.ended.ends
-    c.args.segment c.args.page c.args.upto c.args.bytes.now c.write_page.ensures.ended.view_is
-
-pub returns-clause-hand : goal.returns-clause-hand
-returns-clause-hand g c = record {
-  seat_is = c.write_page.ensures.seat;
-  out = (
-    c.write_page.ensures.ended.lent,
-    c.write_page.ensures.ended.writer,
-    c.write_page.ensures.ended.in_hand,
-  );
+pub returns : goal.returns
+returns g c = record {
+  ends = ended g.D.Disk.tape g.D.Disk.moment g.D.Disk.faults c.args.seated.now
+      c.write_page.new.self c.requires.hand
+      (writes c.args.segment c.args.page c.args.upto c.args.bytes.now) c.write_page.result
+      (IsPagePut c.args.segment c.args.upto) (record {
+        up = c.requires.next.up;
+        written = refl;
+        made = refl;
+        waiting = refl;
+      }) c.write_page.ensures.ended c.write_page.ensures.table;
 }

@@ -1,31 +1,23 @@
-use Rattle.std.proofs.Common.{List, ℕ, ◌∷◌, ap, ◌∙◌}
-use Rattle.wal_rule.specs.declared.writer.LogWriter.{LogWriter}
-use Rattle.wal_rule.specs.Seats.{SeatView}
-use Rattle.page_writing.specs.InHand.{lent_in}
-use Rattle.page_writing.proofs.HandLaws.{behind_load, keeps, may_load}
+use Rattle.std.proofs.Common.{ap, ◌∙◌, sym}
+use Rattle.wal_core.specs.Words.{Opening}
+use Rattle.wal_core.specs.Steps.{ring_number, ring_place}
+use Rattle.page_writing.proofs.Calls.{may_load}
+use Rattle.page_writing.proofs.HandLaws.{loads_word}
 use Rattle.page_writing.proofs.loading.load_word.Goals as goal
+
+pub load_ring_word-requires-clause-place : goal.load_ring_word-requires-clause-place
+load_ring_word-requires-clause-place g c = c.requires.place
+    ∙ sym (ap (λ (o : Opening). ring_number o.setup (ring_place o.setup c.args.k))
+    c.args.seated.now.seated.own)
 
 pub load_ring_word-requires-clause-may : goal.load_ring_word-requires-clause-may
 load_ring_word-requires-clause-may g c =
-    may_load c.args.seat.now.me.0 (c.requires.hand.out.0, c.requires.hand.out.2.hold) c.args.k
-    c.requires.unwritten c.requires.copied
+    may_load g.D.Disk.tape g.D.Disk.moment g.D.Disk.faults c.args.seated.now c.requires.hand
+    c.args.k c.requires.next
 
-pub returns-clause-loads : goal.returns-clause-loads
-returns-clause-loads g c = record {
-  view_is = ap (λ (m : SeatView × List (ℕ × LogWriter g.row.D.Denot)). m.0)
-      c.load_ring_word.ensures.steps.me_is
-      ∙ behind_load c.args.seat.now.me.0 (c.requires.hand.out.0, c.requires.hand.out.2.hold) c.args.k
-      c.load_ring_word.result;
-}
-
-pub returns-clause-hand : goal.returns-clause-hand
-returns-clause-hand g c = record {
-  seat_is = c.load_ring_word.ensures.seat;
-  out = keeps g.D.Disk.tape g.D.Disk.moment g.D.Disk.faults c.args.table.now c.args.seat.now.me
-      c.load_ring_word.new.seat.me c.requires.hand.out
-      ((c.args.k, c.load_ring_word.result) ∷ (lent_in c.args.seat.now.me.0.hold).staged)
-      (c.load_ring_word.ensures.steps.me_is
-      ∙ ap (λ (v : SeatView). (v, c.args.seat.now.me.1))
-      (behind_load c.args.seat.now.me.0 (c.requires.hand.out.0, c.requires.hand.out.2.hold)
-      c.args.k c.load_ring_word.result));
+pub returns : goal.returns
+returns g c = record {
+  loads = loads_word g.D.Disk.tape g.D.Disk.moment g.D.Disk.faults c.args.seated.now
+      c.load_ring_word.new.self c.requires.hand c.args.k c.load_ring_word.result
+      c.load_ring_word.ensures.steps;
 }

@@ -1,6 +1,8 @@
 use Rattle.std.proofs.Common.{refl, ap, ◌∙◌, arith}
 use Rattle.wal_core.specs.Moves.{entry_reserved}
-use Rattle.wal_rule.specs.Seats.{SeatView}
+use Rattle.wal_core.specs.Views.{View}
+use Rattle.wal_core.specs.Words.{log_limit}
+use Rattle.wal_rule.specs.SeatedPasses.{setup_of}
 use Rattle.reserve_lock.specs.Reserved.{reserved_view}
 use Rattle.reserve_lock.proofs.Records.{read_same, read_writable, record_read}
 use Rattle.reserve_lock.proofs.reserving.try_reserve.Goals as goal
@@ -23,6 +25,7 @@ returns-clause-reserved g c =
     let locked = c.in-Ok.ensures.locked in
     let entry = c.reserve_at-prev.ensures.entry in
     let short = c.if-free-from.false in
+    let limit = c.limit.ensures.limit ∙ ap log_limit c.shape-shape.ensures in
     record {
       at = c.in-Ok.at;
       prev = c.reserve_at-prev.result;
@@ -30,12 +33,13 @@ returns-clause-reserved g c =
         value = entry.value;
         writable = entry.writable;
         of_body = entry.of_body;
-        new_is = entry.new_is ∙ ap (λ (v : SeatView). reserved_view c.args.shape.now.segment_size
-            (entry_reserved (v.reserving).number c.in-Ok.at entry.value) c.reserve_at-prev.result
-            c.args.lock v) locked.new_is;
+        new_is = entry.new_is ∙ ap (λ (v : View). reserved_view
+            (setup_of c.args.seated.now).segment_size
+            (entry_reserved (v.reserving).number c.in-Ok.at entry.value)
+            c.reserve_at-prev.result c.args.lock v) locked.new_is;
       };
       behind_seen = locked.behind_seen;
-      within = omega (arith, c.limit.ensures.limit, c.room.ensures.room, c.from.ensures, short, locked.within);
+      within = omega (arith, limit, c.room.ensures.room, c.from.ensures, short, locked.within);
       placed_is = (cc);
       start_is = (cc);
     }

@@ -1,11 +1,10 @@
 use Rattle.std.proofs.Common.{ℕ, ◌<◌, ◌≤◌, List, Contains, inl, inr, sym, ◌∙◌, subst}
 use Rattle.machine_laws.specs.SharedOrders.{HasNumber}
-use Rattle.wal_core.specs.Views.{Joined}
-use Rattle.wal_rule.specs.Seats.{SeatView}
+use Rattle.wal_core.specs.Views.{Joined, View}
 use Rattle.wal_log.specs.Standing.{KeepsPass}
 use Rattle.wal_log.proofs.numbers.calls_keep_numbers.Goals as goal
 
-kept : (old new : SeatView) → KeepsPass old new → (n : ℕ) → HasNumber n old.reserving
+kept : (old new : View) → KeepsPass old new → (n : ℕ) → HasNumber n old.reserving
     → HasNumber n new.reserving
 kept old new keeps n (inl own) = inl (own ∙ sym keeps.number)
 kept old new keeps n (inr (inl spare)) = inr (inl (

@@ -1,7 +1,8 @@
 use Rattle.std.proofs.Common.{⊎_elim, inl, inr, arith}
 use Rattle.std.proofs.lemmas.List.Quantifiers.{Any-push}
 use Rattle.machine_laws.specs.SharedOrders.{HasNumber}
-use Rattle.wal_rule.specs.Seats.{SeatView, seat_split_off}
+use Rattle.wal_core.specs.Views.{View}
+use Rattle.wal_core.specs.Moves.{split_off}
 use Rattle.wal_log.proofs.Having.{first_or_others, kept_have, more_have, none_has}
 use Rattle.wal_log.proofs.shared_numbers.passes_share_numbers.Goals as goal
 
@@ -15,10 +16,10 @@ returns-clause-all c = λ passes v share number low.
 pub returns-clause-split : goal.returns-clause-split
 returns-clause-split c = λ passes v others share number low. ⊎_elim
     (λ own. ⊎_elim (λ left. inl left)
-    (λ right. inr (Any-push (λ (w : SeatView). HasNumber number w.reserving) others
-    (seat_split_off v) right))
+    (λ right. inr (Any-push (λ (w : View). HasNumber number w.reserving) others
+    (split_off v) right))
     (c.seats_keep_numbers.ensures.split number v own))
-    (λ some. inr (more_have number others (seat_split_off v) some))
+    (λ some. inr (more_have number others (split_off v) some))
     (share number low)
 
 pub returns-clause-kept : goal.returns-clause-kept

@@ -4,7 +4,7 @@ use Rattle.wal_log_laws.specs.Surviving.{Survives}
 use Rattle.wal_core.specs.declared.setup.Setup.{Setup}
 use Rattle.wal_core.specs.Words.{Opening}
 use Rattle.wal_rule.specs.Passes.{view_of_pass}
-use Rattle.wal_rule.specs.Seats.{SeatView}
+use Rattle.wal_core.specs.Views.{View}
 use Rattle.machine_laws.specs.ClosedLogs.{HasAllNumbers}
 use Rattle.wal_log.specs.Committing.{IsSealed}
 use Rattle.wal_log.specs.Logs.{opening_of_log, setup_of_log}
@@ -13,7 +13,7 @@ use Rattle.wal_log_laws.proofs.one_commit.commit_one.Goals as goal
 pub close-closed-requires-clause-numbers : goal.close-closed-requires-clause-numbers
 close-closed-requires-clause-numbers g c =
     let opening = opening_of_log c.in-Ok.log in
-    let first = subst (λ (v : SeatView). HasAllNumbers (opening.setup).passes v.reserving)
+    let first = subst (λ (v : View). HasAllNumbers (opening.setup).passes v.reserving)
     (sym c.in-Ok.ensures.opened.view) (c.seats_keep_numbers.ensures.first opening).1 in
     λ number low. c.calls_keep_numbers.ensures (view_of_pass c.in-Ok.pass)
     (view_of_pass c.commit.new.pass) c.commit.ensures.keeps number (first number low)

@@ -1,11 +1,16 @@
-use Rattle.std.proofs.Common.{◌≡◌, ℕ, ◌+◌, ◌-◌, ◌<◌, ◌≤◌, false, None, Err, refl, sym, ap, ◌∙◌, arith}
+use Rattle.std.proofs.Common.{◌≡◌, ℕ, ◌+◌, ◌-◌, ◌<◌, ◌≤◌, false, None, Result, Ok, Err, refl, sym, ap, ◌∙◌, arith}
 use Rattle.std.proofs.lemmas.Result.{err_from_is_err_and}
 use Rattle.wal_page.specs.Page.{first_fault, header_size, timeline_of}
+use Rattle.wal_reader.specs.declared.found.Answer.{Answer}
+use Rattle.wal_reader.specs.declared.record_place.RecordPlace.{RecordPlace}
 use Rattle.wal_reader.specs.Beginning.{skipped_in}
-use Rattle.wal_reader.specs.Decodes.{first_place, is_zero_word, page_answers}
+use Rattle.wal_reader.specs.Decodes.{is_zero_word, page_answers}
 use Rattle.wal_reader.proofs.BeginningLaws.{begin_in-empty, begin_in-damaged, begin_in-here, begin_in-filled, page_position-le, page_position-aligned, skipped_in-aligned}
 use Rattle.wal_reader.proofs.beginning.front_of.Goals as goal
 use Rattle.wal_reader.proofs.beginning.front_of.Goals.{After-skipped_bytes-skipped}
+
+abbrev first_place : ℕ → ℕ → Result RecordPlace Answer
+first_place position timeline = Ok (record { position = position; prev = None; timeline = timeline })
 
 pub returns-then-is_zero_word-clause-begins : goal.returns-then-is_zero_word-clause-begins
 returns-then-is_zero_word-clause-begins c next =

@@ -1,27 +1,34 @@
 use Rattle.std.proofs.Common.{◌<◌, vec_len, ◌∙◌, arith}
 use Rattle.std.proofs.lemmas.Result.{err_from_is_err_and}
 use Rattle.wal_reader.proofs.CacheLaws.{held_page}
+use Rattle.wal_reader.proofs.ReadsOnLaws.{reads_more}
 use Rattle.wal_reader.proofs.GatherLaws.{crosses_further, page_rises, told_behind}
 use Rattle.wal_reader.proofs.gathering.gather.Goals as goal
 
-pub returns-in_err-cursor-clause-checks : goal.returns-in_err-cursor-clause-checks
-returns-in_err-cursor-clause-checks g c = λ pages sees.
-    let size = c.args.cache.now.geometry in
-    let place = c.args.extent.at in
+pub returns-in_err-cursor-clause-gathers : goal.returns-in_err-cursor-clause-gathers
+returns-in_err-cursor-clause-gathers g c = λ pages sees.
+    let size = c.args.buffers.now.cache.geometry in
+    let extent = c.args.gathering.extent in
     let inv = c.pages.invariant in
     let stop = err_from_is_err_and c.from_residual.result c.from_residual.ensures.1 in
-    let more : vec_len c.pages.room < c.args.upto = omega (arith, c.len.ensures) in
-    let told = c.in_err-cursor.ensures.checks pages (inv.sees pages sees) c.args.upto (omega (arith, more, c.len-in-pages.ensures)) in
-    rw (stop.1, stop.2) (told_behind size pages place c.args.extent.total c.args.cursor.page c.pages.cursor.page _ (inv.crosses pages sees) (page_rises size c.args.extent.at.position (vec_len c.pages.room) c.args.upto c.pages.cursor inv.gathered more) _ (rw inv.geometry at told))
+    let more : vec_len c.pages.buffers.room < c.args.upto = omega (arith, c.len.ensures) in
+    let told = c.in_err-cursor.ensures.checks pages (inv.reads_on.sees pages sees) c.args.upto (omega (arith, more, c.len-gathered.ensures)) in
+    let rises = page_rises size extent.at.position (vec_len c.pages.buffers.room) c.args.upto c.pages.cursor inv.gathered more in
+    record {
+      bytes = λ had. rw stop.1 tt;
+      passed = λ had. record { count = vec_len c.pages.buffers.room; page = c.pages.cursor.page; bytes = inv.bytes pages sees had; last = inv.gathered.last; crossed = inv.crosses pages sees };
+      checks = rw (stop.1, stop.2) (told_behind size pages extent.at extent.total c.args.gathering.cursor.page c.pages.cursor.page _ (inv.crosses pages sees) rises _ (rw inv.reads_on.geometry at told));
+    }
 
 pub pages-preserved : goal.pages-preserved
 pages-preserved g c =
     let inv = c.pages.invariant in
     let turned = c.in_ok-cursor.ensures in
     let took = c.in_ok-cursor-2.ensures in
-    let same = turned.geometry ∙ inv.geometry in
+    let reads_on = reads_more inv.reads_on turned.reads_on in
+    let same = reads_on.geometry in
     record {
-      geometry = same;
+      reads_on = reads_on;
       len = took.len.1;
       on = took.cursor.0;
       beyond = λ far.
@@ -29,15 +36,12 @@ pages-preserved g c =
           let now = turned.beyond (omega (arith, far, before.2)) in
           (now.0 ∙ before.0, now.1 ∙ before.1, took.page ∙ now.2 ∙ before.2));
       gathered = rw same at took.cursor.1;
-      sees = λ pages sees. turned.sees pages (inv.sees pages sees);
       bytes = λ pages sees had.
-          (let here = held_page (g.D.Disk.tape c.pass_border.new.disk) c.pass_border.new.cache pages c.in_ok-cursor.cursor.page (turned.sees pages (inv.sees pages sees)) turned.cursor.0.0 in
+          (let here = held_page (g.D.Disk.tape c.pass_border.new.disk) c.pass_border.new.cache pages c.in_ok-cursor.cursor.page (reads_on.sees pages sees) turned.cursor.0.0 in
           (rw same at (took.bytes pages here)) (inv.bytes pages sees had));
       crosses = λ pages sees.
-          (let crossed = crosses_further _ pages _ _ _ _ _ (inv.crosses pages sees) (rw inv.geometry at (turned.checks pages (inv.sees pages sees))) in
+          (let crossed = crosses_further _ pages _ _ _ _ _ (inv.crosses pages sees) (rw inv.reads_on.geometry at (turned.checks pages (inv.reads_on.sees pages sees))) in
           rw took.page crossed);
-      tape = turned.uncalled.same_tape ∙ inv.tape;
-      moment = turned.uncalled.same_moment ∙ inv.moment;
       faults = turned.cause ∙ inv.faults;
     }
 

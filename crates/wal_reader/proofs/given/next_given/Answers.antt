@@ -6,57 +6,46 @@ use Rattle.wal_reader.specs.Decodes.{beginning}
 use Rattle.wal_reader.specs.RecordRead.{IsRoomAfterStep}
 use Rattle.wal_reader.specs.Spelled.{IsSpelledIn}
 use Rattle.wal_reader.specs.Steps.{ComesNext}
+use Rattle.wal_reader.specs.Answered.{IsNextIn}
+use Rattle.wal_reader.specs.ReadsOn.{ReadsOn}
+use Rattle.wal_reader.proofs.ReadsOnLaws.{reads_more}
 use Rattle.wal_reader.proofs.GivesLaws.{ComesNext-begun}
 use Rattle.wal_reader.proofs.given.next_given.Goals as goal
 use Rattle.wal_reader.proofs.given.next_given.Goals.{in-Some, in-None+in_ok-at-in-None}
 
-pub returns-clause-next : goal.returns-clause-next
-returns-clause-next g c pages sees =
+pub returns-clause-reads_on : goal.returns-clause-reads_on
+returns-clause-reads_on g c =
+    elim c.match-from.branch [
+      | in-Some w ↦ rw (← w.buffers-is, ← w.disk-is) c.read_given.ensures.reads_on
+      | in-None+in_ok-at-in-None w ↦
+          (let on : ReadsOn g.D.Disk.tape g.D.Disk.moment c.args.disk.now c.match-from.disk c.args.buffers.now.cache c.match-from.buffers.cache = rw (w.buffers-is, w.disk-is) w.in_ok-at-in-None.ensures.reads_on in
+          reads_more on c.read_given.ensures.reads_on)
+    ]
+
+pub returns-clause-gives : goal.returns-clause-gives
+returns-clause-gives g c pages sees =
+    let size = c.args.buffers.now.cache.geometry in
+    let start = c.args.start.0 in
     let end = option_map (λ (e : Lsn). e.0) c.args.end in
+    let now = c.read_given.new.buffers.room.items in
+    let result = c.read_given.result in
     elim c.match-from.branch [
       | in-Some w ↦
           (let here : Sees (g.D.Disk.tape c.match-from.disk) c.match-from.buffers.cache pages = rw (w.buffers-is, w.disk-is) sees in
-          let next = c.read_given.ensures.next pages here in
-          let same : ComesNext c.args.buffers.now.cache.geometry pages c.args.start.0 end (Some c.match-from.at) c.read_given.result = rw (← w.buffers-is) next.1 in
-          (next.0, rw (w.in-Some.is, ← w.at-is) same))
+          let same : IsNextIn size pages start end (Some c.match-from.at) c.args.buffers.now.room.items now result = rw (← w.buffers-is) (c.read_given.ensures.gives pages here) in
+          rw (w.in-Some.is, ← w.at-is) same)
       | in-None+in_ok-at-in-None w ↦
-          (let begins = w.in_ok-at-in-None.ensures.begins pages sees in
-          let here : Sees (g.D.Disk.tape c.match-from.disk) c.match-from.buffers.cache pages = rw (w.buffers-is, w.disk-is) begins.0 in
-          let next = c.read_given.ensures.next pages here in
-          let geometry : c.match-from.buffers.cache.geometry ≡ c.args.buffers.now.cache.geometry = rw w.buffers-is w.in_ok-at-in-None.ensures.geometry in
-          let same : ComesNext c.args.buffers.now.cache.geometry pages c.args.start.0 end (Some c.match-from.at) c.read_given.result = subst (λ (n : ℕ). ComesNext n pages c.args.start.0 end (Some c.match-from.at) c.read_given.result) geometry next.1 in
-          let begun : beginning c.args.buffers.now.cache.geometry pages c.args.start.0 ≡ Ok c.match-from.at = rw w.at-is begins.1 in
-          let all : ComesNext c.args.buffers.now.cache.geometry pages c.args.start.0 end None c.read_given.result = ComesNext-begun c.args.buffers.now.cache.geometry pages c.args.start.0 end c.match-from.at c.read_given.result begun same in
-          (next.0, rw w.in-None.is all))
-    ]
-
--- what is said of the record and the room from where reading goes on is said from the call on
-pub returns-clause-room : goal.returns-clause-room
-returns-clause-room g c pages sees =
-    elim c.match-from.branch [
-      | in-Some w ↦
-          (let here : Sees (g.D.Disk.tape c.match-from.disk) c.match-from.buffers.cache pages = rw (w.buffers-is, w.disk-is) sees in
-          rw (← w.buffers-is) (c.read_given.ensures.room pages here))
-      | in-None+in_ok-at-in-None w ↦
-          (let begins = w.in_ok-at-in-None.ensures.begins pages sees in
-          let here : Sees (g.D.Disk.tape c.match-from.disk) c.match-from.buffers.cache pages = rw (w.buffers-is, w.disk-is) begins.0 in
-          let geometry : c.match-from.buffers.cache.geometry ≡ c.args.buffers.now.cache.geometry = rw w.buffers-is w.in_ok-at-in-None.ensures.geometry in
+          (let on : ReadsOn g.D.Disk.tape g.D.Disk.moment c.args.disk.now c.match-from.disk c.args.buffers.now.cache c.match-from.buffers.cache = rw (w.buffers-is, w.disk-is) w.in_ok-at-in-None.ensures.reads_on in
+          let here = c.read_given.ensures.gives pages (on.sees pages sees) in
+          let same : ComesNext size pages start end (Some c.match-from.at) result = subst (λ (n : ℕ). ComesNext n pages start end (Some c.match-from.at) result) on.geometry here.next in
+          let begun : beginning size pages start ≡ Ok c.match-from.at = rw w.at-is (w.in_ok-at-in-None.ensures.begins pages sees) in
+          let all : ComesNext size pages start end None result = ComesNext-begun size pages start end c.match-from.at result begun same in
           let room : c.match-from.buffers.room.items ≡ c.args.buffers.now.room.items = rw w.buffers-is refl in
-          subst (λ (items : List ℕ). IsRoomAfterStep c.args.buffers.now.cache.geometry pages items c.read_given.new.buffers.room.items) room
-          (subst (λ (n : ℕ). IsRoomAfterStep n pages c.match-from.buffers.room.items c.read_given.new.buffers.room.items) geometry (c.read_given.ensures.room pages here)))
-    ]
-
-pub returns-clause-spelled_there : goal.returns-clause-spelled_there
-returns-clause-spelled_there g c pages sees =
-    elim c.match-from.branch [
-      | in-Some w ↦
-          (let here : Sees (g.D.Disk.tape c.match-from.disk) c.match-from.buffers.cache pages = rw (w.buffers-is, w.disk-is) sees in
-          rw (← w.buffers-is) (c.read_given.ensures.spelled_there pages here))
-      | in-None+in_ok-at-in-None w ↦
-          (let begins = w.in_ok-at-in-None.ensures.begins pages sees in
-          let here : Sees (g.D.Disk.tape c.match-from.disk) c.match-from.buffers.cache pages = rw (w.buffers-is, w.disk-is) begins.0 in
-          let geometry : c.match-from.buffers.cache.geometry ≡ c.args.buffers.now.cache.geometry = rw w.buffers-is w.in_ok-at-in-None.ensures.geometry in
-          subst (λ (n : ℕ). IfOk c.read_given.result (λ r. IsSpelledIn n pages r.0)) geometry (c.read_given.ensures.spelled_there pages here))
+          record {
+            next = rw w.in-None.is all;
+            spelled = subst (λ (n : ℕ). IfOk result (λ r. IsSpelledIn n pages r.0)) on.geometry here.spelled;
+            room = subst (λ (items : List ℕ). IsRoomAfterStep size pages items now) room (subst (λ (n : ℕ). IsRoomAfterStep n pages c.match-from.buffers.room.items now) on.geometry here.room);
+          })
     ]
 
 pub returns-clause-unread : goal.returns-clause-unread

@@ -14,6 +14,7 @@ use Rattle.wal_reader.specs.RecordRead.{IsRead}
 use Rattle.wal_reader.specs.Spelled.{IsSpelledIn}
 use Rattle.wal_reader.proofs.ReadAtLaws.{room_after_record}
 use Rattle.wal_reader.specs.RecordPlace.{IsOutOfReach}
+use Rattle.wal_reader.proofs.ReadsOnLaws.{reads_more}
 use Rattle.wal_reader.proofs.GivesLaws.{GivesFrom-given, GivesFrom-passed, ComesNext-stopped}
 use Rattle.wal_reader.proofs.given.read_given.Goals as goal
 
@@ -36,14 +37,14 @@ pub returns-in_err-found-clause-unread : goal.returns-in_err-found-clause-unread
 returns-in_err-found-clause-unread g c out =
     let end = option_map (λ (e : Lsn). e.0) c.args.end in
     let first = c.records.invariant.unread out in
-    let here = out_here c.records.buffers.cache.geometry c.args.buffers.now.cache.geometry end c.records.at c.args.from c.records.invariant.geometry first.0 out in
+    let here = out_here c.records.buffers.cache.geometry c.args.buffers.now.cache.geometry end c.records.at c.args.from c.records.invariant.reads_on.geometry first.0 out in
     (c.in_err-found.ensures.unread here).0 ∙ first.1
 
 pub returns-then-found-start-clause-unread : goal.returns-then-found-start-clause-unread
 returns-then-found-start-clause-unread g c out =
     let end = option_map (λ (e : Lsn). e.0) c.args.end in
     let first = c.records.invariant.unread out in
-    let here = out_here c.records.buffers.cache.geometry c.args.buffers.now.cache.geometry end c.records.at c.args.from c.records.invariant.geometry first.0 out in
+    let here = out_here c.records.buffers.cache.geometry c.args.buffers.now.cache.geometry end c.records.at c.args.from c.records.invariant.reads_on.geometry first.0 out in
     absurd (c.in_ok-found.ensures.unread here).1
 
 -- in the last page that is read nothing more is read
@@ -56,8 +57,8 @@ returns-in_err-found-clause-last_page g c last =
     let size = c.args.buffers.now.cache.geometry in
     let so_far = c.records.invariant.last_page last in
     elim (last_or_out c.args.buffers.now.cache.number size end c.args.from.position c.records.at.position last so_far.2) [
-      | inl here ↦ (c.in_err-found.ensures.last_page (last_here c.records.buffers.cache.geometry size c.args.buffers.now.cache.number c.records.buffers.cache.number c.records.at.position c.records.invariant.geometry (ap (λ (cache : PageCache). cache.number) so_far.1) here)).0 ∙ so_far.0
-      | inr out ↦ (c.in_err-found.ensures.unread (subst (λ (n : ℕ). IsOutOfReach n end c.records.at.position) (sym c.records.invariant.geometry) out)).0 ∙ so_far.0
+      | inl here ↦ (c.in_err-found.ensures.last_page (last_here c.records.buffers.cache.geometry size c.args.buffers.now.cache.number c.records.buffers.cache.number c.records.at.position c.records.invariant.reads_on.geometry (ap (λ (cache : PageCache). cache.number) so_far.1) here)).0 ∙ so_far.0
+      | inr out ↦ (c.in_err-found.ensures.unread (subst (λ (n : ℕ). IsOutOfReach n end c.records.at.position) (sym c.records.invariant.reads_on.geometry) out)).0 ∙ so_far.0
     ]
 
 pub returns-then-found-start-clause-last_page : goal.returns-then-found-start-clause-last_page
@@ -66,76 +67,70 @@ returns-then-found-start-clause-last_page g c last =
     let size = c.args.buffers.now.cache.geometry in
     let so_far = c.records.invariant.last_page last in
     elim (last_or_out c.args.buffers.now.cache.number size end c.args.from.position c.records.at.position last so_far.2) [
-      | inl here ↦ (c.in_ok-found.ensures.last_page (last_here c.records.buffers.cache.geometry size c.args.buffers.now.cache.number c.records.buffers.cache.number c.records.at.position c.records.invariant.geometry (ap (λ (cache : PageCache). cache.number) so_far.1) here)).0 ∙ so_far.0
-      | inr out ↦ absurd (c.in_ok-found.ensures.unread (subst (λ (n : ℕ). IsOutOfReach n end c.records.at.position) (sym c.records.invariant.geometry) out)).1
+      | inl here ↦ (c.in_ok-found.ensures.last_page (last_here c.records.buffers.cache.geometry size c.args.buffers.now.cache.number c.records.buffers.cache.number c.records.at.position c.records.invariant.reads_on.geometry (ap (λ (cache : PageCache). cache.number) so_far.1) here)).0 ∙ so_far.0
+      | inr out ↦ absurd (c.in_ok-found.ensures.unread (subst (λ (n : ℕ). IsOutOfReach n end c.records.at.position) (sym c.records.invariant.reads_on.geometry) out)).1
     ]
 
-pub returns-in_err-found-clause-next : goal.returns-in_err-found-clause-next
-returns-in_err-found-clause-next g c pages sees =
-    let before = c.records.invariant.comes pages sees in
-    let now = c.in_err-found.ensures.sees pages before.0 in
+pub returns-in_err-found-clause-gives : goal.returns-in_err-found-clause-gives
+returns-in_err-found-clause-gives g c pages sees =
+    let inv = c.records.invariant in
+    let size = c.args.buffers.now.cache.geometry in
+    let here = c.in_err-found.ensures.reads pages (inv.reads_on.sees pages sees) in
     let end = option_map (λ (e : Lsn). e.0) c.args.end in
     let exit = err_from_is_err_and c.from_residual.result c.from_residual.ensures.1 in
-    let read = read_of c.records.buffers.cache.geometry c.args.buffers.now.cache.geometry pages end c.records.at (Err c.in_err-found.field-0.0) c.records.invariant.geometry (c.in_err-found.ensures.reads pages before.0) in
-    (now, rw (exit.1, exit.2) (ComesNext-stopped c.args.buffers.now.cache.geometry pages c.args.start.0 end c.args.from c.records.at c.in_err-found.field-0.0 before.1 read))
+    let read = read_of c.records.buffers.cache.geometry size pages end c.records.at (Err c.in_err-found.field-0.0) inv.reads_on.geometry here.reads in
+    record {
+      next = rw (exit.1, exit.2) (ComesNext-stopped size pages c.args.start.0 end c.args.from c.records.at c.in_err-found.field-0.0 (inv.comes pages sees) read);
+      spelled = rw exit.1 tt;
+      room = room_after_record size c.records.buffers.cache.geometry pages c.records.at _ _ _ inv.reads_on.geometry (inv.room pages sees) here.room;
+    }
 
-pub returns-then-found-start-clause-next : goal.returns-then-found-start-clause-next
-returns-then-found-start-clause-next g c pages sees =
-    let before = c.records.invariant.comes pages sees in
-    let now = c.in_ok-found.ensures.sees pages before.0 in
-    let end = option_map (λ (e : Lsn). e.0) c.args.end in
+pub returns-then-found-start-clause-gives : goal.returns-then-found-start-clause-gives
+returns-then-found-start-clause-gives g c pages sees =
+    let inv = c.records.invariant in
     let size = c.args.buffers.now.cache.geometry in
+    let here = c.in_ok-found.ensures.reads pages (inv.reads_on.sees pages sees) in
+    let end = option_map (λ (e : Lsn). e.0) c.args.end in
     let found = c.in_ok-found.found in
-    let read = read_of c.records.buffers.cache.geometry size pages end c.records.at (Ok (found, c.in_ok-found.behind)) c.records.invariant.geometry (c.in_ok-found.ensures.reads pages before.0) in
-    (now, λ others answer rest. before.1 (found ∷ others) answer (GivesFrom-given size pages c.args.start.0 end c.records.at found c.in_ok-found.behind read.0 read.1 others answer rest c.if-found-start.true))
+    let read = read_of c.records.buffers.cache.geometry size pages end c.records.at (Ok (found, c.in_ok-found.behind)) inv.reads_on.geometry here.reads in
+    record {
+      next = λ others answer rest. inv.comes pages sees (found ∷ others) answer (GivesFrom-given size pages c.args.start.0 end c.records.at found c.in_ok-found.behind read.0 read.1 others answer rest c.if-found-start.true);
+      spelled = subst (λ (n : ℕ). IsSpelledIn n pages found) inv.reads_on.geometry here.spelled;
+      room = room_after_record size c.records.buffers.cache.geometry pages c.records.at _ _ _ inv.reads_on.geometry (inv.room pages sees) here.room;
+    }
 
-pub returns-in_err-found-clause-room : goal.returns-in_err-found-clause-room
-returns-in_err-found-clause-room g c pages sees =
-    let inv = c.records.invariant in
-    let seen = (inv.comes pages sees).0 in
-    room_after_record c.args.buffers.now.cache.geometry c.records.buffers.cache.geometry pages c.records.at _ _ _ inv.geometry (inv.room pages sees) (c.in_err-found.ensures.room pages seen)
+pub returns-in_err-found-clause-reads_on : goal.returns-in_err-found-clause-reads_on
+returns-in_err-found-clause-reads_on g c = reads_more c.records.invariant.reads_on c.in_err-found.ensures.reads_on
 
-pub returns-then-found-start-clause-room : goal.returns-then-found-start-clause-room
-returns-then-found-start-clause-room g c pages sees =
-    let inv = c.records.invariant in
-    let seen = (inv.comes pages sees).0 in
-    room_after_record c.args.buffers.now.cache.geometry c.records.buffers.cache.geometry pages c.records.at _ _ _ inv.geometry (inv.room pages sees) (c.in_ok-found.ensures.room pages seen)
-
-pub returns-then-found-start-clause-spelled_there : goal.returns-then-found-start-clause-spelled_there
-returns-then-found-start-clause-spelled_there g c pages sees =
-    let inv = c.records.invariant in
-    let seen = (inv.comes pages sees).0 in
-    subst (λ (n : ℕ). IsSpelledIn n pages c.in_ok-found.found) inv.geometry (c.in_ok-found.ensures.spelled_there pages seen)
+pub returns-then-found-start-clause-reads_on : goal.returns-then-found-start-clause-reads_on
+returns-then-found-start-clause-reads_on g c = reads_more c.records.invariant.reads_on c.in_ok-found.ensures.reads_on
 
 pub records-preserved : goal.records-preserved
 records-preserved g c = record {
-  geometry = c.in_ok-found.ensures.geometry ∙ c.records.invariant.geometry;
-  tape = c.in_ok-found.ensures.uncalled.same_tape ∙ c.records.invariant.tape;
-  moment = c.in_ok-found.ensures.uncalled.same_moment ∙ c.records.invariant.moment;
+  reads_on = reads_more c.records.invariant.reads_on c.in_ok-found.ensures.reads_on;
   faults = c.in_ok-found.ensures.cause ∙ c.records.invariant.faults;
-  reachable = c.in_ok-found.ensures.goes_on.1;
-  further = (let further = c.in_ok-found.ensures.goes_on.0 in
+  reachable = c.in_ok-found.ensures.answered.further.1;
+  further = (let further = c.in_ok-found.ensures.answered.further.0 in
       omega arith);
   unread = λ out. (let first = c.records.invariant.unread out in
       let end = option_map (λ (e : Lsn). e.0) c.args.end in
-      let here = out_here c.records.buffers.cache.geometry c.args.buffers.now.cache.geometry end c.records.at c.args.from c.records.invariant.geometry first.0 out in
+      let here = out_here c.records.buffers.cache.geometry c.args.buffers.now.cache.geometry end c.records.at c.args.from c.records.invariant.reads_on.geometry first.0 out in
       absurd (c.in_ok-found.ensures.unread here).1);
   last_page = λ last. (let end = option_map (λ (e : Lsn). e.0) c.args.end in
       let size = c.args.buffers.now.cache.geometry in
       let so_far = c.records.invariant.last_page last in
-      let rises = subst (λ (n : ℕ). address_of n c.records.at.position ≤ address_of n c.in_ok-found.behind.position) c.records.invariant.geometry c.in_ok-found.ensures.rises in
+      let rises = subst (λ (n : ℕ). address_of n c.records.at.position ≤ address_of n c.in_ok-found.behind.position) c.records.invariant.reads_on.geometry c.in_ok-found.ensures.rises in
       elim (last_or_out c.args.buffers.now.cache.number size end c.args.from.position c.records.at.position last so_far.2) [
         | inl here ↦
-            (let now = c.in_ok-found.ensures.last_page (last_here c.records.buffers.cache.geometry size c.args.buffers.now.cache.number c.records.buffers.cache.number c.records.at.position c.records.invariant.geometry (ap (λ (cache : PageCache). cache.number) so_far.1) here) in
+            (let now = c.in_ok-found.ensures.last_page (last_here c.records.buffers.cache.geometry size c.args.buffers.now.cache.number c.records.buffers.cache.number c.records.at.position c.records.invariant.reads_on.geometry (ap (λ (cache : PageCache). cache.number) so_far.1) here) in
             (now.0 ∙ so_far.0, now.1 ∙ so_far.1, omega (arith, rises, so_far.2)))
-        | inr out ↦ absurd (c.in_ok-found.ensures.unread (subst (λ (n : ℕ). IsOutOfReach n end c.records.at.position) (sym c.records.invariant.geometry) out)).1
+        | inr out ↦ absurd (c.in_ok-found.ensures.unread (subst (λ (n : ℕ). IsOutOfReach n end c.records.at.position) (sym c.records.invariant.reads_on.geometry) out)).1
       ]);
-  room = λ pages sees. room_after_record c.args.buffers.now.cache.geometry c.records.buffers.cache.geometry pages c.records.at _ _ _ c.records.invariant.geometry (c.records.invariant.room pages sees) (c.in_ok-found.ensures.room pages (c.records.invariant.comes pages sees).0);
-  comes = λ pages sees. (let before = c.records.invariant.comes pages sees in
-      let now = c.in_ok-found.ensures.sees pages before.0 in
+  room = λ pages sees. room_after_record c.args.buffers.now.cache.geometry c.records.buffers.cache.geometry pages c.records.at _ _ _ c.records.invariant.reads_on.geometry (c.records.invariant.room pages sees) (c.in_ok-found.ensures.reads pages (c.records.invariant.reads_on.sees pages sees)).room;
+  comes = λ pages sees. (let here = c.in_ok-found.ensures.reads pages (c.records.invariant.reads_on.sees pages sees) in
       let end = option_map (λ (e : Lsn). e.0) c.args.end in
       let size = c.args.buffers.now.cache.geometry in
       let found = c.in_ok-found.found in
-      let read = read_of c.records.buffers.cache.geometry size pages end c.records.at (Ok (found, c.in_ok-found.behind)) c.records.invariant.geometry (c.in_ok-found.ensures.reads pages before.0) in
-      (now, λ others answer rest. before.1 others answer (GivesFrom-passed size pages c.args.start.0 end c.records.at found c.in_ok-found.behind read.0 read.1 others answer rest c.if-found-start.false)));
+      let read = read_of c.records.buffers.cache.geometry size pages end c.records.at (Ok (found, c.in_ok-found.behind)) c.records.invariant.reads_on.geometry here.reads in
+      λ others answer rest. c.records.invariant.comes pages sees others answer (GivesFrom-passed size pages c.args.start.0 end c.records.at found c.in_ok-found.behind read.0 read.1 others answer rest c.if-found-start.false));
 }

@@ -1,50 +1,56 @@
-use Rattle.std.proofs.Common.{◌≡◌, ℕ, List, take, drop, sym, ap, ◌∙◌}
+use Rattle.std.proofs.Common.{rules, ◌≡◌, ℕ, List, take, drop, sym, ap, ◌∙◌}
 use Rattle.std.proofs.lemmas.Result.{err_from_is_err_and}
 use Rattle.wal_reader.specs.declared.record_place.RecordPlace.{RecordPlace}
 use Rattle.wal_reader.proofs.RecordReads.{header_fails_here, crc_fails_here, read_here, found_here, end_in_page, goes_on_behind}
 use Rattle.wal_reader.proofs.record_reading.read_in_page.Goals as goal
 use Rattle.wal_reader.proofs.record_reading.read_in_page.Goals.{After-part_of_page-bytes}
 
-own : (c : After-part_of_page-bytes) → c.part_of_page-bytes.result.now ≡ take c.args.extent.total (drop c.args.cursor.offset c.args.cache.now.bytes.value)
-own c = c.part_of_page-bytes.ensures.bytes ∙ ap (λ (page : List ℕ). take c.args.extent.total (drop c.args.cursor.offset page)) c.deref.ensures
+own : (c : After-part_of_page-bytes) → c.part_of_page-bytes.result.now ≡ take c.args.opened.extent.total (drop c.args.opened.cursor.offset c.args.cache.now.bytes.value)
+own c = c.part_of_page-bytes.ensures.bytes ∙ ap (λ (page : List ℕ). take c.args.opened.extent.total (drop c.args.opened.cursor.offset page)) c.deref.ensures
 
 pub returns-in_err-check_header-clause-reads : goal.returns-in_err-check_header-clause-reads
 returns-in_err-check_header-clause-reads c = λ pages here.
     let before = (goal.at.returns-in_err-check_header-clause-reads c).After-part_of_page-bytes in
     let size = c.args.cache.now.geometry in
     let stop = err_from_is_err_and c.from_residual.result c.from_residual.ensures.1 in
-    rw (stop.1, stop.2) (header_fails_here size pages c.args.extent.at c.start-start.result c.args.extent.total c.args.cursor _ _ c.start-start.ensures c.requires.page c.requires.gathered here c.requires.whole c.requires.large c.requires.within (own before) _ c.in_err-check_header.ensures)
+    rw (stop.1, stop.2) (header_fails_here size pages c.args.opened.extent.at c.start-start.result c.args.opened.extent.total c.args.opened.cursor _ _ c.start-start.ensures c.requires.opened.page c.requires.opened.none.gathered here c.requires.whole c.requires.opened.large c.requires.within (own before) _ c.in_err-check_header.ensures)
 
 pub returns-in_err-check_crc-clause-reads : goal.returns-in_err-check_crc-clause-reads
 returns-in_err-check_crc-clause-reads c = λ pages here.
     let before = (goal.at.returns-in_err-check_crc-clause-reads c).After-part_of_page-bytes in
     let size = c.args.cache.now.geometry in
     let stop = err_from_is_err_and c.from_residual-in_err-check_crc.result c.from_residual-in_err-check_crc.ensures.1 in
-    rw (stop.1, stop.2) (crc_fails_here size pages c.args.extent.at c.start-start.result c.args.extent.total c.args.cursor _ _ c.start-start.ensures c.requires.page c.requires.gathered here c.requires.whole c.requires.large c.requires.within (own before) c.in_ok-check_header.ensures _ c.in_err-check_crc.ensures)
+    rw (stop.1, stop.2) (crc_fails_here size pages c.args.opened.extent.at c.start-start.result c.args.opened.extent.total c.args.opened.cursor _ _ c.start-start.ensures c.requires.opened.page c.requires.opened.none.gathered here c.requires.whole c.requires.opened.large c.requires.within (own before) c.in_ok-check_header.ensures _ c.in_err-check_crc.ensures)
 
 pub found-requires-clause-end : goal.found-requires-clause-end
 found-requires-clause-end c =
-    end_in_page c.args.cache.now.geometry c.args.extent.at.position c.args.extent.total c.args.cursor c.requires.gathered c.requires.within c.requires.large c.requires.reachable.aligned
+    end_in_page c.args.cache.now.geometry c.args.opened.extent.at.position c.args.opened.extent.total c.args.opened.cursor c.requires.opened.none.gathered c.requires.within c.requires.opened.large c.requires.opened.none.reachable.aligned
 
 pub returns-in_err-found-2-clause-reads : goal.returns-in_err-found-2-clause-reads
 returns-in_err-found-2-clause-reads c = λ pages here.
     let before = (goal.at.returns-in_err-found-2-clause-reads c).After-part_of_page-bytes in
     let size = c.args.cache.now.geometry in
     let stop = err_from_is_err_and c.from_residual-in_err-found-2.result c.from_residual-in_err-found-2.ensures.1 in
-    let read = read_here size pages c.args.extent.at c.start-start.result c.args.extent.total c.args.cursor _ _ c.start-start.ensures c.requires.page c.requires.gathered here c.requires.whole c.requires.large c.requires.within (own before) c.in_ok-check_header.ensures c.in_ok-check_crc.ensures in
+    let read = read_here size pages c.args.opened.extent.at c.start-start.result c.args.opened.extent.total c.args.opened.cursor _ _ c.start-start.ensures c.requires.opened.page c.requires.opened.none.gathered here c.requires.whole c.requires.opened.large c.requires.within (own before) c.in_ok-check_header.ensures c.in_ok-check_crc.ensures in
     rw (stop.1, stop.2) (read ∙ sym c.in_ok-found.ensures.read ∙ c.in_err-found-2.was)
 
-pub returns-clause-goes_on : goal.returns-clause-goes_on
-returns-clause-goes_on c =
-    let bound = end_in_page c.args.cache.now.geometry c.args.extent.at.position c.args.extent.total c.args.cursor c.requires.gathered c.requires.within c.requires.large c.requires.reachable.aligned in
-    goes_on_behind c.args.extent.at c.behind.result c.args.extent.total c.requires.reachable c.requires.large bound (ap (λ (next : RecordPlace). next.position) c.behind.ensures)
+pub returns-clause-answered : goal.returns-clause-answered
+returns-clause-answered c =
+    let size = c.args.cache.now.geometry in
+    let extent = c.args.opened.extent in
+    let bound = end_in_page size extent.at.position extent.total c.args.opened.cursor c.requires.opened.none.gathered c.requires.within c.requires.opened.large c.requires.opened.none.reachable.aligned in
+    record {
+      further = goes_on_behind extent.at c.behind.result extent.total c.requires.opened.none.reachable c.requires.opened.large bound (ap (λ (next : RecordPlace). next.position) c.behind.ensures);
+      behind = search rules;
+      spelled = search rules;
+    }
 
 pub returns-clause-reads : goal.returns-clause-reads
 returns-clause-reads c = λ pages here.
     let before = (goal.at.returns-clause-reads c).After-part_of_page-bytes in
     let size = c.args.cache.now.geometry in
     let found = c.in_ok-found-2.found in
-    let read = read_here size pages c.args.extent.at c.start-start.result c.args.extent.total c.args.cursor _ _ c.start-start.ensures c.requires.page c.requires.gathered here c.requires.whole c.requires.large c.requires.within (own before) c.in_ok-check_header.ensures c.in_ok-check_crc.ensures in
+    let read = read_here size pages c.args.opened.extent.at c.start-start.result c.args.opened.extent.total c.args.opened.cursor _ _ c.start-start.ensures c.requires.opened.page c.requires.opened.none.gathered here c.requires.whole c.requires.opened.large c.requires.within (own before) c.in_ok-check_header.ensures c.in_ok-check_crc.ensures in
     let said = sym c.in_ok-found.ensures.read ∙ c.in_ok-found-2.was in
-    let behind = found_here size pages c.args.extent.at c.start-start.result c.args.extent.total c.args.cursor _ _ c.start-start.ensures c.requires.page c.requires.gathered here c.requires.whole c.requires.large c.requires.within (own before) found c.requires.on.1 said in
+    let behind = found_here size pages c.args.opened.extent.at c.start-start.result c.args.opened.extent.total c.args.opened.cursor _ _ c.start-start.ensures c.requires.opened.page c.requires.opened.none.gathered here c.requires.whole c.requires.opened.large c.requires.within (own before) found c.requires.opened.none.on.1 said in
     (read ∙ said, c.behind.ensures ∙ behind)

@@ -1,4 +1,4 @@
-use Rattle.std.proofs.Common.{◌≡◌, ℕ, ◌≤◌, Some, Result, option_map, inr, sym, ap, ◌∙◌, arith}
+use Rattle.std.proofs.Common.{◌≡◌, ℕ, ◌≤◌, Some, Result, option_map, inl, inr, refl, sym, ap, ◌∙◌, arith}
 use Rattle.std.specs.Prelude.{IfOk}
 use Rattle.byte_position.specs.Geometry.{IsSegmentSize}
 use Rattle.byte_position.specs.Position.{address_of}
@@ -11,10 +11,11 @@ use Rattle.wal_reader.specs.declared.found.FoundRecord.{FoundRecord}
 use Rattle.wal_reader.specs.declared.read_failure.ReadFailure.{ReadFailure}
 use Rattle.wal_reader.specs.declared.record_extent.RecordExtent.{RecordExtent}
 use Rattle.wal_reader.specs.declared.record_place.RecordPlace.{RecordPlace}
-use Rattle.wal_reader.specs.RecordRead.{GoesOn}
+use Rattle.wal_reader.specs.Answered.{IsAnswered}
 use Rattle.wal_reader.specs.PageCursor.{Sees}
 use Rattle.wal_reader.specs.Pages.{Pages}
 use Rattle.wal_reader.proofs.CacheLaws.{held_page}
+use Rattle.wal_reader.proofs.ReadsOnLaws.{reads_more}
 use Rattle.wal_reader.proofs.ReachLaws.{is_before_end, no_page_above, read_at-out_of_reach}
 use Rattle.wal_reader.proofs.RecordAt.{size_in_page, read_at-not_opened, read_at-no_size, read_at-rest}
 use Rattle.wal_reader.proofs.ReadAtLaws.{read_is_spelled}
@@ -26,87 +27,91 @@ pub returns-then-is_out_of_reach-clause-reads : goal.returns-then-is_out_of_reac
 returns-then-is_out_of_reach-clause-reads g c = λ pages sees.
     let end = option_map (λ (l : Lsn). l.0) c.args.end in
     let out = c.is_out_of_reach.ensures.0 c.if-is_out_of_reach.true in
-    let none = no_page_above (g.D.Disk.tape c.args.disk.now) c.args.cache.now pages sees in
-    rw c.end_of_log.ensures (read_at-out_of_reach c.args.cache.now.geometry pages end c.args.at out none)
+    let none = no_page_above (g.D.Disk.tape c.args.disk.now) c.args.buffers.now.cache pages sees in
+    record {
+      reads = rw c.end_of_log.ensures (read_at-out_of_reach c.args.buffers.now.cache.geometry pages end c.args.at out none);
+      spelled = tt;
+      room = inl refl;
+    }
 
 pub returns-in_err-cursor-clause-reads : goal.returns-in_err-cursor-clause-reads
 returns-in_err-cursor-clause-reads g c = λ pages sees.
     let stop = err_from_is_err_and c.from_residual.result c.from_residual.ensures.1 in
-    let before = is_before_end c.args.cache.now.geometry (option_map (λ (l : Lsn). l.0) c.args.end) c.args.at.position c.is_out_of_reach.result c.is_out_of_reach.ensures c.if-is_out_of_reach.false in
-    rw (stop.1, stop.2) (stop_tells c.args.cache.now.geometry pages c.args.at _ _ (read_at-not_opened c.args.cache.now.geometry pages (option_map (λ (l : Lsn). l.0) c.args.end) c.args.at before) _ (c.in_err-cursor.ensures.checks pages sees))
+    let before = is_before_end c.args.buffers.now.cache.geometry (option_map (λ (l : Lsn). l.0) c.args.end) c.args.at.position c.is_out_of_reach.result c.is_out_of_reach.ensures c.if-is_out_of_reach.false in
+    record {
+      reads = rw (stop.1, stop.2) (stop_tells c.args.buffers.now.cache.geometry pages c.args.at _ _ (read_at-not_opened c.args.buffers.now.cache.geometry pages (option_map (λ (l : Lsn). l.0) c.args.end) c.args.at before) _ (c.in_err-cursor.ensures.checks pages sees));
+      spelled = rw stop.1 tt;
+      room = inl refl;
+    }
 
 -- the page in which the record starts
-here : (g : _) (c : After-claimed g) (pages : Pages) → Sees (g.D.Disk.tape c.args.disk.now) c.args.cache.now pages → pages c.in_ok-cursor.cursor.page ≡ Some c.open_page.new.cache.bytes.value
-here g c pages sees = held_page (g.D.Disk.tape c.open_page.new.disk) c.open_page.new.cache pages c.in_ok-cursor.cursor.page (c.in_ok-cursor.ensures.sees pages sees) c.in_ok-cursor.ensures.cursor.0.0
+here : (g : _) (c : After-claimed g) (pages : Pages) → Sees (g.D.Disk.tape c.args.disk.now) c.args.buffers.now.cache pages → pages c.in_ok-cursor.cursor.page ≡ Some c.open_page.new.cache.bytes.value
+here g c pages sees = held_page (g.D.Disk.tape c.open_page.new.disk) c.open_page.new.cache pages c.in_ok-cursor.cursor.page (c.in_ok-cursor.ensures.reads_on.sees pages sees) c.in_ok-cursor.ensures.cursor.0.0
 
 pub returns-in_err-extent-clause-reads : goal.returns-in_err-extent-clause-reads
 returns-in_err-extent-clause-reads g c = λ pages sees.
     let at = (goal.at.returns-in_err-extent-clause-reads g c).After-claimed in
     let stop = err_from_is_err_and c.from_residual-in_err-extent.result c.from_residual-in_err-extent.ensures.1 in
     let opened = c.in_ok-cursor.ensures in
-    let before = is_before_end c.args.cache.now.geometry (option_map (λ (l : Lsn). l.0) c.args.end) c.args.at.position c.is_out_of_reach.result c.is_out_of_reach.ensures c.if-is_out_of_reach.false in
+    let before = is_before_end c.args.buffers.now.cache.geometry (option_map (λ (l : Lsn). l.0) c.args.end) c.args.at.position c.is_out_of_reach.result c.is_out_of_reach.ensures c.if-is_out_of_reach.false in
     let there = ap pages (sym opened.place.0) ∙ here g at pages sees in
-    let told = rw opened.geometry at c.in_err-extent.ensures.checks in
-    rw (stop.1, stop.2) (read_at-no_size c.args.cache.now.geometry pages (option_map (λ (l : Lsn). l.0) c.args.end) c.args.at before _ there (opened.checks pages sees) c.in_ok-cursor.cursor opened.place.0 opened.cursor.1 c.in_err-extent.ensures.whole opened.place.1 _ told)
+    let told = rw opened.reads_on.geometry at c.in_err-extent.ensures.checks in
+    record {
+      reads = rw (stop.1, stop.2) (read_at-no_size c.args.buffers.now.cache.geometry pages (option_map (λ (l : Lsn). l.0) c.args.end) c.args.at before _ there (opened.checks pages sees) c.in_ok-cursor.cursor opened.place.0 opened.cursor.1 c.in_err-extent.ensures.whole opened.place.1 _ told);
+      spelled = rw stop.1 tt;
+      room = inl refl;
+    }
 
 pub returns-then-extent-cursor-clause-reads : goal.returns-then-extent-cursor-clause-reads
 returns-then-extent-cursor-clause-reads g c = λ pages sees.
     let at = (goal.at.returns-then-extent-cursor-clause-reads g c).After-claimed in
-    let size = c.args.cache.now.geometry in
+    let size = c.args.buffers.now.cache.geometry in
     let opened = c.in_ok-cursor.ensures in
-    let before = is_before_end c.args.cache.now.geometry (option_map (λ (l : Lsn). l.0) c.args.end) c.args.at.position c.is_out_of_reach.result c.is_out_of_reach.ensures c.if-is_out_of_reach.false in
+    let before = is_before_end c.args.buffers.now.cache.geometry (option_map (λ (l : Lsn). l.0) c.args.end) c.args.at.position c.is_out_of_reach.result c.is_out_of_reach.ensures c.if-is_out_of_reach.false in
     let there = ap pages (sym opened.place.0) ∙ here g at pages sees in
     let extent = c.in_ok-extent.ensures.extent in
     let total : c.in_ok-extent.extent.total ≡ number_at w32 c.open_page.new.cache.bytes.value c.in_ok-cursor.cursor.offset = ap (λ (e : RecordExtent). e.total) extent.0 in
-    let passes = rw opened.geometry at c.in_ok-extent.ensures.checks in
+    let passes = rw opened.reads_on.geometry at c.in_ok-extent.ensures.checks in
     let rest = read_at-rest size pages (option_map (λ (l : Lsn). l.0) c.args.end) c.args.at before _ there (opened.checks pages sees) c.in_ok-cursor.cursor opened.place.0 opened.cursor.1 c.in_ok-extent.ensures.whole opened.place.1 c.in_ok-extent.extent.total total extent.1 passes in
-    read_as size pages c.args.at c.in_ok-extent.extent _ c.read_in_page.result (ap (λ (e : RecordExtent). e.at) extent.0) rest (rw opened.geometry at (c.read_in_page.ensures.reads pages (here g at pages sees)))
+    let reads = read_as size pages c.args.at c.in_ok-extent.extent _ c.read_in_page.result (ap (λ (e : RecordExtent). e.at) extent.0) rest (rw opened.reads_on.geometry at (c.read_in_page.ensures.reads pages (here g at pages sees))) in
+    record {
+      reads = reads;
+      spelled = read_is_spelled size pages (option_map (λ (l : Lsn). l.0) c.args.end) c.args.at opened.cursor.1.stands.valid c.read_in_page.result reads;
+      room = inl refl;
+    }
 
-pub returns-else-extent-cursor-clause-sees : goal.returns-else-extent-cursor-clause-sees
-returns-else-extent-cursor-clause-sees g c = λ pages sees. c.read_over_pages.ensures.sees pages (c.in_ok-cursor.ensures.sees pages sees)
+pub returns-else-extent-cursor-clause-reads_on : goal.returns-else-extent-cursor-clause-reads_on
+returns-else-extent-cursor-clause-reads_on g c = reads_more c.in_ok-cursor.ensures.reads_on c.read_over_pages.ensures.reads_on
 
 pub returns-else-extent-cursor-clause-reads : goal.returns-else-extent-cursor-clause-reads
 returns-else-extent-cursor-clause-reads g c = λ pages sees.
     let at = (goal.at.returns-else-extent-cursor-clause-reads g c).After-claimed in
-    let size = c.args.cache.now.geometry in
+    let size = c.args.buffers.now.cache.geometry in
     let opened = c.in_ok-cursor.ensures in
-    let before = is_before_end c.args.cache.now.geometry (option_map (λ (l : Lsn). l.0) c.args.end) c.args.at.position c.is_out_of_reach.result c.is_out_of_reach.ensures c.if-is_out_of_reach.false in
+    let before = is_before_end c.args.buffers.now.cache.geometry (option_map (λ (l : Lsn). l.0) c.args.end) c.args.at.position c.is_out_of_reach.result c.is_out_of_reach.ensures c.if-is_out_of_reach.false in
     let there = ap pages (sym opened.place.0) ∙ here g at pages sees in
     let extent = c.in_ok-extent.ensures.extent in
     let total : c.in_ok-extent.extent.total ≡ number_at w32 c.open_page.new.cache.bytes.value c.in_ok-cursor.cursor.offset = ap (λ (e : RecordExtent). e.total) extent.0 in
-    let passes = rw opened.geometry at c.in_ok-extent.ensures.checks in
+    let passes = rw opened.reads_on.geometry at c.in_ok-extent.ensures.checks in
     let rest = read_at-rest size pages (option_map (λ (l : Lsn). l.0) c.args.end) c.args.at before _ there (opened.checks pages sees) c.in_ok-cursor.cursor opened.place.0 opened.cursor.1 c.in_ok-extent.ensures.whole opened.place.1 c.in_ok-extent.extent.total total extent.1 passes in
-    read_as size pages c.args.at c.in_ok-extent.extent _ c.read_over_pages.result (ap (λ (e : RecordExtent). e.at) extent.0) rest (rw opened.geometry at (c.read_over_pages.ensures.reads pages (opened.sees pages sees)))
-
-pub returns-then-extent-cursor-clause-spelled_there : goal.returns-then-extent-cursor-clause-spelled_there
-returns-then-extent-cursor-clause-spelled_there g c = λ pages sees.
-    read_is_spelled c.args.cache.now.geometry pages (option_map (λ (l : Lsn). l.0) c.args.end) c.args.at c.in_ok-cursor.ensures.cursor.1.stands.valid c.read_in_page.result (returns-then-extent-cursor-clause-reads g c pages sees)
-
-pub returns-else-extent-cursor-clause-spelled_there : goal.returns-else-extent-cursor-clause-spelled_there
-returns-else-extent-cursor-clause-spelled_there g c = λ pages sees.
-    read_is_spelled c.args.cache.now.geometry pages (option_map (λ (l : Lsn). l.0) c.args.end) c.args.at c.in_ok-cursor.ensures.cursor.1.stands.valid c.read_over_pages.result (returns-else-extent-cursor-clause-reads g c pages sees)
-
-pub returns-else-extent-cursor-clause-room : goal.returns-else-extent-cursor-clause-room
-returns-else-extent-cursor-clause-room g c = λ pages sees.
-    let at = (goal.at.returns-else-extent-cursor-clause-room g c).After-claimed in
-    let size = c.args.cache.now.geometry in
-    let opened = c.in_ok-cursor.ensures in
-    let before = is_before_end c.args.cache.now.geometry (option_map (λ (l : Lsn). l.0) c.args.end) c.args.at.position c.is_out_of_reach.result c.is_out_of_reach.ensures c.if-is_out_of_reach.false in
-    let there = ap pages (sym opened.place.0) ∙ here g at pages sees in
-    let extent = c.in_ok-extent.ensures.extent in
+    let reads = read_as size pages c.args.at c.in_ok-extent.extent _ c.read_over_pages.result (ap (λ (e : RecordExtent). e.at) extent.0) rest (rw opened.reads_on.geometry at (c.read_over_pages.ensures.reads pages (opened.reads_on.sees pages sees))) in
     let claimed = size_in_page size pages (option_map (λ (l : Lsn). l.0) c.args.end) c.args.at before _ there (opened.checks pages sees) c.in_ok-cursor.cursor opened.place.0 opened.cursor.1 c.in_ok-extent.ensures.whole opened.place.1 in
-    inr (opened.checks pages sees, room_as size pages c.args.at c.in_ok-extent.extent _ _ (ap (λ (e : RecordExtent). e.at) extent.0) (ap (λ (e : RecordExtent). e.total) extent.0 ∙ sym claimed) (rw opened.geometry at (c.read_over_pages.ensures.room pages (opened.sees pages sees))))
+    record {
+      reads = reads;
+      spelled = read_is_spelled size pages (option_map (λ (l : Lsn). l.0) c.args.end) c.args.at opened.cursor.1.stands.valid c.read_over_pages.result reads;
+      room = inr (opened.checks pages sees, room_as size pages c.args.at c.in_ok-extent.extent _ _ (ap (λ (e : RecordExtent). e.at) extent.0) (ap (λ (e : RecordExtent). e.total) extent.0 ∙ sym claimed) (rw opened.reads_on.geometry at (c.read_over_pages.ensures.room pages (opened.reads_on.sees pages sees))));
+    }
 
 -- the address rises with the position
-rises_behind : (size : ℕ) → IsSegmentSize size → (from at : RecordPlace) (read : Result (FoundRecord × RecordPlace) ReadFailure) → from ≡ at → IfOk read (λ r. GoesOn from r.1) → IfOk read (λ r. address_of size at.position ≤ address_of size r.1.position)
-rises_behind size valid from at read same goes_on =
-    IfOk-weaker read (λ r. GoesOn from r.1) (λ r. address_of size at.position ≤ address_of size r.1.position)
-    (λ r goes. address_of-mono size valid at.position r.1.position (let position = ap (λ (place : RecordPlace). place.position) same in omega (arith, goes.0, position))) goes_on
+rises_behind : (size held : ℕ) → IsSegmentSize size → (from at : RecordPlace) (read : Result (FoundRecord × RecordPlace) ReadFailure) → from ≡ at → IfOk read (IsAnswered (Some from) held) → IfOk read (λ r. address_of size at.position ≤ address_of size r.1.position)
+rises_behind size held valid from at read same answered =
+    IfOk-weaker read (IsAnswered (Some from) held) (λ r. address_of size at.position ≤ address_of size r.1.position)
+    (λ r answered. address_of-mono size valid at.position r.1.position (let position = ap (λ (place : RecordPlace). place.position) same in omega (arith, answered.further.0, position))) answered
 
 pub returns-then-extent-cursor-clause-rises : goal.returns-then-extent-cursor-clause-rises
 returns-then-extent-cursor-clause-rises g c =
-    rises_behind c.args.cache.now.geometry c.in_ok-cursor.ensures.cursor.1.stands.valid c.in_ok-extent.extent.at c.args.at c.read_in_page.result (ap (λ (e : RecordExtent). e.at) c.in_ok-extent.ensures.extent.0) c.read_in_page.ensures.goes_on
+    rises_behind c.args.buffers.now.cache.geometry _ c.in_ok-cursor.ensures.cursor.1.stands.valid c.in_ok-extent.extent.at c.args.at c.read_in_page.result (ap (λ (e : RecordExtent). e.at) c.in_ok-extent.ensures.extent.0) c.read_in_page.ensures.answered
 
 pub returns-else-extent-cursor-clause-rises : goal.returns-else-extent-cursor-clause-rises
 returns-else-extent-cursor-clause-rises g c =
-    rises_behind c.args.cache.now.geometry c.in_ok-cursor.ensures.cursor.1.stands.valid c.in_ok-extent.extent.at c.args.at c.read_over_pages.result (ap (λ (e : RecordExtent). e.at) c.in_ok-extent.ensures.extent.0) c.read_over_pages.ensures.goes_on
+    rises_behind c.args.buffers.now.cache.geometry _ c.in_ok-cursor.ensures.cursor.1.stands.valid c.in_ok-extent.extent.at c.args.at c.read_over_pages.result (ap (λ (e : RecordExtent). e.at) c.in_ok-extent.ensures.extent.0) c.read_over_pages.ensures.answered

@@ -7,7 +7,7 @@ use Rattle.wal_page.specs.Page.{first_fault, is_continued}
 use Rattle.wal_reader.specs.declared.page_cursor.PageCursor.{PageCursor}
 use Rattle.wal_reader.specs.declared.found.Answer.{Answer}
 use Rattle.wal_reader.specs.declared.found.DamageKind.TheVariants as kinds
-use Rattle.wal_reader.specs.Decodes.{opening_of, damaged, is_zero_word, opens_page, page_answers}
+use Rattle.wal_reader.specs.Decodes.{opening_fault, damaged, is_zero_word, opens_page, page_answers}
 use Rattle.wal_reader.specs.Pages.{Pages}
 use Rattle.wal_reader.specs.PageCursor.{Sees}
 use Rattle.wal_reader.proofs.RecordStages.{opening_page_fails, opening_claims, opening_passes, gathers_none, opens_at}
@@ -17,11 +17,11 @@ use Rattle.wal_reader.proofs.record_start.open_page.Goals.{After-check_held, els
 -- the page is there and held
 there : (g : _) (c : After-check_held g) (pages : Pages) → Sees (g.D.Disk.tape c.args.disk.now) c.args.cache.now pages → pages (address_of c.load.new.self.geometry c.args.at.position / 8192) ≡ Some c.load.new.self.bytes.value
 there g c pages sees =
-    let loaded = (rw c.if-not-branch.false at (c.in_ok-load.ensures.sees pages sees).1).1 in
-    rw (c.in_ok-load.ensures.geometry, ← c.to_lsn-start.ensures) loaded
+    let loaded = (rw c.if-not-branch.false at (c.in_ok-load.ensures.loaded pages sees)).1 in
+    rw (c.in_ok-load.ensures.reads_on.geometry, ← c.to_lsn-start.ensures) loaded
 
 opens : (g : _) (c : After-check_held g) → opens_page c.load.new.self.geometry c.args.at.position ≡ eqb (c.to_lsn-start.result.0 % 8192) c.header_len.result
-opens g c = opens_at c.load.new.self.geometry c.args.at.position c.to_lsn-start.result.0 c.header_len.result (c.to_lsn-start.ensures ∙ ap (λ size. address_of size c.args.at.position) (sym c.in_ok-load.ensures.geometry)) c.header_len.ensures.value
+opens g c = opens_at c.load.new.self.geometry c.args.at.position c.to_lsn-start.result.0 c.header_len.result (c.to_lsn-start.ensures ∙ ap (λ size. address_of size c.args.at.position) (sym c.in_ok-load.ensures.reads_on.geometry)) c.header_len.ensures.value
 
 -- the page does not begin with zeros where the record would start there
 marked : (g : _) (c : After-check_held g) → (opens_page c.load.new.self.geometry c.args.at.position && is_zero_word c.load.new.self.bytes.value) ≡ false
@@ -33,7 +33,7 @@ marked g c =
 
 -- the page's number
 numbered : (g : _) (c : After-check_held g) → c.to_lsn-start.result.0 / 8192 ≡ address_of c.load.new.self.geometry c.args.at.position / 8192
-numbered g c = ap (λ (a : ℕ). a / 8192) (c.to_lsn-start.ensures ∙ ap (λ size. address_of size c.args.at.position) (sym c.in_ok-load.ensures.geometry))
+numbered g c = ap (λ (a : ℕ). a / 8192) (c.to_lsn-start.ensures ∙ ap (λ size. address_of size c.args.at.position) (sym c.in_ok-load.ensures.reads_on.geometry))
 
 -- its checks, by that number
 checks_of : (g : _) (c : After-check_held g) → Option Answer → Type 0
@@ -43,9 +43,9 @@ checks_at : (g : _) (c : After-check_held g) (told : Option Answer) → first_fa
 unfolding checks_of
 checks_at g c told e = subst (λ (page : ℕ). first_fault (page_answers c.load.new.self.geometry page c.load.new.self.bytes.value c.args.at.timeline) ≡ told) (numbered g c) e
 
-fails : (g : _) (c : After-check_held g) (pages : Pages) → Sees (g.D.Disk.tape c.args.disk.now) c.args.cache.now pages → (answer : Answer) → checks_of g c (Some answer) → opening_of c.args.cache.now.geometry c.args.at (pages (address_of c.args.cache.now.geometry c.args.at.position / 8192)) ≡ Some answer
+fails : (g : _) (c : After-check_held g) (pages : Pages) → Sees (g.D.Disk.tape c.args.disk.now) c.args.cache.now pages → (answer : Answer) → checks_of g c (Some answer) → opening_fault c.args.cache.now.geometry c.args.at (pages (address_of c.args.cache.now.geometry c.args.at.position / 8192)) ≡ Some answer
 unfolding checks_of
-fails g c pages sees answer told = rw (← c.in_ok-load.ensures.geometry) (opening_page_fails c.load.new.self.geometry c.args.at _ _ (there g c pages sees) (marked g c) answer told)
+fails g c pages sees answer told = rw (← c.in_ok-load.ensures.reads_on.geometry) (opening_page_fails c.load.new.self.geometry c.args.at _ _ (there g c pages sees) (marked g c) answer told)
 
 pub returns-in_err-info-clause-checks : goal.returns-in_err-info-clause-checks
 returns-in_err-info-clause-checks g c = λ pages sees.
@@ -54,9 +54,9 @@ returns-in_err-info-clause-checks g c = λ pages sees.
     rw (stop.1, stop.2) (fails g before pages sees c.in_err-info.field-0.0 (checks_at g before (Some c.in_err-info.field-0.0) c.in_err-info.ensures.checks))
 
 claims : (g : _) (c : After-check_held g) (pages : Pages) → Sees (g.D.Disk.tape c.args.disk.now) c.args.cache.now pages → checks_of g c None → opens_page c.load.new.self.geometry c.args.at.position ≡ true → is_continued c.load.new.self.bytes.value ≡ true
-    → opening_of c.args.cache.now.geometry c.args.at (pages (address_of c.args.cache.now.geometry c.args.at.position / 8192)) ≡ Some (damaged c.to_lsn-start.result.0 kinds.Claims)
+    → opening_fault c.args.cache.now.geometry c.args.at (pages (address_of c.args.cache.now.geometry c.args.at.position / 8192)) ≡ Some (damaged c.to_lsn-start.result.0 kinds.Claims)
 unfolding checks_of
-claims g c pages sees told first continued = rw (c.to_lsn-start.ensures, ← c.in_ok-load.ensures.geometry) (opening_claims c.load.new.self.geometry c.args.at _ _ (there g c pages sees) (marked g c) told first continued)
+claims g c pages sees told first continued = rw (c.to_lsn-start.ensures, ← c.in_ok-load.ensures.reads_on.geometry) (opening_claims c.load.new.self.geometry c.args.at _ _ (there g c pages sees) (marked g c) told first continued)
 
 pub returns-then-is_continued-clause-checks : goal.returns-then-is_continued-clause-checks
 returns-then-is_continued-clause-checks g c = λ pages sees.
@@ -66,9 +66,9 @@ returns-then-is_continued-clause-checks g c = λ pages sees.
     rw c.damaged.ensures (claims g before pages sees (checks_at g before None c.in_ok-info.ensures.checks) first continued)
 
 passes : (g : _) (c : After-check_held g) (pages : Pages) → Sees (g.D.Disk.tape c.args.disk.now) c.args.cache.now pages → checks_of g c None → (opens_page c.load.new.self.geometry c.args.at.position && is_continued c.load.new.self.bytes.value) ≡ false
-    → opening_of c.args.cache.now.geometry c.args.at (pages (address_of c.args.cache.now.geometry c.args.at.position / 8192)) ≡ None
+    → opening_fault c.args.cache.now.geometry c.args.at (pages (address_of c.args.cache.now.geometry c.args.at.position / 8192)) ≡ None
 unfolding checks_of
-passes g c pages sees told last = rw (← c.in_ok-load.ensures.geometry) (opening_passes c.load.new.self.geometry c.args.at _ _ (there g c pages sees) (marked g c) told last)
+passes g c pages sees told last = rw (← c.in_ok-load.ensures.reads_on.geometry) (opening_passes c.load.new.self.geometry c.args.at _ _ (there g c pages sees) (marked g c) told last)
 
 pub returns-clause-checks : goal.returns-clause-checks
 returns-clause-checks g c = λ pages sees.
@@ -83,7 +83,7 @@ returns-clause-checks g c = λ pages sees.
 pub returns-clause-cursor : goal.returns-clause-cursor
 returns-clause-cursor g c =
     let size = c.args.cache.now.geometry in
-    let valid = rw c.in_ok-load.ensures.geometry at c.header_len.ensures.valid in
+    let valid = rw c.in_ok-load.ensures.reads_on.geometry at c.header_len.ensures.valid in
     let cursor : PageCursor = record { page = c.to_lsn-start.result.0 / 8192; offset = c.to_lsn-start.result.0 % 8192; timeline = c.in_ok-info.info.timeline } in
     let held = rw c.if-not-branch.false at c.in_ok-load.ensures.held in
     let reach = rw c.if-not-branch.false at c.in_ok-load.ensures.reach in
@@ -91,6 +91,6 @@ returns-clause-cursor g c =
 
 pub returns-clause-place : goal.returns-clause-place
 returns-clause-place g c =
-    let valid = rw c.in_ok-load.ensures.geometry at c.header_len.ensures.valid in
+    let valid = rw c.in_ok-load.ensures.reads_on.geometry at c.header_len.ensures.valid in
     let word = address_of-mod_word c.args.cache.now.geometry valid c.args.at.position c.requires.reachable.aligned in
     (ap (λ (a : ℕ). a / 8192) c.to_lsn-start.ensures, omega (arith, c.to_lsn-start.ensures))

@@ -1,6 +1,4 @@
 use Rattle.std.proofs.Common.{refl}
-use Rattle.segment_disk.specs.Tape.{empty_state}
-use Rattle.wal_rule.specs.Seats.{view_on}
 use Rattle.machine_laws.proofs.ClosingNumbers.{first_has_all, joins_unite_numbers, splits_share_numbers, steps_keep_numbers}
 use Rattle.wal_rule.proofs.numbers.seats_keep_numbers.Goals as goal
 
@@ -12,11 +10,11 @@ returns-clause-first c = λ opening. (
 
 pub returns-clause-steps : goal.returns-clause-steps
 returns-clause-steps c = λ v e met home n.
-    steps_keep_numbers n (view_on empty_state v) e met home
+    steps_keep_numbers n v e met home
 
 pub returns-clause-split : goal.returns-clause-split
-returns-clause-split c = λ n v. splits_share_numbers n (view_on empty_state v)
+returns-clause-split c = λ n v. splits_share_numbers n v
 
 pub returns-clause-join : goal.returns-clause-join
 returns-clause-join c = λ n v w.
-    joins_unite_numbers n (view_on empty_state v) (view_on empty_state w)
+    joins_unite_numbers n v w

@@ -1,50 +1,60 @@
-use Rattle.std.proofs.Common.{List, ℕ, ap, ◌∙◌, arith}
-use Rattle.wal_page.specs.Placed.{PlacedState}
-use Rattle.wal_rule.specs.declared.writer.LogWriter.{LogWriter}
-use Rattle.wal_rule.specs.Seats.{SeatView}
-use Rattle.word_ring.proofs.CopyLaws.{next-whole, own_rest, words-left}
+use Rattle.std.proofs.Common.{ℕ, subst, arith}
+use Rattle.wal_core.specs.declared.setup.Setup.{Setup}
+use Rattle.wal_rule.specs.SeatedPasses.{view_of}
+use Rattle.word_ring.specs.Copied.{IsPlaceOf, copied_view}
+use Rattle.word_ring.proofs.CopyLaws.{next-whole, next_behind, words-left}
+use Rattle.word_ring.proofs.Steps.{view_is}
 use Rattle.word_ring.proofs.copying.copy_page.Goals as goal
 
 pub overflow_sub-left : goal.overflow_sub-left
 overflow_sub-left g c =
-    let r = c.requires.rest in
-    let left = words-left c.args.seat.now.me.0 c.requires.seat.stands r.0 r.1 c.args.placed.now
-    (own_rest c.args.seat.now.me.0 _ _ r.0 _ c.requires.shape c.requires.seat.own r.2) in
+    let left = words-left c.args.seated.now c.args.placed.now c.requires.rest in
     omega (arith, left.0, c.requires.next, c.requires.end)
 
-pub copy_words-requires-clause-left : goal.copy_words-requires-clause-left
-copy_words-requires-clause-left g c =
-    let r = c.requires.rest in
-    let left = words-left c.args.seat.now.me.0 c.requires.seat.stands r.0 r.1 c.args.placed.now
-    (own_rest c.args.seat.now.me.0 _ _ r.0 _ c.requires.shape c.requires.seat.own r.2) in
-    omega (arith, left.1, c.requires.next, c.requires.end, c.min.ensures)
+pub copy_words-requires-clause-may : goal.copy_words-requires-clause-may
+copy_words-requires-clause-may g c =
+    let left = words-left c.args.seated.now c.args.placed.now c.requires.rest in
+    record {
+      rest = c.requires.rest;
+      left = omega (arith, left.1, c.requires.next, c.requires.end, c.min.ensures);
+      on_page = omega (arith, c.requires.next, c.min.ensures);
+      met = omega (arith, c.requires.next, c.requires.met);
+      place_is = subst (λ (s : Setup). IsPlaceOf s c.args.placed.now.next c.place_of-place.result)
+          c.shape.ensures
+          (subst (λ (n : ℕ). IsPlaceOf c.shape.result.now n c.place_of-place.result)
+          c.requires.next c.place_of-place.ensures.place);
+    }
 
 pub returns-then-left-on_page-clause-copies : goal.returns-then-left-on_page-clause-copies
 returns-then-left-on_page-clause-copies g c =
-    let r = c.requires.rest in
-    let left = words-left c.args.seat.now.me.0 c.requires.seat.stands r.0 r.1 c.args.placed.now
-    (own_rest c.args.seat.now.me.0 _ _ r.0 _ c.requires.shape c.requires.seat.own r.2) in
+    let left = words-left c.args.seated.now c.args.placed.now c.requires.rest in
+    let copied = c.copy_words.ensures.copied in
     let few = c.if-left-on_page.true in
+    let next = next_behind c.min.result c.args.seated.now c.copy_words.new.seated
+    c.args.placed.now c.copy_words.new.placed copied in
     record {
       count = c.min.result;
-      view_is = ap (λ (m : SeatView × List (ℕ × LogWriter g.row.D.Denot)). m.0)
-          c.copy_words.ensures.copied;
-      placed_is = c.copy_words.ensures.placed;
-      stops = ap (λ (p : PlacedState). p.next) c.copy_words.ensures.placed
-          ∙ omega (arith, few, left.1, c.requires.next, c.requires.end, c.min.ensures);
+      view_is = view_is (copied_view c.min.result (view_of c.args.seated.now)) c.args.seated.now
+          c.copy_words.new.seated copied.view;
+      placed_is = copied.placed_is;
+      stops = omega (arith, next, few, left.1, c.requires.next, c.requires.end, c.min.ensures);
     }
 
 pub returns-else-left-on_page-clause-copies : goal.returns-else-left-on_page-clause-copies
 returns-else-left-on_page-clause-copies g c =
-    let r = c.requires.rest in
-    let whole = next-whole c.args.seat.now.me.0 c.requires.seat.stands r.0 r.1 c.args.placed.now
-    (own_rest c.args.seat.now.me.0 _ _ r.0 _ c.requires.shape c.requires.seat.own r.2) in
+    let whole = next-whole c.args.seated.now c.args.placed.now c.requires.rest in
+    let left = words-left c.args.seated.now c.args.placed.now c.requires.rest in
+    let copied = c.copy_words.ensures.copied in
     let many = c.if-left-on_page.false in
+    let next = next_behind c.min.result c.args.seated.now c.copy_words.new.seated
+    c.args.placed.now c.copy_words.new.placed copied in
     record {
       count = c.min.result;
-      view_is = ap (λ (m : SeatView × List (ℕ × LogWriter g.row.D.Denot)). m.0)
-          c.copy_words.ensures.copied;
-      placed_is = c.copy_words.ensures.placed;
-      stops = ap (λ (p : PlacedState). p.next) c.copy_words.ensures.placed
-          ∙ omega (arith, many, whole, c.requires.next, c.min.ensures);
+      view_is = view_is (copied_view c.min.result (view_of c.args.seated.now)) c.args.seated.now
+          c.copy_words.new.seated copied.view;
+      placed_is = copied.placed_is;
+      stops = (
+        omega (arith, next, many, whole, c.requires.next, c.min.ensures),
+        omega (arith, next, many, left.1, c.requires.next, c.requires.end, c.min.ensures),
+      );
     }

@@ -1,5 +1,5 @@
 -- What waits for a sync is synced, or the sync failed.
-use Rattle.std.proofs.Common.{◌≡◌, ℕ, List, false, Option, IfSome, ap, subst, sym, ◌∙◌, ◌/◌, arith}
+use Rattle.std.proofs.Common.{rules, ◌≡◌, ℕ, List, false, Option, IfSome, ap, subst, sym, ◌∙◌, ◌/◌, arith}
 use Rattle.segment_disk.specs.Tape.{Tape, sync_call}
 use Rattle.flush_core.specs.declared.writer.Writer.{Writer}
 use Rattle.flush_core.specs.Pages.{PutPages}
@@ -33,15 +33,18 @@ holds_behind g c pages is =
       | else-self w ↦ subst (λ (new : Writer g.row.D.Denot). IsWriter tape new pages) (sym w.self-is) is
     ]
 
-pub returns-clause-holds : goal.returns-clause-holds
-returns-clause-holds g c = holds_behind g c
-
-pub returns-clause-hardened : goal.returns-clause-hardened
-returns-clause-hardened g c =
+pub returns-clause-done : goal.returns-clause-done
+returns-clause-done g c =
     let old = c.args.self.now in
     let synced : c.if-self.self.unsynced ≡ false = elim c.if-self.branch [ then-self+in-Ok w ↦ ap (λ (s : Writer g.row.D.Denot). s.unsynced) w.self-is | else-self w ↦ ap (λ (s : Writer g.row.D.Denot). s.unsynced) w.self-is ∙ w.if-self.false ] in
     let written : c.if-self.self.written.0 ≡ old.written.0 = elim c.if-self.branch [ then-self+in-Ok w ↦ ap (λ (s : Writer g.row.D.Denot). s.written.0) w.self-is | else-self w ↦ ap (λ (s : Writer g.row.D.Denot). s.written.0) w.self-is ] in
-    λ pages is. IsKept-synced g.row.D.Denot g.D.Disk.tape g.D.Disk.moment g.met.D.Disk.counts c.if-self.self c.args.upto.0 c.moment.result pages synced (omega (arith, written, c.requires)) c.moment.ensures (holds_behind g c pages is)
+    record {
+      hardened = λ pages is. IsKept-synced g.row.D.Denot g.D.Disk.tape g.D.Disk.moment g.met.D.Disk.counts c.if-self.self c.args.upto.0 c.moment.result pages synced (omega (arith, written, c.requires)) c.moment.ensures (holds_behind g c pages is);
+      holds = holds_behind g c;
+      calls = search rules;
+      told_is = c.moment.ensures;
+      synced = synced;
+    }
 
 -- what a crash leaves still fits behind the sync
 fits_behind : (g : Over) (c : goal.After-moment g) (IsThere : ℕ → ℕ → Type 0) (Fits : ℕ → ℕ → List ℕ → Type 0) (moment : ℕ) → IfSome (g.D.Disk.tape c.args.self.now.disk) (TapeAssures c.args.self.now.geometry (IsThere c.args.self.now.geometry) Fits moment)
@@ -62,10 +65,10 @@ returns-clause-keeps g c =
       | then-self+in-Ok w ↦ subst (λ (new : Writer g.row.D.Denot). IsReached new) (sym w.self-is) was
       | else-self w ↦ subst (λ (new : Writer g.row.D.Denot). IsReached new) (sym w.self-is) was
     ] in is in
-    λ moment position pages kept. (reached kept.0, fits_behind g c (λ size. IsMadeUpto size position) (IsKeptWord position pages) moment kept.1)
-
-pub returns-clause-only : goal.returns-clause-only
-returns-clause-only g c = λ moment puts. fits_behind g c (λ size. IsNowhere) (IsWordPut puts) moment
+    record {
+      kept = λ moment position pages kept. (reached kept.0, fits_behind g c (λ size. IsMadeUpto size position) (IsKeptWord position pages) moment kept.1);
+      only = λ moment puts. fits_behind g c (λ size. IsNowhere) (IsWordPut puts) moment;
+    }
 
 -- and where the sync failed
 fits_failed : (g : Over) (c : goal.After-fail g) (IsThere : ℕ → ℕ → Type 0) (Fits : ℕ → ℕ → List ℕ → Type 0) (moment : ℕ) → IfSome (g.D.Disk.tape c.args.self.now.disk) (TapeAssures c.args.self.now.geometry (IsThere c.args.self.now.geometry) Fits moment)
@@ -76,10 +79,10 @@ fits_failed g c IsThere Fits moment assures =
     subst (λ (new : Writer g.row.D.Denot). IfSome (tape new.disk) (TapeAssures new.geometry (IsThere new.geometry) Fits moment)) (sym c.fail.ensures.kept) (TapeAssures-failed old.geometry (IsThere old.geometry) Fits moment (tape old.disk) (tape c.sync.new.self) _ _ (sync_call old.geometry (old.written.0 / c.segment_size.result)) tt c.in-Err.ensures.answers assures)
 
 pub returns-in-Err-clause-keeps : goal.returns-in-Err-clause-keeps
-returns-in-Err-clause-keeps g c = λ moment position pages kept. (
-  subst (λ (new : Writer g.row.D.Denot). IsReached new) (sym c.fail.ensures.kept) kept.0,
-  fits_failed g c (λ size. IsMadeUpto size position) (IsKeptWord position pages) moment kept.1,
-)
-
-pub returns-in-Err-clause-only : goal.returns-in-Err-clause-only
-returns-in-Err-clause-only g c = λ moment puts. fits_failed g c (λ size. IsNowhere) (IsWordPut puts) moment
+returns-in-Err-clause-keeps g c = record {
+  kept = λ moment position pages kept. (
+    subst (λ (new : Writer g.row.D.Denot). IsReached new) (sym c.fail.ensures.kept) kept.0,
+    fits_failed g c (λ size. IsMadeUpto size position) (IsKeptWord position pages) moment kept.1,
+  );
+  only = λ moment puts. fits_failed g c (λ size. IsNowhere) (IsWordPut puts) moment;
+}

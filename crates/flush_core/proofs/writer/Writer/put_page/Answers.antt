@@ -1,5 +1,5 @@
 -- A page is put by the calls of its place.
-use Rattle.std.proofs.Common.{◌≡◌, ◌+◌, ◌*◌, ◌/◌, ◌%◌, ◌==◌, ◌≤◌, ◌∙◌, ℕ, max, nat_lt, Option, Some, IfSome, List, ap, subst, sym, arith}
+use Rattle.std.proofs.Common.{rules, ◌≡◌, ◌+◌, ◌*◌, ◌/◌, ◌%◌, ◌==◌, ◌≤◌, ◌∙◌, ℕ, max, nat_lt, Option, Some, IfSome, List, ap, subst, sym, arith}
 use Rattle.byte_position.specs.Geometry.{IsSegmentSize, pages_of}
 use Rattle.segment_disk.specs.declared.disk.Call.{Call}
 use Rattle.segment_disk.specs.Tape.{Tape}
@@ -35,11 +35,20 @@ module _ (g : Over) (c : After-store_page g) where
   valid : IsSegmentSize c.args.self.now.geometry
   valid = subst IsSegmentSize c.segment_size.ensures.value c.segment_size.ensures.valid
 
-pub returns-in-Ok-clause-put : goal.returns-in-Ok-clause-put
-returns-in-Ok-clause-put g c =
-    let before = (goal.at.returns-in-Ok-clause-put g c).After-store_page in
-    IsWriter-put g.row.D.Denot g.D.Disk.tape c.args.self.now c.store_page.new.disk c.args.page c.args.upto c.args.bytes.now c.segment_size.result c.max-made.result (stored g before) (valid g before) c.requires.page c.requires.rises c.requires.begun c.requires.within (omega arith)
-    c.in-Ok.ensures.ok.tape (stored_are g before) c.segment_size.ensures.value (makes g before)
+pub returns-in-Ok-clause-done : goal.returns-in-Ok-clause-done
+returns-in-Ok-clause-done g c =
+    let before = (goal.at.returns-in-Ok-clause-done g c).After-store_page in
+    record {
+      put =
+          IsWriter-put g.row.D.Denot g.D.Disk.tape c.args.self.now c.store_page.new.disk c.args.page c.args.upto c.args.bytes.now c.segment_size.result c.max-made.result (stored g before) (valid g before) c.requires.number c.requires.rises c.requires.begun c.requires.within (omega arith)
+          c.in-Ok.ensures.ok.tape (stored_are g before) c.segment_size.ensures.value (makes g before);
+      calls = search rules;
+      moment_rises = search rules;
+      written = search rules;
+      synced = search rules;
+      made = search rules;
+      as_written = search rules;
+    }
 
 -- the calls were made, or broke off, and they fit
 module _ (g : Over) (c : After-store_page g) (IsThere : ℕ → ℕ → Type 0) (Fits : ℕ → ℕ → List ℕ → Type 0) (moment : ℕ) (fit : AllFit c.args.self.now.geometry (IsThere c.args.self.now.geometry) Fits (stored g c)) (assures : IfSome (g.D.Disk.tape c.args.self.now.disk) (TapeAssures c.args.self.now.geometry (IsThere c.args.self.now.geometry) Fits moment)) where
@@ -55,7 +64,7 @@ module _ (g : Over) (c : After-store_page g) (IsThere : ℕ → ℕ → Type 0) 
 
 module _ (g : Over) (c : After-store_page g) where
   keeps : IsReached c.args.self.now → (position : ℕ) (pages : PutPages) → position ≤ c.args.self.now.written.0 → SameBelow position c.args.page c.args.bytes.now (pages c.args.page) → AllFit c.args.self.now.geometry (IsMadeUpto c.args.self.now.geometry position) (IsKeptWord position pages) (stored g c)
-  keeps = put_keeps c.args.self.now.geometry c.args.self.now.made c.args.self.now.written.0 c.args.upto.0 c.args.page c.args.bytes.now (stored g c) (stored_are g c) (valid g c) c.requires.page
+  keeps = put_keeps c.args.self.now.geometry c.args.self.now.made c.args.self.now.written.0 c.args.upto.0 c.args.page c.args.bytes.now (stored g c) (stored_are g c) (valid g c) c.requires.number
 
   reaches : c.args.upto.0 ≤ c.max-made.result * c.args.self.now.geometry + c.args.self.now.geometry
   reaches =
@@ -63,7 +72,7 @@ module _ (g : Over) (c : After-store_page g) where
       (page_reaches c.args.self.now.geometry c.args.upto.0 c.args.page (valid g c) c.requires.within c.args.self.now.made)
 
   adds : (puts : PutHistory) → AllFit c.args.self.now.geometry IsNowhere (IsWordPut (with_put puts c.args.page c.args.bytes.now)) (stored g c)
-  adds = put_adds c.args.self.now.geometry c.args.self.now.made c.args.self.now.written.0 c.args.upto.0 c.args.page c.args.bytes.now (stored g c) (stored_are g c) (valid g c) c.requires.page
+  adds = put_adds c.args.self.now.geometry c.args.self.now.made c.args.self.now.written.0 c.args.upto.0 c.args.page c.args.bytes.now (stored g c) (stored_are g c) (valid g c) c.requires.number
 
   more : (puts : PutHistory) (moment : ℕ) → IfSome (g.D.Disk.tape c.args.self.now.disk) (TapeAssures c.args.self.now.geometry IsNowhere (IsWordPut puts) moment)
       → IfSome (g.D.Disk.tape c.args.self.now.disk) (TapeAssures c.args.self.now.geometry IsNowhere (IsWordPut (with_put puts c.args.page c.args.bytes.now)) moment)
@@ -72,28 +81,27 @@ module _ (g : Over) (c : After-store_page g) where
 pub returns-in-Ok-clause-keeps : goal.returns-in-Ok-clause-keeps
 returns-in-Ok-clause-keeps g c =
     let before = (goal.at.returns-in-Ok-clause-keeps g c).After-store_page in
-    λ moment position pages low same kept. (
-      reaches g before,
-      fits_made g before (λ size. IsMadeUpto size position) (IsKeptWord position pages) moment (keeps g before kept.0 position pages low same) kept.1 c.store_page.new.disk c.in-Ok.ensures.ok.tape,
-    )
+    record {
+      kept = λ moment position pages low same kept. (
+        reaches g before,
+        fits_made g before (λ size. IsMadeUpto size position) (IsKeptWord position pages) moment (keeps g before kept.0 position pages low same) kept.1 c.store_page.new.disk c.in-Ok.ensures.ok.tape,
+      );
+      only = λ moment puts only. fits_made g before (λ size. IsNowhere) (IsWordPut (with_put puts c.args.page c.args.bytes.now)) moment (adds g before puts) (more g before puts moment only) c.store_page.new.disk c.in-Ok.ensures.ok.tape;
+    }
 
 pub returns-in-Err-clause-keeps : goal.returns-in-Err-clause-keeps
 returns-in-Err-clause-keeps g c =
     let before = (goal.at.returns-in-Err-clause-keeps g c).After-store_page in
-    λ moment position pages low same kept. (
-      subst (λ (w : Writer g.row.D.Denot). IsReached w) (sym c.fail.ensures.kept) kept.0,
-      fits_broken g before (λ size. IsMadeUpto size position) (IsKeptWord position pages) moment (keeps g before kept.0 position pages low same) kept.1 c.store_page.new.disk c.fail.new.self _ _ c.fail.result.faults c.in-Err.ensures.err c.fail.ensures.kept,
-    )
+    record {
+      kept = λ moment position pages low same kept. (
+        subst (λ (w : Writer g.row.D.Denot). IsReached w) (sym c.fail.ensures.kept) kept.0,
+        fits_broken g before (λ size. IsMadeUpto size position) (IsKeptWord position pages) moment (keeps g before kept.0 position pages low same) kept.1 c.store_page.new.disk c.fail.new.self _ _ c.fail.result.faults c.in-Err.ensures.err c.fail.ensures.kept,
+      );
+      only = λ moment puts only. fits_broken g before (λ size. IsNowhere) (IsWordPut (with_put puts c.args.page c.args.bytes.now)) moment (adds g before puts) (more g before puts moment only) c.store_page.new.disk c.fail.new.self _ _ c.fail.result.faults c.in-Err.ensures.err c.fail.ensures.kept;
+    }
 
-pub returns-in-Ok-clause-only : goal.returns-in-Ok-clause-only
-returns-in-Ok-clause-only g c =
-    let before = (goal.at.returns-in-Ok-clause-only g c).After-store_page in
-    λ moment puts only. fits_made g before (λ size. IsNowhere) (IsWordPut (with_put puts c.args.page c.args.bytes.now)) moment (adds g before puts) (more g before puts moment only) c.store_page.new.disk c.in-Ok.ensures.ok.tape
-
-pub returns-in-Err-clause-only : goal.returns-in-Err-clause-only
-returns-in-Err-clause-only g c =
-    let before = (goal.at.returns-in-Err-clause-only g c).After-store_page in
-    λ moment puts only. fits_broken g before (λ size. IsNowhere) (IsWordPut (with_put puts c.args.page c.args.bytes.now)) moment (adds g before puts) (more g before puts moment only) c.store_page.new.disk c.fail.new.self _ _ c.fail.result.faults c.in-Err.ensures.err c.fail.ensures.kept
-
-pub returns-in_err-check-clause-only : goal.returns-in_err-check-clause-only
-returns-in_err-check-clause-only g c = λ moment puts. HoldsOnly-more c.args.page c.args.bytes.now c.args.self.now.geometry puts moment (g.D.Disk.tape c.args.self.now.disk)
+pub returns-in_err-check-clause-keeps : goal.returns-in_err-check-clause-keeps
+returns-in_err-check-clause-keeps g c = record {
+  kept = λ moment position pages low same kept. kept;
+  only = λ moment puts. HoldsOnly-more c.args.page c.args.bytes.now c.args.self.now.geometry puts moment (g.D.Disk.tape c.args.self.now.disk);
+}

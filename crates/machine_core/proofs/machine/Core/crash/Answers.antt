@@ -7,7 +7,8 @@ use Rattle.segment_disk.specs.DiskImage.{LeftAt}
 use Rattle.segment_disk.specs.First.{first_state}
 use Rattle.segment_disk.specs.MemDisk.{first_image}
 use Rattle.segment_disk.specs.Picks.{IsPicked, choice_of}
-use Rattle.segment_disk.specs.Tape.{after_calls, state_at, state_now}
+use Rattle.segment_disk.specs.Tape.{DiskState, after_calls, state_at, state_now}
+use Rattle.wal_core.specs.Suited.{tape_from}
 use Rattle.wal_core.specs.Views.{Plain}
 use Rattle.wal_turns.specs.Doing.{Machine}
 use Rattle.machine_turns.specs.Writer.{state_of}
@@ -20,28 +21,30 @@ pub returns-clause-left : goal.returns-clause-left
 returns-clause-left c =
     let core = core_of c.args.self.now in
     let plain = (state_of c.args.self.now.writer).plain in
+    let first = (state_of c.args.self.now.writer).first in
     if_ok c.crash.result
-    (λ (disk : MemDisk). IfSome plain.tape (λ tape. LeftAt tape plain.moment (first_image disk)))
+    (λ (disk : MemDisk). IfSome (tape_from first plain.calls) (λ tape. LeftAt tape plain.moment (first_image disk)))
     (λ (disk : MemDisk). (m : Machine) (w : Plain) → PlaysMachine core m → HasWriter m w
-    → IfSome w.tape (λ tape. LeftAt tape (length tape.calls) (first_image disk)))
+    → IfSome (tape_from m.first w.calls) (λ tape. LeftAt tape (length tape.calls) (first_image disk)))
     (λ disk left m w k has. subst
-    (λ (x : Plain). IfSome x.tape (λ tape. LeftAt tape (length tape.calls) (first_image disk)))
-    (sym (writer_is_core's core m k w has)) left) c.crash.ensures.left
+    (λ (x : DiskState × Plain). IfSome (tape_from x.0 x.1.calls) (λ tape. LeftAt tape (length tape.calls) (first_image disk)))
+    (λ j. (sym k.first_is j, sym (writer_is_core's core m k w has) j)) left) c.crash.ensures.left
 
 pub returns-clause-picked : goal.returns-clause-picked
 returns-clause-picked c =
     let core = core_of c.args.self.now in
     let plain = (state_of c.args.self.now.writer).plain in
+    let first = (state_of c.args.self.now.writer).first in
     if_ok c.crash.result
-    (λ (disk : MemDisk). IfSome plain.tape (λ tape.
+    (λ (disk : MemDisk). IfSome (tape_from first plain.calls) (λ tape.
     IsPicked (choice_of c.args.pick) (state_at tape plain.moment) (first_image disk)))
     (λ (disk : MemDisk). (m : Machine) (w : Plain) → PlaysMachine core m → HasWriter m w
-    → IfSome w.tape (λ tape.
+    → IfSome (tape_from m.first w.calls) (λ tape.
     IsPicked (choice_of c.args.pick) (state_now tape) (first_image disk)))
     (λ disk picked m w k has. subst
-    (λ (x : Plain). IfSome x.tape (λ tape.
+    (λ (x : DiskState × Plain). IfSome (tape_from x.0 x.1.calls) (λ tape.
     IsPicked (choice_of c.args.pick) (state_now tape) (first_image disk)))
-    (sym (writer_is_core's core m k w has))
+    (λ j. (sym k.first_is j, sym (writer_is_core's core m k w has) j))
     (subst (λ (calls : List Call). IsPicked (choice_of c.args.pick)
     (after_calls (first_state c.args.self.now.writer.disk.first.items) calls) (first_image disk))
     (take_all (length c.args.self.now.writer.disk.calls.made.items)

@@ -5,8 +5,8 @@ use Rattle.wal_core.specs.declared.setup.Setup.{Setup}
 use Rattle.wal_core.specs.Opened.{AreFirstWords, IsFirstWriter}
 use Rattle.wal_core.specs.Sound.{IsSetup}
 use Rattle.wal_core.specs.Words.{log_limit, log_start}
-use Rattle.machine_turns.specs.declared.lane.Lane.{Lane}
-use Rattle.machine_turns.specs.declared.script.Line.{Line}
+use Rattle.machine_turns.specs.declared.lane.PlainBackend.{PlainBackend}
+use Rattle.machine_turns.specs.declared.script.PlainLine.{PlainLine}
 use Rattle.machine_turns.specs.Writer.{state_of}
 use Rattle.machine_core.specs.Cores.{core_of, first_opening, machine_begun, rooms_of_scripts}
 use Rattle.machine_core.specs.Lines.{IsAsked}
@@ -34,7 +34,7 @@ few_scripts c = omega (
 end_is : (c : goal.In_ok-lanes) → c.log_end-end.result ≡ end_address_of c.in-Some.shape.segment_size
     (min (log_start c.in-Some.shape + rooms_of_scripts c.args.scripts.items)
     (log_limit c.in-Some.shape))
-end_is c = subst (λ (scripts : List (List Line)). c.log_end-end.result
+end_is c = subst (λ (scripts : List (List PlainLine)). c.log_end-end.result
     ≡ end_address_of c.in-Some.shape.segment_size
     (min (log_start c.in-Some.shape + rooms_of_scripts scripts) (log_limit c.in-Some.shape)))
     c.deref.ensures.value c.log_end-end.ensures.end
@@ -48,7 +48,7 @@ returns-clause-plays c = λ asks are.
     let plays = begins_playing shape (is_setup c) c.in_ok-words.words w c.args.fail.items
     c.args.scripts.items (few_scripts c) (words_first c) pages c.log_end-end.result (end_is c)
     c.in_ok-writer.ensures.first c.in_ok-writer.ensures.kept.1.whole asks are in
-    subst (λ (lanes : List Lane). PlaysMachine (record {
+    subst (λ (lanes : List PlainBackend). PlaysMachine (record {
       setup = shape;
       words = c.in_ok-words.words;
       writer = w;
@@ -74,7 +74,8 @@ returns-clause-begun c =
           (writer_first shape (is_setup c) c.in_ok-words.words w c.args.fail.items
           c.args.scripts.items (few_scripts c) (words_first c) pages c.log_end-end.result
           (end_is c) c.in_ok-writer.ensures.first c.in_ok-writer.ensures.kept.1.whole);
-      tape = (c.in_ok-writer.ensures.first).tape;
+      first = (c.in_ok-writer.ensures.first).first;
+      calls = (c.in_ok-writer.ensures.first).calls;
       failing_is = (c.in_ok-writer.ensures.first).failing_is;
     }
 

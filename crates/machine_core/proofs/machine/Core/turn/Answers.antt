@@ -4,10 +4,10 @@ use Rattle.std.proofs.Math.ListN.{get_or}
 use Rattle.std.specs.Vec.{vec_len}
 use Rattle.std.proofs.lemmas.Option.{slice_get_read, slice_get_cases}
 use Rattle.wal_turns.specs.Doing.{Machine}
-use Rattle.wal_turns.specs.Turned.{Turn, AllDone, turned}
+use Rattle.wal_turns.specs.Turned.{TurnMade, AllDone, turned}
 use Rattle.wal_turns.proofs.Schedules.{turned_good}
 use Rattle.machine_turns.specs.declared.event.Turn.TheVariants as turns
-use Rattle.machine_turns.specs.declared.lane.Lane.{Lane}
+use Rattle.machine_turns.specs.declared.lane.PlainBackend.{PlainBackend}
 use Rattle.machine_core.specs.Cores.{core_of}
 use Rattle.machine_core.specs.PlainData.{turn_of}
 use Rattle.machine_core.specs.Playing.{CoreState, PlaysMachine}
@@ -55,7 +55,7 @@ returns-in-None-clause-turned c = λ m k.
     let core = core_of c.args.self.now in
     let cases = slice_get_cases core.lanes c.args.backend in
     let is : turned m c.args.backend ≡ (AllDone, m) = ⊎_elim
-    (λ (x : (lane : Lane) × (c.args.backend < length core.lanes)
+    (λ (x : (lane : PlainBackend) × (c.args.backend < length core.lanes)
     × (slice_get core.lanes c.args.backend ≡ Some lane)
     × (get_or core.lanes c.args.backend lane ≡ lane)).
     let there = c.in-None.ensures.variant.1 (omega (arith, x.1, (c.args.self.now.lanes).ok.0)) in
@@ -63,7 +63,7 @@ returns-in-None-clause-turned c = λ m k.
     (λ (x : (length core.lanes ≤ c.args.backend)
     × (slice_get core.lanes c.args.backend ≡ None)). no_lane_is_done core m k c.args.backend x.1)
     cases.1 in
-    subst (λ (t : Turn × Machine). (turns.Done ≡ turn_of t.0) × PlaysMachine core t.1) (sym is) (refl, k)
+    subst (λ (t : TurnMade × Machine). (turns.Done ≡ turn_of t.0) × PlaysMachine core t.1) (sym is) (refl, k)
 
 pub returns-in-None-clause-sound : goal.returns-in-None-clause-sound
 returns-in-None-clause-sound c = λ m k. ((turned_good m k.running c.args.backend).1).sound

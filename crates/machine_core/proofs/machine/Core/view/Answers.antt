@@ -1,7 +1,7 @@
 -- A lane knows what the machine's view of its backend knows.
 use Rattle.std.proofs.Common.{◌≡◌, List, length, slice_index_or, Some, sym, ap, subst, ltb-true, arith}
 use Rattle.wal_turns.proofs.MapPlaces.{ltb-false}
-use Rattle.machine_turns.specs.declared.lane.Lane.{Lane}
+use Rattle.machine_turns.specs.declared.lane.PlainBackend.{PlainBackend}
 use Rattle.machine_turns.specs.declared.view.PlainView.{PlainView}
 use Rattle.machine_core.specs.Cores.{core_of}
 use Rattle.machine_core.proofs.Cores.{none_there, view_read}
@@ -10,7 +10,7 @@ use Rattle.machine_core.proofs.machine.Core.view.Goals as goal
 pub returns-in-Some-clause-there : goal.returns-in-Some-clause-there
 returns-in-Some-clause-there c = λ m b v k there at. ap (λ (view : PlainView). Some view)
     (view_read (core_of c.args.self.now) m k c.args.backend b c.in-Some.lane.now v there at
-    (subst (λ (lanes : List Lane). c.in-Some.lane.now
+    (subst (λ (lanes : List PlainBackend). c.in-Some.lane.now
     ≡ slice_index_or lanes c.args.backend c.in-Some.lane.now) c.deref.ensures.value
     c.in-Some.ensures.lookup.1))
 
@@ -19,7 +19,7 @@ returns-in-None-clause-there c = λ m b v k there at. absurd (none_there (core_o
     c.args.backend b there (λ low.
     let above = ltb-false c.args.backend (length c.deref.result.now)
     (sym c.in-None.ensures.lookup.0) in
-    omega (arith, low, above, ap (λ (lanes : List Lane). length lanes) c.deref.ensures.value)))
+    omega (arith, low, above, ap (λ (lanes : List PlainBackend). length lanes) c.deref.ensures.value)))
 
 pub returns-in-Some-clause-absent : goal.returns-in-Some-clause-absent
 returns-in-Some-clause-absent c = λ m k above.
@@ -30,5 +30,5 @@ returns-in-Some-clause-absent c = λ m k above.
       low,
       above,
       k.count,
-      ap (λ (lanes : List Lane). length lanes) c.deref.ensures.value,
+      ap (λ (lanes : List PlainBackend). length lanes) c.deref.ensures.value,
     ))

@@ -21,6 +21,7 @@ returns g c = record {
   closes = c.close-writer.ensures;
   end_is = c.to_end_lsn.ensures
       ∙ ap (λ (n : ℕ). end_address_of n c.close-writer.result.1)
-      (c.geometry.ensures ∙ ap (λ (s : Setup). s.segment_size) c.args.self.of_table);
+      (c.geometry-geometry.ensures
+      ∙ ap (λ (s : Setup). s.segment_size) c.args.self.table.shaped);
   down_is = c.fault-down.ensures;
 }

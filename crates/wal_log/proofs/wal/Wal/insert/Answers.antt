@@ -1,42 +1,59 @@
-use Rattle.std.proofs.Common.{List, ℕ, sym, ap, subst}
+use Rattle.std.proofs.Common.{◌≡◌, ℕ, Err, None}
+use Rattle.wal_core.specs.Views.{View}
 use Rattle.wal_core.specs.declared.setup.Setup.{Setup}
-use Rattle.wal_rule.specs.declared.writer.LogWriter.{LogWriter}
 use Rattle.wal_rule.specs.Downs.{KnowsDown}
 use Rattle.wal_rule.specs.Passes.{view_of_pass}
-use Rattle.wal_rule.specs.Seats.{IsAtRest, SeatView}
-use Rattle.wal_rule.specs.Tables.{opening_of_table, table_number}
+use Rattle.wal_rule.specs.SeatedPasses.{setup_of, view_of}
 use Rattle.wal_log.specs.Inserting.{AnswersInsert}
 use Rattle.wal_log.specs.Logs.{setup_of_log}
+use Rattle.wal_log.specs.declared.inserting.InsertErr.TheVariants.{Down}
+use Rattle.wal_log.specs.Standing.{KeepsPass}
+use Rattle.wal_log.proofs.Passing.{answered, numbers_back, seated_rests, still_pass}
+use Rattle.wal_log.proofs.wal.Wal.insert.Given.{Over}
 use Rattle.wal_log.proofs.wal.Wal.insert.Goals as goal
+use Rattle.wal_log.proofs.wal.Wal.insert.Goals.{After-put_back}
 
-pub insert_on-answer-requires-clause-seat : goal.insert_on-answer-requires-clause-seat
-insert_on-answer-requires-clause-seat g c =
-    c.seat-seat.ensures.seat (table_number c.args.self.now.table)
-    (opening_of_table c.args.self.now.table) c.requires.pass.of_log
+pub insert_on-answer-requires : goal.insert_on-answer-requires
+insert_on-answer-requires g c = record {
+  rests = seated_rests c.args.self.now c.args.pass.now c.seat-seated.result
+      c.seat-seated.ensures.view c.requires.pass;
+}
+
+pub put_back-requires-clause-numbers : goal.put_back-requires-clause-numbers
+put_back-requires-clause-numbers g c = numbers_back c.args.self.now c.args.pass.now
+    c.seat-seated.result c.seat-seated.ensures.view c.insert_on-answer.new.seated
+    c.insert_on-answer.ensures.rests c.seat-seated.new.self c.requires.pass
+    c.seat-seated.ensures.numbers
+
+answered_so : (g : Over) (c : After-put_back g) (Answers : Setup → View → View → Type 0)
+    → Answers (setup_of c.seat-seated.result) (view_of c.seat-seated.result)
+    (view_of c.insert_on-answer.new.seated)
+    → Answers (setup_of_log c.args.self.now) (view_of_pass c.args.pass.now)
+    (view_of_pass c.put_back.new.self)
+answered_so g c = answered c.args.self.now c.args.pass.now c.seat-seated.result
+    c.seat-seated.ensures.view c.insert_on-answer.new.seated c.insert_on-answer.ensures.rests
+    c.seat-seated.ensures.table c.put_back.new.self c.put_back.ensures.view
 
 pub returns-clause-inserts : goal.returns-clause-inserts
 returns-clause-inserts g c =
-    let answer = c.insert_on-answer.result in
-    let old_is = ap (λ (m : SeatView × List (ℕ × LogWriter g.row.D.Denot)). m.0)
-    c.seat-seat.ensures.view in
-    let by_setup = subst (λ (s : Setup). AnswersInsert s c.args.body.now c.seat-seat.result.me.0
-    answer c.insert_on-answer.new.seat.me.0) c.args.self.now.of_table
-    c.insert_on-answer.ensures.inserts in
-    let from_old = subst (λ (v : SeatView). AnswersInsert (setup_of_log c.args.self.now)
-    c.args.body.now v answer c.insert_on-answer.new.seat.me.0) old_is by_setup in
-    subst (λ (v : SeatView). AnswersInsert (setup_of_log c.args.self.now) c.args.body.now
-    (view_of_pass c.args.pass.now) answer v) (sym c.put_back.ensures.view) from_old
+    answered_so g (goal.at.returns-clause-inserts g c).After-put_back
+    (λ setup old new. AnswersInsert setup c.args.body.now old c.insert_on-answer.result new)
+    c.insert_on-answer.ensures.inserts
 
 pub returns-clause-down_again : goal.returns-clause-down_again
-returns-clause-down_again g c = λ faults knows. c.insert_on-answer.ensures.down_again faults
-    (subst (KnowsDown faults) (sym (ap (λ (m : SeatView × List (ℕ × LogWriter g.row.D.Denot)).
-    m.0) c.seat-seat.ensures.view)) knows)
+returns-clause-down_again g c =
+    answered_so g (goal.at.returns-clause-down_again g c).After-put_back
+    (λ setup old new. (faults : ℕ) → KnowsDown faults old
+    → c.insert_on-answer.result ≡ Err (Down faults None))
+    c.insert_on-answer.ensures.down_again
+
+pub returns-clause-keeps : goal.returns-clause-keeps
+returns-clause-keeps g c =
+    answered_so g (goal.at.returns-clause-keeps g c).After-put_back
+    (λ setup old new. KeepsPass old new) c.insert_on-answer.ensures.rests.keeps
 
 pub returns-clause-pass : goal.returns-clause-pass
-returns-clause-pass g c =
-    let inserted = c.insert_on-answer.ensures in
-    record {
-      of_log = c.put_back.ensures.pass (table_number c.args.self.now.table)
-          (opening_of_table c.args.self.now.table) inserted.seat;
-      rests = subst IsAtRest (sym c.put_back.ensures.view) inserted.rests.0;
-    }
+returns-clause-pass g c = still_pass c.args.self.now c.args.pass.now c.seat-seated.result
+    c.seat-seated.ensures.view c.insert_on-answer.new.seated c.insert_on-answer.ensures.rests
+    c.seat-seated.ensures.table c.put_back.new.self c.put_back.ensures.view
+    c.put_back.ensures.pass

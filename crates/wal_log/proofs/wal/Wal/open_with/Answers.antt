@@ -1,7 +1,7 @@
 use Rattle.std.specs.Prelude.{IfSome}
 use Rattle.std.proofs.Common.{◌≡◌, ℕ, List, None, sym, ap, ◌∙◌, subst}
 use Rattle.segment_disk.specs.Tape.{Tape, page_of_segment, state_now}
-use Rattle.wal_core.specs.Opened.{IsFirstWriter}
+use Rattle.wal_core.specs.Opened.{IsFirstWriter, first_view}
 use Rattle.wal_core.specs.Words.{Opening}
 use Rattle.wal_core.specs.declared.setup.Setup.{Setup}
 use Rattle.wal_rule.specs.declared.seats.Founding.{Founding}
@@ -9,36 +9,45 @@ use Rattle.wal_rule.specs.declared.writer.LogWriter.{LogWriter}
 use Rattle.wal_rule.specs.Founded.{disk_of_founding, founded_opening}
 use Rattle.wal_rule.specs.Opening.{TellsOpenErr}
 use Rattle.wal_rule.specs.Passes.{view_of_pass}
-use Rattle.wal_rule.specs.Seats.{IsAtRest, SeatView, first_seat_view}
+use Rattle.wal_core.specs.Steps.{IsResting}
+use Rattle.wal_core.specs.Views.{View}
 use Rattle.wal_rule.specs.Slotted.{slot_plain}
 use Rattle.wal_log.proofs.Opens.{first_rests}
 use Rattle.wal_log.proofs.wal.Wal.open_with.Goals as goal
 
 pub open-requires-clause-writer : goal.open-requires-clause-writer
 open-requires-clause-writer g c =
-    subst (λ (o : Opening). IsFirstWriter o
-    (slot_plain g.D.Disk.tape g.D.Disk.moment c.new-writer.result))
-    (sym c.of-founding.ensures.opening)
-    (c.new-writer.ensures.first c.args.setup
-    (ap (λ (s : Setup). s.segment_size) (sym c.requires.shape) ∙ sym c.geometry.ensures))
+    let disk = c.of-founding.ensures.disk ∙ sym c.new-writer.ensures.disk in
+    let setup = ap (λ (o : Opening). o.setup) c.of-founding.ensures.opening in
+    let size = ap (λ (s : Setup). s.segment_size) (sym c.requires.shape) ∙ sym c.geometry.ensures in
+    record {
+      first = subst (λ (o : Opening). IsFirstWriter o
+          (slot_plain g.D.Disk.tape g.D.Disk.moment c.new-writer.result))
+          (sym c.of-founding.ensures.opening) (c.new-writer.ensures.first c.args.setup size);
+      disk = disk;
+      size = c.new-writer.ensures.size ∙ sym size
+          ∙ sym (ap (λ (s : Setup). s.segment_size) setup);
+      failed = ap (λ (o : Opening). o.faults) c.of-founding.ensures.opening
+          ∙ ap g.D.Disk.faults (sym c.new-writer.ensures.disk);
+    }
 
 pub returns-in-Ok-clause-opened : goal.returns-in-Ok-clause-opened
 returns-in-Ok-clause-opened g c =
     let D : Type 0 = g.row.D.Denot in
     let key = c.in-Ok.ensures.key in
     let seat = c.in-Ok.ensures.seat in
-    let first : SeatView = first_seat_view (founded_opening c.of-founding.result) in
+    let first : View = first_view (founded_opening c.of-founding.result) in
     let view : view_of_pass c.of_seat-pass.result ≡ first = c.of_seat-pass.ensures.view
-    ∙ ap (λ (m : SeatView × List (ℕ × LogWriter D)). m.0) seat.0 in
+    ∙ ap (λ (m : View × List (ℕ × LogWriter D)). m.0) seat.0 in
     record {
       opening = ap (λ (f : Founding D). founded_opening f) key ∙ c.of-founding.ensures.opening;
       began = ap (λ (f : Founding D). g.D.Disk.tape (disk_of_founding f)) key
           ∙ ap g.D.Disk.tape c.of-founding.ensures.disk;
       pass_is = record {
         of_log = c.of_seat-pass.ensures.pass _ _ seat.1;
-        rests = subst IsAtRest (sym view) (first_rests (founded_opening c.of-founding.result));
+        rests = subst IsResting (sym view) (first_rests (founded_opening c.of-founding.result));
       };
-      view = view ∙ ap (λ (f : Founding D). first_seat_view (founded_opening f)) (sym key);
+      view = view ∙ ap (λ (f : Founding D). first_view (founded_opening f)) (sym key);
       empty = subst (λ (d : D). IfSome (g.D.Disk.tape d)
           (λ (t : Tape). page_of_segment (state_now t 1) 0 ≡ None)) c.new-writer.ensures.disk
           c.in-Ok.ensures.empty;

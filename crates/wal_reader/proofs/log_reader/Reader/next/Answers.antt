@@ -7,7 +7,8 @@ use Rattle.wal_reader.specs.Pages.{Pages}
 use Rattle.std.specs.Prelude.{IfOk}
 use Rattle.wal_reader.specs.Buffers.{AreFor, HoldsPageOf, page_in, room_in}
 use Rattle.wal_reader.specs.LogReader.{Knows, NeedsNoPage, reader_page, reader_state, reader_room}
-use Rattle.wal_reader.specs.RecordRead.{IsBehind, IsRoomAfterStep}
+use Rattle.wal_reader.specs.RecordRead.{IsBehind}
+use Rattle.wal_reader.specs.Answered.{IsNextIn}
 use Rattle.wal_reader.specs.Spelled.{IsSpelledIn}
 use Rattle.wal_reader.specs.RecordPlace.{IsOutOfReach}
 use Rattle.wal_reader.specs.Steps.{ComesNext}
@@ -16,7 +17,7 @@ use Rattle.wal_reader.specs.declared.found.FoundRecord.{FoundRecord}
 use Rattle.wal_reader.specs.declared.record_place.RecordPlace.{RecordPlace}
 use Rattle.wal_reader.specs.declared.read_failure.ReadFailure.{ReadFailure}
 use Rattle.wal_reader.specs.declared.read_failure.ReadFailure.TheVariants as failures
-use Rattle.wal_reader.proofs.LogReaderLaws.{standing_from, Gives-comes, IsNext-told, Leaves-told, OnEnd-told, StandsAfter-told}
+use Rattle.wal_reader.proofs.LogReaderLaws.{standing_from, Gives-comes, IsNext-told, Leaves-told, OnEnd-told, SpelledIn-told, StandsAfter-told}
 use Rattle.wal_reader.proofs.log_reader.Reader.next.Given.{Over}
 use Rattle.wal_reader.proofs.log_reader.Reader.next.Goals as goal
 use Rattle.wal_reader.proofs.log_reader.Reader.next.Goals.{After-next_given, in-NotBegun, in-At}
@@ -39,13 +40,16 @@ sees g c pages log knows =
 
 knows_still : (g : Over) (c : After-next_given g) (pages : Pages) → IsLogOf (g.D.Disk.tape c.args.disk.now) c.args.self.now.geometry pages → Knows c.args.self.now pages → HoldsPageOf c.args.self.now.geometry (Some c.next_given.new.buffers) pages
 knows_still g c pages log knows =
-    let now = c.next_given.ensures.next pages (sees g c pages log knows) in
-    (c.next_given.ensures.geometry ∙ (in_buffers g c pages knows).0, now.0.held)
+    let on = c.next_given.ensures.reads_on in
+    (on.geometry ∙ (in_buffers g c pages knows).0, (on.sees pages (sees g c pages log knows)).held)
 
-comes : (g : Over) (c : After-next_given g) (pages : Pages) → IsLogOf (g.D.Disk.tape c.args.disk.now) c.args.self.now.geometry pages → Knows c.args.self.now pages → ComesNext c.args.self.now.geometry pages c.args.self.now.start.0 (option_map (λ (e : Lsn). e.0) c.args.self.now.end) c.match-self.from c.next_given.result
-comes g c pages log knows =
-    let now = c.next_given.ensures.next pages (sees g c pages log knows) in
-    subst (λ (n : ℕ). ComesNext n pages c.args.self.now.start.0 (option_map (λ (e : Lsn). e.0) c.args.self.now.end) c.match-self.from c.next_given.result) (in_buffers g c pages knows).0 now.1
+-- what next_given answers, of the reader's log and its room
+here : (g : Over) (c : After-next_given g) (pages : Pages) → IsLogOf (g.D.Disk.tape c.args.disk.now) c.args.self.now.geometry pages → Knows c.args.self.now pages
+    → IsNextIn c.args.self.now.geometry pages c.args.self.now.start.0 (option_map (λ (e : Lsn). e.0) c.args.self.now.end) c.match-self.from (reader_room c.args.self.now) c.next_given.new.buffers.room.items c.next_given.result
+here g c pages log knows =
+    let next = c.next_given.ensures.gives pages (sees g c pages log knows) in
+    let size : ℕ → List ℕ → Type 0 = λ n room. IsNextIn n pages c.args.self.now.start.0 (option_map (λ (e : Lsn). e.0) c.args.self.now.end) c.match-self.from room c.next_given.new.buffers.room.items c.next_given.result in
+    subst (size c.args.self.now.geometry) (room_before g c) (subst (λ (n : ℕ). size n c.in-Some.buffers.room.items) (fit g c) next)
 
 stands : (g : Over) (c : After-next_given g) → c.args.self.now.standing ≡ standing_from c.match-self.from
 stands g c =
@@ -57,35 +61,54 @@ stands g c =
 pub returns-in-Ok-clause-gives : goal.returns-in-Ok-clause-gives
 returns-in-Ok-clause-gives g c pages log knows =
     let before = (goal.at.returns-in-Ok-clause-gives g c).After-next_given in
-    let end = option_map (λ (e : Lsn). e.0) c.args.self.now.end in
-    let next : ComesNext c.args.self.now.geometry pages c.args.self.now.start.0 end c.match-self.from (Ok (c.in-Ok.found, c.in-Ok.behind)) = subst (λ (r : Result (FoundRecord × RecordPlace) ReadFailure). ComesNext c.args.self.now.geometry pages c.args.self.now.start.0 end c.match-self.from r) c.in-Ok.is (comes g before pages log knows) in
-    (knows_still g before pages log knows, λ others answer rest. Gives-comes pages (reader_state c.args.self.now) c.match-self.from (c.in-Ok.found ∷ others) answer (stands g before) (next others answer rest))
+    let self = c.args.self.now in
+    let end = option_map (λ (e : Lsn). e.0) self.end in
+    let got = here g before pages log knows in
+    let next : ComesNext self.geometry pages self.start.0 end c.match-self.from (Ok (c.in-Ok.found, c.in-Ok.behind)) = subst (λ (r : Result (FoundRecord × RecordPlace) ReadFailure). ComesNext self.geometry pages self.start.0 end c.match-self.from r) c.in-Ok.is got.next in
+    record {
+      knows = knows_still g before pages log knows;
+      next = λ others answer rest. Gives-comes pages (reader_state self) c.match-self.from (c.in-Ok.found ∷ others) answer (stands g before) (next others answer rest);
+      spelled = subst (λ (r : Result (FoundRecord × RecordPlace) ReadFailure). IfOk r (λ read. IsSpelledIn self.geometry pages read.0)) c.in-Ok.is got.spelled;
+      room = got.room;
+    }
 
 pub returns-in-Ok-clause-behind : goal.returns-in-Ok-clause-behind
 returns-in-Ok-clause-behind g c =
     let before = (goal.at.returns-in-Ok-clause-behind g c).After-next_given in
-    subst (λ (n : ℕ). IsBehind n c.in-Ok.found c.in-Ok.behind) (fit g before) c.in-Ok.ensures.behind
-
-pub returns-in-Ok-clause-spelled_there : goal.returns-in-Ok-clause-spelled_there
-returns-in-Ok-clause-spelled_there g c pages log knows =
-    let before = (goal.at.returns-in-Ok-clause-spelled_there g c).After-next_given in
-    let there = subst (λ (n : ℕ). IfOk c.next_given.result (λ r. IsSpelledIn n pages r.0)) (fit g before) (c.next_given.ensures.spelled_there pages (sees g before pages log knows)) in
-    subst (λ (r : Result (FoundRecord × RecordPlace) ReadFailure). IfOk r (λ read. IsSpelledIn c.args.self.now.geometry pages read.0)) c.in-Ok.is there
+    subst (λ (n : ℕ). IsBehind n c.in-Ok.found c.in-Ok.behind) (fit g before) c.in-Ok.ensures.answered.behind
 
 pub returns-in-Err-Told-clause-gives : goal.returns-in-Err-Told-clause-gives
 returns-in-Err-Told-clause-gives g c pages log knows =
     let before = (goal.at.returns-in-Err-Told-clause-gives g c).After-next_given in
-    let end = option_map (λ (e : Lsn). e.0) c.args.self.now.end in
+    let self = c.args.self.now in
+    let end = option_map (λ (e : Lsn). e.0) self.end in
+    let got = here g before pages log knows in
     let said : Result (FoundRecord × RecordPlace) ReadFailure = Err (failures.Told c.in-Err-Told.answer) in
-    let next : ComesNext c.args.self.now.geometry pages c.args.self.now.start.0 end c.match-self.from said = subst (λ (r : Result (FoundRecord × RecordPlace) ReadFailure). ComesNext c.args.self.now.geometry pages c.args.self.now.start.0 end c.match-self.from r) (c.in-Err-Told.is ∙ ap Err c.in-Err-Told.field-0-is) (comes g before pages log knows) in
-    let gives = Gives-comes pages (reader_state c.args.self.now) c.match-self.from [] c.in-Err-Told.answer (stands g before) next in
+    let next : ComesNext self.geometry pages self.start.0 end c.match-self.from said = subst (λ (r : Result (FoundRecord × RecordPlace) ReadFailure). ComesNext self.geometry pages self.start.0 end c.match-self.from r) (c.in-Err-Told.is ∙ ap Err c.in-Err-Told.field-0-is) got.next in
+    let gives = Gives-comes pages (reader_state self) c.match-self.from [] c.in-Err-Told.answer (stands g before) next in
     let held = knows_still g before pages log knows in
-    (rw c.forget_page.ensures (held.0, tt), rw c.told.ensures (IsNext-told pages (reader_state c.args.self.now) _ c.in-Err-Told.answer gives))
+    record {
+      knows = rw c.forget_page.ensures (held.0, tt);
+      next = rw c.told.ensures (IsNext-told pages (reader_state self) _ c.in-Err-Told.answer gives);
+      spelled = rw c.told.ensures (SpelledIn-told self.geometry pages c.in-Err-Told.answer);
+      room = rw c.forget_page.ensures got.room;
+    }
+
+-- a step that meets a trouble says nothing of what comes next
+pub returns-in-Err-Memory-clause-gives : goal.returns-in-Err-Memory-clause-gives
+returns-in-Err-Memory-clause-gives g c pages log knows =
+    let before = (goal.at.returns-in-Err-Memory-clause-gives g c).After-next_given in
+    record { knows = knows_still g before pages log knows; next = tt; spelled = tt; room = (here g before pages log knows).room }
+
+pub returns-in-Err-Disk-clause-gives : goal.returns-in-Err-Disk-clause-gives
+returns-in-Err-Disk-clause-gives g c pages log knows =
+    let before = (goal.at.returns-in-Err-Disk-clause-gives g c).After-next_given in
+    record { knows = knows_still g before pages log knows; next = tt; spelled = tt; room = (here g before pages log knows).room }
 
 pub returns-in-Err-Told-clause-forgets : goal.returns-in-Err-Told-clause-forgets
 returns-in-Err-Told-clause-forgets g c =
     let before = (goal.at.returns-in-Err-Told-clause-forgets g c).After-next_given in
-    let geometry = c.next_given.ensures.geometry ∙ fit g before in
+    let geometry = c.next_given.ensures.reads_on.geometry ∙ fit g before in
     rw c.told.ensures (OnEnd-told c.in-Err-Told.answer _ (λ others. rw c.forget_page.ensures (geometry, tt)))
 
 pub returns-in-Err-Told-clause-behind : goal.returns-in-Err-Told-clause-behind
@@ -126,22 +149,3 @@ returns-in-Err-Memory-clause-unread g c = left_alone g (goal.at.returns-in-Err-M
 
 pub returns-in-Err-Disk-clause-unread : goal.returns-in-Err-Disk-clause-unread
 returns-in-Err-Disk-clause-unread g c = left_alone g (goal.at.returns-in-Err-Disk-clause-unread g c).After-next_given
-
--- the room, once a step was made
-room_after : (g : Over) (c : After-next_given g) (pages : Pages) → IsLogOf (g.D.Disk.tape c.args.disk.now) c.args.self.now.geometry pages → Knows c.args.self.now pages → IsRoomAfterStep c.args.self.now.geometry pages (reader_room c.args.self.now) c.next_given.new.buffers.room.items
-room_after g c pages log knows =
-    subst (λ (items : List ℕ). IsRoomAfterStep c.args.self.now.geometry pages items c.next_given.new.buffers.room.items) (room_before g c)
-    (subst (λ (n : ℕ). IsRoomAfterStep n pages c.in-Some.buffers.room.items c.next_given.new.buffers.room.items) (fit g c) (c.next_given.ensures.room pages (sees g c pages log knows)))
-
-pub returns-in-Ok-clause-room : goal.returns-in-Ok-clause-room
-returns-in-Ok-clause-room g c = room_after g (goal.at.returns-in-Ok-clause-room g c).After-next_given
-
-pub returns-in-Err-Told-clause-room : goal.returns-in-Err-Told-clause-room
-returns-in-Err-Told-clause-room g c pages log knows =
-    rw c.forget_page.ensures (room_after g (goal.at.returns-in-Err-Told-clause-room g c).After-next_given pages log knows)
-
-pub returns-in-Err-Memory-clause-room : goal.returns-in-Err-Memory-clause-room
-returns-in-Err-Memory-clause-room g c = room_after g (goal.at.returns-in-Err-Memory-clause-room g c).After-next_given
-
-pub returns-in-Err-Disk-clause-room : goal.returns-in-Err-Disk-clause-room
-returns-in-Err-Disk-clause-room g c = room_after g (goal.at.returns-in-Err-Disk-clause-room g c).After-next_given

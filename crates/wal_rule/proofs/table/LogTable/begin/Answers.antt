@@ -2,7 +2,7 @@ use Rattle.std.proofs.Common.{◌≡◌, [], ◌∷◌, ap, sym, ◌∙◌}
 use Rattle.atomic_table.specs.Table.{Me, rest}
 use Rattle.wal_rule.specs.declared.writer.LogWriter.{LogWriter}
 use Rattle.wal_rule.specs.Beginning.{IsUncalledWriter, reading_view}
-use Rattle.wal_rule.specs.Seats.{SeatView}
+use Rattle.wal_core.specs.Views.{View}
 use Rattle.wal_rule.specs.Slotted.{slot_disk}
 use Rattle.wal_rule.specs.Tables.{began_of_table, opening_of_table}
 use Rattle.wal_rule.proofs.Begins.{in_hand_still, lent_writer, lends_to_read, read_still}
@@ -25,7 +25,7 @@ slot_mut-writer-requires g c = (
 read : (g : Over) (c : After-has_first_page g)
     → IsUncalledWriter g.D.Disk.tape g.D.Disk.moment (opening_of_table c.args.self)
     (began_of_table g.D.Disk.tape c.args.self) c.has_first_page.new.self
-    × ◌≡◌ {A = Me (LogWriter g.row.D.Denot) SeatView} (
+    × ◌≡◌ {A = Me (LogWriter g.row.D.Denot) View} (
       c.lend_to_read.new.seat.me.0,
       (0, c.has_first_page.new.self) ∷ rest c.lend_to_read.new.seat.me.1,
     )
@@ -37,7 +37,8 @@ read g c =
     let lent = c.slot_mut-writer.ensures.value in (
       read_still g.D.Disk.tape g.D.Disk.moment g.D.Disk.faults (opening_of_table c.args.self)
           (began_of_table g.D.Disk.tape c.args.self) me reads.0 held c.has_first_page.new.self
-          reads.1 reads.3 lent c.has_first_page.ensures.same c.has_first_page.ensures.size,
+          reads.1 reads.3 lent c.has_first_page.ensures.same
+          c.has_first_page.ensures.tape c.has_first_page.ensures.size,
       in_hand_still g.D.Disk.tape g.D.Disk.moment g.D.Disk.faults (opening_of_table c.args.self)
           (began_of_table g.D.Disk.tape c.args.self) me reads.0 held c.has_first_page.new.self
           reads.1 reads.3 lent,

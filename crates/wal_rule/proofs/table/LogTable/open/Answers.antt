@@ -10,11 +10,11 @@ new-requires g c =
     (g.D.Disk.tape (disk_of_founding c.args.founding.now)) c.args.words.now c.push.new.self.items
     c.args.writer are c.requires.words
     (record {
-      first = c.requires.writer;
-      size_is = c.requires.size;
-      tape_is = ap g.D.Disk.tape (sym c.requires.disk);
+      first = c.requires.writer.first;
+      size_is = c.requires.writer.size;
+      tape_is = ap g.D.Disk.tape (sym c.requires.writer.disk);
     })
-    _ c.requires.failed
+    _ c.requires.writer.failed
 
 pub only_one-requires : goal.only_one-requires
 only_one-requires g c = (c.args.writer, search rules)

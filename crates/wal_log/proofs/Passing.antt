@@ -1,0 +1,60 @@
+-- A call seats a pass, comes to rest with it, and puts it back: what it answers of the seated pass
+-- it answers of the pass.
+use Rattle.std.proofs.Common.{◌≡◌, List, [], ℕ, sym, ap, ◌∙◌, subst}
+use Rattle.wal_core.specs.Steps.{IsResting}
+use Rattle.wal_core.specs.Views.{View}
+use Rattle.wal_core.specs.declared.setup.Setup.{Setup}
+use Rattle.wal_rule.specs.declared.pass.Pass.{Pass}
+use Rattle.wal_rule.specs.declared.seated.SeatedPass.{SeatedPass}
+use Rattle.wal_rule.specs.declared.table.LogTable.{LogTable}
+use Rattle.wal_rule.specs.declared.writer.LogWriter.{LogWriter}
+use Rattle.wal_rule.specs.Passes.{HasNumbers, SamePass, view_of_pass}
+use Rattle.wal_rule.specs.SeatedPasses.{StandsAtRest, setup_of, view_of}
+use Rattle.wal_rule.specs.Tables.{IsPassOn, setup_of_table}
+use Rattle.wal_log.specs.declared.wal.Wal.{Wal}
+use Rattle.wal_log.specs.Logs.{IsPassOfLog, setup_of_log, table_of}
+use Rattle.wal_log.specs.Standing.{ComesToRest}
+
+module _ {D : Type 0} (wal : Wal D) (pass : Pass) (seated : SeatedPass D)
+    (view : (seated.seat).me ≡ (view_of_pass pass, [])) where
+  seen_is : view_of seated ≡ view_of_pass pass
+  seen_is = ap (λ (m : View × List (ℕ × LogWriter D)). m.0) view
+
+  -- it begins at rest
+  pub seated_rests : IsPassOfLog wal pass → StandsAtRest seated
+  seated_rests of_log = record {
+    rests = subst IsResting (sym seen_is) of_log.rests;
+    empty = ap (λ (m : View × List (ℕ × LogWriter D)). m.1) view;
+  }
+
+  module _ (new : SeatedPass D) (comes : ComesToRest seated new) where
+    -- with the numbers that the pass has kept
+    pub numbers_back : (mid : Pass) → IsPassOfLog wal pass → SamePass pass mid
+        → HasNumbers mid.number mid.spare mid.spare_end (view_of new)
+    numbers_back mid of_log same =
+        let had = (of_log.of_log).numbers in record {
+          own = same.own ∙ had.own
+              ∙ sym ((comes.keeps).number ∙ ap (λ (v : View). (v.reserving).number) seen_is);
+          low = same.low ∙ had.low
+              ∙ sym ((comes.keeps).spare ∙ ap (λ (v : View). (v.reserving).spare) seen_is);
+          high = same.high ∙ had.high ∙ sym ((comes.keeps).spare_end
+              ∙ ap (λ (v : View). (v.reserving).spare_end) seen_is);
+        }
+
+    module _ (table : (seated.table).now ≡ table_of wal) (after : Pass)
+        (back : view_of_pass after ≡ view_of new) where
+      pub still_pass : IsPassOn (new.table).now after → IsPassOfLog wal after
+      still_pass put = record {
+        of_log = subst (λ (t : LogTable D). IsPassOn t after)
+            (ap (λ t. t.now) comes.same_table ∙ table) put;
+        rests = subst IsResting (sym back) (comes.rests).rests;
+      }
+
+      pub answered : (Answers : Setup → View → View → Type 0)
+          → Answers (setup_of seated) (view_of seated) (view_of new)
+          → Answers (setup_of_log wal) (view_of_pass pass) (view_of_pass after)
+      answered Answers answers = subst (λ (v : View). Answers (setup_of_log wal)
+          (view_of_pass pass) v) (sym back)
+          (subst (λ (v : View). Answers (setup_of_log wal) v (view_of new)) seen_is
+          (subst (λ (s : Setup). Answers s (view_of seated) (view_of new))
+          (ap (λ (t : LogTable D). setup_of_table t) table) answers))

@@ -1,0 +1,96 @@
+use Rattle.std.specs.Prelude.{Err}
+use Rattle.std.proofs.Common.{sym, ap, ◌∙◌, subst}
+use Rattle.wal_rule.specs.SeatedPasses.{view_of}
+use Rattle.wal_log.specs.declared.flushing.FlushErr.{FlushErr}
+use Rattle.wal_log.specs.Flushing.{TellsFlushErr}
+use Rattle.wal_log.specs.Standing.{ComesToRest}
+use Rattle.wal_log.proofs.FlushLaws.{answer_again, answer_of, fault_behind, told_behind, unreserved_behind}
+use Rattle.wal_log.proofs.Trying.{first_try, rests_again, tried_again}
+use Rattle.wal_log.proofs.flushing.flush_on.Given.{Over}
+use Rattle.wal_log.proofs.flushing.flush_on.Goals as goal
+use Rattle.wal_log.proofs.flushing.flush_on.Goals.{After-try_flush}
+
+pub loop-init : goal.loop-init
+loop-init g c = record { goes_on = (tt, tt); tried = first_try c.args.seated.now c.requires.rests }
+
+rests : (g : Over) (c : After-try_flush g) → ComesToRest c.args.seated.now c.try_flush.new.seated
+rests g c = rests_again c.args.seated.now c.loop.seated c.try_flush.new.seated
+    c.loop.invariant.tried.comes c.try_flush.ensures.rests
+
+pub returns-in-Ok-clause-flushes : goal.returns-in-Ok-clause-flushes
+returns-in-Ok-clause-flushes g c = (
+  told_behind c.args.upto.0 c.in-Ok.hard.upto.0 c.in-Ok.hard.moment (view_of c.args.seated.now)
+      (view_of c.loop.seated) (view_of c.try_flush.new.seated) c.loop.invariant.tried.log
+      c.loop.invariant.tried.comes.keeps c.args.upto.0 c.in-Ok.ensures.tries.0.reached
+      c.in-Ok.ensures.tries.0,
+  c.in-Ok.ensures.tries.1,
+)
+
+pub returns-in-Ok-clause-down_again : goal.returns-in-Ok-clause-down_again
+returns-in-Ok-clause-down_again g c = λ faults knows.
+    answer_again c.try_flush.result _ faults (ap answer_of c.in-Ok.is)
+    (c.try_flush.ensures.down_again faults
+    (c.loop.invariant.tried.comes.keeps.down faults knows))
+
+pub returns-in-Ok-clause-rests : goal.returns-in-Ok-clause-rests
+returns-in-Ok-clause-rests g c =
+    rests g (goal.at.returns-in-Ok-clause-rests g c).After-try_flush
+
+pub returns-in-Err-Fault-clause-flushes : goal.returns-in-Err-Fault-clause-flushes
+returns-in-Err-Fault-clause-flushes g c =
+    let why = rw c.in-Err-Fault.field-0-is at c.in-Err-Fault.ensures.tries in (
+      why.1 ∙ c.loop.invariant.tried.log,
+      subst (λ (e : FlushErr). TellsFlushErr c.args.upto.0 (view_of c.args.seated.now)
+          (view_of c.try_flush.new.seated) e) (sym c.from.ensures)
+          (fault_behind c.args.upto.0 (view_of c.args.seated.now) (view_of c.loop.seated)
+          (view_of c.try_flush.new.seated) c.loop.invariant.tried.comes.keeps
+          c.loop.invariant.tried.down_set c.in-Err-Fault.fault why.0),
+    )
+
+pub returns-in-Err-Fault-clause-down_again : goal.returns-in-Err-Fault-clause-down_again
+returns-in-Err-Fault-clause-down_again g c = λ faults knows.
+    answer_again c.try_flush.result _ faults
+    (ap answer_of (c.in-Err-Fault.is ∙ ap Err c.in-Err-Fault.field-0-is)
+    ∙ ap Err (sym c.from.ensures))
+    (c.try_flush.ensures.down_again faults
+    (c.loop.invariant.tried.comes.keeps.down faults knows))
+
+pub returns-in-Err-Fault-clause-rests : goal.returns-in-Err-Fault-clause-rests
+returns-in-Err-Fault-clause-rests g c =
+    rests g (goal.at.returns-in-Err-Fault-clause-rests g c).After-try_flush
+
+pub returns-in-Err-Unreserved-clause-flushes : goal.returns-in-Err-Unreserved-clause-flushes
+returns-in-Err-Unreserved-clause-flushes g c =
+    let why = rw c.in-Err-Unreserved.field-0-is at c.in-Err-Unreserved.ensures.tries in (
+      why.1 ∙ c.loop.invariant.tried.log,
+      unreserved_behind c.args.upto.0 (view_of c.args.seated.now) (view_of c.loop.seated)
+          (view_of c.try_flush.new.seated) c.loop.invariant.tried.comes.keeps
+          c.in-Err-Unreserved.end.0 why.0,
+    )
+
+pub returns-in-Err-Unreserved-clause-down_again : goal.returns-in-Err-Unreserved-clause-down_again
+returns-in-Err-Unreserved-clause-down_again g c = λ faults knows.
+    answer_again c.try_flush.result _ faults
+    (ap answer_of (c.in-Err-Unreserved.is ∙ ap Err c.in-Err-Unreserved.field-0-is))
+    (c.try_flush.ensures.down_again faults
+    (c.loop.invariant.tried.comes.keeps.down faults knows))
+
+pub returns-in-Err-Unreserved-clause-rests : goal.returns-in-Err-Unreserved-clause-rests
+returns-in-Err-Unreserved-clause-rests g c =
+    rests g (goal.at.returns-in-Err-Unreserved-clause-rests g c).After-try_flush
+
+pub loop-preserved-in-Err-Behind : goal.loop-preserved-in-Err-Behind
+loop-preserved-in-Err-Behind g c =
+    let why = rw c.in-Err-Behind.field-0-is at c.in-Err-Behind.ensures.tries in record {
+      goes_on = (tt, tt);
+      tried = tried_again c.args.seated.now c.loop.seated c.try_flush.new.seated
+          c.loop.invariant.tried c.try_flush.ensures.rests why.1 why.0.2;
+    }
+
+pub loop-preserved : goal.loop-preserved
+loop-preserved g c =
+    let why = rw c.in-Err-Turn.field-0-is at c.in-Err-Turn.ensures.tries in record {
+      goes_on = (tt, tt);
+      tried = tried_again c.args.seated.now c.loop.seated c.try_flush.new.seated
+          c.loop.invariant.tried c.try_flush.ensures.rests why.1 why.0.2;
+    }

@@ -1,0 +1,24 @@
+use Rattle.std.proofs.Common.{arith, ap, ◌∙◌, subst}
+use Rattle.segment_disk.specs.Tape.{Tape}
+use Rattle.wal_core.specs.Words.{Opening}
+use Rattle.wal_rule.specs.Called.{DeviceCallEnds, IsCalled}
+use Rattle.wal_core.specs.Views.{View}
+use Rattle.wal_rule.specs.Tables.{opening_of_table}
+use Rattle.wal_rule.proofs.DeviceSteps.{call_steady, catches_up}
+use Rattle.wal_rule.proofs.Live.{kept_step, live_held}
+use Rattle.wal_rule.proofs.seated.SeatedPass.catch_up.Goals as goal
+
+pub load-requires : goal.load-requires
+load-requires g c = (
+  c.args.self.now.seated.of_table,
+  omega (arith, c.args.self.now.table.now.wide),
+  λ s h one here fits. kept_step
+      (catches_up g.D.Disk.tape g.D.Disk.moment g.D.Disk.faults (opening_of_table c.args.self.now.table.now) _
+      g.B.OfCall.call g.B.OfCall.ended c.args.self.now.seat.me c.args.self.now.seated.own
+      (subst (λ (d : Rattle.std.specs.Prelude.Option Tape). IsCalled g.D.Disk.tape
+      g.D.Disk.moment g.D.Disk.faults d (opening_of_table c.args.self.now.table.now) g.B.OfCall.call g.B.OfCall.ended c.args.self.now.seat.me)
+      c.requires.began c.requires.called)
+      _ _ c.args.self.now.seated.live c.requires.may _ c.requires.began _ c.args.self.now.seated.own s
+      (live_held g.D.Disk.tape g.D.Disk.moment g.D.Disk.faults _ _ _ _ c.args.self.now.seated.live s h here)
+      one here fits),
+)

@@ -1,0 +1,29 @@
+use Rattle.wal_rule.specs.Called.{syncs}
+use Rattle.wal_rule.specs.Tables.{began_of_table, opening_of_table}
+use Rattle.wal_rule.proofs.DeviceSteps.{is_called, lends, sync_low}
+use Rattle.wal_rule.proofs.seated.SeatedPass.sync.Goals as goal
+
+pub slot_mut-writer-requires : goal.slot_mut-writer-requires
+slot_mut-writer-requires g c = (
+  c.args.self.now.seated.of_table,
+  (
+    c.requires.out.1,
+    lends g.D.Disk.tape g.D.Disk.moment g.D.Disk.faults (opening_of_table c.args.self.now.table.now)
+        (began_of_table g.D.Disk.tape c.args.self.now.table.now) c.args.self.now.seat.me c.requires.out.0
+        c.requires.out.1 c.requires.out.2,
+  ),
+)
+
+pub sync-ended-requires : goal.sync-ended-requires
+sync-ended-requires g c = sync_low g.D.Disk.tape g.D.Disk.moment g.D.Disk.faults (opening_of_table c.args.self.now.table.now)
+    (began_of_table g.D.Disk.tape c.args.self.now.table.now) c.args.self.now.seat.me c.requires.out.0
+    c.requires.out.1 c.slot_mut-writer.result.now c.requires.out.2
+    c.slot_mut-writer.ensures.value c.args.segment c.requires.may
+
+pub catch_up-requires-clause-called : goal.catch_up-requires-clause-called
+catch_up-requires-clause-called g c =
+    is_called g.D.Disk.tape g.D.Disk.moment g.D.Disk.faults (opening_of_table c.args.self.now.table.now)
+    (began_of_table g.D.Disk.tape c.args.self.now.table.now) c.args.self.now.seat.me c.requires.out.0
+    c.requires.out.1 c.slot_mut-writer.result.now c.requires.out.2
+    c.slot_mut-writer.ensures.value (syncs c.args.segment) c.sync-ended.result
+    c.sync-ended.new.self tt c.sync-ended.ensures

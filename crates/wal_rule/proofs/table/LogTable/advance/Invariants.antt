@@ -1,5 +1,0 @@
-use Rattle.wal_core.specs.Steps.{advance}
-use Rattle.wal_rule.proofs.table.LogTable.advance.Given as goal
-
-abbrev pub ghosts-stores : goal.ghosts-stores
-ghosts-stores g a = record { kind = advance (a.operands).first (a.operands).second }

@@ -1,5 +1,0 @@
-use Rattle.wal_core.specs.Steps.{load_buffer_end}
-use Rattle.wal_rule.proofs.table.LogTable.load_buffer_end.Given as goal
-
-abbrev pub ghosts-loads : goal.ghosts-loads
-ghosts-loads g a = record { kind = load_buffer_end (a.operands).first }

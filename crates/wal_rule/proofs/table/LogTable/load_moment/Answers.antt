@@ -1,5 +1,0 @@
-use Rattle.wal_rule.proofs.MetNumbers.{moment_met}
-use Rattle.wal_rule.proofs.table.LogTable.load_moment.Goals as goal
-
-pub returns-clause-latest : goal.returns-clause-latest
-returns-clause-latest g c = moment_met c.args.seat.now.me.0 c.loads.result c.loads.ensures.met

@@ -1,5 +1,0 @@
-use Rattle.wal_core.specs.Steps.{lock_position}
-use Rattle.wal_rule.proofs.table.LogTable.lock_position.Given as goal
-
-abbrev pub ghosts-exchanges : goal.ghosts-exchanges
-ghosts-exchanges g a = record { kind = lock_position a.expected }

@@ -1,5 +1,0 @@
-use Rattle.wal_core.specs.Steps.{release}
-use Rattle.wal_rule.proofs.table.LogTable.release.Given as goal
-
-abbrev pub ghosts-stores : goal.ghosts-stores
-ghosts-stores g a = record { kind = release (a.operands).first }

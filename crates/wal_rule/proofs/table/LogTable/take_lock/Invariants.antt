@@ -1,5 +1,0 @@
-use Rattle.wal_core.specs.Steps.{take_lock}
-use Rattle.wal_rule.proofs.table.LogTable.take_lock.Given as goal
-
-abbrev pub ghosts-exchanges : goal.ghosts-exchanges
-ghosts-exchanges g a = record { kind = take_lock (a.operands).first }

@@ -1,0 +1,23 @@
+-- A run of words that a pass may copy to a page, and what is so behind it.
+use Rattle.std.specs.Prelude.{◌≡◌, ℕ, ◌+◌, ◌*◌, ◌≤◌}
+use Rattle.wal_page.specs.Placed.{PlacedState, placed_end}
+use Rattle.wal_rule.specs.declared.seated.SeatedPass.{SeatedPass}
+use Rattle.wal_rule.specs.SeatedPasses.{HasView, setup_of, view_of}
+use Rattle.word_ring.specs.Copied.{IsPlaceOf, IsRestOf, copied_view, page_end_at}
+
+-- so many words are left of its copy, as this record at its place gives them, all of them on the
+-- page of the next one, whose end, or a higher one, the pass has met; the next one has this place
+pub record MayCopy {D : Type 0} (count place : ℕ) (p : SeatedPass D) (placed : PlacedState)
+    : Type 0 where
+  pub rest : IsRestOf (setup_of p) (view_of p) placed
+  pub left : placed.next + 8 * count ≤ placed_end placed
+  pub on_page : placed.next + 8 * count ≤ page_end_at placed.next
+  pub met : page_end_at placed.next ≤ ((view_of p).mapping).confirmed
+  pub place_is : IsPlaceOf (setup_of p) placed.next place
+
+-- the copy is so many words further on, and the record at its place with it
+pub record HasCopied {D : Type 0} (count : ℕ) (old new : SeatedPass D)
+    (placed_old placed_new : PlacedState) : Type 0 where
+  pub view : HasView (copied_view count (view_of old)) old new
+  pub placed_is : placed_new ≡ record placed_old { next = placed_old.next + 8 * count }
+  pub rest : IsRestOf (setup_of old) (view_of new) placed_new
