@@ -24,7 +24,7 @@ use Rattle.told_lines.specs.Told.{entries_of}
 -- ---- what was told is there
 
 -- an answer says that by a moment all below an address is durable: a commit up to its record's end,
--- a flush up to its position
+-- a flush up to the address that it names
 abbrev pub SaysDurable : ℕ → ℕ → Told → Type 0
 SaysDurable moment address (Wrote start end) = ⊥
 SaysDurable moment address (Hard start end told) = (told ≤ moment) × (address ≤ end.0)

@@ -12,7 +12,7 @@ pub enum Told {
     Wrote { start: Lsn, end: Lsn },
     /// A record is durable from this moment of the disk on.
     Hard { start: Lsn, end: Lsn, moment: u64 },
-    /// All below a position is durable from this moment of the disk on.
+    /// All below an address is durable from this moment of the disk on.
     Flushed { upto: Lsn, moment: u64 },
     /// Nothing is told to be durable; where a record was reserved all the same, its start.
     Refused { cause: Cause, reserved: Option<Lsn> },
