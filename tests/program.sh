@@ -1,21 +1,15 @@
 #!/usr/bin/env bash
-# Tries the built program where the gate cannot: standard streams that are closed, two runs side by
+# Tries the built program where `rt ci` cannot: standard streams that are closed, two runs side by
 # side in one folder, names that are in the way, what a run leaves in its folder, and little memory.
 #
 #     tests/program.sh            tries what the launcher ./pgwal starts
 #     tests/program.sh PROGRAM    tries another build
 #
-# It is run by hand, outside the gate. Each check has a folder of its own below a temporary one,
+# It is run by hand, outside `rt ci`. Each check has a folder of its own below a temporary one,
 # which is removed. Prints a line for each check that failed, and at the end 'N passed, M failed';
 # its status is 1 where one failed.
-set -u
-top=$(cd "$(dirname "${BASH_SOURCE[0]}")/.." && pwd) || exit 1
-program=$(realpath "${1:-$top/pgwal}") || exit 1
-base=$(mktemp -d) || exit 1
-trap 'rm -rf "$base"' EXIT
-passed=0
-failed=0
-size=1048576
+source "$(dirname "${BASH_SOURCE[0]}")/checks.sh" || exit 1
+program=$(realpath -e "${1:-$top/pgwal}") || exit 1
 segment=pg_wal/000000010000000000000001
 
 run() { "$program" run --seg $size "$@"; }
@@ -24,16 +18,6 @@ dump() { "$program" dump --seg $size; }
 # fresh: an empty folder of the next check's own, as the working directory
 fresh() {
   mkdir "$base/$((passed + failed))" && cd "$base/$((passed + failed))" || exit 1
-}
-
-# equal NAME FOUND WANTED
-equal() {
-  if [ "$2" = "$3" ]; then
-    passed=$((passed + 1))
-  else
-    failed=$((failed + 1))
-    printf '%s: found "%s", wanted "%s"\n' "$1" "$2" "$3"
-  fi
 }
 
 # commits FIRST COUNT: so many commits, by transactions from this one on
@@ -114,7 +98,7 @@ a_pipe_in_a_segments_place_is_a_fault() {
 }
 
 two_runs_in_one_folder() {
-  local trial first second both=0 none=0 torn=0
+  local trial fresh_trial first second both=0 none=0 torn=0
   for ((trial = 0; trial < 100; trial++)); do
     fresh_trial=$base/trial
     mkdir "$fresh_trial" && cd "$fresh_trial" || exit 1
@@ -182,6 +166,7 @@ failed_segment_leaves_nothing() {
 }
 
 many_segments_are_whole() {
+  local i
   fresh
   for ((i = 0; i < 400; i++)); do echo 'I 7 10 00 8000*5a'; done | run >out
   equal 'four segments' "$(cat out)" 'records 400 commits 0 bytes 3212800 end 0/00412B30 segments 4'
@@ -209,5 +194,4 @@ files_are_the_users_own
 failed_segment_leaves_nothing
 many_segments_are_whole
 the_largest_length_takes_no_memory
-echo "$passed passed, $failed failed"
-[ $failed = 0 ]
+tell

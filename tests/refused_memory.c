@@ -1,5 +1,6 @@
-// Refuses a program one of its allocations: the one of the number in REFUSED, from 1 on. It is
-// loaded in front of the C library (LD_PRELOAD). What libraries take for themselves is not counted.
+// Refuses the program one of its calls of malloc and realloc, by which alone it takes memory: the one of the
+// number in REFUSED, from 1 on. It is loaded in front of the C library (LD_PRELOAD). What libraries take for
+// themselves is not counted.
 #define _GNU_SOURCE
 #include <dlfcn.h>
 #include <stdatomic.h>
