@@ -1,5 +1,5 @@
 -- The headline, of the disk of a run and of the call.
-use Rattle.std.proofs.Common.{◌≡◌, ℕ, ◌+◌, ◌≤◌, All, List, [], ◌∷◌, Option, Some, Ok, Result, inl, inr, refl, sym, ap, subst, ◌∙◌}
+use Rattle.std.proofs.Common.{◌≡◌, ℕ, suc, ◌+◌, ◌≤◌, All, List, [], ◌∷◌, length, map, Option, Some, Ok, Result, inl, inr, refl, sym, ap, ap₂, subst, ◌∙◌}
 use Rattle.std.specs.Prelude.{IfSome}
 use Rattle.std.specs.List.{zip}
 use Rattle.std.proofs.lemmas.List.{append_cancel_left}
@@ -23,7 +23,7 @@ use Rattle.told_lines.specs.Told.{FitsLine, Logged, RiseInLineOrder, TellsAll, T
 use Rattle.told_lines.proofs.Orders.{sorted_permutes}
 use Rattle.command_words.specs.declared.commands.GenOptions.{GenOptions}
 use Rattle.command_words.specs.declared.commands.RunOptions.{RunOptions}
-use Rattle.command_words.specs.declared.commands.Command.TheVariants.{Run, Gen, Replay, Dump}
+use Rattle.command_words.specs.declared.commands.Command.TheVariants.{Run, Gen, Replay, Dump, Redo}
 use Rattle.command_line.specs.declared.asking.Request.{Request}
 use Rattle.command_line.specs.declared.asking.Request.TheVariants.{Command, Help, Version, Nothing}
 use Rattle.backend_cli.specs.Asked.{AsksBackends}
@@ -39,12 +39,18 @@ use Rattle.backend_cli.specs.declared.outcome.Outcome.{Outcome}
 -- what a line may be told names its own record's place, where it is a receipt
 own_place : (logged : Logged) (behind : ℕ) (asked : Asked) (told : Told)
     → FitsLine logged behind asked told → NamesOwnPlace logged.size asked told
-own_place logged behind asked (Wrote start end) fits = tt
-own_place logged behind asked (Flushed upto moment) fits = tt
-own_place logged behind asked (Refused cause reserved) fits = tt
+own_place logged behind (Insert value) (Wrote start end) fits = fits
 own_place logged behind (Insert value) (Hard start end moment) fits = fits
+own_place logged behind (Insert value) (Flushed upto moment) fits = fits
+own_place logged behind (Insert value) (Refused cause reserved) fits = tt
+own_place logged behind (Commit value) (Wrote start end) fits = fits
 own_place logged behind (Commit value) (Hard start end moment) fits = fits
+own_place logged behind (Commit value) (Flushed upto moment) fits = fits
+own_place logged behind (Commit value) (Refused cause reserved) fits = tt
+own_place logged behind Flush (Wrote start end) fits = fits
 own_place logged behind Flush (Hard start end moment) fits = fits
+own_place logged behind Flush (Flushed upto moment) fits = tt
+own_place logged behind Flush (Refused cause reserved) fits = tt
 
 -- of a line and what it was told; of a backend's lines
 abbrev OwnsPlace : ℕ → AskedLine × Told → Type 0
@@ -74,6 +80,35 @@ all_own_places logged pass (lines ∷ script) (told ∷ others) tells =
     (own_places logged pass (first_position logged.size) lines told tells.0)
     (all_own_places logged (pass + 1) script others tells.1)
 
+-- ---- answers
+
+answered_from : (logged : Logged) (pass behind : ℕ) (lines : List AskedLine) (told : List Told)
+    → TellsFrom logged pass behind lines told → length told ≡ length lines
+answered_from logged pass behind [] [] tells = refl
+answered_from logged pass behind [] (told ∷ others) tells = absurd tells
+answered_from logged pass behind (line ∷ lines) [] tells = absurd tells
+answered_from logged pass behind (line ∷ lines) (told ∷ others) tells =
+    ap suc (answered_from logged pass
+    (behind_or logged.size behind (entry_of logged.size pass line.asked told)) lines others
+    tells.1)
+
+abbrev AnswerCounts : List (List Told) → List ℕ
+AnswerCounts lists = map (λ (answers : List Told). length answers) lists
+
+abbrev LineCounts : List (List AskedLine) → List ℕ
+LineCounts script = map (λ (lines : List AskedLine). length lines) script
+
+pub all_answered : (logged : Logged) (pass : ℕ) (script : List (List AskedLine))
+    (lists : List (List Told)) → TellsAll logged pass script lists
+    → AnswerCounts lists ≡ LineCounts script
+all_answered logged pass [] [] tells = refl
+all_answered logged pass [] (told ∷ others) tells = absurd tells
+all_answered logged pass (lines ∷ script) [] tells = absurd tells
+all_answered logged pass (lines ∷ script) (told ∷ others) tells =
+    ap₂ (λ (n : ℕ) (ns : List ℕ). n ∷ ns)
+    (answered_from logged pass (first_position logged.size) lines told tells.0)
+    (all_answered logged (pass + 1) script others tells.1)
+
 -- ---- of the disk of a run
 
 module _ (size opening : ℕ) (valid : IsSegmentSize size) (script : List (List AskedLine))
@@ -92,14 +127,16 @@ module _ (size opening : ℕ) (valid : IsSegmentSize size) (script : List (List 
       let decodes = (finding_is_decoding size c.image size valid found).0 c.finds in
       here moment c.image c.since_opening c.left c.no_torn_pass found decodes.0 decodes.1
 
-  pub headline_of_run : All (OwnPlaces size) (zip script told)
+  pub headline_of_run : AnswerCounts told ≡ LineCounts script
+      → All (OwnPlaces size) (zip script told)
       → IsChained size (order_from size 1 script told)
       → RiseInLineOrder size 1 script told
       → (HoldsNothing before → IfSome after
       (SurvivesCrashes size opening (order_from size 1 script told) told))
       → Headline size opening script told before after
-  headline_of_run receipts gapless in_line_order survives = record {
+  headline_of_run answered receipts gapless in_line_order survives = record {
     sized = valid;
+    answered = answered;
     receipts = receipts;
     order = order_from size 1 script told;
     reserved = sorted_permutes (entries_from size 1 script told);
@@ -165,6 +202,7 @@ module _ (outside : Outside) (outcome : Outcome) where
       (sym asks.1) (of_play options told opened obeys.plays))
   of_request (Command (Replay options)) told opened obeys size script asks = absurd asks
   of_request (Command (Dump options)) told opened obeys size script asks = absurd asks
+  of_request (Command (Redo options)) told opened obeys size script asks = absurd asks
 
   -- words that ask for a run, and a log that was opened
   pub headline_of_call : {D : Type 0} (request : Request) (disk disk_now : D)

@@ -3,6 +3,7 @@ pub mod ToldLines
 pub mod ReadLaws
 pub mod ScriptReading
 pub mod DumpingLaws
+pub mod RedoingLaws
 pub mod TurnLaws
 pub mod ReplayScripts
 pub mod BackendLines

@@ -31,21 +31,21 @@ use Rattle.wal_script.proofs.ReplayLaws.{some_backends_are_there}
 use Rattle.backend_cli.specs.Outside.{SourceView}
 use Rattle.backend_cli.specs.declared.replay.ReplayBegun.{ReplayBegun}
 use Rattle.backend_cli.specs.ReplayBegun.{DoesMeaning, IsReplayBegun, PlaysBackends}
-use Rattle.backend_cli.specs.Replaying.{PutsBefore, asks_of, setup_asked}
+use Rattle.backend_cli.specs.Replaying.{PutsBefore, asks_of, replay_setup}
 use Rattle.backend_cli.proofs.ReplayScripts.{as_many_backends, as_many_lines, scripts_for, scripts_of}
 use Rattle.backend_cli.proofs.TurnLaws.{turns_keep_counts}
 
 -- a core that begins with a replay's lines plays the machine as which the replay begins
 pub begun_as : (options : ReplayOptions) (asked : List (List AskedLine)) (backends : List (Vec Line Global)) (setup : Setup) (scripts : List (List MachineLine)) (failing : List ℕ) (begun : ReplayBegun)
-    → AreBackendsOf asked backends → setup ≡ setup_asked options (length backends) → scripts ≡ scripts_of backends → failing ≡ []
+    → AreBackendsOf asked backends → setup ≡ replay_setup options (length backends) → scripts ≡ scripts_of backends → failing ≡ []
     → begun.line_counts.items ≡ map (λ lines. length lines) scripts → HasBegun setup failing (core_of begun.core)
     → ((asks : List (List Ask)) → AreScriptsFor asks scripts → PlaysMachine (core_of begun.core) (machine_begun (core_of begun.core) asks)) → IsPlayed begun.core
     → IsReplayBegun options asked begun
 begun_as options asked backends setup scripts failing begun are setup_is scripts_are none counts has plays played =
     let core = core_of begun.core in
     let asks = map asks_of asked in
-    let setup_now : setup ≡ setup_asked options (length asked) = setup_is ∙ ap (setup_asked options) (sym (as_many_backends asked backends are)) in
-    let core_setup : core.setup ≡ setup_asked options (length asked) = has.setup_is ∙ setup_now in
+    let setup_now : setup ≡ replay_setup options (length asked) = setup_is ∙ ap (replay_setup options) (sym (as_many_backends asked backends are)) in
+    let core_setup : core.setup ≡ replay_setup options (length asked) = has.setup_is ∙ setup_now in
     let failing_now : (core.writer).failing ≡ [] = has.failing_is ∙ none in
     record {
       first = machine_begun core asks;
@@ -57,7 +57,7 @@ begun_as options asked backends setup scripts failing begun are setup_is scripts
         calls = has.calls;
         machine_is = ap (λ (d : DiskState). first_machine d (first_opening core.setup) (core.words).words (core.writer).plain (core.writer).failing asks) has.first
             ∙ ap (λ (s : Setup). first_machine empty_state (first_opening s) (core.words).words (core.writer).plain (core.writer).failing asks) core_setup
-            ∙ ap (λ (f : List ℕ). first_machine empty_state (first_opening (setup_asked options (length asked))) (core.words).words (core.writer).plain f asks) failing_now;
+            ∙ ap (λ (f : List ℕ). first_machine empty_state (first_opening (replay_setup options (length asked))) (core.words).words (core.writer).plain f asks) failing_now;
       };
       counted = record {
         plays = plays asks (subst (AreScriptsFor asks) (sym scripts_are) (scripts_for asked backends are));

@@ -40,7 +40,7 @@ use Rattle.backend_cli.specs.Printing.{printed_text}
 use Rattle.backend_cli.specs.Run.{HoldsOpened}
 use Rattle.backend_cli.specs.Texts.{run_text}
 use Rattle.backend_cli.specs.declared.outcome.Outcome.{Outcome}
-use Rattle.backend_cli.proofs.HeadlineLaws.{all_own_places, headline_of_run}
+use Rattle.backend_cli.proofs.HeadlineLaws.{all_answered, all_own_places, headline_of_run}
 use Rattle.backend_cli.proofs.RunEnds.{CountsFaults, ends_opened, quiet_where_printed, risen_where_not_printed, took}
 use Rattle.backend_cli.proofs.RunTexts.{text_is}
 
@@ -101,6 +101,7 @@ module _ {D : Type 0} (tape : D → Option Tape) (moment faults : D → ℕ) (di
     closes = closes;
     taken = taken;
     none_found = refl;
+    none_made = refl;
     narrow = omega arith;
     counted = counts;
   }
@@ -191,9 +192,13 @@ module _ {D : Type 0} (tape : D → Option Tape) (moment faults : D → ℕ) (di
           stays_down = assured.stays_down;
           headline = headline_of_run options.geometry (moment disk) valid script
               (lists_of backends) (tape disk) (tape closed.disk)
+              (all_answered (logged_at_end opening order (faults closed.disk)) 1 script
+              (lists_of backends) assured.told)
               (all_own_places (logged_at_end opening order (faults closed.disk)) 1 script
               (lists_of backends) assured.told) assured.gapless
               assured.in_line_order assured.crash;
+          goes_on = assured.goes_on;
+          words = assured.words;
           moments = assured.moments;
           no_late_receipt = assured.no_late_receipt;
           whole = whole;

@@ -2,7 +2,7 @@
 use Rattle.std.specs.Prelude.{◌≡◌, ℕ, List, Ok}
 use Rattle.wal_script.specs.Asked.{AskedLine}
 use Rattle.generated_lines.specs.Generated.{generated_script}
-use Rattle.command_words.specs.declared.commands.Command.TheVariants.{Run, Gen, Replay, Dump}
+use Rattle.command_words.specs.declared.commands.Command.TheVariants.{Run, Gen, Replay, Dump, Redo}
 use Rattle.command_line.specs.declared.asking.Request.{Request}
 use Rattle.command_line.specs.declared.asking.Request.TheVariants.{Command, Help, Version, Nothing}
 use Rattle.backend_cli.specs.Outside.{SourceView}
@@ -20,3 +20,4 @@ AsksBackends (Command (Gen options)) before after size script =
     (size ≡ options.run.geometry) × (script ≡ generated_script options.lines)
 AsksBackends (Command (Replay options)) before after size script = ⊥
 AsksBackends (Command (Dump options)) before after size script = ⊥
+AsksBackends (Command (Redo options)) before after size script = ⊥

@@ -5,7 +5,7 @@ use Rattle.wal_reader.specs.declared.found.Stopped.{Stopped as LogStop}
 use Rattle.wal_reader.specs.declared.standing.ReadErr.TheVariants as reading
 use Rattle.waldump_text.specs.declared.dumping.DumpErr.{DumpErr}
 use Rattle.waldump_text.specs.declared.dumping.DumpErr.TheVariants.{Read, Sink}
-use Rattle.waldump_text.specs.Dump.{ListsAll, ListsFront, ListsUpTo}
+use Rattle.waldump_text.specs.Dump.{ListsAll, ListsFront, ListsFrontInReading, ListsUpTo}
 use Rattle.command_words.specs.declared.commands.DumpOptions.{DumpOptions}
 use Rattle.backend_cli.specs.declared.outcome.Outcome.{Outcome}
 use Rattle.backend_cli.specs.declared.outcome.Outcome.TheVariants.{Done, OutOfMemory, DiskFault, Stopped, SinkFault}
@@ -14,7 +14,9 @@ use Rattle.segment_disk.specs.Cause.{RoseByOne}
 use Rattle.backend_cli.specs.Outside.{Outside}
 
 -- what a listing printed, by how it may end: the lines of the records that the filter lists of
--- those that the disk's log decodes to, or a front of them
+-- those that the disk's log decodes to, with the times of commits where these are asked for, or a
+-- front of them; or the statistics of these records, a front of them where the sink failed, and
+-- nothing where the log stopped, or memory or the disk failed
 pub data ListsDisk (asked : DumpOptions) (outside : Outside) : Outcome → Tape → Type 0 where
   all : {t : Tape} (count : ℕ)
       → ListsAll asked.geometry asked.filter t outside.taken_before outside.taken_after count
@@ -23,10 +25,10 @@ pub data ListsDisk (asked : DumpOptions) (outside : Outside) : Outcome → Tape 
       → ListsUpTo asked.geometry asked.filter t outside.taken_before outside.taken_after stop
       → ListsDisk asked outside (Stopped stop) t
   front_for_memory : {t : Tape}
-      → ListsFront asked.geometry asked.filter t outside.taken_before outside.taken_after
+      → ListsFrontInReading asked.geometry asked.filter t outside.taken_before outside.taken_after
       → ListsDisk asked outside OutOfMemory t
   front_for_disk : {t : Tape}
-      → ListsFront asked.geometry asked.filter t outside.taken_before outside.taken_after
+      → ListsFrontInReading asked.geometry asked.filter t outside.taken_before outside.taken_after
       → ListsDisk asked outside DiskFault t
   front_for_sink : {t : Tape}
       → ListsFront asked.geometry asked.filter t outside.taken_before outside.taken_after

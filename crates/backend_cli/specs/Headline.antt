@@ -4,7 +4,7 @@
 -- `size` is the size of a segment in bytes. `script` has each backend's lines, `told` what each
 -- line was told. `opening` is the disk's moment at the call; `before` and `after` are what the
 -- disk tells before the call and after it.
-use Rattle.std.specs.Prelude.{◌≡◌, ℕ, ◌≤◌, All, IfSome, IsTrue, List, Option, Some, None}
+use Rattle.std.specs.Prelude.{◌≡◌, ℕ, ◌≤◌, All, IfSome, IsTrue, List, length, map, Option, Some, None}
 use Rattle.std.specs.List.{zip}
 use Rattle.std.specs.List.Sorted.{IsPermutation}
 use Rattle.byte_position.specs.Geometry.{is_segment_size}
@@ -22,19 +22,19 @@ use Rattle.told_lines.specs.declared.told.Told.TheVariants.{Wrote, Hard, Flushed
 use Rattle.told_lines.specs.Crash.{IsFrontWithTold}
 use Rattle.told_lines.specs.Told.{IsPlaced, RiseInLineOrder, entries_from}
 
--- a commit that is told to be durable is told where its own record starts and ends
+-- what each kind of line may be told: an insert or a commit, where its own record starts and ends
+-- (that of a commit is durable too); a flush, up to where all is durable; each, that it is refused
 abbrev pub NamesOwnPlace : ℕ → Asked → Told → Type 0
-NamesOwnPlace size asked (Wrote start end) = Unit {0}
-NamesOwnPlace size asked (Flushed upto moment) = Unit {0}
-NamesOwnPlace size asked (Refused cause reserved) = Unit {0}
-NamesOwnPlace size (Insert value) (Hard start end moment) = ⊥
+NamesOwnPlace size (Insert value) (Wrote start end) = IsPlaced size value start.0 end.0
 NamesOwnPlace size (Commit value) (Hard start end moment) = IsPlaced size value start.0 end.0
-NamesOwnPlace size Flush (Hard start end moment) = ⊥
+NamesOwnPlace size Flush (Flushed upto moment) = Unit {0}
+NamesOwnPlace size asked (Refused cause reserved) = Unit {0}
+NamesOwnPlace size asked others = ⊥
 
 -- a crash at a moment, and the records that the reader finds behind it
 pub record FoundAfterCrash (size opening : ℕ) (order : List Entry) (before after : Option Tape)
     (moment : ℕ) (found : List FoundRecord) : Type 0 where
-  -- the disk tells what it holds, and held no segment at first
+  -- the disk tells what it holds, and held no segment before the call
   pub tape : Tape
   pub disk_tells : after ≡ Some tape
   pub starts_empty :
@@ -50,9 +50,10 @@ pub record FoundAfterCrash (size opening : ℕ) (order : List Entry) (before aft
 
 pub record Headline (size opening : ℕ) (script : List (List AskedLine)) (told : List (List Told))
     (before after : Option Tape) : Type 0 where
-  -- segments have a size that they can have, and each receipt of each backend's lines names its own
-  -- record's place
+  -- segments have a size that they can have; each line of each backend has its answer, and what is
+  -- told of a record names its own place
   pub sized : IsTrue (is_segment_size size)
+  pub answered : map (λ answers. length answers) told ≡ map (λ lines. length lines) script
   pub receipts :
       All (λ backend. All (λ line. NamesOwnPlace size line.0.asked line.1)
       (zip backend.0 backend.1)) (zip script told)

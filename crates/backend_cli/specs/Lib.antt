@@ -4,8 +4,10 @@ pub mod Outside
 pub mod Headline
 pub mod Run
 pub mod Dumping
+pub mod Redoing
 pub mod Reading
 pub mod Printing
+pub mod Setups
 pub mod Prepared
 pub mod Concluding
 pub mod Obeying

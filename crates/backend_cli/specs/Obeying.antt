@@ -4,13 +4,14 @@ use Rattle.told_lines.specs.Rooms.{capacity_of}
 use Rattle.backend_cli.specs.declared.outcome.Outcome.{Outcome}
 use Rattle.backend_cli.specs.declared.outcome.Outcome.TheVariants.{OutOfMemory, Usage}
 use Rattle.told_lines.specs.declared.told.Told.{Told}
-use Rattle.command_words.specs.declared.commands.Command.TheVariants.{Run, Gen, Replay, Dump}
+use Rattle.command_words.specs.declared.commands.Command.TheVariants.{Run, Gen, Replay, Dump, Redo}
 use Rattle.command_line.specs.declared.asking.Request.{Request}
 use Rattle.command_line.specs.declared.asking.Request.TheVariants.{Command, Help, Version, Nothing}
 use Rattle.command_line.specs.Texts.{help, version}
 use Rattle.backend_cli.specs.Outside.{Outside, IsUntouched, Took}
 use Rattle.backend_cli.specs.Run.{GenHolds, RunHolds}
 use Rattle.backend_cli.specs.Dumping.{DumpHolds}
+use Rattle.backend_cli.specs.Redoing.{RedoHolds}
 use Rattle.backend_cli.specs.Replaying.{ReplayHolds}
 
 -- want of memory before the command is known: no counted call of the disk is made, nothing is read
@@ -57,6 +58,7 @@ Obeys (Command (Gen options)) outside outcome lists = GenHolds outside options o
 Obeys (Command (Replay options)) outside outcome lists =
     ReplayHolds outside options outcome lists
 Obeys (Command (Dump options)) outside outcome lists = DumpHolds outside options outcome lists
+Obeys (Command (Redo options)) outside outcome lists = RedoHolds outside options outcome lists
 
 -- the same of a disk, or memory ran out before the command was known, and then the very disk comes
 -- back
@@ -74,6 +76,7 @@ AsksRun (Command (Run options)) = Unit {0}
 AsksRun (Command (Gen options)) = Unit {0}
 AsksRun (Command (Replay options)) = ⊥
 AsksRun (Command (Dump options)) = ⊥
+AsksRun (Command (Redo options)) = ⊥
 
 -- a replay is asked for
 abbrev pub AsksReplay : Request → Type 0

@@ -1,5 +1,5 @@
 -- What a run makes ready before it opens the log.
-use Rattle.std.specs.Prelude.{◌≡◌, ℕ, ◌+◌, ◌<◌, ◌≤◌, List, length, Result, Ok, Err, Vec}
+use Rattle.std.specs.Prelude.{◌≡◌, ℕ, ◌<◌, ◌≤◌, List, length, Result, Ok, Err, Vec}
 use Rattle.std.specs.declared.alloc.Global.{Global}
 use Rattle.wal_script.specs.Asked.{AskedLine}
 use Rattle.wal_script.specs.declared.line.Line.{Line}
@@ -15,6 +15,7 @@ use Rattle.backend_cli.specs.declared.outcome.Outcome.{Outcome}
 use Rattle.backend_cli.specs.declared.outcome.Outcome.TheVariants.{OutOfMemory, SourceFault, ScriptRefused}
 use Rattle.backend_cli.specs.Outside.{SourceView}
 use Rattle.backend_cli.specs.Reading.{ScriptMeans, ScriptMeansBy}
+use Rattle.backend_cli.specs.Setups.{setup_asked}
 use Rattle.segment_disk.specs.Cause.{RoseByOne}
 
 -- backends whose lines ask for this, some but no more than there may be, with all room that they
@@ -25,15 +26,10 @@ pub record IsPreparedFor (script : List (List AskedLine)) (room : Room) : Type 0
   pub some : 0 < length script
   pub few : length script ≤ most_backends
 
--- the sizes of a run's log: a pass for each backend, and one more that opens it
+-- the setup of a run's log
 abbrev pub run_setup : RunOptions → ℕ → Setup
-run_setup options backends = record {
-  segment_size = options.geometry;
-  ring_pages = options.ring_pages;
-  cap_segments = options.cap_segments;
-  sysid = 1;
-  passes = backends + 1;
-}
+run_setup options backends =
+    setup_asked options.geometry options.ring_pages options.cap_segments backends
 
 -- why nothing was made ready: memory, the source, or the script, which means what `by` says, and
 -- nothing else

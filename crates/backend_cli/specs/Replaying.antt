@@ -34,6 +34,7 @@ use Rattle.told_lines.specs.declared.told.Told.{Told}
 use Rattle.backend_cli.specs.Outside.{Outside}
 use Rattle.backend_cli.specs.Prepared.{IsUnpreparedBy}
 use Rattle.backend_cli.specs.Reading.{ScriptMeansBy}
+use Rattle.backend_cli.specs.Setups.{setup_asked}
 
 -- ---- the machine
 
@@ -46,15 +47,10 @@ ask_of Flush = Flushes
 abbrev pub asks_of : List AskedLine → List Ask
 asks_of lines = map (λ line. ask_of line.asked) lines
 
--- the log of a replay: its system id is 1, and it has a pass for each backend and one more
-abbrev pub setup_asked : ReplayOptions → ℕ → Setup
-setup_asked options backends = record {
-  segment_size = options.geometry;
-  ring_pages = options.ring_pages;
-  cap_segments = options.cap_segments;
-  sysid = 1;
-  passes = backends + 1;
-}
+-- the setup of a replay's log
+abbrev pub replay_setup : ReplayOptions → ℕ → Setup
+replay_setup options backends =
+    setup_asked options.geometry options.ring_pages options.cap_segments backends
 
 -- the machine as which a replay of these lines begins: the log holds nothing, nor does its disk, of
 -- which no call fails
@@ -62,11 +58,12 @@ pub record BeginsReplay (options : ReplayOptions) (backends : List (List AskedLi
     : Type 0 where
   pub words : List ℕ
   pub writer : Plain
-  pub first_words : AreFirstWords (first_opening (setup_asked options (length backends))) words
-  pub first_writer : IsFirstWriter (first_opening (setup_asked options (length backends))) writer
+  pub first_words : AreFirstWords (first_opening (replay_setup options (length backends))) words
+  pub first_writer : IsFirstWriter (first_opening (replay_setup options (length backends))) writer
   pub calls : writer.calls ≡ Some []
   pub machine_is : m ≡ first_machine empty_state
-      (first_opening (setup_asked options (length backends))) words writer [] (map asks_of backends)
+      (first_opening (replay_setup options (length backends))) words writer []
+      (map asks_of backends)
 
 -- the machine behind a replay: each turn of the schedule is had
 abbrev pub IsReplayOf : ReplayOptions → ReplayMeaning → Machine → Type 0

@@ -13,7 +13,9 @@ use Rattle.told_lines.specs.Rooms.{all_rooms_asked, capacity_of}
 use Rattle.command_words.specs.declared.commands.GenOptions.{GenOptions}
 use Rattle.generated_lines.specs.Generated.{generated_script}
 use Rattle.told_lines.specs.Whole.{IsWhole}
+use Rattle.run_laws.specs.Assured.{LeavesLogWords, TapeGoesOn}
 use Rattle.backend_cli.specs.Headline.{Headline}
+use Rattle.backend_cli.specs.Setups.{system_id}
 use Rattle.backend_cli.specs.Texts.{run_text}
 use Rattle.backend_cli.specs.Reading.{ScriptMeans}
 use Rattle.segment_disk.specs.Cause.{Rose, RoseByOne}
@@ -81,6 +83,9 @@ pub record HoldsOpened (outside : Outside) (size capacity : ℕ) (list : Bool) (
   pub stays_down : EachStaysDown lists
   pub headline : Headline size outside.moment_before script lists outside.tape_before
       outside.tape_after
+  pub goes_on : TapeGoesOn outside.tape_before outside.tape_after
+  pub words : HoldsNothing outside.tape_before → IfSome outside.tape_after (LeavesLogWords size
+      system_id (order_from size 1 script lists) outside.moment_before)
   pub moments : EachRises outside.moment_before lists outside.moment_after
   pub no_late_receipt : HoldsNothing outside.tape_before → IfSome outside.tape_after
       (λ t. EachIsTimely size outside.moment_before (order_from size 1 script lists) t 1 script

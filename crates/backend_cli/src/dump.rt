@@ -30,7 +30,7 @@ pub(crate) fn list<O: Sink, D: Disk>(
     }
 }
 
-fn outcome_of(listed: Result<u64, DumpErr>) -> Outcome
+pub(crate) fn outcome_of(listed: Result<u64, DumpErr>) -> Outcome
     ensures { result ≡ outcome_of listed }
 {
     match listed {

@@ -8,8 +8,10 @@ mod outcome;
 mod printing;
 mod program;
 mod reading;
+mod redo;
 mod replay;
 mod run;
+mod setup;
 mod told;
 
 pub use backend_lanes::{Gate, OpenGate};

@@ -14,6 +14,7 @@ ghost use Rattle.backend_cli.specs.declared.outcome.Outcome.{Outcome};
 use crate::dump::list;
 use crate::generate::run_generated;
 use crate::outcome::Outcome;
+use crate::redo::list_redone;
 use crate::replay::replay;
 use crate::run::{Finished, run};
 use crate::told::ToldLists;
@@ -76,6 +77,7 @@ fn obey_command<R: Threads + Wait + Sync, S: Source, O: Sink, D: Disk + Send, G:
         Command::Gen(options) => run_generated(rt, alloc, options, disk, out, gate),
         Command::Replay(options) => replay(alloc, options, script, disk, out),
         Command::Dump(options) => list(alloc, options, disk, out),
+        Command::Redo(options) => list_redone(alloc, options, disk, out),
     }
 }
 
@@ -160,10 +162,11 @@ pub fn pgwal<R: Threads + Wait + Sync, S: Source, O: Sink, E: Sink, D: Disk + Se
     err: &mut E,
     gate: &G,
 ) -> Ended<D>
-    // The headline: where the words ask for a run, of a script or of lines that are made, and its
-    // log was opened (no line is told anything where it was not), the records that it reserved
-    // follow each other without a gap, each backend's in script order, and what a crash at any
-    // moment leaves reads as a prefix of them with every commit that was told by then.
+    // The headline: if the words ask for a run, of a script or of lines that are made, and its log
+    // was opened (if it was not, no line is told anything), each line has its answer; the records
+    // that the run reserved follow each other without a gap, each backend's in script order; and
+    // what a crash at any moment leaves reads as a prefix of them with every commit that was told
+    // by then.
     ensures headline { (size : ℕ) (lines : List (List AskedLine))
         → AsksBackends (asks (map (λ w. string_bytes w) words.now))
         (source_view S.left S.handed S.ends_told S.faults script.old)
@@ -173,9 +176,9 @@ pub fn pgwal<R: Threads + Wait + Sync, S: Source, O: Sink, E: Sink, D: Disk + Se
     // The status and its line on `err` are those of one outcome; for it the command's promises
     // hold: of `run` told, the headline, no late receipt, whole, printed, and how it ends; of
     // `replay` the machine behind its schedule, what the crash leaves, and the lines and the
-    // listing of it; of `dump` listed; of words that ask for help its text, and of others that are
-    // no command nothing. Or memory ran out before the command was known, with the disk as it came,
-    // and nothing read or printed.
+    // listing of it; of `dump` listed; of `redo` redone; of words that ask for help its text, and
+    // of others that are no command nothing. Or memory ran out before the command was known, with
+    // the disk as it came, and nothing read or printed.
     ensures obeys { (outcome : Outcome) × (result.status ≡ status_of outcome)
         × Took (E.taken err.old) (E.taken err.new) (E.faults err.old) (E.faults err.new)
         (joined (outcome_text outcome))

@@ -8,7 +8,6 @@ ghost use Rattle.waldump_text.specs.Put.{Puts};
 ghost use Rattle.wal_script.specs.Asked.{AskedLine};
 ghost use Rattle.wal_script.specs.Replay.{ReplayMeaning, most_backends, replay_meaning};
 ghost use Rattle.wal_script.specs.ReplayReading.{AreBackendsOf};
-ghost use Rattle.wal_core.specs.Sound.{IsSetup};
 ghost use Rattle.wal_turns.specs.Doing.{Machine};
 ghost use Rattle.wal_turns.specs.Turned.{machine_behind};
 ghost use Rattle.machine_core.specs.Cores.{IsPlayed, core_of};
@@ -16,11 +15,12 @@ ghost use Rattle.machine_core.specs.Playing.{PlaysMachine};
 ghost use Rattle.backend_cli.specs.ReplayBegun.{IsReplayBegun, PlaysBackends, ReadsReplay, machine_line_of, machine_lines_of};
 ghost use Rattle.backend_cli.specs.Outside.{SourceView, outside_of, outside_with, source_view};
 ghost use Rattle.backend_cli.specs.Reading.{ScriptMeansBy};
-ghost use Rattle.backend_cli.specs.Replaying.{HasSinkCause, PutsBefore, ReplayEnds, ReplayHolds, backend_line, backend_lines, outcome_with, pick_of, setup_asked};
+ghost use Rattle.backend_cli.specs.Replaying.{HasSinkCause, PutsBefore, ReplayEnds, ReplayHolds, backend_line, backend_lines, outcome_with, pick_of};
 
 use crate::outcome::Outcome;
 use crate::reading::read_script;
-use crate::run::{Finished, SYSTEM_ID};
+use crate::run::Finished;
+use crate::setup::setup_asked;
 use crate::told::ToldLists;
 use byte_position::Geometry;
 use command_words::{CrashPick, ReplayOptions};
@@ -28,7 +28,6 @@ use machine_core::{Core, CoreErr, PlainLine, Script};
 use replay_schedule::{Item, Schedule};
 use segment_disk::{Disk, MemDisk, Pick, Sink, Source};
 use std::alloc::{AllocError, Global};
-use wal_core::Setup;
 use wal_reader::ReadErr;
 use wal_script::{Action, Line, Replay, parse_replay};
 use wal_types::Lsn;
@@ -88,21 +87,6 @@ fn line_counts_of(alloc: Global, scripts: &[Script]) -> Result<Vec<u64>, AllocEr
         .collect(alloc)
 }
 
-fn setup_asked(options: &ReplayOptions, backends: u32) -> Setup
-    requires in_range { IsShapeInRange options.now.ring_pages options.now.cap_segments }
-    requires few { backends ≤ most_backends }
-    ensures value { result ≡ setup_asked options.now backends }
-    ensures can_be { IsSetup result }
-{
-    Setup {
-        segment_size: options.geometry.segment_size(),
-        ring_pages: options.ring_pages,
-        cap_segments: options.cap_segments,
-        sysid: SYSTEM_ID,
-        passes: backends + 1,
-    }
-}
-
 // Takes the memory of all turns.
 fn begin(
     alloc: Global,
@@ -114,7 +98,12 @@ fn begin(
     ensures { (asked : List (List AskedLine)) → AreBackendsOf asked backends.items
         → IfOk result (λ begun. IsReplayBegun options.now asked begun) }
 {
-    let setup = setup_asked(options, backends.len() as u32);
+    let setup = setup_asked(
+        options.geometry,
+        options.ring_pages,
+        options.cap_segments,
+        backends.len() as u32,
+    );
     let scripts = scripts_of(alloc, backends)?;
     let line_counts = line_counts_of(alloc, &scripts)?;
     match Core::new(alloc, setup, scripts, Vec::new(alloc)) {

@@ -1,7 +1,6 @@
 ghost use Rattle.std.specs.Prelude.{◌≡◌, ◌≤◌, ◌↔◌, ◌^◌, ◌+◌, ℕ, All, IfSome, List, [], Ok, IsTrue, false, length, not, vec_len};
 ghost use Rattle.byte_position.specs.Position.{end_address_of, first_position};
 ghost use Rattle.command_words.specs.Given.{IsShapeInRange};
-ghost use Rattle.wal_core.specs.Sound.{IsSetup};
 ghost use Rattle.wal_script.specs.Asked.{AskedLine};
 ghost use Rattle.wal_script.specs.Replay.{most_backends};
 ghost use Rattle.waldump_text.specs.Put.{Puts};
@@ -15,13 +14,14 @@ ghost use Rattle.backend_cli.specs.Printing.{HasAnswers, Summarizes, printed_tex
 ghost use Rattle.backend_cli.specs.Concluding.{Concludes, IsConcluded};
 ghost use Rattle.backend_cli.specs.Run.{PlayHolds, RunHolds};
 ghost use Rattle.backend_cli.specs.Outside.{SourceView, outside_of, source_view};
-ghost use Rattle.backend_cli.specs.Prepared.{IsPreparedFor, Prepares, ReadsBackends, run_setup};
+ghost use Rattle.backend_cli.specs.Prepared.{IsPreparedFor, Prepares, ReadsBackends};
 ghost use Rattle.backend_cli.specs.Outcome.{outcome_unopened};
 ghost use Rattle.backend_cli.specs.Reading.{ScriptMeans};
 
 use crate::outcome::Outcome;
 use crate::printing::{Summary, put_told_lists};
 use crate::reading::read_script;
+use crate::setup::setup_asked;
 use crate::told::ToldLists;
 use backend_lanes::{AnsweredLines, Gate, PlayedRun, Room, play_backends};
 use byte_position::Geometry;
@@ -31,7 +31,7 @@ use std::alloc::{AllocError, Global};
 use std::sync::Wait;
 use std::thread::Threads;
 use told_lines::Told;
-use wal_log::{Closed, OpenFaultKind, Setup, Wal};
+use wal_log::{Closed, OpenFaultKind, Wal};
 use wal_script::{Line, parse_backends};
 use wal_types::Lsn;
 use waldump_text::SinkFault;
@@ -43,9 +43,6 @@ pub(crate) struct Finished<D> {
     pub disk: D,
     pub told: ToldLists,
 }
-
-/// The system id of each log that this program writes.
-pub(crate) const SYSTEM_ID: u64 = 1;
 
 fn backends_of<S: Source>(alloc: Global, source: &mut S) -> Result<Vec<Vec<Line>>, Outcome>
     ensures { ReadsBackends
@@ -66,21 +63,6 @@ fn prepare<S: Source>(alloc: Global, source: &mut S) -> Result<Room, Outcome>
     match Room::of(alloc, backends) {
         Ok(room) => Ok(room),
         Err(AllocError) => Err(Outcome::OutOfMemory),
-    }
-}
-
-fn setup_asked(options: &RunOptions, backends: u32) -> Setup
-    requires in_range { IsShapeInRange options.now.ring_pages options.now.cap_segments }
-    requires few { backends ≤ most_backends }
-    ensures value { result ≡ run_setup options.now backends }
-    ensures can_be { IsSetup result }
-{
-    Setup {
-        segment_size: options.geometry.segment_size(),
-        ring_pages: options.ring_pages,
-        cap_segments: options.cap_segments,
-        sysid: SYSTEM_ID,
-        passes: backends + 1,
     }
 }
 
@@ -242,7 +224,12 @@ pub(crate) fn run_prepared<R: Threads + Wait + Sync, O: Sink, D: Disk + Send, G:
     ensures as_handed_in { result.outcome ≡ Outcome.OutOfMemory → result.disk ≡ disk }
 {
     calls_are_counted(&disk);
-    let setup = setup_asked(options, room.backends.len() as u32);
+    let setup = setup_asked(
+        options.geometry,
+        options.ring_pages,
+        options.cap_segments,
+        room.backends.len() as u32,
+    );
     match Wal::open(alloc, disk, setup) {
         Err(fault) => Finished {
             outcome: outcome_unopened(fault.kind),

@@ -43,7 +43,7 @@ use Rattle.wal_log.specs.Logs.{IsPassOfLog, setup_of_log}
 use Rattle.wal_log.specs.PassLogs.{PassLog, log_of_pass, log_with_entry}
 use Rattle.wal_log.specs.Standing.{KeepsPass}
 use Rattle.wal_log.proofs.CommitLaws.{never_both}
-use Rattle.run_laws.specs.Played.{Leaves, PlaysLine, RefusesRecordLine, Reserves, behind_last_own, end_of_own, pass_state_of}
+use Rattle.run_laws.specs.Played.{Leaves, PlaysLine, TellsCause, RefusesRecordLine, Reserves, behind_last_own, end_of_own, pass_state_of}
 use Rattle.run_laws.specs.Reached.{EndsBy}
 use Rattle.backend_lanes.specs.declared.session.Session.{Session}
 use Rattle.backend_lanes.specs.Sessions.{IsSessionOf, IsReserved, LeavesSession, PlaysAnswer, view_of_session}
@@ -274,6 +274,28 @@ module _ (knows_record : KnowsRecords) (setup : Setup) (body : Assembled)
   refuses (causes.Down faults) (Some start) why =
       (started start.0 why.0, (why.1.some, inl why.1.met))
 
+  caused : (cause : Cause) (reserved : Option Lsn)
+      → RefusesCommit setup body old new cause reserved
+      → TellsCause (Refused cause reserved) (pass_state_of old) (pass_state_of new)
+  caused (causes.Full free) None why = (why.1.met, why.1.set)
+  caused (causes.Full free) (Some start) why = absurd why
+  caused (causes.Disk faults) None why = absurd why
+  caused (causes.Disk faults) (Some start) why = why.1.set
+  caused (causes.Down faults) None why = (why.1.met, why.1.set_none)
+  caused (causes.Down faults) (Some start) why = (why.1.met, why.1.set_none)
+
+  insert_caused : (answer : Result Receipt InsertErr) → AnswersInsert setup body old answer new
+      → TellsCause (told_of_inserted answer) (pass_state_of old) (pass_state_of new)
+  insert_caused (Ok receipt) told = tt
+  insert_caused (Err e) why = caused (refused_of_insert e).cause (refused_of_insert e).reserved
+      (refused_as_commit setup body old new e why)
+
+  commit_caused : (answer : Result Sealed refused.Refused)
+      → AnswersCommit setup body old answer new
+      → TellsCause (told_of_commit answer) (pass_state_of old) (pass_state_of new)
+  commit_caused (Ok sealed) told = tt
+  commit_caused (Err e) why = caused e.cause e.reserved why
+
   inserted : (answer : Result Receipt InsertErr) → AnswersInsert setup body old answer new
       → Leaves setup.segment_size (log_limit setup) (old.reserving).number (Insert value)
       (told_of_inserted answer) (pass_state_of old) (pass_state_of new)
@@ -315,6 +337,8 @@ module _ (knows_record : KnowsRecords) (setup : Setup) (body : Assembled)
     leaves = subst (λ (t : Told). Leaves setup.segment_size (log_limit setup)
         (old.reserving).number (Insert value) t (pass_state_of old) (pass_state_of new)) (sym is)
         (inserted answer answers);
+    cause = subst (λ (t : Told). TellsCause t (pass_state_of old) (pass_state_of new)) (sym is)
+        (insert_caused answer answers);
     again = λ faults knows. is ∙ ap told_of_inserted (again faults knows);
   }
 
@@ -327,6 +351,8 @@ module _ (knows_record : KnowsRecords) (setup : Setup) (body : Assembled)
     leaves = subst (λ (t : Told). Leaves setup.segment_size (log_limit setup)
         (old.reserving).number (Commit value) t (pass_state_of old) (pass_state_of new)) (sym is)
         (committed answer answers);
+    cause = subst (λ (t : Told). TellsCause t (pass_state_of old) (pass_state_of new)) (sym is)
+        (commit_caused answer answers);
     again = λ faults knows. is ∙ ap told_of_commit (again faults knows);
   }
 
@@ -367,6 +393,14 @@ module _ (setup : Setup) (valid : IsSegmentSize setup.segment_size) (old new : V
     flushed (Err (flushes.Unreserved found)) why again =
         absurd (never_unreserved had.reserved found.0 why.1)
 
+    flush_caused : (answer : Result hard.Hard FlushErr) → AnswersFlush end old answer new
+        → TellsCause (told_of_flushed answer) (pass_state_of old) (pass_state_of new)
+    flush_caused (Ok done) told = tt
+    flush_caused (Err (flushes.Disk faults)) why = why.1.down.set
+    flush_caused (Err (flushes.Down faults)) why = (why.1.met, why.1.set_none)
+    flush_caused (Err (flushes.Unreserved found)) why =
+        absurd (never_unreserved had.reserved found.0 why.1)
+
     pub plays_flush : (answer : Result hard.Hard FlushErr) (told : Told)
         → told ≡ told_of_flushed answer → AnswersFlush end old answer new
         → ((faults : ℕ) → KnowsDown faults old → answer ≡ flush_err_known_down faults)
@@ -376,6 +410,8 @@ module _ (setup : Setup) (valid : IsSegmentSize setup.segment_size) (old new : V
       leaves = subst (λ (t : Told). Leaves setup.segment_size (log_limit setup)
           (old.reserving).number Flush t (pass_state_of old) (pass_state_of new)) (sym is)
           (flushed answer answers again);
+      cause = subst (λ (t : Told). TellsCause t (pass_state_of old) (pass_state_of new)) (sym is)
+          (flush_caused answer answers);
       again = λ faults knows. is ∙ ap told_of_flushed (again faults knows);
     }
 

@@ -17,6 +17,7 @@ use Rattle.written_log.specs.LawfulLog.{IsFrontUpto}
 use Rattle.written_log.specs.Torn.{NoTornPass}
 use Rattle.written_log.specs.Written.{found_from}
 use Rattle.written_log.proofs.LawfulLaws.{lawful_images_decode_to_fronts}
+use Rattle.machine_laws.specs.Crashes.{LeavesLawful}
 use Rattle.closed_log.specs.Closed.{IsClosedOn, WasPromised}
 use Rattle.closed_log.specs.Surviving.{IsFrontAsPromised, LeavesFronts}
 use Rattle.closed_log.proofs.ClosedDisk.{chained, crashes, known, low, promise_held, valid}
@@ -82,3 +83,7 @@ pub survive : (opening : Opening) (order : List Entry) (t : Tape) (v : View)
     → IsClosedOn opening order t v → LeavesFronts opening order t v
 survive opening order t v c moment image since left torn found answer decodes =
     front_as_promised opening order t v c moment image since left torn found answer decodes
+
+pub no_other_words : (opening : Opening) (order : List Entry) (t : Tape) (v : View)
+    → IsClosedOn opening order t v → LeavesLawful opening.setup order 0 opening.moment t
+no_other_words opening order t v c = (crashes opening order t v c).only

@@ -10,6 +10,7 @@ ghost use Rattle.wal_core.specs.Views.{HasAt, FlushPromise, Plain, Reserving, Vi
 ghost use Rattle.wal_core.specs.Durable.{IsPromised};
 ghost use Rattle.wal_core.specs.Sound.{IsSound};
 ghost use Rattle.machine_laws.specs.ClosedLogs.{IsLastPass, OrderIsAccounted};
+ghost use Rattle.machine_laws.specs.Crashes.{LeavesLawful};
 ghost use Rattle.closed_log.specs.Closed.{IsClosedOn, WasPromised};
 ghost use Rattle.closed_log.specs.Surviving.{LeavesFronts};
 ghost use Rattle.closed_log.specs.Timely.{IsTimely};
@@ -31,6 +32,13 @@ pub fn last_passes_leave_closed_logs()
 pub fn closed_logs_survive_crashes()
     ensures survive { (opening : Opening) (order : List Entry) (t : Tape) (v : View)
         → IsClosedOn opening order t v → LeavesFronts opening order t v }
+{}
+
+/// Whatever a crash leaves, at any moment since the opening, holds nothing but words of the log, as
+/// its order and its system id give them.
+pub fn closed_logs_leave_no_other_words()
+    ensures words { (opening : Opening) (order : List Entry) (t : Tape) (v : View)
+        → IsClosedOn opening order t v → LeavesLawful opening.setup order 0 opening.moment t }
 {}
 
 /// Each promise to a pass came before anything was written of what that pass reserved later.

@@ -12,7 +12,7 @@ use Rattle.clap.specs.Walk.{Walk, at_row, bundle_met, has_row, idle, more_values
 use Rattle.clap.specs.declared.builder.value_parser.Reading.TheVariants as reading
 use Rattle.clap.specs.declared.parser.matches.ValueSource.TheVariants.{CommandLine}
 use Rattle.command_line.specs.Syntax.{declared_command}
-use Rattle.command_line.specs.Plain.{Letter, Switch, SwitchLetter, Valued, begins_with_hyphen, block_letter, block_option, cap_option, crash_option, end_letter, end_option, fork_letter, fork_option, fullpage_letter, fullpage_switch, letter_of, lettered_option, lettered_switch, limit_letter, limit_option, list_switch, option_name, quiet_letter, quiet_switch, relation_letter, relation_option, ring_option, rmgr_letter, rmgr_option, seg_option, start_letter, start_option, switch_letter_of, switch_name, xid_letter, xid_option}
+use Rattle.command_line.specs.Plain.{Letter, Switch, SwitchLetter, Valued, begins_with_hyphen, block_letter, block_option, cap_option, crash_option, end_letter, end_option, fork_letter, fork_option, fullpage_letter, fullpage_switch, letter_of, lettered_option, lettered_switch, limit_letter, limit_option, list_switch, option_name, quiet_letter, quiet_switch, relation_letter, relation_option, ring_option, rmgr_letter, rmgr_option, seg_option, start_letter, start_option, stats_letter, stats_switch, switch_letter_of, switch_name, times_switch, xid_letter, xid_option}
 
 abbrev pub level : Shape
 level = (built declared_command).top
@@ -187,6 +187,12 @@ switch_passes position fullpage_switch rows pending into h absent =
 switch_passes position quiet_switch rows pending into h absent =
     let fresh : has_row (codes "quiet") (settled_rows rules pending rows) ≡ false = subst (λ (l : List Row). has_row (codes "quiet") l ≡ false) (sym h.rows_are) absent in
     rw (h.sound, fresh) refl
+switch_passes position stats_switch rows pending into h absent =
+    let fresh : has_row (codes "stats") (settled_rows rules pending rows) ≡ false = subst (λ (l : List Row). has_row (codes "stats") l ≡ false) (sym h.rows_are) absent in
+    rw (h.sound, fresh) refl
+switch_passes position times_switch rows pending into h absent =
+    let fresh : has_row (codes "times") (settled_rows rules pending rows) ≡ false = subst (λ (l : List Row). has_row (codes "times") l ≡ false) (sym h.rows_are) absent in
+    rw (h.sound, fresh) refl
 
 pub switch_taken : (position : ℕ) (o : Switch) (rows : List Row) (pending : Option (Text × List Text)) (into : List Row) → Settles rows pending into → has_row (switch_name o) into ≡ false → walked rules [] (between position rows pending) (45 ∷ 45 ∷ switch_name o) ≡ between position (into ++ row_with (switch_name o) (codes "true") ∷ []) None
 unfolding walked
@@ -199,6 +205,12 @@ switch_taken position fullpage_switch rows pending into h absent =
 switch_taken position quiet_switch rows pending into h absent =
     ap (λ (l : List Row). between position (with_values (codes "quiet") reading.AsWritten CommandLine (codes "true" ∷ []) (without (codes "quiet") l)) None) h.rows_are
     ∙ ap (λ (l : List Row). between position l None) (new_row (codes "quiet") (codes "true") into absent)
+switch_taken position stats_switch rows pending into h absent =
+    ap (λ (l : List Row). between position (with_values (codes "stats") reading.AsWritten CommandLine (codes "true" ∷ []) (without (codes "stats") l)) None) h.rows_are
+    ∙ ap (λ (l : List Row). between position l None) (new_row (codes "stats") (codes "true") into absent)
+switch_taken position times_switch rows pending into h absent =
+    ap (λ (l : List Row). between position (with_values (codes "times") reading.AsWritten CommandLine (codes "true" ∷ []) (without (codes "times") l)) None) h.rows_are
+    ∙ ap (λ (l : List Row). between position l None) (new_row (codes "times") (codes "true") into absent)
 
 -- and the letter of one
 pub switch_letter_passes : (position : ℕ) (o : SwitchLetter) (rows : List Row) (pending : Option (Text × List Text)) (into : List Row) → Settles rows pending into → has_row (switch_name (lettered_switch o)) into ≡ false → turn_fault level [] (between position rows pending) (45 ∷ switch_letter_of o ∷ []) ≡ []
@@ -209,6 +221,9 @@ switch_letter_passes position fullpage_letter rows pending into h absent =
 switch_letter_passes position quiet_letter rows pending into h absent =
     let fresh : has_row (codes "quiet") (settled_rows rules pending rows) ≡ false = subst (λ (l : List Row). has_row (codes "quiet") l ≡ false) (sym h.rows_are) absent in
     rw (h.sound, fresh) refl
+switch_letter_passes position stats_letter rows pending into h absent =
+    let fresh : has_row (codes "stats") (settled_rows rules pending rows) ≡ false = subst (λ (l : List Row). has_row (codes "stats") l ≡ false) (sym h.rows_are) absent in
+    rw (h.sound, fresh) refl
 
 pub switch_letter_taken : (position : ℕ) (o : SwitchLetter) (rows : List Row) (pending : Option (Text × List Text)) (into : List Row) → Settles rows pending into → has_row (switch_name (lettered_switch o)) into ≡ false → walked rules [] (between position rows pending) (45 ∷ switch_letter_of o ∷ []) ≡ between position (into ++ row_with (switch_name (lettered_switch o)) (codes "true") ∷ []) None
 unfolding walked bundle_met chars encode_utf8
@@ -218,3 +233,6 @@ switch_letter_taken position fullpage_letter rows pending into h absent =
 switch_letter_taken position quiet_letter rows pending into h absent =
     ap (λ (l : List Row). between position (with_values (codes "quiet") reading.AsWritten CommandLine (codes "true" ∷ []) (without (codes "quiet") l)) None) h.rows_are
     ∙ ap (λ (l : List Row). between position l None) (new_row (codes "quiet") (codes "true") into absent)
+switch_letter_taken position stats_letter rows pending into h absent =
+    ap (λ (l : List Row). between position (with_values (codes "stats") reading.AsWritten CommandLine (codes "true" ∷ []) (without (codes "stats") l)) None) h.rows_are
+    ∙ ap (λ (l : List Row). between position l None) (new_row (codes "stats") (codes "true") into absent)

@@ -15,7 +15,7 @@ use Rattle.command_words.specs.declared.commands.Command.{Command as Task}
 use Rattle.command_line.specs.declared.asking.Request.TheVariants.{Command}
 use Rattle.command_line.specs.Asking.{asks, given_in, is_set, request_of}
 use Rattle.command_line.specs.Syntax.{declared_command}
-use Rattle.command_line.specs.Plain.{Switch, Use, Valued, are_plain, are_plain_behind, begins_with_hyphen, block_letter, block_option, cap_option, crash_option, end_letter, end_option, fork_letter, fork_option, fullpage_letter, fullpage_switch, given_by, is_switched, letter_of, lettered, lettered_option, lettered_switch, limit_letter, limit_option, list_switch, name_words, option_name, pair_given, quiet_letter, quiet_switch, relation_letter, relation_option, ring_option, rmgr_letter, rmgr_option, seg_option, start_letter, start_option, switch_letter_of, switch_name, switched, switched_by_letter, value_for, valued, words_of_uses, xid_letter, xid_option}
+use Rattle.command_line.specs.Plain.{Switch, Use, Valued, are_plain, are_plain_behind, begins_with_hyphen, block_letter, block_option, cap_option, crash_option, end_letter, end_option, fork_letter, fork_option, fullpage_letter, fullpage_switch, given_by, is_switched, letter_of, lettered, lettered_option, lettered_switch, limit_letter, limit_option, list_switch, name_words, option_name, pair_given, quiet_letter, quiet_switch, relation_letter, relation_option, ring_option, rmgr_letter, rmgr_option, seg_option, start_letter, start_option, stats_letter, stats_switch, switch_letter_of, switch_name, switched, switched_by_letter, times_switch, value_for, valued, words_of_uses, xid_letter, xid_option}
 use Rattle.command_line.proofs.PlainWalk.{IsPlainWord, Settles, absent_row, between, is_plain_word, letter_opened, letter_opens, level, opened, opens, row_with, rules, switch_letter_passes, switch_letter_taken, switch_passes, switch_taken, value_passes, value_settles, value_taken}
 use Rattle.command_line.proofs.Requests.{asks-taken, none_entered}
 use Rattle.clap.specs.declared.parser.matches.ValueSource.TheVariants.{DefaultValue}
@@ -71,6 +71,8 @@ no_switch_row : (o : Switch) (command : Text) (topic : Option Text) (pairs : Lis
 no_switch_row list_switch command topic pairs absent = no_row_behind (codes "list") command topic pairs refl refl absent
 no_switch_row fullpage_switch command topic pairs absent = no_row_behind (codes "fullpage") command topic pairs refl refl absent
 no_switch_row quiet_switch command topic pairs absent = no_row_behind (codes "quiet") command topic pairs refl refl absent
+no_switch_row stats_switch command topic pairs absent = no_row_behind (codes "stats") command topic pairs refl refl absent
+no_switch_row times_switch command topic pairs absent = no_row_behind (codes "times") command topic pairs refl refl absent
 
 both : (a b : Bool) → (a && b) ≡ true → (a ≡ true) × (b ≡ true)
 both true b h = (refl, h)
@@ -332,6 +334,8 @@ no_topic (valued limit_option value ∷ uses) = no_topic uses
 no_topic (switched list_switch ∷ uses) = no_topic uses
 no_topic (switched fullpage_switch ∷ uses) = no_topic uses
 no_topic (switched quiet_switch ∷ uses) = no_topic uses
+no_topic (switched stats_switch ∷ uses) = no_topic uses
+no_topic (switched times_switch ∷ uses) = no_topic uses
 no_topic (lettered rmgr_letter value ∷ uses) = no_topic uses
 no_topic (lettered xid_letter value ∷ uses) = no_topic uses
 no_topic (lettered relation_letter value ∷ uses) = no_topic uses
@@ -342,6 +346,7 @@ no_topic (lettered end_letter value ∷ uses) = no_topic uses
 no_topic (lettered limit_letter value ∷ uses) = no_topic uses
 no_topic (switched_by_letter fullpage_letter ∷ uses) = no_topic uses
 no_topic (switched_by_letter quiet_letter ∷ uses) = no_topic uses
+no_topic (switched_by_letter stats_letter ∷ uses) = no_topic uses
 
 first_of-command : (command : Text) (topic : Option Text) (pairs : List (Text × Text)) → first_of (codes "command") (rows_behind command topic pairs) ≡ Some command
 first_of-command command None pairs = refl
@@ -377,7 +382,9 @@ all_given command topic uses =
     let end_is : first_of (codes "end") (fold with_default rows rules) ≡ value_for (codes "end") pairs = first_kept_by_all (codes "end") rules rows refl ∙ first_of-behind (codes "end") command topic pairs refl refl in
     let limit_is : first_of (codes "limit") (fold with_default rows rules) ≡ value_for (codes "limit") pairs = first_kept_by_all (codes "limit") rules rows refl ∙ first_of-behind (codes "limit") command topic pairs refl refl in
     let quiet_is : is_set (codes "quiet") (fold with_default rows rules) ≡ is_switched (codes "quiet") pairs = switch_kept_by_all (codes "quiet") rules rows refl ∙ ap is_on (first_of-behind (codes "quiet") command topic pairs refl refl) in
-    rw (command_is, topic_is, seg_is, ring_is, cap_is, crash_is, list_is, rmgr_is, xid_is, relation_is, block_is, fork_is, fullpage_is, start_is, end_is, limit_is, quiet_is) refl
+    let stats_is : is_set (codes "stats") (fold with_default rows rules) ≡ is_switched (codes "stats") pairs = switch_kept_by_all (codes "stats") rules rows refl ∙ ap is_on (first_of-behind (codes "stats") command topic pairs refl refl) in
+    let times_is : is_set (codes "times") (fold with_default rows rules) ≡ is_switched (codes "times") pairs = switch_kept_by_all (codes "times") rules rows refl ∙ ap is_on (first_of-behind (codes "times") command topic pairs refl refl) in
+    rw (command_is, topic_is, seg_is, ring_is, cap_is, crash_is, list_is, rmgr_is, xid_is, relation_is, block_is, fork_is, fullpage_is, start_is, end_is, limit_is, quiet_is, stats_is, times_is) refl
 
 none_of : (a b c d e : Kinds) → a ≡ [] → b ≡ [] → c ≡ [] → d ≡ [] → e ≡ [] → or_else a (or_else b (or_else c (or_else d e))) ≡ []
 none_of a b c d e none_a none_b none_c none_d none_e = rw (none_a, none_b, none_c, none_d) none_e

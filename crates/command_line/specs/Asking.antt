@@ -35,6 +35,8 @@ given_in rows = record {
   end = first_of (codes "end") rows;
   limit = first_of (codes "limit") rows;
   quiet = is_set (codes "quiet") rows;
+  stats = is_set (codes "stats") rows;
+  times = is_set (codes "times") rows;
 }
 
 abbrev pub command_or_nothing : Option Task → Request

@@ -27,6 +27,8 @@ pub data Switch : Type 0 where
   list_switch : Switch
   fullpage_switch : Switch
   quiet_switch : Switch
+  stats_switch : Switch
+  times_switch : Switch
 
 -- its name
 abbrev pub option_name : Valued → Text
@@ -48,6 +50,8 @@ abbrev pub switch_name : Switch → Text
 switch_name list_switch = codes "list"
 switch_name fullpage_switch = codes "fullpage"
 switch_name quiet_switch = codes "quiet"
+switch_name stats_switch = codes "stats"
+switch_name times_switch = codes "times"
 
 -- the options that have a letter, 114 for `r`
 pub data Letter : Type 0 where
@@ -86,16 +90,19 @@ lettered_option limit_letter = limit_option
 pub data SwitchLetter : Type 0 where
   fullpage_letter : SwitchLetter
   quiet_letter : SwitchLetter
+  stats_letter : SwitchLetter
 
 -- the letter
 abbrev pub switch_letter_of : SwitchLetter → ℕ
 switch_letter_of fullpage_letter = 119
 switch_letter_of quiet_letter = 113
+switch_letter_of stats_letter = 122
 
 -- and its option
 abbrev pub lettered_switch : SwitchLetter → Switch
 lettered_switch fullpage_letter = fullpage_switch
 lettered_switch quiet_letter = quiet_switch
+lettered_switch stats_letter = stats_switch
 
 -- an option as it is given, by its name or its letter
 pub data Use : Type 0 where
@@ -176,4 +183,6 @@ given_by command topic uses =
       end = value_for (codes "end") pairs;
       limit = value_for (codes "limit") pairs;
       quiet = is_switched (codes "quiet") pairs;
+      stats = is_switched (codes "stats") pairs;
+      times = is_switched (codes "times") pairs;
     }

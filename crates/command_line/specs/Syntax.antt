@@ -17,9 +17,9 @@ option_rule name letter = record (new_rule name) { long = Some name; short = Som
 abbrev pub switch_rule : Text → ℕ → Rule
 switch_rule name letter = record (option_rule name letter) { action = Some SetTrue }
 
--- `--list`
-abbrev pub list_rule : Rule
-list_rule = record (long_rule (codes "list")) { action = Some SetTrue }
+-- an option without one: `--name`
+abbrev pub long_switch_rule : Text → Rule
+long_switch_rule name = record (long_rule name) { action = Some SetTrue }
 
 -- the command's name, and what may stand behind it
 abbrev pub word_rules : List Rule
@@ -32,7 +32,7 @@ shape_rules =
 
 -- what `run` and `gen` alone take, and what `replay` alone
 abbrev pub script_rules : List Rule
-script_rules = list_rule ∷ long_rule (codes "crash") ∷ []
+script_rules = long_switch_rule (codes "list") ∷ long_rule (codes "crash") ∷ []
 
 -- what `dump` takes: -r, -x and -w
 abbrev pub record_rules : List Rule
@@ -46,16 +46,23 @@ block_rules =
     option_rule (codes "relation") 82 ∷ option_rule (codes "block") 66
     ∷ option_rule (codes "fork") 70 ∷ []
 
--- -s, -e, -n and -q
+-- -s, -e and -n
 abbrev pub extent_rules : List Rule
 extent_rules =
     option_rule (codes "start") 115 ∷ option_rule (codes "end") 101
-    ∷ option_rule (codes "limit") 110 ∷ switch_rule (codes "quiet") 113 ∷ []
+    ∷ option_rule (codes "limit") 110 ∷ []
+
+-- -q, -z and `--times`
+abbrev pub form_rules : List Rule
+form_rules =
+    switch_rule (codes "quiet") 113 ∷ switch_rule (codes "stats") 122
+    ∷ long_switch_rule (codes "times") ∷ []
 
 -- all of them
 abbrev pub declared_rules : List Rule
 declared_rules =
     word_rules ++ shape_rules ++ script_rules ++ record_rules ++ block_rules ++ extent_rules
+    ++ form_rules
 
 -- the command before it has any: `--help` and `--version` come with it
 abbrev pub start_command : App

@@ -82,6 +82,8 @@ fn given_words<'a>(matches: &ArgMatches<'a>) -> GivenWords<'a>
         end: word_of(matches, "end"),
         limit: word_of(matches, "limit"),
         quiet: is_set(matches, "quiet"),
+        stats: is_set(matches, "stats"),
+        times: is_set(matches, "times"),
     }
 }
 

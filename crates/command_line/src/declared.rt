@@ -2,7 +2,7 @@
 
 ghost use Rattle.std.specs.Prelude.{◌≡◌, IfOk, fold};
 ghost use Rattle.clap.specs.Words.{app_of, with_rule};
-ghost use Rattle.command_line.specs.Syntax.{block_rules, declared_command, extent_rules, list_rule, long_rule, option_rule, record_rules, script_rules, shape_rules, switch_rule};
+ghost use Rattle.command_line.specs.Syntax.{block_rules, declared_command, extent_rules, form_rules, long_rule, long_switch_rule, option_rule, record_rules, script_rules, shape_rules, switch_rule};
 
 use crate::texts::version_text;
 use clap::{Arg, ArgAction, Command};
@@ -21,7 +21,8 @@ pub(crate) fn declared<'a>(alloc: Global) -> Result<Command<'a>, AllocError>
     let command = with_script_options(alloc, command)?;
     let command = with_record_options(alloc, command)?;
     let command = with_block_options(alloc, command)?;
-    with_extent_options(alloc, command)
+    let command = with_extent_options(alloc, command)?;
+    with_form_options(alloc, command)
 }
 
 // The options that say what shape the log has.
@@ -37,17 +38,8 @@ fn with_shape_options<'a>(alloc: Global, command: Command<'a>) -> Result<Command
 fn with_script_options<'a>(alloc: Global, command: Command<'a>) -> Result<Command<'a>, AllocError>
     ensures { IfOk result (λ c. app_of c ≡ fold with_rule (app_of command.entry) script_rules) }
 {
-    let command = with_list(alloc, command)?;
+    let command = with_long_switch(alloc, command, "list")?;
     with_long_option(alloc, command, "crash")
-}
-
-fn with_list<'a>(alloc: Global, command: Command<'a>) -> Result<Command<'a>, AllocError>
-    ensures { IfOk result (λ c. app_of c ≡ with_rule (app_of command.entry) list_rule) }
-{
-    let list = Arg::new(alloc, "list")
-        .long("list")
-        .action(ArgAction::SetTrue);
-    command.arg(list)
 }
 
 // The options that say which records are listed.
@@ -74,8 +66,16 @@ fn with_extent_options<'a>(alloc: Global, command: Command<'a>) -> Result<Comman
 {
     let command = with_option(alloc, command, "start", 's')?;
     let command = with_option(alloc, command, "end", 'e')?;
-    let command = with_option(alloc, command, "limit", 'n')?;
-    with_switch(alloc, command, "quiet", 'q')
+    with_option(alloc, command, "limit", 'n')
+}
+
+// The options that say what is printed.
+fn with_form_options<'a>(alloc: Global, command: Command<'a>) -> Result<Command<'a>, AllocError>
+    ensures { IfOk result (λ c. app_of c ≡ fold with_rule (app_of command.entry) form_rules) }
+{
+    let command = with_switch(alloc, command, "quiet", 'q')?;
+    let command = with_switch(alloc, command, "stats", 'z')?;
+    with_long_switch(alloc, command, "times")
 }
 
 // An option with a value, which has no letter.
@@ -88,6 +88,19 @@ fn with_long_option<'a>(
         ≡ with_rule (app_of command.entry) (long_rule name.entry.now)) }
 {
     command.arg(Arg::new(alloc, name).long(name))
+}
+
+// An option without one, which has no letter.
+fn with_long_switch<'a>(
+    alloc: Global,
+    command: Command<'a>,
+    name: &'a str,
+) -> Result<Command<'a>, AllocError>
+    ensures { IfOk result (λ c. app_of c
+        ≡ with_rule (app_of command.entry) (long_switch_rule name.entry.now)) }
+{
+    let switch = Arg::new(alloc, name).long(name).action(ArgAction::SetTrue);
+    command.arg(switch)
 }
 
 // An option with a value.

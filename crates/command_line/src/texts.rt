@@ -56,8 +56,20 @@ pgwal dump [--seg N] [FILTER]..
     -e, --end LSN          that end below an address
     -n, --limit N          at most so many
     -q, --quiet            prints nothing: the status tells whether the log is sound
+    -z, --stats            in place of the records, how many each resource manager wrote and
+                           their bytes: without images, of images, and all
+        --times            with the date and time of each commit
     Example: the first ten changes of a block
         pgwal dump --rmgr heap --relation 1663/5/16384 --block 8 --limit 10
+
+pgwal redo [--seg N]
+    Puts the page images that the log in the folder pg_wal carries for redo into a store in
+    memory, and prints a line for each block that they fill: its relation, fork and number, and
+    how many bytes of its page are not 0; then how many images and blocks they were. Of a log
+    that is damaged it prints nothing.
+    --seg N    the segments' size, as the log was written
+    Example: the blocks that a run of made lines fills
+        pgwal gen 10 && pgwal redo
 
 pgwal help, -h or --help prints this text, -V or --version the program's version.
 
@@ -68,7 +80,7 @@ Status:
     3  a line of the script is refused
     4  the disk failed
     5  the log is full
-    6  the log that is listed is damaged, or holds what is not read
+    6  the log that is listed or redone is damaged, or holds what is not read
     7  the script could not be read
     8  the output could not be written
     9  a log is there already

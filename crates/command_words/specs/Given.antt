@@ -7,7 +7,7 @@ use Rattle.listing_filter.specs.Names.{fork_named}
 use Rattle.listing_filter.specs.declared.Filter.{Filter}
 use Rattle.command_words.specs.Meanings.{block_number_of, cap_segments_of, crash_of, limit_of, line_count_of, lsn_of, manager_of, relation_of, ring_pages_of, segment_size_of, xid_of}
 use Rattle.command_words.specs.declared.commands.Command.{Command}
-use Rattle.command_words.specs.declared.commands.Command.TheVariants.{Run, Gen, Dump, Replay}
+use Rattle.command_words.specs.declared.commands.Command.TheVariants.{Run, Gen, Dump, Replay, Redo}
 use Rattle.command_words.specs.declared.commands.CrashPick.TheVariants.{New}
 use Rattle.command_words.specs.declared.commands.RunOptions.{RunOptions}
 use Rattle.command_words.specs.declared.given.GivenWords.{GivenWords}
@@ -31,6 +31,8 @@ pub record Given : Type 0 where
   pub end : Option (List ℕ)
   pub limit : Option (List ℕ)
   pub quiet : Bool
+  pub stats : Bool
+  pub times : Bool
 
 -- the text behind a reference
 abbrev pub text_of : Option (Bor (List ℕ)) → Option (List ℕ)
@@ -56,6 +58,8 @@ given_of words = record {
   end = text_of words.end;
   limit = text_of words.limit;
   quiet = words.quiet;
+  stats = words.stats;
+  times = words.times;
 }
 
 -- what an option's word means, where the option is given; none where it means nothing
@@ -99,11 +103,15 @@ gives_selection g =
 
 -- one that says where a listing begins and ends
 abbrev pub gives_extent : Given → Bool
-gives_extent g = is_some g.start || is_some g.end || is_some g.limit || g.quiet
+gives_extent g = is_some g.start || is_some g.end || is_some g.limit
+
+-- one that says what is printed
+abbrev pub gives_form : Given → Bool
+gives_form g = g.quiet || g.stats || g.times
 
 -- an option is given that only `dump` takes
 abbrev pub gives_dump : Given → Bool
-gives_dump g = gives_selection g || gives_extent g
+gives_dump g = gives_selection g || gives_extent g || gives_form g
 
 -- the log's shape, which `run`, `gen` and `replay` share: the segments' size, the ring's pages, and
 -- how many segments it may fill
@@ -175,14 +183,19 @@ with_extent g filter = do
   first ← or_default filter.start lsn_of g.start
   last ← read lsn_of g.end
   limit ← read limit_of g.limit
-  Some (record filter { start = first; end = last; limit = limit; quiet = g.quiet })
+  Some (record filter { start = first; end = last; limit = limit })
+
+-- and with what is printed
+abbrev pub with_form : Given → Filter → Filter
+with_form g filter = record filter { quiet = g.quiet; stats = g.stats; times = g.times }
 
 -- what is listed: where no rule is given every record, from segment 1 on
 abbrev pub filter_of : ℕ → Given → Option Filter
 filter_of size g = do
   by_record ← with_record_rules g (everything_from (record { 0 = size }))
   by_block ← with_block_rules g by_record
-  with_extent g by_block
+  by_extent ← with_extent g by_block
+  Some (with_form g by_extent)
 
 -- what `dump` is asked to do, with its own options alone
 abbrev pub dump_of : Given → Option Command
@@ -191,6 +204,12 @@ dump_of g = if is_some g.topic || gives_run_gen_or_replay g then None else do
   filter ← filter_of size g
   Some (Dump (record { geometry = size; filter = filter }))
 
+-- what `redo` is asked to do: it takes the segments' size alone
+abbrev pub redo_of : Given → Option Command
+redo_of g = if is_some g.topic || gives_run_gen_or_replay g || gives_dump g then None else do
+  size ← or_default default_segment_size segment_size_of g.seg
+  Some (Redo (record { geometry = size }))
+
 -- by the command's name
 abbrev pub named : Option (List ℕ) → Given → Option Command
 named None g = None
@@ -198,7 +217,8 @@ named (Some name) g =
     if bytes_eq name (codes "run") then run_of g
     else (if bytes_eq name (codes "gen") then gen_of g
     else (if bytes_eq name (codes "replay") then replay_of g
-    else (if bytes_eq name (codes "dump") then dump_of g else None)))
+    else (if bytes_eq name (codes "dump") then dump_of g
+    else (if bytes_eq name (codes "redo") then redo_of g else None))))
 
 -- the command that the words make, with its own options alone
 abbrev pub command_of : Given → Option Command
@@ -217,3 +237,4 @@ IsInRange (Gen options) =
     × IsShapeInRange options.run.ring_pages options.run.cap_segments
 IsInRange (Replay options) = IsShapeInRange options.ring_pages options.cap_segments
 IsInRange (Dump options) = Unit {0}
+IsInRange (Redo options) = Unit {0}

@@ -54,6 +54,12 @@ pub struct DumpOptions {
     pub filter: Filter,
 }
 
+/// What `redo` is asked to do.
+#[derive(Clone, Copy, Debug)]
+pub struct RedoOptions {
+    pub geometry: Geometry,
+}
+
 /// What a command line asks for.
 #[derive(Clone, Copy, Debug)]
 pub enum Command {
@@ -65,4 +71,6 @@ pub enum Command {
     Replay(ReplayOptions),
     /// Lists the log.
     Dump(DumpOptions),
+    /// Redoes the log's page images in memory, and lists the blocks that they fill.
+    Redo(RedoOptions),
 }

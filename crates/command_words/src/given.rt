@@ -1,9 +1,11 @@
 ghost use Rattle.std.specs.Prelude.{◌≡◌, ◌||◌, IfSome, is_some, option_map};
 ghost use Rattle.command_words.specs.Meanings.{block_number_of, cap_segments_of, crash_of, limit_of, line_count_of, lsn_of, manager_of, relation_of, ring_pages_of, segment_size_of, xid_of};
 ghost use Rattle.command_words.specs.declared.commands.CrashPick.TheVariants.{New};
-ghost use Rattle.command_words.specs.Given.{IsInRange, IsShapeInRange, command_of, default_segment_size, dump_of, filter_of, gen_of, gives_dump, gives_extent, gives_run_gen_or_replay, gives_selection, given_of, lacks_relation, or_default, replay_of, run_of, run_options_of, settled, shape_of, text_of, with_block_rules, with_extent, with_record_rules};
+ghost use Rattle.command_words.specs.Given.{IsInRange, IsShapeInRange, command_of, default_segment_size, dump_of, filter_of, gen_of, given_of, gives_dump, gives_extent, gives_form, gives_run_gen_or_replay, gives_selection, lacks_relation, or_default, redo_of, replay_of, run_of, run_options_of, settled, shape_of, text_of, with_block_rules, with_extent, with_form, with_record_rules};
 
-use crate::commands::{Command, CrashPick, DumpOptions, GenOptions, ReplayOptions, RunOptions};
+use crate::commands::{
+    Command, CrashPick, DumpOptions, GenOptions, RedoOptions, ReplayOptions, RunOptions,
+};
 use crate::meanings::{
     block_number, cap_segments, crash, fork, limit, line_count, lsn, manager, relation, ring_pages,
     segment_size, xid,
@@ -55,6 +57,10 @@ pub struct GivenWords<'a> {
     pub limit: Option<&'a str>,
     /// Whether nothing is printed.
     pub quiet: bool,
+    /// Whether statistics are printed in place of the records.
+    pub stats: bool,
+    /// Whether a commit's time is printed behind its data.
+    pub times: bool,
 }
 
 impl GivenWords<'_> {
@@ -69,6 +75,7 @@ impl GivenWords<'_> {
             "gen" => self.generated_run(),
             "replay" => self.replay(),
             "dump" => self.dump(),
+            "redo" => self.redo(),
             _ => None,
         }
     }
@@ -121,6 +128,17 @@ impl GivenWords<'_> {
         Some(Command::Dump(DumpOptions { geometry, filter }))
     }
 
+    fn redo(&self) -> Option<Command>
+        ensures command { result ≡ redo_of (given_of self.now) }
+        ensures in_range { IfSome result IsInRange }
+    {
+        if self.topic.is_some() || self.gives_run_gen_or_replay() || self.gives_dump() {
+            return None;
+        }
+        let geometry = self.geometry()?;
+        Some(Command::Redo(RedoOptions { geometry }))
+    }
+
     // Whether an option is given that only `run`, `gen` or `replay` takes.
     fn gives_run_gen_or_replay(&self) -> bool
         ensures { result ≡ gives_run_gen_or_replay (given_of self.now) }
@@ -132,7 +150,7 @@ impl GivenWords<'_> {
     fn gives_dump(&self) -> bool
         ensures { result ≡ gives_dump (given_of self.now) }
     {
-        self.gives_selection() || self.gives_extent()
+        self.gives_selection() || self.gives_extent() || self.gives_form()
     }
 
     // Whether an option is given that says which records are kept.
@@ -151,7 +169,14 @@ impl GivenWords<'_> {
     fn gives_extent(&self) -> bool
         ensures { result ≡ gives_extent (given_of self.now) }
     {
-        self.start.is_some() || self.end.is_some() || self.limit.is_some() || self.quiet
+        self.start.is_some() || self.end.is_some() || self.limit.is_some()
+    }
+
+    // Whether an option is given that says what is printed.
+    fn gives_form(&self) -> bool
+        ensures { result ≡ gives_form (given_of self.now) }
+    {
+        self.quiet || self.stats || self.times
     }
 
     // The options of a run, where no other is given.
@@ -208,7 +233,8 @@ impl GivenWords<'_> {
         let everything = Filter::everything_from(Lsn(geometry.segment_size()));
         let filter = self.with_record_rules(everything)?;
         let filter = self.with_block_rules(filter)?;
-        self.with_extent(filter)
+        let filter = self.with_extent(filter)?;
+        Some(self.with_form(filter))
     }
 
     fn with_record_rules(&self, filter: Filter) -> Option<Filter>
@@ -261,9 +287,19 @@ impl GivenWords<'_> {
             start,
             end,
             limit,
-            quiet: self.quiet,
             ..filter
         })
+    }
+
+    fn with_form(&self, filter: Filter) -> Filter
+        ensures { result ≡ with_form (given_of self.now) filter }
+    {
+        Filter {
+            quiet: self.quiet,
+            stats: self.stats,
+            times: self.times,
+            ..filter
+        }
     }
 }
 

@@ -5,7 +5,9 @@ mod commands;
 mod given;
 mod meanings;
 
-pub use commands::{Command, CrashPick, DumpOptions, GenOptions, ReplayOptions, RunOptions};
+pub use commands::{
+    Command, CrashPick, DumpOptions, GenOptions, RedoOptions, ReplayOptions, RunOptions,
+};
 pub use given::GivenWords;
 pub use meanings::{
     block_number, cap_segments, crash, fork, limit, line_count, lsn, manager, relation, ring_pages,

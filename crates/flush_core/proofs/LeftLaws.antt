@@ -29,7 +29,7 @@ IsWritten-push (v ∷ writes) w page k word (inl first) = inl (inl first)
 IsWritten-push (v ∷ writes) w page k word (inr behind) = elim (IsWritten-push writes w page k word behind) [ inl older ↦ inl (inr older) | inr last ↦ inr last ]
 
 -- a word of a page as it is read is the durable one or that of a write
-read_word : (writes : List (ℕ × List ℕ)) (page k : ℕ) (bytes word : List ℕ) → word ≡ word_of (after_writes writes page bytes) k → (word ≡ word_of bytes k) ⊎ IsWritten writes page k word
+pub read_word : (writes : List (ℕ × List ℕ)) (page k : ℕ) (bytes word : List ℕ) → word ≡ word_of (after_writes writes page bytes) k → (word ≡ word_of bytes k) ⊎ IsWritten writes page k word
 read_word [] page k bytes word is = inl is
 read_word (w ∷ writes) page k bytes word is =
     elim (read_word writes page k (if w.0 == page then w.1 else bytes) word is) [

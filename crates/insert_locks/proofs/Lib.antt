@@ -1,5 +1,4 @@
 pub mod Sees
-pub mod Own
 pub mod Visits
 pub mod Knows
 pub mod Begun

@@ -1,5 +1,5 @@
 -- A watch goes from lock to lock, as the pass's view has it.
-use Rattle.std.proofs.Common.{◌≡◌, ◌≢◌, ℕ, ◌+◌, ◌-◌, ◌<◌, ◌≤◌, ◌&&◌, Bool, true, false, cond, eqb, not, min, refl, sym, ap, subst, ◌∙◌, ⊎_elim, eq-eqb, ne_eqb, arith}
+use Rattle.std.proofs.Common.{◌≡◌, ◌≢◌, ℕ, ◌+◌, ◌-◌, ◌<◌, ◌≤◌, ◌&&◌, ◌||◌, Bool, true, false, cond, eqb, not, min, refl, sym, ap, subst, ◌∙◌, ⊎_elim, eq-eqb, ne_eqb, arith}
 use Rattle.machine_laws.proofs.LocksKept.{met_cases}
 use Rattle.wal_core.specs.Words.{end_form}
 use Rattle.wal_core.specs.Views.{Watching, View}
@@ -14,18 +14,15 @@ module _ (asked end lock word bound : ℕ) (passes : LetsPass asked word) where
       (λ (t : (word ≢ 1) × (asked < word)). t.0) passes
 
   -- a lock that lets the watch pass
-  pub passed : (own : Bool) → (own ≡ true → word ≤ 1)
-      → visited_on own lock word (watched_to end lock bound)
+  pub passed : (own : Bool) → visited_on own lock word (watched_to end lock bound)
       ≡ watched_to end (lock + 1) (bound_behind word bound)
-  passed true tells =
-      let low = tells refl in
-      let free : word ≡ 0 = ⊎_elim (λ (free : word ≡ 0). free)
-      (λ (t : (word ≢ 1) × (asked < word)). absurd (t.0 (omega (arith, low, t.1)))) passes in
-      ap (λ (b : Bool). cond (b && true) (watched_to end (lock + 1) bound)
-      (watched_to end lock bound)) (eq-eqb lock lock refl)
-      ∙ ap (λ (b : Bool). watched_to end (lock + 1) (cond b bound (min bound (word - 1))))
-      (sym (eq-eqb word 0 free))
-  passed false tells =
+  passed true =
+      let on : Bool → Watching = λ b. watched_to end (lock + 1)
+      (cond (b || eqb word 0) bound (min bound (word - 1))) in
+      ap (λ (b : Bool). cond (b && true) (on (eqb word 1)) (watched_to end lock bound))
+      (eq-eqb lock lock refl)
+      ∙ ap on (ne_eqb word 1 not_one)
+  passed false =
       let on : Watching = watched_to end (lock + 1) (bound_behind word bound) in
       ap (λ (b : Bool). cond (b && not (eqb word 1)) on (watched_to end lock bound))
       (eq-eqb lock lock refl)
@@ -64,14 +61,13 @@ module _ (upto end bound lock : ℕ) (old new newer : View)
       (visited_on (is_own lock new.working) lock word x) new) k.begins
 
   pub watch_goes_on : LetsPass (min upto end) word
-      → (is_own lock new.working ≡ true → word ≤ 1)
       → WatchesOn upto end (bound_behind word bound) (lock + 1) old newer
-  watch_goes_on passes own =
+  watch_goes_on passes =
       let asked : ℕ = min upto end in
       let next : Watching = watched_to end (lock + 1) (bound_behind word bound) in
       subst (λ (w : View). WatchesOn upto end (bound_behind word bound) (lock + 1) old w)
       (sym (met_is ∙ ap (λ (x : Watching). with_watching x new)
-      (passed asked end lock word bound passes (is_own lock new.working) own)))
+      (passed asked end lock word bound passes (is_own lock new.working))))
       (record {
         rises = k.rises;
         end_is = k.end_is;

@@ -59,8 +59,7 @@ pub fn watch<'p, D: Disk>(seated: &mut SeatedPass<'p, D>, upto: u64) -> Watched
 }
 
 // Visits a lock, to learn up to the end of what is reserved: the view watches as the machine has it
-// behind such a visit, which begins a watch at lock 0. A pass's own lock tells nothing where the
-// pass copies nothing.
+// behind such a visit, which begins a watch at lock 0.
 fn visit<'p, D: Disk>(seated: &mut SeatedPass<'p, D>, lock: u32, end: u64) -> u64
     requires lock { lock < 8 }
     requires whole { end % 8 ≡ 0 }
@@ -68,7 +67,6 @@ fn visit<'p, D: Disk>(seated: &mut SeatedPass<'p, D>, lock: u32, end: u64) -> u6
         (visited_on (is_own lock (view_of seated.old).working) lock result
         (begun lock end (view_of seated.old)))
         (view_of seated.old)) seated.old seated.new }
-    ensures own { is_own lock (view_of seated.old).working ≡ true → result ≤ 1 }
     ensures met { Meets (view_of seated.old) (load_lock lock end) result }
 {
     seated.load_lock(lock, end)

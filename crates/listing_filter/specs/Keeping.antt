@@ -60,4 +60,6 @@ everything_from start = record {
   end = None;
   limit = None;
   quiet = false;
+  stats = false;
+  times = false;
 }

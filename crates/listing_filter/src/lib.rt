@@ -36,6 +36,10 @@ pub struct Filter {
     pub limit: Option<u64>,
     /// Whether nothing is printed.
     pub quiet: bool,
+    /// Whether statistics are printed in place of the records.
+    pub stats: bool,
+    /// Whether a commit's time is printed behind its data.
+    pub times: bool,
 }
 
 impl Filter {
@@ -55,6 +59,8 @@ impl Filter {
             end: None,
             limit: None,
             quiet: false,
+            stats: false,
+            times: false,
         }
     }
 

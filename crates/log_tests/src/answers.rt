@@ -52,6 +52,13 @@ fn pages_and_turns_are_told(rt: HostRuntime) -> Result<(), Fail> {
     Ok(())
 }
 
+#[test]
+fn a_log_is_answered_up_to_its_start(rt: HostRuntime) -> Result<(), Fail> {
+    let (table, mut first) = open(rt.alloc())?;
+    assert_eq!(rt; first.seat(&table).load_async(), 1 << 20);
+    Ok(())
+}
+
 // What a pass that holds a lock sees of the position, which another one has locked.
 fn position_seen(alloc: Global) -> Result<Option<u64>, Fail> {
     let (table, mut first) = open(alloc)?;

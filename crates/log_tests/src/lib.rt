@@ -7,6 +7,8 @@ mod answers;
 #[cfg(test)]
 mod filled;
 #[cfg(test)]
+mod in_flight;
+#[cfg(test)]
 mod opening;
 #[cfg(test)]
 mod reading;

@@ -9,6 +9,7 @@ use Rattle.segment_disk.specs.declared.disk.Call.{Call}
 use Rattle.wal_core.specs.declared.setup.Setup.{Setup}
 use Rattle.wal_core.specs.Words.{Opening, log_limit, log_start}
 use Rattle.wal_core.specs.Moves.{no_writing, split_off}
+use Rattle.wal_core.proofs.NothingFound.{nothing_ends, nothing_opens}
 use Rattle.wal_core.specs.Opened.{AreFirstWords, IsFirstWriter}
 use Rattle.wal_core.specs.Sound.{IsSetup}
 use Rattle.wal_core.specs.Views.{HasAt, Idle, View, Writing}
@@ -192,7 +193,7 @@ module _ (setup : Setup) (is : IsSetup setup) (words : WordsState) (w : WriterSt
     moment_is = first.moment;
     counted = subst (λ (o : Option (List Call)). IfSome o (λ calls. (w.plain).moment ≡ length calls))
         (sym first.calls) first.moment;
-    written = first.written;
+    written = first.written ∙ sym (nothing_ends opening is.size refl);
     made = first.made;
     waiting = first.waiting;
     fault = first.fault;
@@ -204,7 +205,7 @@ module _ (setup : Setup) (is : IsSetup setup) (words : WordsState) (w : WriterSt
 
     may : MayBeginRunning opening words.words w.plain asks
     may = record {
-      is_new = record { setup_is = is; none_found = refl };
+      openable = nothing_opens opening is refl;
       first_words = first_words;
       first_writer = writer_first;
       passes = omega (arith, few, same_length asks scripts are);

@@ -1,9 +1,9 @@
 -- A view that steps keeps its pass's number.
 use Rattle.std.proofs.Common.{◌≡◌, ℕ, Bool, true, false, cond, eqb, refl}
 use mathlib.Core.Option.{Option, none, some}
-use Rattle.wal_core.specs.Views.{Place, Free, Locked, Loaded, Stored, Plain, Hold, Idle, Turned, Out, Taken, View}
-use Rattle.wal_core.specs.Moves.{with_hold, with_place, with_stage, after_load_prev, after_store_prev, after_store_position, after_give_back}
-use Rattle.wal_core.specs.Steps.{StepKind, view_behind, with_slot, with_call_on, load_position, take_write_turn, slot_out, slot_in, release_write_turn, lock_position, load_prev, store_prev, store_position, give_position_back, load_lock, take_lock, advance, release, load_buffer_end, store_ring_word, load_ring_word, load_written, load_flushed, load_moment, load_down, store_written, store_moment, store_flushed, set_down, take_mapping_turn, load_initialised_end, clear_end, zero_ring_word, publish_end, publish_initialised_end, release_mapping_turn, create, write, sync}
+use Rattle.wal_core.specs.Views.{Place, Free, Locked, Loaded, Stored, StopCause, LogFull, AtSegmentStart, Plain, Hold, Idle, Turned, Out, Taken, View}
+use Rattle.wal_core.specs.Moves.{with_hold, with_place, with_stage, after_load_prev, after_store_prev, after_store_position, after_stop}
+use Rattle.wal_core.specs.Steps.{StepKind, view_behind, with_slot, with_call_on, load_position, take_write_turn, slot_out, slot_in, release_write_turn, lock_position, load_prev, store_prev, store_position, give_position_back, stay, load_lock, take_lock, advance, release, load_buffer_end, store_ring_word, load_ring_word, load_written, load_flushed, load_moment, load_down, store_written, store_moment, store_flushed, set_down, load_async, raise_async, take_mapping_turn, load_initialised_end, clear_end, zero_ring_word, publish_end, publish_initialised_end, release_mapping_turn, create, write, sync}
 
 abbrev number_in : View → ℕ
 number_in v = (v.reserving).number
@@ -40,11 +40,12 @@ prev_stored v (Locked at) = refl
 prev_stored v (Loaded at prev) = refl
 prev_stored v (Stored at prev) = refl
 
-given_back : (v : View) (p : Place) → number_in (after_give_back (with_place p v)) ≡ number_in v
-given_back v Free = refl
-given_back v (Locked at) = refl
-given_back v (Loaded at prev) = refl
-given_back v (Stored at prev) = refl
+stopped : (cause : StopCause) (v : View) (p : Place)
+    → number_in (after_stop cause (with_place p v)) ≡ number_in v
+stopped cause v Free = refl
+stopped cause v (Locked at) = refl
+stopped cause v (Loaded at prev) = refl
+stopped cause v (Stored at prev) = refl
 
 module _ (v : View) (met : ℕ) (home : Option Plain) where
   pub number_stays : (e : StepKind) → number_in (view_behind v e met home) ≡ number_in v
@@ -66,7 +67,8 @@ module _ (v : View) (met : ℕ) (home : Option Plain) where
       position_stored (Locked at) = refl
       position_stored (Loaded at prev) = refl
       position_stored (Stored at prev) = refl
-  number_stays (give_position_back value) = by_place after_give_back v (given_back v)
+  number_stays (give_position_back value) = by_place (after_stop LogFull) v (stopped LogFull v)
+  number_stays stay = by_place (after_stop AtSegmentStart) v (stopped AtSegmentStart v)
   number_stays (load_lock lock limit) = refl
   number_stays (take_lock lock) = either_number (eqb met 0) _ v refl
   number_stays (advance lock upto) = refl
@@ -82,6 +84,8 @@ module _ (v : View) (met : ℕ) (home : Option Plain) where
   number_stays store_moment = refl
   number_stays store_flushed = refl
   number_stays set_down = refl
+  number_stays load_async = refl
+  number_stays (raise_async expected upto) = refl
   number_stays take_mapping_turn = either_number (eqb met 0) (with_stage Taken v) v refl
   number_stays load_initialised_end = refl
   number_stays clear_end = refl

@@ -2,8 +2,8 @@
 use Rattle.std.proofs.Common.{◌≡◌, ℕ, Bool, true, false, cond, eqb, List, refl}
 use Rattle.std.proofs.Math.Dec.{ltb}
 use mathlib.Core.Option.{Option}
-use Rattle.wal_core.specs.Views.{Place, Free, Locked, Loaded, Stored, Hold, Plain, Stage, Away, Taken, Looked, Ready, Zeroing, Published, View}
-use Rattle.wal_core.specs.Moves.{with_place, with_stage, after_load_prev, after_store_prev, after_store_position, after_give_back}
+use Rattle.wal_core.specs.Views.{Place, Free, Locked, Loaded, Stored, LogFull, Hold, Plain, Stage, Away, Taken, Looked, Ready, Zeroing, Published, View}
+use Rattle.wal_core.specs.Moves.{with_place, with_stage, after_load_prev, after_store_prev, after_store_position, after_stop}
 use Rattle.wal_core.specs.Steps.{StepKind, view_behind, home_behind, lock_position, load_prev, store_prev, store_position, give_position_back, take_lock, load_down, take_mapping_turn, zero_ring_word, publish_end}
 use Rattle.wal_turns.specs.Doing.{Ask, Inserts, Commits, Flushes}
 use Rattle.wal_turns.specs.Turned.{fits, map_event, reserve_event}
@@ -37,7 +37,7 @@ module _ (v : View) (home : Option Plain) where
   prev_stored (Loaded at prev) = refl
   prev_stored (Stored at prev) = refl
 
-  given_back : (p : Place) → hold_in (after_give_back (with_place p v)) ≡ hold_in v
+  given_back : (p : Place) → hold_in (after_stop LogFull (with_place p v)) ≡ hold_in v
   given_back Free = refl
   given_back (Locked at) = refl
   given_back (Loaded at prev) = refl
@@ -82,7 +82,7 @@ module _ (v : View) (home : Option Plain) where
   pub quiet_give_back : (met : ℕ) (value : Rattle.wal_types.specs.declared.record.Record.Record)
       → IsQuiet v home met (give_position_back value)
   quiet_give_back met value = record {
-    hold_stays = by_place after_give_back given_back;
+    hold_stays = by_place (after_stop LogFull) given_back;
     home_stays = refl;
   }
 

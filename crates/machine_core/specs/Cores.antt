@@ -39,7 +39,7 @@ IsPlayed core = HasCallRoom core.writer × ((m : Machine) × PlaysMachine (core_
 
 -- nothing was found, on a disk that counted nothing
 abbrev pub first_opening : Setup → Opening
-first_opening setup = record { setup = setup; found = []; moment = 0; faults = 0 }
+first_opening setup = record { setup = setup; found = []; made = 0; moment = 0; faults = 0 }
 
 -- a backend with these lines, whose pass has this number, is about nothing
 abbrev pub first_plain_view : (size number : ℕ) → PlainView

@@ -4,7 +4,7 @@ use Rattle.wal_page.specs.Order.{finish_of}
 use Rattle.wal_page.specs.EntryWords.{address_of_word}
 use Rattle.wal_core.specs.Views.{Place, Free, Locked, Loaded, Stored, Flight, Landed, Copying, Watching, Stage, Away, Taken, Looked, Ready, Zeroing, Published, Hold, Idle, Turned as HasTurned, Out, View}
 use Rattle.wal_core.specs.Moves.{is_done}
-use Rattle.wal_core.specs.Steps.{StepKind, load_position, take_write_turn, slot_out, slot_in, release_write_turn, lock_position, load_prev, store_prev, store_position, give_position_back, load_lock, take_lock, advance, release, load_buffer_end, store_ring_word, load_ring_word, load_written, load_flushed, load_moment, load_down, store_written, store_moment, store_flushed, set_down, take_mapping_turn, load_initialised_end, clear_end, zero_ring_word, publish_end, publish_initialised_end, release_mapping_turn, create, write, sync}
+use Rattle.wal_core.specs.Steps.{StepKind, load_position, take_write_turn, slot_out, slot_in, release_write_turn, lock_position, load_prev, store_prev, store_position, give_position_back, stay, load_lock, take_lock, advance, release, load_buffer_end, store_ring_word, load_ring_word, load_written, load_flushed, load_moment, load_down, store_written, store_moment, store_flushed, set_down, load_async, raise_async, take_mapping_turn, load_initialised_end, clear_end, zero_ring_word, publish_end, publish_initialised_end, release_mapping_turn, create, write, sync}
 use Rattle.wal_turns.specs.Doing.{Purpose, ForLine, ForPage, Doing, Begins, Tries, Reserves, Looks, Copies, Maps, GivesTurn, Tells, Releases, FlushBegins, LoadsPosition, LoadsFlushed, LoadsMoment, Visits, TakesTurn, LoadsDown, TakesOut, LoadsPage, Creates, Writes, SyncsFull, SyncsLast, StoresWritten, StoresMoment, StoresFlushed, SetsDown, PutsBack, GivesWriteTurn}
 use Rattle.wal_turns.specs.Turned.{TurnMade, Moved, Waits, AllDone, IsDown, Next, goes_on, answers, asked_end}
 use Rattle.machine_turns.specs.declared.doing.PlainDoing.{PlainDoing}
@@ -128,6 +128,7 @@ event_of load_prev = events.LoadPrev
 event_of store_prev = events.StorePrev
 event_of (store_position locks value) = events.StorePosition
 event_of (give_position_back value) = events.GivePositionBack
+event_of stay = events.StayInPlace
 event_of (load_lock lock limit) = events.LoadLock lock
 event_of (take_lock lock) = events.TakeLock lock
 event_of (advance lock upto) = events.Advance lock upto
@@ -143,6 +144,8 @@ event_of store_written = events.StoreWritten
 event_of store_moment = events.StoreMoment
 event_of store_flushed = events.StoreFlushed
 event_of set_down = events.SetDown
+event_of load_async = events.LoadAsync
+event_of (raise_async expected upto) = events.RaiseAsync
 event_of take_mapping_turn = events.TakeMappingTurn
 event_of load_initialised_end = events.LoadInitialisedEnd
 event_of clear_end = events.ClearEnd

@@ -18,7 +18,7 @@ use Rattle.wal_core.specs.Views.{HasAt, Place, Locked, Taken, Plain, Lent, Hold,
 use Rattle.wal_core.specs.Ordered.{AtPlace}
 use Rattle.wal_core.specs.Aligned.{AlignmentHolds, IsKnownAligned, LearnsAligned, TellsAligned}
 use Rattle.wal_core.specs.Moves.{CallOutcome, Done, Failed, is_done, after_join, after_store_position, begun, copied_below, hardened, is_own, lent, split_off, unlocked, visited_on, with_hold, with_lent, with_outcome, with_place, with_seen, with_stage, with_working}
-use Rattle.wal_core.specs.Steps.{StepKind, MayStep, number_lent, word_of_step, view_behind, with_slot, with_call_on, load_position, take_write_turn, slot_out, slot_in, release_write_turn, lock_position, load_prev, store_prev, store_position, give_position_back, load_lock, take_lock, advance, release, load_buffer_end, store_ring_word, load_ring_word, load_written, load_flushed, load_moment, load_down, store_written, store_moment, store_flushed, set_down, take_mapping_turn, load_initialised_end, clear_end, zero_ring_word, publish_end, publish_initialised_end, release_mapping_turn, create, write, sync}
+use Rattle.wal_core.specs.Steps.{StepKind, MayStep, number_lent, word_of_step, view_behind, with_slot, with_call_on, load_position, take_write_turn, slot_out, slot_in, release_write_turn, lock_position, load_prev, store_prev, store_position, give_position_back, stay, load_lock, take_lock, advance, release, load_buffer_end, store_ring_word, load_ring_word, load_written, load_flushed, load_moment, load_down, store_written, store_moment, store_flushed, set_down, load_async, raise_async, take_mapping_turn, load_initialised_end, clear_end, zero_ring_word, publish_end, publish_initialised_end, release_mapping_turn, create, write, sync}
 use Rattle.wal_core.specs.Sound.{IsSound}
 use Rattle.wal_core.proofs.Lists.{one_set, part_at}
 use Rattle.wal_core.proofs.WordLists.{lock_else, lock_set, locks_else, single_set, word_again, word_else}
@@ -115,8 +115,15 @@ watch_either false x y one other = other
 
 -- what a lock tells that is held is one less than its word
 told_aligned : (met bound : ℕ) (own : Bool) → TellsAligned met → bound % 8 ≡ 0
-    → cond (own || eqb met 0) bound (min bound (met - 1)) % 8 ≡ 0
-told_aligned met bound true tells is = is
+    → cond ((own && eqb met 1) || eqb met 0) bound (min bound (met - 1)) % 8 ≡ 0
+told_aligned met bound true tells is = ⊎_elim
+    (λ (free : met ≡ 0). ap (λ n. cond (eqb n 1 || eqb n 0) bound (min bound (n - 1)) % 8) free ∙ is)
+    (λ (held : met % 8 ≡ 1). by_bool (eqb met 1 || eqb met 0) held)
+    tells
+  where
+    by_bool : (b : Bool) → met % 8 ≡ 1 → cond b bound (min bound (met - 1)) % 8 ≡ 0
+    by_bool true held = is
+    by_bool false held = min_aligned bound (met - 1) is (omega arith)
 told_aligned met bound false tells is = ⊎_elim
     (λ (free : met ≡ 0). ap (λ n. cond (eqb n 0) bound (min bound (n - 1)) % 8) free ∙ is)
     (λ (held : met % 8 ≡ 1). by_bool (eqb met 0) held)
@@ -385,6 +392,8 @@ module _ {first : DiskState} (words : List ℕ) (home : Option Plain) (views : L
       (before_locks 0 (omega arith)) (reserved locks value may)
   aligned_behind (give_position_back value) may = quiet (give_position_back value)
       (before_locks 0 (omega arith)) (rw may.1 refl)
+  aligned_behind stay may = quiet stay
+      (before_locks 0 (omega arith)) (rw may.1 refl)
   aligned_behind (load_lock lock limit) may = by_load (load_lock lock limit)
       (word_again words (2 + lock)) (visited lock limit may)
   aligned_behind (take_lock lock) may = by_lock (take_lock lock) lock may refl
@@ -394,7 +403,7 @@ module _ {first : DiskState} (words : List ℕ) (home : Option Plain) (views : L
       (learns_same v (with_working ((v.working).locks ++ lock ∷ []) (v.working).flight v) refl
       learns) learns)
   aligned_behind (advance lock upto) may = by_lock (advance lock upto) lock
-      (held_low lock may.0) refl (inr (omega (arith, may.1.2.2)))
+      (held_low lock may.0) refl (inr (omega (arith, may.2)))
       (learns_same v (behind (advance lock upto)) refl learns)
   aligned_behind (release lock) may = by_lock (release lock) lock (held_low lock may.0) refl
       (inl refl) (learns_same v (behind (release lock)) refl learns)
@@ -445,6 +454,9 @@ module _ {first : DiskState} (words : List ℕ) (home : Option Plain) (views : L
       (position_of size (number_lent v (λ l. l.hard) (v.writing).hold)) refl
       (position_of-whole size valid (number_lent v (λ l. l.hard) (v.writing).hold) hard))
   aligned_behind set_down may = quiet set_down (behind_flushed 16 (omega arith)) refl
+  aligned_behind load_async may = quiet load_async (behind_flushed (word_of_step v load_async) (omega arith)) refl
+  aligned_behind (raise_async expected upto) may = quiet (raise_async expected upto)
+      (behind_flushed (word_of_step v (raise_async expected upto)) (omega arith)) refl
   aligned_behind take_mapping_turn may = with_writer take_mapping_turn
       (beside 10 (omega arith) (omega arith))
       (learns_either (eqb (slice_index words 10) 0) (with_stage Taken v) v

@@ -12,7 +12,7 @@ use Rattle.wal_core.specs.Views.{Place, Free, Locked, Loaded, Stored, Joined, Ho
 use Rattle.wal_core.specs.Ordered.{TookIn}
 use Rattle.wal_core.specs.Moves.{after_join, after_split, joined_of, split_off}
 use Rattle.wal_core.specs.Opened.{first_view}
-use Rattle.wal_core.specs.Steps.{StepKind, view_behind, with_call_on, with_slot, load_position, take_write_turn, slot_out, slot_in, release_write_turn, lock_position, load_prev, store_prev, store_position, give_position_back, load_lock, take_lock, advance, release, load_buffer_end, store_ring_word, load_ring_word, load_written, load_flushed, load_moment, load_down, store_written, store_moment, store_flushed, set_down, take_mapping_turn, load_initialised_end, clear_end, zero_ring_word, publish_end, publish_initialised_end, release_mapping_turn, create, write, sync}
+use Rattle.wal_core.specs.Steps.{StepKind, view_behind, with_call_on, with_slot, load_position, take_write_turn, slot_out, slot_in, release_write_turn, lock_position, load_prev, store_prev, store_position, give_position_back, stay, load_lock, take_lock, advance, release, load_buffer_end, store_ring_word, load_ring_word, load_written, load_flushed, load_moment, load_down, store_written, store_moment, store_flushed, set_down, load_async, raise_async, take_mapping_turn, load_initialised_end, clear_end, zero_ring_word, publish_end, publish_initialised_end, release_mapping_turn, create, write, sync}
 use Rattle.machine_laws.specs.SharedOrders.{HasNumber, IsSpare}
 use Rattle.machine_laws.specs.ClosedLogs.{HasAllNumbers}
 
@@ -65,6 +65,13 @@ placed_give_position_back v value (Locked at) met home = refl
 placed_give_position_back v value (Loaded at prev) met home = refl
 placed_give_position_back v value (Stored at prev) met home = refl
 
+placed_stay : (v : View) (p : Place) (met : ℕ) (home : Option Plain)
+    → Stays (at_place p v) (view_behind (at_place p v) stay met home)
+placed_stay v Free met home = refl
+placed_stay v (Locked at) met home = refl
+placed_stay v (Loaded at prev) met home = refl
+placed_stay v (Stored at prev) met home = refl
+
 taken_out : (v : View) (home : Option Plain) → Stays v (with_slot v home)
 taken_out v none = refl
 taken_out v (some writer) = refl
@@ -88,6 +95,7 @@ stays v (store_position locks value) met home =
     placed_store_position v locks value (v.reserving).place met home
 stays v (give_position_back value) met home =
     placed_give_position_back v value (v.reserving).place met home
+stays v stay met home = placed_stay v (v.reserving).place met home
 stays v (load_lock lock limit) met home = refl
 stays v (take_lock lock) met home = either_stays v _ (met == 0) refl
 stays v (advance lock upto) met home = refl
@@ -103,6 +111,8 @@ stays v store_written met home = refl
 stays v store_moment met home = refl
 stays v store_flushed met home = refl
 stays v set_down met home = refl
+stays v load_async met home = refl
+stays v (raise_async expected upto) met home = refl
 stays v take_mapping_turn met home = either_stays v _ (met == 0) refl
 stays v load_initialised_end met home = refl
 stays v clear_end met home = refl

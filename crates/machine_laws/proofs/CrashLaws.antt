@@ -26,7 +26,7 @@ use Rattle.wal_core.specs.Words.{Opening}
 use Rattle.wal_core.specs.Views.{HasAt, Hold, Out, Joined, Lent, Plain, FlushPromise, Receipts, View, writer_of}
 use Rattle.wal_core.specs.Locked.{IsWriteTurn}
 use Rattle.wal_core.specs.Moves.{CallOutcome, with_outcome}
-use Rattle.wal_core.specs.Steps.{MayStep, create, fault_number, number_lent, set_down, sync, value_behind, write}
+use Rattle.wal_core.specs.Steps.{MayStep, create, fault_number, number_lent, set_down, load_async, raise_async, sync, value_behind, write}
 use Rattle.wal_core.specs.Durable.{AreKept, DurabilityHolds, IsFirm, IsPromiseKept, IsLawfulAt, IsLogBelow}
 use Rattle.machine_laws.specs.Crashes.{CrashesLeave, DownTells, HoldsPromise, LeavesLawful, PutsOwned}
 use Rattle.machine_laws.proofs.DurableAssured.{stands_out}

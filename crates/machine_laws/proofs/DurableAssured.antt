@@ -177,21 +177,21 @@ module _ (first : DiskState) (opening : Opening) (order : List Entry) (flushed m
   ]
 
   pub is_joined : (es fs : List Entry) (js ks : List Joined) (x y : Writing) (number : ℕ)
-      (filled : _) → Is (told es js x) → Is (told fs ks y)
+      (stops : _) → Is (told es js x) → Is (told fs ks y)
       → (let j : Joined = record {
         number = number;
         entries = fs;
-        filled = filled;
+        stops = stops;
         promises = y.promises;
       } in Is (told es (js ++ j ∷ ks) (record x {
         down_met = max x.down_met y.down_met;
         down_set = max x.down_set y.down_set;
       })))
-  is_joined es fs js ks x y number filled a b =
+  is_joined es fs js ks x y number stops a b =
       let j : Joined = record {
         number = number;
         entries = fs;
-        filled = filled;
+        stops = stops;
         promises = y.promises;
       } in
       let Promised : Joined → Type 0 = λ j. All (IsPromised flushed moment) j.promises in

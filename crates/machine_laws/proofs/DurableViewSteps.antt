@@ -348,5 +348,5 @@ module _ {first : DiskState} (o : Opening) (order : List Entry) (flushed moment 
         (view_set first o order flushed moment down writer home parts other (told [] [] no_writing) h
         began)
         (is_joined first o order flushed moment down writer es w.reserving.entries js
-        w.reserving.joined v.writing w.writing w.reserving.number w.reserving.filled was
+        w.reserving.joined v.writing w.writing w.reserving.number w.reserving.stops was
         (h.views other (receipts_of w) there))

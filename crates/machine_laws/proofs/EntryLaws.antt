@@ -11,12 +11,12 @@ use Rattle.byte_position.specs.Position.{end_address_of}
 use Rattle.byte_position.proofs.EndAddresses.{end_address_of-mono_lt}
 use Rattle.record_spelling.specs.Spelling.{assembled}
 use Rattle.wal_page.specs.Log.{owner_at}
-use Rattle.wal_page.specs.Order.{Entry, IsChained, position_behind}
+use Rattle.wal_page.specs.Order.{Entry, IsChained, end_position, position_behind}
 use Rattle.wal_page.specs.EntryWords.{address_of_word}
 use Rattle.wal_page.proofs.OrderLaws.{room_at-pos}
 use Rattle.wal_page.proofs.OwnerLaws.{Owns-from_between, owner_at-entry_iff}
 use Rattle.wal_core.specs.declared.setup.Setup.{Setup}
-use Rattle.wal_core.specs.Words.{Opening, lock_word}
+use Rattle.wal_core.specs.Words.{Opening, end_form, lock_word}
 use Rattle.wal_core.specs.Views.{HasAt, Copy, Flight, Landed, Copying, Plain, View, working_of, flight_of}
 use Rattle.wal_core.specs.Locked.{most_told}
 use Rattle.wal_core.specs.Ringed.{IsOfOrder}
@@ -26,7 +26,8 @@ use Rattle.wal_core.proofs.Landing.{among_cases, none_lands}
 use Rattle.wal_core.proofs.Lists.{part_at}
 use Rattle.machine_laws.proofs.RingLaws.{copy-whole, last_word-ends}
 use Rattle.machine_laws.proofs.ShownLaws.{entries_are_copied}
-use Rattle.machine_laws.specs.SoundLocks.{SomeView, HasInFlight, IsToldBy, LocksTellCopies, IsCopiedWhole, EntriesAreWholeOrInFlight}
+use Rattle.machine_laws.specs.SoundLocks.{SomeView, HasInFlight, IsToldAhead, IsToldBy, LocksTellCopies, IsCopiedWhole, EntriesAreWholeOrInFlight}
+use Rattle.machine_laws.proofs.HeldLaws.{copying_same}
 use Rattle.machine_laws.proofs.HolderLaws.{locks_have_holders}
 use Rattle.segment_disk.specs.Tape.{DiskState}
 
@@ -168,31 +169,44 @@ module _ {first : DiskState} (opening : Opening) (words : List ℕ) (home : Opti
   }
 
   -- what a lock's word tells of a flight of its holder
-  told_by : (id lock : ℕ) (v : View) → HasAt views id v → 1 < lock_word words lock
-      → (f : Flight) → (v.working).flight ≡ f
-      → lock_word words lock ≤ most_told size lock f
-      → IsToldBy size lock (lock_word words lock) v
-  told_by id lock v here more Landed is low = absurd (omega arith)
-  told_by id lock v here more (Copying c) is low = among_cases
+  abbrev reserved_end : ℕ
+  reserved_end = end_form setup (end_position size k.order)
+
+  abbrev Told : ℕ → ℕ → View → Type 0
+  Told end lock v = IsToldBy size lock (lock_word words lock) v
+      ⊎ IsToldAhead end lock (lock_word words lock) v
+
+  told_by : (id lock : ℕ) (v : View) → HasAt views id v → (f : Flight)
+      → (v.working).flight ≡ f → lock_word words lock ≤ most_told size reserved_end lock f
+      → Told reserved_end lock v
+  told_by id lock v here Landed is low = inr (record {
+    none_under = λ c flies has. none_lands c (sym is ∙ flies);
+    within = low;
+  })
+  told_by id lock v here (Copying c) is low = among_cases
       (λ (b : Bool). lock_word words lock
-      ≤ cond b (address_of_word size c.entry c.copied + 1) 1
-      → IsToldBy size lock (lock_word words lock) v) c.locks lock
+      ≤ cond b (address_of_word size c.entry c.copied + 1) (reserved_end + 1)
+      → Told reserved_end lock v) c.locks lock
       (λ has low.
       let o = of_order id v c here is in
       let within = o.copied_within in
       let ends = last_word-ends size (k.setup_is).size c.entry
       (copy-whole size (k.setup_is).size k.order chain c o) in
-      record {
+      inl (record {
         copy = c;
         in_flight = is;
         under = has;
         next = λ left. low;
         none_left = λ none. omega arith;
-      })
-      (λ other low. absurd (omega arith))
+      }))
+      (λ other low. inr (record {
+        none_under = λ d flies has. other (subst (λ (x : Copy). Contains x.locks lock)
+            (copying_same d c (sym flies ∙ is)) has);
+        within = low;
+      }))
       low
 
-  pub locks_tell_copies : LocksTellCopies size words views
+  pub locks_tell_copies : LocksTellCopies size reserved_end words views
   locks_tell_copies lock low more =
       let h = ((locks_have_holders opening words home views k).held lock low).0
       (λ none. omega arith) in
@@ -202,7 +216,7 @@ module _ {first : DiskState} (opening : Opening) (words : List ℕ) (home : Opti
         h.2,
         (
           h.3,
-          told_by h.0 lock v h.2 more (v.working).flight refl
+          told_by h.0 lock v h.2 (v.working).flight refl
               (k.progress h.0 lock v.working (part_at working_of views h.0 v h.2) h.3),
         ),
       )

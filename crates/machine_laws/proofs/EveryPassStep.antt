@@ -2,7 +2,7 @@
 -- invariant is kept.
 use Rattle.std.proofs.Common.{◌≡◌, ◌≢◌, ℕ, ◌<◌, ◌≤◌, true, List, [], ◌∷◌, ◌++◌, map, max, set, refl, sym, ◌∙◌, subst, ⊎_elim, arith}
 use mathlib.Core.Option.{Option}
-use Rattle.wal_core.specs.Words.{Opening, position_word, prev_word, written_word, flushed_word, down_word, end_form}
+use Rattle.wal_core.specs.Words.{Opening, position_word, prev_word, written_word, flushed_word, down_word, async_word, end_form}
 use Rattle.wal_core.specs.Views.{HasAt, Flight, Plain, Reserving, View, Writing, reserving_of, flight_of, writing_of, receipts_of}
 use Rattle.wal_core.specs.Ordered.{OrderHolds}
 use Rattle.wal_core.specs.Positioned.{PositionsHold}
@@ -25,6 +25,7 @@ use Rattle.machine_laws.proofs.SoundDurableSteps.{durable-split, durable-taken_i
 use Rattle.machine_laws.proofs.Frames.{grounded_live, watches_still}
 use Rattle.machine_laws.proofs.KnownViews.{now, has_now, told_here}
 use Rattle.machine_laws.proofs.OrderBehind.{takes_part}
+use Rattle.machine_laws.proofs.AsyncBehind.{IsAnswered, each_is_answered, joins_answered, mine_answered}
 use Rattle.machine_laws.proofs.AlignedBehind.{fresh_aligned, joins_aligned, learns_same}
 use Rattle.segment_disk.specs.Tape.{DiskState}
 
@@ -69,10 +70,12 @@ module _ {first : DiskState} (words : List ℕ) (home : Option Plain) (views : L
         → (fs : List Flight) → map flight_of changed ≡ fs
         → (ws : List Writing) → map writing_of changed ≡ ws → HasPositionsWith fs ws
         → HasDurableWith v.opening words home views k changed
+        → ((j : ℕ) (u : View) → HasAt changed j u
+        → IsAnswered (async_word (v.opening).setup words) u)
         → ((j : ℕ) (u : View) → HasAt changed j u → LearnsAligned u)
         → IsSound first v.opening words home changed
     changed_sound grounded rs are_reserving reserved works turns ring pages fs are_flights ws
-        are_writing positions durable learn = record {
+        are_writing positions durable answers learn = record {
           order = k.order;
           memory = k.memory;
           reach = k.reach;
@@ -94,6 +97,11 @@ module _ {first : DiskState} (words : List ℕ) (home : Option Plain) (views : L
               (λ j. (sym are_flights j, sym are_writing j)) positions;
           durable = durable;
           watching = works.watched;
+          answered = record {
+            reserved = (k.answered).reserved;
+            aligned = (k.answered).aligned;
+            met = each_is_answered (async_word (v.opening).setup words) changed answers;
+          };
           aligned = record {
             locks = (k.aligned).locks;
             written_word = (k.aligned).written_word;
@@ -133,6 +141,19 @@ module _ {first : DiskState} (words : List ℕ) (home : Option Plain) (views : L
       (one_set (λ j u. LearnsAligned u) views id w
       (λ j u apart at. (k.aligned).views j u at) changed) new
 
+  -- up to where it counts on answers
+  abbrev Answers : View → Type 0
+  Answers u = IsAnswered (async_word (v.opening).setup words) u
+
+  answers : (j : ℕ) (u : View) → HasAt views j u → Answers u
+  answers = mine_answered words home views id v k here
+
+  answers_added : (w x : View) → Answers w → Answers x
+      → (j : ℕ) (u : View) → HasAt (set views id w ++ x ∷ []) j u → Answers u
+  answers_added w x changed new =
+      one_added (λ j u. Answers u) (set views id w) x
+      (one_set (λ j u. Answers u) views id w (λ j u apart at. answers j u at) changed) new
+
   -- the view watches for no more than it has seen
   low : (v.watching).end ≤ end_form (v.opening).setup (v.reserving).seen
   low = (k.grounded id v here).watches live
@@ -156,6 +177,7 @@ module _ {first : DiskState} (words : List ℕ) (home : Option Plain) (views : L
       _ (one_changes writing_of views id v here (after_split v) (split_off v))
       (positions.split_keeps all id v has_all)
       (durable-split words home views id v k here)
+      (answers_added (after_split v) (split_off v) (answers id v here) (omega arith, refl))
       (learns_added (after_split v) (split_off v) (learns_same v (after_split v) refl learns)
       (fresh_aligned v (split_off v) learns refl))
 
@@ -185,6 +207,7 @@ module _ {first : DiskState} (words : List ℕ) (home : Option Plain) (views : L
       _ (one_changes writing_of views id v here (without_work v) (orphan_of v))
       (positions.give_up_keeps all id v has_all)
       (durable-given_up words home views id v k here)
+      (answers_added (without_work v) (orphan_of v) (answers id v here) (omega arith, refl))
       (learns_added (without_work v) (orphan_of v) (learns_same v (without_work v) refl learns)
       (fresh_aligned v (orphan_of v) learns refl))
 
@@ -213,6 +236,11 @@ module _ {first : DiskState} (words : List ℕ) (home : Option Plain) (views : L
       _ (two_change writing_of views id v here other (after_join v w) (spent w))
       (positions.join_keeps all id v has_all other w)
       (durable-taken_in words home views id v k here other w there)
+      (one_set (λ j u. Answers u) (set views other (spent w)) id (after_join v w)
+      (λ j u not_this at. one_set (λ i x. Answers x) views other (spent w)
+      (λ i x not_other found. answers i x found) (omega arith, refl) j u at)
+      (joins_answered (async_word (v.opening).setup words) v w (answers id v here)
+      (answers other w there)))
       (one_set (λ j u. LearnsAligned u) (set views other (spent w)) id (after_join v w)
       (λ j u not_this at. one_set (λ i x. LearnsAligned x) views other (spent w)
       (λ i x not_other found. (k.aligned).views i x found)

@@ -8,7 +8,7 @@ use Rattle.wal_core.specs.Words.{Opening, down_word, end_form, write_turn}
 use Rattle.wal_core.specs.Views.{HasAt, Place, Locked, Stored, Plain, Hold, Idle, Turned, Out, Taken, Watching, View, reserving_of, writer_of}
 use Rattle.wal_core.specs.Ordered.{AtPlace}
 use Rattle.wal_core.specs.Moves.{after_store_position, begun, entry_reserved, is_own, visited_on, with_hold, with_place, with_stage, with_working}
-use Rattle.wal_core.specs.Steps.{StepKind, MayStep, fault_number, number_lent, value_behind, word_of_step, view_behind, load_position, take_write_turn, slot_out, slot_in, release_write_turn, lock_position, load_prev, store_prev, store_position, give_position_back, load_lock, take_lock, advance, release, load_buffer_end, store_ring_word, load_ring_word, load_written, load_flushed, load_moment, load_down, store_written, store_moment, store_flushed, set_down, take_mapping_turn, load_initialised_end, clear_end, zero_ring_word, publish_end, publish_initialised_end, release_mapping_turn, create, write, sync, with_slot, with_call_on}
+use Rattle.wal_core.specs.Steps.{StepKind, MayStep, fault_number, number_lent, value_behind, word_of_step, view_behind, load_position, take_write_turn, slot_out, slot_in, release_write_turn, lock_position, load_prev, store_prev, store_position, give_position_back, stay, load_lock, take_lock, advance, release, load_buffer_end, store_ring_word, load_ring_word, load_written, load_flushed, load_moment, load_down, store_written, store_moment, store_flushed, set_down, load_async, raise_async, take_mapping_turn, load_initialised_end, clear_end, zero_ring_word, publish_end, publish_initialised_end, release_mapping_turn, create, write, sync, with_slot, with_call_on}
 use Rattle.wal_core.specs.Sound.{IsGrounded, IsSound}
 use Rattle.wal_core.proofs.Lists.{part_at}
 use Rattle.wal_core.proofs.WordLists.{single_set, word_again, word_else}
@@ -111,6 +111,7 @@ module _ {first : DiskState} (words : List ℕ) (home : Option Plain) (views : L
     grounded_behind store_prev may = same store_prev (rw may.2 refl)
     grounded_behind (store_position locks value) may = reserved locks value may
     grounded_behind (give_position_back value) may = same (give_position_back value) (rw may.1 refl)
+    grounded_behind stay may = same stay (rw may.1 refl)
     grounded_behind (load_lock lock limit) may = grounded_live v.opening down
         (behind (load_lock lock limit)) refl live
         (visited_low (is_own lock v.working) lock (slice_index words (2 + lock))
@@ -131,6 +132,8 @@ module _ {first : DiskState} (words : List ℕ) (home : Option Plain) (views : L
     grounded_behind store_moment may = same store_moment refl
     grounded_behind store_flushed may = sees_more store_flushed refl refl refl (omega arith)
     grounded_behind set_down may = same set_down refl
+    grounded_behind load_async may = same load_async refl
+    grounded_behind (raise_async expected upto) may = same (raise_async expected upto) refl
     grounded_behind take_mapping_turn may = same take_mapping_turn
         (ground_either (eqb (slice_index words 10) 0) (with_stage Taken v) v refl)
     grounded_behind load_initialised_end may = same load_initialised_end refl
@@ -184,6 +187,7 @@ module _ {first : DiskState} (words : List ℕ) (home : Option Plain) (views : L
       not_stored (store_position locks value) (λ e. omega arith)
   down_stays (give_position_back value) may =
       not_stored (give_position_back value) (λ e. omega arith)
+  down_stays stay may = not_stored stay (λ e. omega arith)
   down_stays (load_lock lock limit) may = not_stored (load_lock lock limit) (λ e. omega arith)
   down_stays (take_lock lock) may = not_stored (take_lock lock) (λ e. omega arith)
   down_stays (advance lock upto) may =
@@ -206,6 +210,9 @@ module _ {first : DiskState} (words : List ℕ) (home : Option Plain) (views : L
   down_stays set_down may = λ down zero_now. set_is may
       (sym (single_set words (v.opening).setup k.wide 16 (step set_down).n (omega arith))
       ∙ zero_now)
+  down_stays load_async may = not_stored load_async (λ e. omega arith)
+  down_stays (raise_async expected upto) may =
+      not_stored (raise_async expected upto) (λ e. omega arith)
   down_stays take_mapping_turn may = not_stored take_mapping_turn (λ e. omega arith)
   down_stays load_initialised_end may = not_stored load_initialised_end (λ e. omega arith)
   down_stays clear_end may = not_stored clear_end (λ e. omega arith)

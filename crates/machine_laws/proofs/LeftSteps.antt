@@ -1,17 +1,18 @@
 -- The steps that leave what is said of ring and pages.
-use Rattle.std.proofs.Common.{◌≡◌, ◌⊎◌, inl, inr, ℕ, ◌+◌, ◌<◌, ◌≤◌, Bool, true, false, cond, List, [], ◌∷◌, ◌++◌, sym, refl, ap, subst, ⊎_elim, arith}
+use Rattle.std.proofs.Common.{◌≡◌, ◌⊎◌, inl, inr, ℕ, ◌+◌, ◌<◌, ◌≤◌, Bool, true, false, cond, List, [], ◌∷◌, ◌++◌, map, set, sym, refl, ap, subst, ⊎_elim, arith}
 use Rattle.std.specs.Prelude.{Contains, ◌==◌}
 use mathlib.Core.Option.{Option, none, some}
 use Rattle.wal_types.specs.declared.record.Record.{Record}
-use Rattle.wal_core.specs.Words.{initialised_word, written_word, end_word, word_of_ring}
-use Rattle.wal_core.specs.Views.{HasAt, Place, Free, Locked, Loaded, Stored, Flight, Taken, Reserving, Plain, Hold, Idle, Turned, Out, Writing, View, working_of, flight_of, confirmed_of}
+use Rattle.wal_core.specs.Words.{initialised_word, written_word, end_word, word_of_ring, async_number}
+use Rattle.wal_core.specs.Views.{HasAt, Place, Free, Locked, Loaded, Stored, StopCause, LogFull, AtSegmentStart, Flight, Taken, Reserving, Plain, Hold, Idle, Turned, Out, Writing, View, working_of, flight_of, confirmed_of}
 use Rattle.wal_core.specs.Ringed.{RingHolds}
 use Rattle.wal_core.specs.Paged.{PagesHold}
-use Rattle.wal_core.specs.Moves.{with_reserving, with_place, with_writing, with_working, with_hold, with_stage, after_load_prev, after_store_prev, after_store_position, after_give_back}
-use Rattle.wal_core.specs.Steps.{StepKind, MayStep, word_of_step, value_behind, view_behind, with_slot, with_call_on, load_position, take_write_turn, slot_out, slot_in, release_write_turn, lock_position, load_prev, store_prev, store_position, give_position_back, load_lock, take_lock, advance, release, load_buffer_end, store_ring_word, load_ring_word, load_written, load_flushed, load_moment, load_down, store_written, store_moment, store_flushed, set_down, take_mapping_turn, load_initialised_end, clear_end, zero_ring_word, publish_end, publish_initialised_end, release_mapping_turn, create, write, sync, ring_place}
+use Rattle.wal_core.specs.Moves.{with_reserving, with_place, with_writing, with_working, with_hold, with_stage, after_load_prev, after_store_prev, after_store_position, after_stop}
+use Rattle.wal_core.specs.Steps.{StepKind, MayStep, word_of_step, value_behind, view_behind, with_slot, with_call_on, load_position, take_write_turn, slot_out, slot_in, release_write_turn, lock_position, load_prev, store_prev, store_position, give_position_back, stay, load_lock, take_lock, advance, release, load_buffer_end, store_ring_word, load_ring_word, load_written, load_flushed, load_moment, load_down, store_written, store_moment, store_flushed, set_down, load_async, raise_async, take_mapping_turn, load_initialised_end, clear_end, zero_ring_word, publish_end, publish_initialised_end, release_mapping_turn, create, write, sync, ring_place}
 use Rattle.wal_core.specs.Sound.{IsSound}
 use Rattle.wal_core.proofs.Lists.{part_at, part_same}
 use Rattle.wal_core.proofs.WordLists.{word_again, word_else, ends_before, ring_before}
+use Rattle.machine_laws.proofs.Buffers.{pages_alike}
 use Rattle.machine_laws.specs.RingBehind.{met_by, words_behind, HasPages, HasRing}
 use Rattle.machine_laws.specs.RingLeft.{LeavesCopies, LeavesPages}
 use Rattle.segment_disk.specs.Tape.{DiskState}
@@ -46,11 +47,11 @@ module _ {W : Type 0} (f : View → W) (v : View)
   store_prev_same (Loaded at prev) = no_reserving _
   store_prev_same (Stored at prev) = no_reserving _
 
-  give_back_same : (p : Place) → f (after_give_back (with_place p v)) ≡ f v
-  give_back_same Free = no_reserving _
-  give_back_same (Locked at) = no_reserving _
-  give_back_same (Loaded at prev) = no_reserving _
-  give_back_same (Stored at prev) = no_reserving _
+  stop_same : (cause : StopCause) (p : Place) → f (after_stop cause (with_place p v)) ≡ f v
+  stop_same cause Free = no_reserving _
+  stop_same cause (Locked at) = no_reserving _
+  stop_same cause (Loaded at prev) = no_reserving _
+  stop_same cause (Stored at prev) = no_reserving _
 
 module _ (v : View) where
   reserved_met : (locks : List ℕ) (value : Record) (p : Place)
@@ -77,7 +78,10 @@ module _ (v : View) where
       store_prev_same flight_of v (λ x. refl) (λ x. refl) (v.reserving).place
   flight_left (store_position locks value) met home leaves = absurd leaves
   flight_left (give_position_back value) met home leaves =
-      give_back_same flight_of v (λ x. refl) (λ x. refl) (v.reserving).place
+      stop_same flight_of v (λ x. refl) (λ x. refl) LogFull (v.reserving).place
+  flight_left stay met home leaves =
+      stop_same flight_of v (λ x. refl) (λ x. refl) AtSegmentStart
+      (v.reserving).place
   flight_left (load_lock lock limit) met home leaves = refl
   flight_left (take_lock lock) met home leaves =
       if_same flight_of v (λ x. refl) (λ x. refl)
@@ -95,6 +99,8 @@ module _ (v : View) where
   flight_left store_moment met home leaves = refl
   flight_left store_flushed met home leaves = refl
   flight_left set_down met home leaves = refl
+  flight_left load_async met home leaves = refl
+  flight_left (raise_async expected upto) met home leaves = refl
   flight_left take_mapping_turn met home leaves =
       if_same flight_of v (λ x. refl) (λ x. refl) (met == 0) (with_stage Taken v) refl
   flight_left load_initialised_end met home leaves = refl
@@ -128,7 +134,10 @@ module _ (v : View) where
   confirmed_left (store_position locks value) met home leaves =
       reserved_met locks value (v.reserving).place
   confirmed_left (give_position_back value) met home leaves =
-      give_back_same confirmed_of v (λ x. refl) (λ x. refl) (v.reserving).place
+      stop_same confirmed_of v (λ x. refl) (λ x. refl) LogFull (v.reserving).place
+  confirmed_left stay met home leaves =
+      stop_same confirmed_of v (λ x. refl) (λ x. refl) AtSegmentStart
+      (v.reserving).place
   confirmed_left (load_lock lock limit) met home leaves = refl
   confirmed_left (take_lock lock) met home leaves =
       if_same confirmed_of v (λ x. refl) (λ x. refl)
@@ -146,6 +155,8 @@ module _ (v : View) where
   confirmed_left store_moment met home leaves = refl
   confirmed_left store_flushed met home leaves = refl
   confirmed_left set_down met home leaves = refl
+  confirmed_left load_async met home leaves = refl
+  confirmed_left (raise_async expected upto) met home leaves = refl
   confirmed_left take_mapping_turn met home leaves = absurd leaves
   confirmed_left load_initialised_end met home leaves = absurd leaves
   confirmed_left clear_end met home leaves = absurd leaves
@@ -207,6 +218,31 @@ module _ {first : DiskState} (v : View) (words : List ℕ) (home : Option Plain)
       (λ a. let b = a.0 in omega arith) away))
       (ends_before words i n before) (ring_before words (v.opening).setup i n (omega arith))
 
+  -- the last word stands behind those of buffers and ring
+  pages_raised : (expected upto : ℕ) → HasPages v words home views id (raise_async expected upto)
+      s.reach s.stage s.memory
+  pages_raised expected upto =
+      let e : StepKind = raise_async expected upto in
+      let i : ℕ = async_number (v.opening).setup in
+      let n : ℕ = value_behind v e (met_by v words home views id e) in
+      let low = (s.setup_is).ring_low in
+      let parts = part_same confirmed_of views id v
+      (view_behind v e (met_by v words home views id e) home) here refl in
+      subst (λ (x : ℕ × ℕ × List ℕ). PagesHold ((v.opening).setup).ring_pages s.reach s.stage x.0
+      x.1 (end_word (set words i n)) (word_of_ring (v.opening).setup (set words i n)) s.memory x.2)
+      (λ j. (
+        sym (word_else words i n 12 (λ e. omega arith)) j,
+        sym (word_else words i n 13 (λ e. omega arith)) j,
+        sym parts j,
+      ))
+      (pages_alike ((v.opening).setup).ring_pages s.reach s.stage (initialised_word words)
+      (written_word words) (end_word words) (word_of_ring (v.opening).setup words) s.memory
+      (map confirmed_of views) (end_word (set words i n))
+      (word_of_ring (v.opening).setup (set words i n))
+      (λ b below. word_else words i n (17 + b) (λ e. omega arith))
+      (λ k below. word_else words i n (17 + ((v.opening).setup).ring_pages + k)
+      (λ e. omega arith)) s.pages)
+
   pub pages_behind-left : (e : StepKind) → MayStep v e → LeavesPages e
       → HasPages v words home views id e s.reach s.stage s.memory
   pages_behind-left load_position may leaves = pages_by_word load_position tt (inl (omega arith))
@@ -224,6 +260,8 @@ module _ {first : DiskState} (v : View) (words : List ℕ) (home : Option Plain)
       pages_by_word (store_position locks value) tt (inl (omega arith))
   pages_behind-left (give_position_back value) may leaves =
       pages_by_word (give_position_back value) tt (inl (omega arith))
+  pages_behind-left stay may leaves =
+      pages_by_word stay tt (inl (omega arith))
   pages_behind-left (load_lock lock limit) may leaves =
       pages_by_word (load_lock lock limit) tt (inl (omega arith))
   pages_behind-left (take_lock lock) may leaves =
@@ -253,6 +291,11 @@ module _ {first : DiskState} (v : View) (words : List ℕ) (home : Option Plain)
       pages_by_word store_flushed tt (inr (omega arith, omega arith))
   pages_behind-left set_down may leaves =
       pages_by_word set_down tt (inr (omega arith, omega arith))
+  pages_behind-left load_async may leaves =
+      let same = word_again words (async_number (v.opening).setup) in
+      pages_left load_async refl (ap initialised_word same) (ap written_word same)
+      (ap end_word same) (ap (word_of_ring (v.opening).setup) same)
+  pages_behind-left (raise_async expected upto) may leaves = pages_raised expected upto
   pages_behind-left take_mapping_turn may leaves = absurd leaves
   pages_behind-left load_initialised_end may leaves = absurd leaves
   pages_behind-left clear_end may leaves = absurd leaves

@@ -51,6 +51,7 @@ mod GroundBehind
 mod OrderBehind
 mod PositionsBehind
 mod AlignedBehind
+mod AsyncBehind
 pub mod WholeInvariant
 pub mod EveryPassStep
 pub mod EveryStep

@@ -55,11 +55,11 @@ module _ (setup : Setup) (order : List Entry) (words : List ℕ) (views : List V
 
   held_as : (views' : List View) (works' : List Working) (watches' : List Watching)
       → map working_of views' ≡ works' → map watching_of views' ≡ watches'
-      → AreHeld (lock_word words) works' → ProgressHolds setup.segment_size (lock_word words) works'
+      → AreHeld (lock_word words) works' → ProgressHolds setup.segment_size end (lock_word words) works'
       → WatchHolds setup.segment_size end works' watches' → WorksHold setup order words views'
   held_as views' works' watches' same seen held told watched = record {
     held = subst (λ (ps : List Working). AreHeld (lock_word words) ps) (sym same) held;
-    told = subst (λ (ps : List Working). ProgressHolds setup.segment_size (lock_word words) ps)
+    told = subst (λ (ps : List Working). ProgressHolds setup.segment_size end (lock_word words) ps)
         (sym same) told;
     watched = subst (λ (x : List Working × List Watching).
         WatchHolds setup.segment_size end x.0 x.1) (λ j. (sym same j, sym seen j)) watched;
@@ -71,7 +71,7 @@ module _ (setup : Setup) (order : List Entry) (words : List ℕ) (views : List V
       (one_comes working_of views id v here (after_split v) (split_off v) refl)
       (one_comes watching_of views id v here (after_split v) (split_off v) refl)
       (held_added (lock_word words) works k.held)
-      (told_added setup.segment_size (lock_word words) works k.told)
+      (told_added setup.segment_size end (lock_word words) works k.told)
       (watched_added setup.segment_size end works watches k.watched)
 
   pub works_give_up : WorksHold setup order words
@@ -83,7 +83,7 @@ module _ (setup : Setup) (order : List Entry) (words : List ℕ) (views : List V
       (one_changes working_of views id v here (without_work v) (orphan_of v))
       (one_comes watching_of views id v here (without_work v) (orphan_of v) refl)
       (held_given_up (lock_word words) works k.held id v.working mine)
-      (told_given_up setup.segment_size (lock_word words) works k.told id v.working mine)
+      (told_given_up setup.segment_size end (lock_word words) works k.told id v.working mine)
       (watched_given_up setup.segment_size end works watches k.watched id v.working mine)
 
   pub works_join : (other : ℕ) (w : View) → HasAt views other w → id ≢ other → IsResting w
@@ -97,7 +97,7 @@ module _ (setup : Setup) (order : List Entry) (words : List ℕ) (views : List V
       (two_change watching_of views id v here other (after_join v w) (spent w))
       (held_taken_in (lock_word words) works k.held id v.working mine other w.working its
       rests.locks rests.flight)
-      (told_taken_in setup.segment_size (lock_word words) works k.told id v.working mine other
+      (told_taken_in setup.segment_size end (lock_word words) works k.told id v.working mine other
       w.working its rests.locks rests.flight)
       (watched_taken_in setup.segment_size end works watches k.watched id v.working mine other
       w.working v.watching its rests.locks rests.flight (part_at watching_of views id v here)

@@ -16,7 +16,7 @@ use Rattle.wal_core.specs.Locked.{StandsTo}
 use Rattle.wal_core.specs.Durable.{IsPromised}
 use Rattle.wal_core.specs.Moves.{CallOutcome, Done, Failed, after_store_position, after_write, entry_reserved, hardened, with_hold, with_lent, with_outcome, with_place, with_stage, with_working}
 use Rattle.segment_disk.specs.declared.disk.Call.{Call}
-use Rattle.wal_core.specs.Steps.{StepKind, MayStep, word_of_step, value_behind, number_lent, load_position, take_write_turn, slot_out, slot_in, release_write_turn, lock_position, load_prev, store_prev, store_position, give_position_back, load_lock, take_lock, advance, release, load_buffer_end, store_ring_word, load_ring_word, load_written, load_flushed, load_moment, load_down, store_written, store_moment, store_flushed, set_down, take_mapping_turn, load_initialised_end, clear_end, zero_ring_word, publish_end, publish_initialised_end, release_mapping_turn, create, write, sync, with_slot, with_call_on}
+use Rattle.wal_core.specs.Steps.{StepKind, MayStep, word_of_step, value_behind, number_lent, load_position, take_write_turn, slot_out, slot_in, release_write_turn, lock_position, load_prev, store_prev, store_position, give_position_back, stay, load_lock, take_lock, advance, release, load_buffer_end, store_ring_word, load_ring_word, load_written, load_flushed, load_moment, load_down, store_written, store_moment, store_flushed, set_down, load_async, raise_async, take_mapping_turn, load_initialised_end, clear_end, zero_ring_word, publish_end, publish_initialised_end, release_mapping_turn, create, write, sync, with_slot, with_call_on}
 use Rattle.wal_core.specs.Sound.{IsSound}
 use Rattle.wal_core.proofs.Lists.{part_at, part_same, part_set, view_from}
 use Rattle.wal_core.proofs.WordLists.{single_set, word_again, word_else}
@@ -327,6 +327,7 @@ module _ {first : DiskState} (words : List ℕ) (home : Option Plain) (views : L
   moments_behind store_prev may = stays store_prev now (rw may.2 refl) (λ e. omega arith) (λ e. omega arith)
   moments_behind (store_position locks value) may = position_stored locks value may
   moments_behind (give_position_back value) may = stays (give_position_back value) now (rw may.1 refl) (λ e. omega arith) (λ e. omega arith)
+  moments_behind stay may = stays stay now (rw may.1 refl) (λ e. omega arith) (λ e. omega arith)
   moments_behind (load_lock lock limit) may = stays (load_lock lock limit) now refl (λ e. omega (arith, may)) (λ e. omega (arith, may))
   moments_behind (take_lock lock) may = stays (take_lock lock) now
       (same_either promised_of (eqb (slice_index words (2 + lock)) 0)
@@ -354,6 +355,8 @@ module _ {first : DiskState} (words : List ℕ) (home : Option Plain) (views : L
   moments_behind store_moment may = moment_stored may
   moments_behind store_flushed may = flushed_stored may
   moments_behind set_down may = stays set_down now refl (λ e. omega arith) (λ e. omega arith)
+  moments_behind load_async may = stays load_async now refl (λ e. omega arith) (λ e. omega arith)
+  moments_behind (raise_async expected upto) may = stays (raise_async expected upto) now refl (λ e. omega arith) (λ e. omega arith)
   moments_behind take_mapping_turn may = stays take_mapping_turn now
       (same_either promised_of (eqb (slice_index words 10) 0) (with_stage Taken v) v refl)
       (λ e. omega arith) (λ e. omega arith)

@@ -1,42 +1,51 @@
--- A log that holds nothing begins in a state that keeps the invariant: each part by itself.
-use Rattle.std.proofs.Common.{◌≡◌, ◌≢◌, ℕ, zero, suc, ◌+◌, ◌-◌, ◌*◌, ◌/◌, ◌%◌, ◌<◌, ◌≤◌, All, Bool, true, false, List, [], ◌∷◌, ◌++◌, length, take, Option, Some, None, IfSome, nat_lt, if◌then◌else◌, refl, sym, ap, ◌∙◌, subst, inl, inr, arith}
+-- A log begins, or goes on behind what was found, in a state that keeps the invariant: each part by
+-- itself.
+use Rattle.std.proofs.Common.{◌≡◌, ◌≢◌, ℕ, zero, suc, ◌+◌, ◌-◌, ◌*◌, ◌/◌, ◌%◌, ◌<◌, ◌≤◌, All, Bool, true, false, List, [], ◌∷◌, ◌++◌, length, take, Option, Some, None, IfSome, nat_lt, if◌then◌else◌, append-nil, refl, sym, ap, ◌∙◌, subst, inl, inr, arith}
 use Rattle.std.specs.Int.{w64, to_le_bytes}
 use Rattle.std.proofs.lemmas.Bool.{cases_eq, le-ltb, lt-ltb}
 use Rattle.std.specs.List.{Contains}
-use Rattle.std.proofs.lemmas.List.Elements.{All-nil}
+use Rattle.std.specs.Option.{IsSomeAnd}
+use Rattle.std.proofs.lemmas.List.Elements.{All-head, All-nil, All-tail}
 use Rattle.std.proofs.Math.Nat.{mod-lt}
 use mathlib.Core.Option.{some, some-injective, some-ne-none}
 use Rattle.byte_position.specs.Position.{end_address_of, first_position}
-use Rattle.byte_position.specs.Geometry.{IsSegmentSize}
+use Rattle.byte_position.specs.Geometry.{pages_of}
 use Rattle.byte_position.proofs.SegmentSizes.{segment_size_in_pages}
-use Rattle.wal_page.specs.Log.{log_word}
+use Rattle.wal_page.specs.Log.{log_word_bytes}
 use Rattle.wal_page.specs.EntryWords.{address_of_word}
 use Rattle.wal_page.specs.Order.{Entry, end_position}
-use Rattle.wal_page.proofs.WordPositions.{end_address_of-first_position}
-use Rattle.wal_page.proofs.LogWordLaws.{log_word-unowned}
+use Rattle.wal_page.proofs.WordPositions.{end_address_of-first_position, first_position-whole}
+use Rattle.wal_page.proofs.LogWordLaws.{log_word-behind, log_word-unowned}
+use Rattle.wal_page.proofs.OwnerLaws.{owner_at-none_before, rooms_of-whole}
+use Rattle.byte_position.proofs.EndAddresses.{end_address_of-mono}
+use Rattle.byte_position.proofs.Words.{end_address_of-mod_word}
 use Rattle.wal_core.specs.declared.setup.Setup.{Setup}
-use Rattle.wal_core.specs.Words.{Opening, position_word, prev_word, lock_word, mapping_turn, write_turn, initialised_word, written_word, flushed_word, moment_word, down_word, end_word, end_form, word_of_ring}
+use Rattle.wal_core.specs.Words.{Opening, position_word, prev_word, lock_word, mapping_turn, write_turn, initialised_word, written_word, flushed_word, moment_word, down_word, end_word, end_form, word_of_ring, async_word}
 use Rattle.wal_core.specs.Views.{HasAt, Plain, Away, Landed, Copying, AreSomeOf, View, mapper_of, receipts_of, writer_of}
-use Rattle.wal_core.specs.Opened.{AreFirstWords, IsFirstWriter, IsNew, first_view}
-use Rattle.wal_core.specs.Ordered.{HasLive, IsUnused, OrderHolds, Role, active, spare, ended, unborn}
+use Rattle.wal_core.specs.Opened.{AreFirstWords, IsFirstWriter, IsOpenable, first_view, found_end, found_position}
+use Rattle.wal_core.specs.Ordered.{HasLive, IsUnused, entries_under, is_pass, OrderHolds, Role, active, spare, ended, unborn}
 use Rattle.wal_core.specs.Locked.{LocksHold, ProgressHolds, most_told}
-use Rattle.wal_core.specs.Ringed.{RingHolds, IsOfOrder}
+use Rattle.wal_core.specs.Ringed.{RingHolds, IsOfOrder, log_word_of}
 use Rattle.wal_core.specs.Paged.{PagesHold}
 use Rattle.wal_core.specs.Watched.{IsCopiedToBound, WatchHolds}
 use Rattle.wal_core.specs.Positioned.{PositionsHold}
 use Rattle.machine_laws.proofs.Buffers.{one_page}
 use Rattle.wal_core.specs.Durable.{DurabilityHolds, IsToldRightly, IsLawfulAt, IsLogBelow}
-use Rattle.segment_disk.specs.DiskImage.{image_as_read}
+use Rattle.segment_disk.specs.DiskImage.{image_as_read, word_of}
 use Rattle.segment_disk.specs.declared.disk.Call.{Call}
-use Rattle.segment_disk.specs.Tape.{DiskState, Segment, Tape, after_calls, state_now}
+use Rattle.segment_disk.specs.Tape.{DiskState, Segment, Tape, after_calls, page_as_read, state_now}
 use Rattle.std.proofs.Math.Seq.{take-length}
 use Rattle.flush_core.specs.Pages.{HoldsNothing}
-use Rattle.wal_core.specs.Suited.{tape_from, BeganSuited}
-use Rattle.segment_disk.specs.ImageWords.{segment_word}
+use Rattle.wal_core.specs.Suited.{BeganSuited, IsLogAt, IsSuited, tape_from}
+use Rattle.segment_disk.specs.ImageWords.{segment_word, zero_word}
+use Rattle.flush_core.proofs.LeftLaws.{read_word}
+use Rattle.machine_laws.proofs.SegmentStates.{SegmentAssures-weaker}
 use Rattle.segment_disk.specs.Assured.{IsMadeUpto, IsNowhere, SegmentAssures}
 use Rattle.flush_core.proofs.LeftLaws.{TapeAssures-now}
 use Rattle.std.proofs.lemmas.Option.{IfSome_then}
-use Rattle.std.proofs.Math.Nat.{div-eq_of_lt}
+use Rattle.std.proofs.Math.Nat.{div-lt_iff_lt-mul}
+use Rattle.std.proofs.lemmas.Nat.{div-add-mod'}
+use Rattle.wal_core.specs.Answered.{AsyncHolds}
 use Rattle.wal_core.specs.Aligned.{AlignmentHolds, LearnsAligned}
 use Rattle.wal_core.specs.Sound.{IsSetup, IsSound}
 use Rattle.wal_core.proofs.Tapes.{counted_tape}
@@ -47,17 +56,28 @@ only_one : {A : Type 0} (x : A) (P : ℕ → A → Type 0) → P 0 x → (id : �
 only_one x P here zero y e = subst (P 0) (some-injective x y e) here
 only_one x P here (suc id) y e = absurd (some-ne-none y (sym e))
 
--- a log without entries has no words
-no_words : (size sysid : ℕ) → IsSegmentSize size → (k : ℕ) → log_word size sysid [] (8 * k) ≡ 0
-no_words size sysid valid k = log_word-unowned size sysid valid [] tt (8 * k) (omega arith) refl
+-- nobody reserved what was found
+none_under : (n : ℕ) (es : List Entry) → All (λ (e : Entry). e.pass ≡ None) es
+    → entries_under n es ≡ []
+none_under n [] all = refl
+none_under n (e ∷ es) all =
+    ap (λ (p : Option ℕ). if is_pass n p then e ∷ entries_under n es else entries_under n es)
+    (All-head (λ (x : Entry). x.pass ≡ None) e es all)
+    ∙ none_under n es (All-tail (λ (x : Entry). x.pass ≡ None) e es all)
 
-module _ (opening : Opening) (words : List ℕ) (writer : Plain) (new : IsNew opening)
+module _ (opening : Opening) (words : List ℕ) (writer : Plain) (log : IsOpenable opening)
     (zeroed : AreFirstWords opening words) (begins : IsFirstWriter opening writer) where
   abbrev setup : Setup
   setup = opening.setup
 
   abbrev valid : IsSetup setup
-  valid = new.setup_is
+  valid = log.setup_is
+
+  abbrev found : List Entry
+  found = opening.found
+
+  abbrev end : ℕ
+  end = found_end opening
 
   abbrev view : View
   view = first_view opening
@@ -103,7 +123,7 @@ module _ (opening : Opening) (words : List ℕ) (writer : Plain) (new : IsNew op
   none_ended zero id is = cc
   none_ended (suc n) id is = nobody n (ended id) is
 
-  pub order_begins : OrderHolds setup opening.found [] (position_word words) (prev_word words)
+  pub order_begins : OrderHolds setup found found (position_word words) (prev_word words)
       (view.reserving ∷ [])
   unfolding role
   order_begins = record {
@@ -111,25 +131,20 @@ module _ (opening : Opening) (words : List ℕ) (writer : Plain) (new : IsNew op
     locked = 0;
     holder = 0;
     keeper = 0;
-    found_first = (
-      [],
-      sym (ap (λ (f : List Entry). f ++ []) new.none_found),
-      All-nil _,
-      subst (λ (f : List Entry). All (λ e. e.pass ≡ None) f) (sym new.none_found) (All-nil _),
-    );
-    chained = tt;
-    within = omega arith;
-    position_is = zeroed.position ∙ omega arith;
+    found_first = ([], sym (append-nil found), All-nil _, log.nobodys);
+    chained = log.chained;
+    within = log.within;
+    position_is = omega (arith, zeroed.position);
     one_bit = omega arith;
-    at_rest = λ free. zeroed.zeros 1 (omega arith) (omega arith);
-    unused = λ n unused. refl;
+    at_rest = λ free. zeroed.prev;
+    unused = λ n unused. none_under n found log.nobodys;
     beyond = role_beyond;
     views = only_one view.reserving _ (λ live. record {
       own = refl;
-      entries_are = refl;
+      entries_are = sym (none_under 0 found log.nobodys);
       spares = role_spare;
       seen = omega arith;
-      filled = All-nil _;
+      stops = All-nil _;
       joined = All-nil _;
       apart = λ i j d low high. absurd (omega (arith, high));
     });
@@ -168,41 +183,63 @@ module _ (opening : Opening) (words : List ℕ) (writer : Plain) (new : IsNew op
     };
   }
 
-  progress_begins : ProgressHolds setup.segment_size (lock_word words) (view.working ∷ [])
+  progress_begins : ProgressHolds setup.segment_size end (lock_word words) (view.working ∷ [])
   progress_begins = λ id i w at. only_one view.working
-      (λ j u. Contains u.locks i → lock_word words i ≤ most_told setup.segment_size i u.flight)
+      (λ j u. Contains u.locks i → lock_word words i
+      ≤ most_told setup.segment_size end i
+      u.flight)
       (λ has. let none = has.1 in absurd (omega arith)) id w at
 
-  -- how many pages lie below the log's start, and the first page behind the ring's
+  -- how many pages lie below the one in which the log that was found ends, and the first page
+  -- behind the ring's
   abbrev low : ℕ
-  low = setup.segment_size / 8192
+  low = end / 8192
 
   abbrev reach : ℕ
   reach = low + setup.ring_pages
 
-  start_in_pages : setup.segment_size ≡ low * 8192
-  start_in_pages =
-      let pages = segment_size_in_pages setup.segment_size valid.size in omega (arith, pages.0)
+  -- the log ends at a word, behind where it begins
+  end_aligned : end % 8 ≡ 0
+  end_aligned = end_address_of-mod_word setup.segment_size valid.size (found_position opening)
+      (omega (
+        arith,
+        rooms_of-whole setup.segment_size found,
+        first_position-whole setup.segment_size valid.size,
+      ))
 
-  -- nothing is reserved up to where the log begins
-  start_is : end_form setup (end_position setup.segment_size []) ≡ setup.segment_size
-  start_is =
-      let none : end_position setup.segment_size [] ≡ first_position setup.segment_size =
-      omega arith in
-      ap (end_address_of setup.segment_size) none
-      ∙ end_address_of-first_position setup.segment_size valid.size
+  end_high : setup.segment_size ≤ end
+  end_high =
+      let up : first_position setup.segment_size ≤ found_position opening = omega arith in
+      let start = end_address_of-first_position setup.segment_size valid.size in
+      let rises = end_address_of-mono setup.segment_size valid.size
+      (first_position setup.segment_size) (found_position opening) up in
+      omega (arith, start, rises)
 
-  ring_begins : RingHolds setup [] reach (λ k. 0) (Landed ∷ [])
+  -- the log's words in memory
+  abbrev memory : ℕ → ℕ
+  memory k = log_word_of setup found (8 * k)
+
+  -- behind its end, and below its start, there is none
+  none_behind : (k : ℕ) → end ≤ 8 * k → memory k ≡ 0
+  none_behind k behind = log_word-behind setup.segment_size setup.sysid valid.size found log.chained
+      (8 * k) behind
+
+  none_before : (k : ℕ) → 8 * k < setup.segment_size → memory k ≡ 0
+  none_before k before = log_word-unowned setup.segment_size setup.sysid valid.size found
+      log.chained (8 * k) (omega arith)
+      (owner_at-none_before setup.segment_size valid.size found log.chained (8 * k) before)
+
+  ring_begins : RingHolds setup found reach memory (Landed ∷ [])
   ring_begins = record {
     in_flight = λ id c at. only_one Landed
-        (λ j u. u ≡ Copying c → IsOfOrder setup.segment_size [] c) (λ is. absurd (cc)) id
+        (λ j u. u ≡ Copying c → IsOfOrder setup.segment_size found c) (λ is. absurd (cc)) id
         (Copying c) at refl;
     alone = λ i j c d at. only_one Landed
         (λ n u. u ≡ Copying c → HasAt (Landed ∷ []) j (Copying d)
         → (c.entry).start ≡ (d.entry).start → i ≡ j) (λ is. absurd (cc)) i (Copying c) at refl;
-    words = λ k. inl (sym (no_words setup.segment_size setup.sysid valid.size k));
+    words = λ k. inl refl;
     ahead = λ k behind from to.
-        let end = start_is in absurd (omega arith);
+        let ring = valid.ring_low in absurd (omega arith);
   }
 
   page_is : (p : ℕ) → low ≤ p → p < reach
@@ -218,30 +255,25 @@ module _ (opening : Opening) (words : List ℕ) (writer : Plain) (new : IsNew op
       held.end_is ∙ ap (λ (q : ℕ). (q + 1) * 8192) same
 
   pages_begin : PagesHold setup.ring_pages reach Away (initialised_word words)
-      (written_word words) (end_word words) (word_of_ring setup words) (λ k. 0) (0 ∷ [])
+      (written_word words) (end_word words) (word_of_ring setup words) memory (0 ∷ [])
   pages_begin =
-      let start = start_in_pages in
       record {
         low = low;
         some_page = (let ring = valid.ring_low in omega arith);
         given_up = (let written = zeroed.written in omega arith);
         present = page_is;
-        content = λ p j from to within. zeroed.ring (p % setup.ring_pages * 1024 + j)
-            (let some_page : 0 < setup.ring_pages = (let ring = valid.ring_low in omega arith) in
-            let below : p % setup.ring_pages < setup.ring_pages = mod-lt p some_page in
-            omega arith);
+        content = λ p j from to within. zeroed.ring p j from to within;
         held = λ b below. inr (zeroed.ends b below);
-        blank = λ k behind. refl;
+        blank = λ k behind. none_behind k
+            (let ring = valid.ring_low in omega (arith, behind, ring));
         seen = only_one 0 (λ id c. c ≤ reach * 8192) (omega arith);
-        mapping = (refl, (let mapped = zeroed.initialised in omega arith));
+        mapping = (refl, zeroed.initialised);
       }
 
-  watching_begins : WatchHolds setup.segment_size (end_form setup
-      (end_position setup.segment_size []))
-      (view.working ∷ []) (view.watching ∷ [])
+  watching_begins : WatchHolds setup.segment_size end (view.working ∷ []) (view.watching ∷ [])
   watching_begins = record {
-    reserved = only_one view.watching (λ id x. (x.end ≤ end_form setup
-        (end_position setup.segment_size [])) × (x.bound ≤ x.end)) (omega arith, omega arith);
+    reserved = only_one view.watching (λ id x. (x.end ≤ end) × (x.bound ≤ x.end))
+        (omega arith, omega arith);
     behind = λ id j x w at there. only_one view.watching
         (λ i y. IsCopiedToBound setup.segment_size y w)
         (λ c is under starts. omega arith) id x at;
@@ -251,7 +283,7 @@ module _ (opening : Opening) (words : List ℕ) (writer : Plain) (new : IsNew op
   aligned_begins : AlignmentHolds (lock_word words) (written_word words) (flushed_word words)
       writer (view ∷ [])
   aligned_begins =
-      let start = start_in_pages in
+      let aligned = end_aligned in
       let written = zeroed.written in
       let flushed = zeroed.flushed in
       let at = begins.written in record {
@@ -269,43 +301,113 @@ module _ (opening : Opening) (words : List ℕ) (writer : Plain) (new : IsNew op
         });
       }
 
+  answered_begins : AsyncHolds (async_word setup words) end (0 ∷ [])
+  answered_begins =
+      let aligned = end_aligned in
+      let answered = zeroed.async in record {
+        reserved = omega arith;
+        aligned = omega arith;
+        met = only_one 0 (λ id n. (n ≤ async_word setup words) × (n % 8 ≡ 0)) (omega arith, refl);
+      }
+
   -- what was there at the opening is there still
-  suited_now : (t : Tape) → writer.moment ≡ length t.calls → BeganSuited opening t → (n : ℕ)
-      → state_now t n ≡ None
-  suited_now t count suited n =
+  suited_now : (t : Tape) → writer.moment ≡ length t.calls → BeganSuited opening t
+      → IsSuited opening (state_now t)
+  suited_now t count suited =
       let all : take opening.moment t.calls ≡ t.calls =
       ap (λ (m : ℕ). take m t.calls) (sym begins.moment_is ∙ count) ∙ take-length t.calls in
-      subst (λ (calls : List Call). after_calls t.at_first calls n ≡ None) all (suited n)
+      subst (λ (calls : List Call). IsSuited opening (after_calls t.at_first calls)) all suited
 
-  -- no segment need be there for what lies below the log's start
-  none_below : (n : ℕ) (upto : ℕ) → upto ≡ setup.segment_size
-      → IsMadeUpto setup.segment_size upto n → ⊥
-  none_below n upto is made =
-      let quotient : (upto - 1) / setup.segment_size ≡ 0 = div-eq_of_lt
-      (let start = start_in_pages in
-      let size = segment_size_in_pages setup.segment_size valid.size in omega
-      (arith, size.1)) in
-      omega (arith, made.0, made.1)
+  abbrev WasMade : ℕ → Type 0
+  WasMade segment = (1 ≤ segment) × (segment ≤ opening.made)
 
-  firm_now : (upto : ℕ) → upto ≡ setup.segment_size → (t : Tape)
-      → ((n : ℕ) → state_now t n ≡ None) → (n : ℕ)
+  abbrev Holds : ℕ → Option Segment → Type 0
+  Holds n o = SegmentAssures setup.segment_size WasMade (IsLogAt setup found) n o
+
+  -- the segments that have bytes of it were made
+  made_below : (n upto : ℕ) → upto ≡ end → IsMadeUpto setup.segment_size upto n → WasMade n
+  made_below n upto is made =
+      let high = end_high in
+      let within = log.made in
+      let some_size : 0 < setup.segment_size
+      = (let pages = segment_size_in_pages setup.segment_size valid.size in
+      omega (arith, pages.0, pages.1)) in
+      let quotient : (upto - 1) / setup.segment_size < opening.made + 1
+      = (div-lt_iff_lt-mul some_size).1 (omega arith) in
+      (made.0, omega (arith, made.1, quotient))
+
+  -- so the log is durable up to there
+  firm_now : (upto : ℕ) → upto ≡ end → (t : Tape) → IsSuited opening (state_now t) → (n : ℕ)
       → SegmentAssures setup.segment_size (IsMadeUpto setup.segment_size upto)
-      (IsLogBelow setup [] upto) n (state_now t n)
-  firm_now upto is t nothing n = subst
-      (SegmentAssures setup.segment_size (IsMadeUpto setup.segment_size upto)
-      (IsLogBelow setup [] upto) n) (sym (nothing n)) (none_below n upto is)
+      (IsLogBelow setup found upto) n (state_now t n)
+  firm_now upto is t suited n = SegmentAssures-weaker setup.segment_size WasMade
+      (IsMadeUpto setup.segment_size upto) (IsLogAt setup found) (IsLogBelow setup found upto) n
+      (λ made. made_below n upto is made) (λ page word within low bytes own below. own)
+      (state_now t n) (suited n)
+
+  lawful_now : (t : Tape) → IsSuited opening (state_now t) → (n : ℕ)
+      → SegmentAssures setup.segment_size IsNowhere (IsLawfulAt setup found) n (state_now t n)
+  lawful_now t suited n = SegmentAssures-weaker setup.segment_size WasMade IsNowhere
+      (IsLogAt setup found) (IsLawfulAt setup found) n (λ nowhere. absurd nowhere)
+      (λ page word within low bytes own. inr own) (state_now t n) (suited n)
+
+  there_now : (n : ℕ) (o : Option Segment) → Holds n o → WasMade n
+      → IsSomeAnd o (λ (s : Segment). s.pages ≡ pages_of setup.segment_size)
+  there_now n None holds made = absurd (holds made)
+  there_now n (Some s) holds made = holds.0
+
+  -- as it is read, the disk holds the log below its end
+  reads_now : (k : ℕ) → 8 * k < end → (o : Option Segment)
+      → Holds (8 * k / setup.segment_size) o
+      → segment_word (image_as_read (λ (n : ℕ). o) 0) (8 * k % setup.segment_size)
+      ≡ log_word_bytes setup.segment_size setup.sysid found (8 * k)
+  reads_now k below None holds =
+      let size = setup.segment_size in
+      let high = log.made in
+      let some_size : 0 < size = (let pages = segment_size_in_pages size valid.size in
+      omega (arith, pages.0, pages.1)) in
+      let quotient : 8 * k / size < opening.made + 1
+      = (div-lt_iff_lt-mul some_size).1 (omega arith) in
+      let first : 8 * k / size ≡ 0 = elim (cases_eq (8 * k / size) 0) [
+        | inl is ↦ is
+        | inr other ↦ absurd (holds (omega arith, omega arith))
+      ] in
+      let before : 8 * k < 1 * size
+      = (div-lt_iff_lt-mul some_size).0 (omega (arith, first)) in
+      ap (to_le_bytes w64) (sym (none_before k (omega (arith, before))))
+  reads_now k below (Some s) holds =
+      let size = setup.segment_size in
+      let whole = segment_size_in_pages size valid.size in
+      let n = 8 * k / size in
+      let offset = 8 * k % size in
+      let page = offset / 8192 in
+      let word = offset % 8192 / 8 in
+      let some_size : 0 < size = omega (arith, whole.0, whole.1) in
+      let within : offset < size = mod-lt (8 * k) some_size in
+      let parts : n * size + offset ≡ 8 * k = div-add-mod' (8 * k) size in
+      let product : n * size ≡ n * (8192 * pages_of size) = ap (λ (m : ℕ). n * m) whole.0 in
+      let on_page : page < pages_of size = omega (arith, whole.0) in
+      let small : word < 1024 = omega arith in
+      let there : page < s.pages = omega (arith, on_page, holds.0) in
+      let at : (n * pages_of size + page) * 8192 + 8 * word ≡ 8 * k
+      = omega (arith, parts, product) in
+      let bytes = word_of (page_as_read s page) word in
+      ap (λ (b : Bool). if b then bytes else zero_word) (lt-ltb page s.pages there)
+      ∙ holds.1 page word on_page small bytes
+      (read_word s.writes page word (s.durable page) bytes refl)
+      ∙ ap (log_word_bytes size setup.sysid found) at
 
   -- on a disk that held this at first
   module _ (first : DiskState) where
     counted : IfSome (tape_from first writer.calls) (λ t. writer.moment ≡ length t.calls)
     counted = counted_tape first writer.moment writer.calls begins.counted
 
-    positions_begin : PositionsHold first opening [] (written_word words) (flushed_word words)
+    positions_begin : PositionsHold first opening found (written_word words) (flushed_word words)
         (down_word words) (some writer) writer (Landed ∷ []) (view.writing ∷ [])
     positions_begin =
         let written_is = zeroed.written in
         let flushed_is = zeroed.flushed in
-        let start = start_is in
+        let high = end_high in
         let at_start = begins.written in
         record {
           begun = omega arith;
@@ -317,11 +419,9 @@ module _ (opening : Opening) (words : List ℕ) (writer : Plain) (new : IsNew op
               → writer.written ≤ address_of_word setup.segment_size c.entry c.copied) (λ is. absurd
               (cc)) id (Copying c) at refl;
           reads = IfSome_then (tape_from first writer.calls) counted (λ t count suited k below.
-              ap (λ (o : Option Segment). segment_word (image_as_read (λ n. o)
-              (8 * k / setup.segment_size)) (8 * k % setup.segment_size))
-              (suited_now t count suited (8 * k / setup.segment_size))
-              ∙ ap (to_le_bytes w64)
-              (sym (no_words setup.segment_size setup.sysid valid.size k)));
+              let held = suited_now t count suited in
+              reads_now k (omega (arith, below, at_start))
+              (state_now t (8 * k / setup.segment_size)) (held (8 * k / setup.segment_size)));
           views = only_one view.writing _ (record {
             written_met = omega arith;
             flushed_met = omega arith;
@@ -330,7 +430,7 @@ module _ (opening : Opening) (words : List ℕ) (writer : Plain) (new : IsNew op
           });
         }
 
-    told_begins : IsToldRightly first opening [] (flushed_word words) (moment_word words)
+    told_begins : IsToldRightly first opening found (flushed_word words) (moment_word words)
         (down_word words) writer (receipts_of view)
     told_begins = record {
       own_promised = All-nil _;
@@ -342,28 +442,29 @@ module _ (opening : Opening) (words : List ℕ) (writer : Plain) (new : IsNew op
       down_set = λ some. absurd (some refl);
     }
 
-    durable_begins : DurabilityHolds first opening [] (flushed_word words) (moment_word words)
+    durable_begins : DurabilityHolds first opening found (flushed_word words) (moment_word words)
         (down_word words) (some writer) writer (receipts_of view ∷ [])
     durable_begins = record {
       counted = begins.counted;
       moment_low = (let moment = zeroed.moment in let same = begins.moment_is in omega arith);
       begun = (let moment = zeroed.moment in omega arith);
-      reached = (let written = begins.written in omega arith);
+      reached = (let written = begins.written in let made = begins.made in let high = log.made in
+          let same : writer.made * setup.segment_size ≡ opening.made * setup.segment_size
+          = ap (λ (n : ℕ). n * setup.segment_size) made in omega arith);
       lawful = IfSome_then (tape_from first writer.calls) counted (λ t count suited.
-          TapeAssures-now setup.segment_size IsNowhere (IsLawfulAt setup []) opening.moment t
+          TapeAssures-now setup.segment_size IsNowhere (IsLawfulAt setup found) opening.moment t
           (sym begins.moment_is ∙ count)
-          (λ n. subst (SegmentAssures setup.segment_size IsNowhere (IsLawfulAt setup []) n)
-          (sym (suited_now t count suited n)) (λ nowhere. nowhere)));
+          (lawful_now t (suited_now t count suited)));
       firm = IfSome_then (tape_from first writer.calls) counted (λ t count suited.
           TapeAssures-now setup.segment_size
           (IsMadeUpto setup.segment_size (flushed_word words))
-          (IsLogBelow setup [] (flushed_word words)) (moment_word words) t
+          (IsLogBelow setup found (flushed_word words)) (moment_word words) t
           (zeroed.moment ∙ sym begins.moment_is ∙ count)
           (firm_now (flushed_word words) zeroed.flushed t (suited_now t count suited)));
       on_disk = IfSome_then (tape_from first writer.calls) counted (λ t count suited. record {
-        firm = λ n other.
-            firm_now writer.written begins.written t (suited_now t count suited) n;
-        there = λ n low high. (let made = begins.made in absurd (omega arith));
+        firm = λ n other. firm_now writer.written begins.written t (suited_now t count suited) n;
+        there = λ n low high. there_now n (state_now t n) (suited_now t count suited n)
+            (low, omega (arith, high, begins.made));
       });
       down_is = λ down. absurd (down zeroed.down);
       down_at_home = λ home up. begins.fault;
@@ -371,30 +472,42 @@ module _ (opening : Opening) (words : List ℕ) (writer : Plain) (new : IsNew op
       views = only_one (receipts_of view) _ told_begins;
     }
 
--- a disk that holds nothing then is one on which a log may begin
-pub suited_begins : (first : DiskState) (opening : Opening) (writer : Plain) → IsFirstWriter opening writer
-    → HoldsNothing (tape_from first writer.calls) → IfSome (tape_from first writer.calls) (BeganSuited opening)
-suited_begins first opening writer begins holds = both (tape_from first writer.calls)
+-- where nothing was found and no segment is there, a disk that holds nothing is one on which a log
+-- may begin
+pub suited_begins : (first : DiskState) (opening : Opening) (writer : Plain) → opening.made ≡ 0
+    → IsFirstWriter opening writer → HoldsNothing (tape_from first writer.calls)
+    → IfSome (tape_from first writer.calls) (BeganSuited opening)
+suited_begins first opening writer none_made begins holds = both (tape_from first writer.calls)
     (counted_tape first writer.moment writer.calls begins.counted) holds
   where
+    nothing_is : (o : Option Segment) (n : ℕ) → o ≡ None
+        → SegmentAssures (opening.setup).segment_size
+        (λ segment. (1 ≤ segment) × (segment ≤ opening.made))
+        (IsLogAt opening.setup opening.found) n o
+    nothing_is o n is = subst (SegmentAssures (opening.setup).segment_size
+        (λ segment. (1 ≤ segment) × (segment ≤ opening.made))
+        (IsLogAt opening.setup opening.found) n) (sym is) (λ made. omega (arith, made.0, made.1))
+
     both : (tape : Option Tape) → IfSome tape (λ t. writer.moment ≡ length t.calls)
         → HoldsNothing tape → IfSome tape (BeganSuited opening)
     both None count nothing = tt
     both (Some t) count nothing = λ n.
         let all : take opening.moment t.calls ≡ t.calls =
         ap (λ (m : ℕ). take m t.calls) (sym begins.moment_is ∙ count) ∙ take-length t.calls in
-        subst (λ (calls : List Call). after_calls t.at_first calls n ≡ None) (sym all) (nothing n)
+        nothing_is _ n
+        (subst (λ (calls : List Call). after_calls t.at_first calls n ≡ None) (sym all) (nothing n))
 
-pub logs_begin : (first : DiskState) (opening : Opening) (words : List ℕ) (writer : Plain) → IsNew opening
+pub logs_begin : (first : DiskState) (opening : Opening) (words : List ℕ) (writer : Plain)
+    → IsOpenable opening
     → AreFirstWords opening words → IsFirstWriter opening writer
     → IsSound first opening words (some writer) (first_view opening ∷ [])
-logs_begin first opening words writer new zeroed begins = record {
-  order = [];
-  memory = λ k. 0;
-  reach = reach opening words writer new zeroed begins;
+logs_begin first opening words writer log zeroed begins = record {
+  order = opening.found;
+  memory = λ k. log_word_of opening.setup opening.found (8 * k);
+  reach = reach opening words writer log zeroed begins;
   stage = Away;
   writer = writer;
-  setup_is = new.setup_is;
+  setup_is = log.setup_is;
   wide = zeroed.wide;
   grounded = only_one (first_view opening) _ (record {
     opening_is = λ live. refl;
@@ -402,13 +515,14 @@ logs_begin first opening words writer new zeroed begins = record {
     at_rest = λ dead. absurd (cc);
     left = λ dead. absurd (cc);
   });
-  reserved = order_begins opening words writer new zeroed begins;
-  locks = locks_begin opening words writer new zeroed begins;
-  progress = progress_begins opening words writer new zeroed begins;
-  ring = ring_begins opening words writer new zeroed begins;
-  pages = pages_begin opening words writer new zeroed begins;
-  positions = positions_begin opening words writer new zeroed begins first;
-  durable = durable_begins opening words writer new zeroed begins first;
-  watching = watching_begins opening words writer new zeroed begins;
-  aligned = aligned_begins opening words writer new zeroed begins;
+  reserved = order_begins opening words writer log zeroed begins;
+  locks = locks_begin opening words writer log zeroed begins;
+  progress = progress_begins opening words writer log zeroed begins;
+  ring = ring_begins opening words writer log zeroed begins;
+  pages = pages_begin opening words writer log zeroed begins;
+  positions = positions_begin opening words writer log zeroed begins first;
+  durable = durable_begins opening words writer log zeroed begins first;
+  watching = watching_begins opening words writer log zeroed begins;
+  answered = answered_begins opening words writer log zeroed begins;
+  aligned = aligned_begins opening words writer log zeroed begins;
 }

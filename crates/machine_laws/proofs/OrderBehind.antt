@@ -6,7 +6,7 @@ use Rattle.wal_core.specs.Words.{position_word, prev_word, flushed_word}
 use Rattle.wal_core.specs.Views.{HasAt, Plain, Reserving, Hold, Idle, Turned, Out, Taken, View, reserving_of}
 use Rattle.wal_core.specs.Ordered.{OrderHolds}
 use Rattle.wal_core.specs.Moves.{with_hold, with_stage, with_working}
-use Rattle.wal_core.specs.Steps.{StepKind, MayStep, word_of_step, number_lent, load_position, take_write_turn, slot_out, slot_in, release_write_turn, lock_position, load_prev, store_prev, store_position, give_position_back, load_lock, take_lock, advance, release, load_buffer_end, store_ring_word, load_ring_word, load_written, load_flushed, load_moment, load_down, store_written, store_moment, store_flushed, set_down, take_mapping_turn, load_initialised_end, clear_end, zero_ring_word, publish_end, publish_initialised_end, release_mapping_turn, create, write, sync, with_slot, with_call_on}
+use Rattle.wal_core.specs.Steps.{StepKind, MayStep, word_of_step, number_lent, load_position, take_write_turn, slot_out, slot_in, release_write_turn, lock_position, load_prev, store_prev, store_position, give_position_back, stay, load_lock, take_lock, advance, release, load_buffer_end, store_ring_word, load_ring_word, load_written, load_flushed, load_moment, load_down, store_written, store_moment, store_flushed, set_down, load_async, raise_async, take_mapping_turn, load_initialised_end, clear_end, zero_ring_word, publish_end, publish_initialised_end, release_mapping_turn, create, write, sync, with_slot, with_call_on}
 use Rattle.wal_core.specs.Sound.{IsSound}
 use Rattle.wal_core.proofs.Lists.{part_at, part_set}
 use Rattle.wal_core.proofs.WordLists.{single_set, word_else}
@@ -121,6 +121,9 @@ module _ {first : DiskState} (words : List ℕ) (home : Option Plain) (views : L
       position_stored (give_position_back value) k.order refl
       (order.give_position_back_keeps k.order (position_word words) (prev_word words)
       (map reserving_of views) id v home value takes_part may)
+  order_holds stay may = position_stored stay k.order refl
+      (order.stay_keeps k.order (position_word words) (prev_word words)
+      (map reserving_of views) id v home takes_part may)
   order_holds (load_lock lock limit) may = stays (load_lock lock limit) refl (omega arith)
   order_holds (take_lock lock) may = stays (take_lock lock)
       (same_either reserving_of (eqb (slice_index words (2 + lock)) 0)
@@ -146,6 +149,8 @@ module _ {first : DiskState} (words : List ℕ) (home : Option Plain) (views : L
       (hard_is_reserved (now words home views id v k) id v (has_now words home views id v k here)
       may))
   order_holds set_down may = stays set_down refl (omega arith)
+  order_holds load_async may = stays load_async refl (omega arith)
+  order_holds (raise_async expected upto) may = stays (raise_async expected upto) refl (omega arith)
   order_holds take_mapping_turn may = stays take_mapping_turn
       (same_either reserving_of (eqb (slice_index words 10) 0) (with_stage Taken v) v refl)
       (omega arith)

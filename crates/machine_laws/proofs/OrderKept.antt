@@ -10,10 +10,10 @@ use Rattle.byte_position.proofs.Rising.{position_of-mono}
 use Rattle.wal_page.specs.Order.{Entry, end_position}
 use Rattle.wal_core.specs.declared.setup.Setup.{Setup}
 use Rattle.wal_core.specs.Words.{end_form}
-use Rattle.wal_core.specs.Views.{HasAt, Place, Free, Locked, Plain, Reserving, View}
+use Rattle.wal_core.specs.Views.{HasAt, Place, Free, Locked, LogFull, AtSegmentStart, Plain, Reserving, View}
 use Rattle.wal_core.specs.Ordered.{OrderHolds}
 use Rattle.wal_core.specs.Moves.{with_place, entry_reserved, after_split, split_off, after_join, spent, without_work, orphan_of}
-use Rattle.wal_core.specs.Steps.{MayStep, place_at, load_position, load_flushed, store_position, value_behind, view_behind, lock_position, load_prev, store_prev, give_position_back}
+use Rattle.wal_core.specs.Steps.{MayStep, place_at, load_position, load_flushed, store_position, value_behind, view_behind, lock_position, load_prev, store_prev, give_position_back, stay}
 use Rattle.machine_laws.specs.OrderParts.{TakesPart, HoldsWith}
 use Rattle.machine_laws.proofs.OrderSteps.{unlocked-is, sees, locks, loads_prev, stores_prev, gives_back, reserves, gives_up}
 use Rattle.machine_laws.proofs.OrderPassSteps.{splits, joins}
@@ -78,7 +78,18 @@ module _ (order : List Entry) (position prev : ℕ) (parts : List Reserving) (id
       (λ (w : View). view_behind w (give_position_back value) position home))
       (sym may.1)
       (gives_back setup found order position prev parts t.holds id v.reserving t.here t.live
-      may.0 may.1)
+      LogFull may.0 may.1)
+
+  pub stay_keeps : (home : Option Plain) → TakesPart order position prev parts id v
+      → MayStep v stay
+      → HoldsWith order (value_behind v stay position) prev parts id v
+      (view_behind v stay position home)
+  stay_keeps home t may = subst
+      (AtPlaceOf (λ (w : View). value_behind w stay position) (λ _. prev)
+      (λ (w : View). view_behind w stay position home))
+      (sym may.1)
+      (gives_back setup found order position prev parts t.holds id v.reserving t.here t.live
+      AtSegmentStart may.0 may.1)
 
   -- ---- what is seen
 

@@ -81,7 +81,7 @@ IsEnded-still size found order role role' by by' keep js h =
     (λ j t. record {
       role_is = keep j.number t.role_is;
       entries_are = t.entries_are;
-      filled = t.filled;
+      stops = t.stops;
     }) js h
 
 -- numbers of passes that were taken in differ still, where those of other ones come to them
@@ -148,7 +148,7 @@ module _ (setup : Setup) (found order : List Entry) (position prev : ℕ) (parts
       spare = 0;
       spare_end = 0;
       entries = [];
-      filled = [];
+      stops = [];
       seen = r.seen;
       joined = [];
       place = Free;
@@ -182,7 +182,7 @@ module _ (setup : Setup) (found order : List Entry) (position prev : ℕ) (parts
                 keep m (λ e. apart (cc (ap k.role e, p.spares m low high, was)))
                 ∙ p.spares m low high;
             seen = p.seen;
-            filled = p.filled;
+            stops = p.stops;
             joined = IsEnded-still setup.segment_size found order k.role split_role j j
                 (λ m. keep_ended m j) u.joined
                 p.joined;
@@ -199,7 +199,7 @@ module _ (setup : Setup) (found order : List Entry) (position prev : ℕ) (parts
         entries_are = p.entries_are;
         spares = λ m low high. keep m (λ e. omega arith) ∙ p.spares m (omega arith) high;
         seen = p.seen;
-        filled = p.filled;
+        stops = p.stops;
         joined = IsEnded-still setup.segment_size found order k.role split_role id id
             (λ m. keep_ended m id) r.joined
             p.joined;
@@ -216,7 +216,7 @@ module _ (setup : Setup) (found order : List Entry) (position prev : ℕ) (parts
         entries_are = sym (k.unused r.spare (subst (λ (q : Role). IsUnused q) (sym was) tt));
         spares = λ m low high. absurd (omega arith);
         seen = p.seen;
-        filled = All-nil (FrontEndsAt setup.segment_size r.spare found order []);
+        stops = All-nil (FrontEndsAt setup.segment_size r.spare found order []);
         joined = All-nil (IsEnded setup.segment_size found order split_role new);
         apart = λ i j d low high. absurd (omega (arith, high));
       };
@@ -280,7 +280,7 @@ module _ (setup : Setup) (found order : List Entry) (position prev : ℕ) (parts
     log = record {
       number = s.number;
       entries = s.entries;
-      filled = s.filled;
+      stops = s.stops;
       promises = promises;
     }
 
@@ -348,7 +348,7 @@ module _ (setup : Setup) (found order : List Entry) (position prev : ℕ) (parts
             entries_are = p.entries_are;
             spares = λ m low high. hold_spare m j (p.spares m low high) apart;
             seen = p.seen;
-            filled = p.filled;
+            stops = p.stops;
             joined = IsEnded-still setup.segment_size found order k.role join_role j j
                 (λ m is. hold_ended m j is apart) u.joined p.joined;
             apart = p.apart;
@@ -402,7 +402,7 @@ module _ (setup : Setup) (found order : List Entry) (position prev : ℕ) (parts
             entries_are = p.entries_are;
             spares = both_spares (has_spares r) refl;
             seen = omega (arith, p.seen, q.seen);
-            filled = p.filled;
+            stops = p.stops;
             joined = All-append (IsEnded setup.segment_size found order join_role id) r.joined
                 (log ∷ s.joined)
                 (IsEnded-still setup.segment_size found order k.role join_role id id
@@ -412,7 +412,7 @@ module _ (setup : Setup) (found order : List Entry) (position prev : ℕ) (parts
                   role_is = given_same (λ (m : ℕ). handed other id (k.role m)) s.number s.number
                       (ended id) refl;
                   entries_are = q.entries_are;
-                  filled = q.filled;
+                  stops = q.stops;
                 })
                 (IsEnded-still setup.segment_size found order k.role join_role other id
                 hand_ended s.joined q.joined));

@@ -125,10 +125,10 @@ module _ {first : DiskState} (opening : Opening) (words : List ℕ) (home : Opti
       joined = All-weaker (IsEnded size opening.found s.order k.role id)
           (λ j. j.entries ≡ entries_under j.number s.order) (λ j h. h.entries_are)
           (v.reserving).joined part.joined;
-      filled = part.filled;
-      joined_filled = All-weaker (IsEnded size opening.found s.order k.role id)
-          (λ j. All (FrontEndsAt size j.number opening.found s.order j.entries) j.filled)
-          (λ j h. h.filled) (v.reserving).joined part.joined;
+      stops = part.stops;
+      joined_stops = All-weaker (IsEnded size opening.found s.order k.role id)
+          (λ j. All (FrontEndsAt size j.number opening.found s.order j.entries) j.stops)
+          (λ j h. h.stops) (v.reserving).joined part.joined;
     }
 
   -- ---- whose an entry is

@@ -12,7 +12,7 @@ use Rattle.wal_page.proofs.OwnerLaws.{rooms_of-whole}
 use Rattle.wal_page.proofs.WordPositions.{first_position-whole}
 use Rattle.wal_core.specs.declared.setup.Setup.{Setup}
 use Rattle.wal_core.specs.Words.{log_limit}
-use Rattle.wal_core.specs.Views.{HasAt, Place, Free, Locked, Loaded, Stored, Filled, Joined, Reserving}
+use Rattle.wal_core.specs.Views.{HasAt, Place, Free, Locked, Loaded, Stored, Stop, StopCause, Joined, Reserving}
 use Rattle.wal_core.specs.Ordered.{is_pass, Role, active, ended, IsUnused, FrontEndsAt, IsEnded, IsPartOf, HasLive, TookIn, AtPlace, OrderHolds}
 use Rattle.wal_core.specs.Moves.{entry_reserved}
 use Rattle.wal_core.proofs.Lists.{one_set, one_added, at_place}
@@ -63,10 +63,10 @@ IsEnded-longer size found order e role n id is active_is by j h = record {
   entries_are = h.entries_are ∙ sym (entries_of-miss j.number order e
       (ap (is_pass j.number) is
       ∙ is_pass_other j.number n (not_ended role n j.number id by active_is h.role_is)));
-  filled = All-weaker (FrontEndsAt size j.number found order j.entries)
+  stops = All-weaker (FrontEndsAt size j.number found order j.entries)
       (FrontEndsAt size j.number found (order ++ e ∷ []) j.entries)
-      (λ full. FrontEndsAt-longer size j.number found order (e ∷ []) j.entries full) j.filled
-      h.filled;
+      (λ full. FrontEndsAt-longer size j.number found order (e ∷ []) j.entries full) j.stops
+      h.stops;
 }
 
 -- ---- all that is said of one live view
@@ -152,7 +152,7 @@ module _ (setup : Setup) (found order : List Entry) (position prev : ℕ) (parts
       entries_are = m.entries_are;
       spares = m.spares;
       seen = m.seen;
-      filled = m.filled;
+      stops = m.stops;
       joined = m.joined;
       apart = m.apart;
     }
@@ -191,7 +191,7 @@ module _ (setup : Setup) (found order : List Entry) (position prev : ℕ) (parts
             entries_are = m.entries_are;
             spares = m.spares;
             seen = omega (arith, m.seen, low);
-            filled = m.filled;
+            stops = m.stops;
             joined = m.joined;
             apart = m.apart;
           };
@@ -311,18 +311,26 @@ module _ (setup : Setup) (found order : List Entry) (position prev : ℕ) (parts
               k.holder (k.held locked);
         }
 
-    -- the log is full: the position is as it was
-    pub gives_back : (expected : ℕ) → r.place ≡ Locked expected
+    -- the log is full, or stands at a segment's start: the position is as it was
+    pub gives_back : (cause : StopCause) (expected : ℕ) → r.place ≡ Locked expected
         → OrderHolds setup found order expected prev (set parts id (record r {
-          filled = r.filled ++ (record { position = expected; entries = length r.entries }) ∷ [];
+          stops = r.stops ++ (record {
+            cause = cause;
+            position = expected;
+            entries = length r.entries;
+          }) ∷ [];
           place = Free;
         }))
-    gives_back expected is =
+    gives_back cause expected is =
         let pl = at (Locked expected) is in
-        let full : Filled = record { position = expected; entries = length r.entries } in
+        let stop : Stop = record {
+          cause = cause;
+          position = expected;
+          entries = length r.entries;
+        } in
         let m = mine.part in
-        let w : Reserving = record r { filled = r.filled ++ full ∷ []; place = Free } in
-        let ends : FrontEndsAt setup.segment_size r.number found order r.entries full = record {
+        let w : Reserving = record r { stops = r.stops ++ stop ∷ []; place = Free } in
+        let ends : FrontEndsAt setup.segment_size r.number found order r.entries stop = record {
           front = order;
           back = [];
           are = sym (append-nil order);
@@ -346,8 +354,8 @@ module _ (setup : Setup) (found order : List Entry) (position prev : ℕ) (parts
             entries_are = m.entries_are;
             spares = m.spares;
             seen = m.seen;
-            filled = All-push (FrontEndsAt setup.segment_size r.number found order r.entries)
-                r.filled full m.filled ends;
+            stops = All-push (FrontEndsAt setup.segment_size r.number found order r.entries)
+                r.stops stop m.stops ends;
             joined = m.joined;
             apart = m.apart;
           };
@@ -402,11 +410,11 @@ module _ (setup : Setup) (found order : List Entry) (position prev : ℕ) (parts
             (not_other k.role r.number u.number id j own_is t.own apart)));
         spares = t.spares;
         seen = omega (arith, t.seen, end_position_push setup.segment_size order e);
-        filled = All-weaker (FrontEndsAt setup.segment_size u.number found order u.entries)
+        stops = All-weaker (FrontEndsAt setup.segment_size u.number found order u.entries)
             (FrontEndsAt setup.segment_size u.number found longer u.entries)
             (λ full. FrontEndsAt-longer setup.segment_size u.number found order (e ∷ [])
             u.entries full)
-            u.filled t.filled;
+            u.stops t.stops;
         joined = All-weaker (IsEnded setup.segment_size found order k.role j)
             (IsEnded setup.segment_size found longer k.role j)
             (IsEnded-longer setup.segment_size found order e k.role r.number id refl own_is j)
@@ -428,12 +436,12 @@ module _ (setup : Setup) (found order : List Entry) (position prev : ℕ) (parts
             ∙ sym (entries_of-hit r.number order e (is_pass_own r.number));
         spares = m.spares;
         seen = omega (arith, at_end, end_position_push setup.segment_size order e);
-        filled = All-weaker (FrontEndsAt setup.segment_size r.number found order r.entries)
+        stops = All-weaker (FrontEndsAt setup.segment_size r.number found order r.entries)
             (FrontEndsAt setup.segment_size r.number found longer grown.entries)
             (λ full h. FrontEndsAt-more setup.segment_size r.number found longer r.entries
             (e ∷ []) full
             (FrontEndsAt-longer setup.segment_size r.number found order (e ∷ []) r.entries full h))
-            r.filled m.filled;
+            r.stops m.stops;
         joined = All-weaker (IsEnded setup.segment_size found order k.role id)
             (IsEnded setup.segment_size found longer k.role id)
             (IsEnded-longer setup.segment_size found order e k.role r.number id refl own_is id)

@@ -3,7 +3,7 @@ use Rattle.std.proofs.Common.{◌≡◌, ◌≢◌, ℕ, ◌+◌, eq-eqb, ne_eqb
 use Rattle.std.proofs.lemmas.List.{take-append-le, length-append}
 use Rattle.wal_page.specs.Order.{Entry, end_position, room_at}
 use Rattle.wal_page.proofs.OrderLaws.{rooms_of_push}
-use Rattle.wal_core.specs.Views.{Filled}
+use Rattle.wal_core.specs.Views.{Stop}
 use Rattle.wal_core.specs.Ordered.{is_pass, entries_under, FrontEndsAt}
 
 pub is_pass_own : (n : ℕ) → is_pass n (Some n) ≡ true
@@ -35,7 +35,7 @@ pub end_position_push : (size : ℕ) (es : List Entry) (e : Entry)
 end_position_push size es e = omega (arith, rooms_of_push size es e)
 
 -- a front of an order is one of a longer order, for a log that grew too
-pub FrontEndsAt-longer : (size number : ℕ) (found order back entries : List Entry) (full : Filled)
+pub FrontEndsAt-longer : (size number : ℕ) (found order back entries : List Entry) (full : Stop)
     → FrontEndsAt size number found order entries full
     → FrontEndsAt size number found (order ++ back) entries full
 FrontEndsAt-longer size number found order back entries full h = record {
@@ -48,7 +48,7 @@ FrontEndsAt-longer size number found order back entries full h = record {
   found_within = h.found_within;
 }
 
-pub FrontEndsAt-more : (size number : ℕ) (found order entries more : List Entry) (full : Filled)
+pub FrontEndsAt-more : (size number : ℕ) (found order entries more : List Entry) (full : Stop)
     → FrontEndsAt size number found order entries full
     → FrontEndsAt size number found order (entries ++ more) full
 FrontEndsAt-more size number found order entries more full h = record {

@@ -15,7 +15,7 @@ use Rattle.wal_core.specs.Locked.{AreHeld, StandsTo}
 use Rattle.wal_core.specs.Watched.{WatchHolds}
 use Rattle.wal_core.specs.Positioned.{IsCopiedBelow}
 use Rattle.wal_core.specs.Moves.{hardened, landed, one_more, with_place, with_hold, copied_below, lent, entry_reserved, after_split, split_off, after_join, spent, without_work, orphan_of, no_writing}
-use Rattle.wal_core.specs.Steps.{MayStep, number_lent, place_at, value_behind, view_behind, home_behind, take_write_turn, slot_out, slot_in, release_write_turn, store_position, release, store_ring_word, load_ring_word, load_written, load_flushed, load_moment, load_down, store_written, store_moment, store_flushed, set_down}
+use Rattle.wal_core.specs.Steps.{MayStep, number_lent, place_at, value_behind, view_behind, home_behind, take_write_turn, slot_out, slot_in, release_write_turn, store_position, release, store_ring_word, load_ring_word, load_written, load_flushed, load_moment, load_down, store_written, store_moment, store_flushed, set_down, load_async, raise_async}
 use Rattle.wal_core.proofs.Landing.{lock_of}
 use Rattle.wal_core.proofs.Lists.{one_set, one_added, part_at, view_from}
 use Rattle.machine_laws.specs.PositionParts.{Positions, HasPositions, HoldAmong, HoldBehind}

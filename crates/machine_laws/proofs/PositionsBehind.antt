@@ -7,7 +7,7 @@ use Rattle.wal_core.specs.Words.{lock_word, position_word, prev_word, written_wo
 use Rattle.wal_core.specs.Views.{HasAt, Plain, Flight, Writing, Locked, Taken, View, reserving_of, working_of, flight_of, writing_of, receipts_of}
 use Rattle.wal_core.specs.Positioned.{PositionsHold}
 use Rattle.wal_core.specs.Moves.{with_place, with_stage, with_working}
-use Rattle.wal_core.specs.Steps.{StepKind, MayStep, word_of_step, home_behind, load_position, take_write_turn, slot_out, slot_in, release_write_turn, lock_position, load_prev, store_prev, store_position, give_position_back, load_lock, take_lock, advance, release, load_buffer_end, store_ring_word, load_ring_word, load_written, load_flushed, load_moment, load_down, store_written, store_moment, store_flushed, set_down, take_mapping_turn, load_initialised_end, clear_end, zero_ring_word, publish_end, publish_initialised_end, release_mapping_turn, create, write, sync}
+use Rattle.wal_core.specs.Steps.{StepKind, MayStep, word_of_step, home_behind, load_position, take_write_turn, slot_out, slot_in, release_write_turn, lock_position, load_prev, store_prev, store_position, give_position_back, stay, load_lock, take_lock, advance, release, load_buffer_end, store_ring_word, load_ring_word, load_written, load_flushed, load_moment, load_down, store_written, store_moment, store_flushed, set_down, load_async, raise_async, take_mapping_turn, load_initialised_end, clear_end, zero_ring_word, publish_end, publish_initialised_end, release_mapping_turn, create, write, sync}
 use Rattle.wal_core.specs.Sound.{IsSound}
 use Rattle.wal_core.proofs.Lists.{part_at, part_set}
 use Rattle.wal_core.proofs.WordLists.{single_set, word_else, word_again}
@@ -130,6 +130,8 @@ module _ {first : DiskState} (words : List ℕ) (home : Option Plain) (views : L
       (part_at reserving_of views id v here) live may)
   positions_hold (give_position_back value) may = positions_stay (step (give_position_back value))
       (rw may.1 refl) (rw may.1 refl) (λ e. omega arith) (λ e. omega arith) (λ e. omega arith)
+  positions_hold stay may = positions_stay (step stay)
+      (rw may.1 refl) (rw may.1 refl) (λ e. omega arith) (λ e. omega arith) (λ e. omega arith)
   positions_hold (load_lock lock limit) may = positions_stay (step (load_lock lock limit)) refl
       refl (λ e. omega arith) (λ e. omega arith) (λ e. omega arith)
   positions_hold (take_lock lock) may =
@@ -188,6 +190,11 @@ module _ {first : DiskState} (words : List ℕ) (home : Option Plain) (views : L
       (same set_down 14 (λ e. omega arith))
       (single_set words setup k.wide 16 (step set_down).n (omega arith))
       (kept.set_down_keeps p id v known may)
+  positions_hold load_async may = positions_stay (step load_async) refl refl
+      (λ e. omega arith) (λ e. omega arith) (λ e. omega arith)
+  positions_hold (raise_async expected upto) may = positions_stay
+      (step (raise_async expected upto)) refl refl
+      (λ e. omega arith) (λ e. omega arith) (λ e. omega arith)
   positions_hold take_mapping_turn may =
       let free = eqb (slice_index words 10) 0 in
       positions_stay (step take_mapping_turn)

@@ -10,7 +10,7 @@ use Rattle.wal_core.specs.Views.{HasAt, Plain, Receipts, View, reserving_of, rec
 use Rattle.wal_core.specs.Moves.{CallOutcome, after_create, after_sync, after_write, after_join, entry_reserved, after_split, orphan_of, split_off, spent, without_work, with_place, with_stage, with_working}
 use Rattle.wal_core.specs.Durable.{DurabilityHolds}
 use Rattle.wal_core.specs.Sound.{IsSound}
-use Rattle.wal_core.specs.Steps.{StepKind, MayStep, home_behind, place_at, value_behind, view_behind, word_of_step, load_position, take_write_turn, slot_out, slot_in, release_write_turn, lock_position, load_prev, store_prev, store_position, give_position_back, load_lock, take_lock, advance, release, load_buffer_end, store_ring_word, load_ring_word, load_written, load_flushed, load_moment, load_down, store_written, store_moment, store_flushed, set_down, take_mapping_turn, load_initialised_end, clear_end, zero_ring_word, publish_end, publish_initialised_end, release_mapping_turn, create, write, sync}
+use Rattle.wal_core.specs.Steps.{StepKind, MayStep, home_behind, place_at, value_behind, view_behind, word_of_step, load_position, take_write_turn, slot_out, slot_in, release_write_turn, lock_position, load_prev, store_prev, store_position, give_position_back, stay, load_lock, take_lock, advance, release, load_buffer_end, store_ring_word, load_ring_word, load_written, load_flushed, load_moment, load_down, store_written, store_moment, store_flushed, set_down, load_async, raise_async, take_mapping_turn, load_initialised_end, clear_end, zero_ring_word, publish_end, publish_initialised_end, release_mapping_turn, create, write, sync}
 use Rattle.wal_core.proofs.Lists.{part_added, part_at, part_set}
 use Rattle.wal_core.proofs.WordLists.{single_set, word_again, word_else}
 use Rattle.machine_laws.specs.DurableBehind.{HasDurable, HasDurableWith, IsInside, LoadsStaged}
@@ -244,6 +244,8 @@ module _ {first : DiskState} (words : List ℕ) (home : Option Plain) (views : L
   durable-inside (store_position locks value) may inside staged = absurd inside
   durable-inside (give_position_back value) may inside staged =
       untouched 0 _ _ (rw may.1 refl) (λ e. omega arith) (λ e. omega arith) (λ e. omega arith)
+  durable-inside stay may inside staged =
+      untouched 0 _ _ (rw may.1 refl) (λ e. omega arith) (λ e. omega arith) (λ e. omega arith)
   durable-inside (load_lock lock limit) may inside staged =
       untouched (2 + lock) _ _ refl (λ e. omega arith) (λ e. omega arith) (λ e. omega arith)
   durable-inside (take_lock lock) may inside staged =
@@ -313,6 +315,10 @@ module _ {first : DiskState} (words : List ℕ) (home : Option Plain) (views : L
       (one.set_down_keeps o k.order (flushed_word words) (moment_word words)
       (down_word words) home k.writer (map receipts_of views) k.durable id v mine (write_turn words)
       (map writer_of views) (k.locks).writing turn_at (slice_index words 16) may)
+  durable-inside load_async may inside staged =
+      untouched _ _ _ refl (λ e. omega arith) (λ e. omega arith) (λ e. omega arith)
+  durable-inside (raise_async expected upto) may inside staged =
+      untouched _ _ _ refl (λ e. omega arith) (λ e. omega arith) (λ e. omega arith)
   durable-inside take_mapping_turn may inside staged =
       untouched 10 _ _ (either_told (slice_index words 10 == 0) (with_stage Taken v) v refl)
       (λ e. omega arith) (λ e. omega arith) (λ e. omega arith)

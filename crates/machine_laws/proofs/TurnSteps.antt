@@ -5,10 +5,10 @@ use Rattle.wal_types.specs.declared.record.Record.{Record}
 use Rattle.segment_disk.specs.Tape.{create_call, sync_call, write_call}
 use Rattle.wal_core.specs.declared.setup.Setup.{Setup}
 use Rattle.wal_core.specs.Words.{lock_word, mapping_turn, write_turn, word_count}
-use Rattle.wal_core.specs.Views.{HasAt, Place, Free, Locked, Loaded, Stored, Stage, Away, Taken, Looked, Ready, Zeroing, Published, Hold, Idle, Turned, Out, Lent, Plain, View, working_of, mapper_of, writer_of}
+use Rattle.wal_core.specs.Views.{HasAt, Place, Free, Locked, Loaded, Stored, StopCause, LogFull, AtSegmentStart, Stage, Away, Taken, Looked, Ready, Zeroing, Published, Hold, Idle, Turned, Out, Lent, Plain, View, working_of, mapper_of, writer_of}
 use Rattle.wal_core.specs.Locked.{AreHeld, HasTurn, IsMappingTurn, IsWriteTurn}
-use Rattle.wal_core.specs.Moves.{with_place, with_working, with_hold, with_lent, with_stage, hardened, looked, ready, lent, after_load_prev, after_store_prev, after_store_position, after_give_back, after_take_lock, after_take_mapping_turn, after_take_write_turn, after_create, after_write, after_sync}
-use Rattle.wal_core.specs.Steps.{MayStep, StepKind, word_of_step, value_behind, home_behind, returned, with_slot, with_call_on, page_mapped, words_zeroed, load_position, take_write_turn, slot_out, slot_in, release_write_turn, lock_position, load_prev, store_prev, store_position, give_position_back, load_lock, take_lock, advance, release, load_buffer_end, store_ring_word, load_ring_word, load_written, load_flushed, load_moment, load_down, store_written, store_moment, store_flushed, set_down, take_mapping_turn, load_initialised_end, clear_end, zero_ring_word, publish_end, publish_initialised_end, release_mapping_turn, create, write, sync}
+use Rattle.wal_core.specs.Moves.{with_place, with_working, with_hold, with_lent, with_stage, hardened, looked, ready, lent, after_load_prev, after_store_prev, after_store_position, after_stop, after_take_lock, after_take_mapping_turn, after_take_write_turn, after_create, after_write, after_sync}
+use Rattle.wal_core.specs.Steps.{MayStep, StepKind, word_of_step, value_behind, home_behind, returned, with_slot, with_call_on, page_mapped, words_zeroed, load_position, take_write_turn, slot_out, slot_in, release_write_turn, lock_position, load_prev, store_prev, store_position, give_position_back, stay, load_lock, take_lock, advance, release, load_buffer_end, store_ring_word, load_ring_word, load_written, load_flushed, load_moment, load_down, store_written, store_moment, store_flushed, set_down, load_async, raise_async, take_mapping_turn, load_initialised_end, clear_end, zero_ring_word, publish_end, publish_initialised_end, release_mapping_turn, create, write, sync}
 use Rattle.wal_core.proofs.Lists.{part_same, part_set, part_at}
 use Rattle.wal_core.proofs.WordLists.{word_again, word_else, single_set}
 use Rattle.machine_laws.specs.LocksBehind.{words_behind, views_behind, moved, stage_behind, writer_behind, TurnsHold}
@@ -64,11 +64,12 @@ turns_on_store_position locks value v (Locked at) = (refl, refl)
 turns_on_store_position locks value v (Loaded at prev) = (refl, refl)
 turns_on_store_position locks value v (Stored at prev) = (refl, refl)
 
-turns_on_give_back : (v : View) (p : Place) → TurnsAs v (after_give_back (with_place p v))
-turns_on_give_back v Free = (refl, refl)
-turns_on_give_back v (Locked at) = (refl, refl)
-turns_on_give_back v (Loaded at prev) = (refl, refl)
-turns_on_give_back v (Stored at prev) = (refl, refl)
+turns_on_stop : (cause : StopCause) (v : View) (p : Place)
+    → TurnsAs v (after_stop cause (with_place p v))
+turns_on_stop cause v Free = (refl, refl)
+turns_on_stop cause v (Locked at) = (refl, refl)
+turns_on_stop cause v (Loaded at prev) = (refl, refl)
+turns_on_stop cause v (Stored at prev) = (refl, refl)
 
 mapper_on_slot : (v : View) (home : Option Plain) → mapper_of (with_slot v home) ≡ mapper_of v
 mapper_on_slot v none = refl
@@ -195,7 +196,10 @@ module _ (setup : Setup) (words : List ℕ) (home : Option Plain) (stage : Stage
       (turns_by_place (after_store_position locks value) v
       (turns_on_store_position locks value v)).0
   mapping_behind (give_position_back value) may = mapping_stays 0 _ _ (λ e. omega arith)
-      (turns_by_place after_give_back v (turns_on_give_back v)).0
+      (turns_by_place (after_stop LogFull) v (turns_on_stop LogFull v)).0
+  mapping_behind stay may = mapping_stays 0 _ _ (λ e. omega arith)
+      (turns_by_place (after_stop AtSegmentStart) v
+      (turns_on_stop AtSegmentStart v)).0
   mapping_behind (load_lock lock limit) may =
       mapping_stays (2 + lock) _ _ (λ e. let low : lock < 8 = may.0 in omega arith) refl
   mapping_behind (take_lock lock) may =
@@ -217,6 +221,8 @@ module _ (setup : Setup) (words : List ℕ) (home : Option Plain) (stage : Stage
   mapping_behind store_moment may = mapping_stays 15 _ _ (λ e. omega arith) refl
   mapping_behind store_flushed may = mapping_stays 14 _ _ (λ e. omega arith) refl
   mapping_behind set_down may = mapping_stays 16 _ _ (λ e. omega arith) refl
+  mapping_behind load_async may = mapping_stays _ _ _ (λ e. omega arith) refl
+  mapping_behind (raise_async expected upto) may = mapping_stays _ _ _ (λ e. omega arith) refl
   mapping_behind take_mapping_turn may =
       let n : ℕ = value_behind v take_mapping_turn (slice_index words 10) in
       mapping_becomes 10 n n (after_take_mapping_turn (slice_index words 10) v)
@@ -352,7 +358,10 @@ module _ (setup : Setup) (words : List ℕ) (home : Option Plain) (stage : Stage
       (turns_by_place (after_store_position locks value) v
       (turns_on_store_position locks value v)).1
   writing_behind (give_position_back value) may = writing_stays 0 _ _ (λ e. omega arith)
-      (turns_by_place after_give_back v (turns_on_give_back v)).1
+      (turns_by_place (after_stop LogFull) v (turns_on_stop LogFull v)).1
+  writing_behind stay may = writing_stays 0 _ _ (λ e. omega arith)
+      (turns_by_place (after_stop AtSegmentStart) v
+      (turns_on_stop AtSegmentStart v)).1
   writing_behind (load_lock lock limit) may =
       writing_stays (2 + lock) _ _ (λ e. let low : lock < 8 = may.0 in omega arith) refl
   writing_behind (take_lock lock) may =
@@ -378,6 +387,8 @@ module _ (setup : Setup) (words : List ℕ) (home : Option Plain) (stage : Stage
       hardened may.0 (λ e. omega arith) may.1 refl
   writing_behind store_flushed may = writing_stays 14 _ _ (λ e. omega arith) refl
   writing_behind set_down may = writing_stays 16 _ _ (λ e. omega arith) refl
+  writing_behind load_async may = writing_stays _ _ _ (λ e. omega arith) refl
+  writing_behind (raise_async expected upto) may = writing_stays _ _ _ (λ e. omega arith) refl
   writing_behind take_mapping_turn may = writing_stays 10 _ _ (λ e. omega arith)
       (writer_met v (with_stage Taken v) refl (slice_index words 10) 0)
   writing_behind load_initialised_end may = writing_stays 12 _ _ (λ e. omega arith) refl

@@ -1,6 +1,6 @@
 -- What watchers know of the copies under the locks that they visited, through each kind of step
 -- that changes a lock, an entry in flight, a watch, the order's end, or the views that there are.
-use Rattle.std.proofs.Common.{◌≡◌, ◌≢◌, ℕ, ◌+◌, ◌-◌, ◌<◌, ◌≤◌, Bool, true, false, eqb-true, not, ◌&&◌, cond, eqb, min, List, [], ◌∷◌, ◌++◌, set, map, Contains, ⊎_elim, sym, refl, ap, ◌∙◌, subst, inl, inr, arith}
+use Rattle.std.proofs.Common.{◌≡◌, ◌≢◌, ℕ, ◌+◌, ◌-◌, ◌<◌, ◌≤◌, Bool, true, false, eqb-true, not, ◌||◌, ◌&&◌, cond, eqb, min, List, [], ◌∷◌, ◌++◌, set, map, Contains, ⊎_elim, sym, refl, ap, ◌∙◌, subst, inl, inr, arith}
 use Rattle.std.proofs.lemmas.Bool.{cases_lt, and_parts}
 use Rattle.std.proofs.lemmas.Map.Views.{Contains-from_any}
 use mathlib.Core.Logic.{dite}
@@ -170,7 +170,7 @@ module _ (size : ℕ) where
 -- ---- a watcher visits a lock
 
 module _ (size : ℕ) (lock : ℕ → ℕ) (works : List Working) (held : AreHeld lock works)
-    (told : ProgressHolds size lock works) where
+    (reserved : ℕ) (told : ProgressHolds size reserved lock works) where
   -- what is in flight under a lock is copied up to there
   abbrev Guards : ℕ → ℕ → Type 0
   Guards i b = (j : ℕ) (u : Working) (c : Copy) → HasAt works j u → u.flight ≡ Copying c
@@ -182,7 +182,7 @@ module _ (size : ℕ) (lock : ℕ → ℕ) (works : List Working) (held : AreHel
       let has : Contains u.locks i = (held.under j u c there is).1 i among in
       let most : lock i ≤ address_of_word size c.entry c.copied + 1
       = subst (λ (n : ℕ). lock i ≤ n)
-      (ap (most_told size i) is ∙ told_of_copy size c i among)
+      (ap (most_told size reserved i) is ∙ told_of_copy size reserved c i among)
       (told j i u there has) in
       let least : b + 1 ≤ lock i = tells (held.each j i u there has).2 in
       omega arith
@@ -228,11 +228,18 @@ module _ (size : ℕ) (lock : ℕ → ℕ) (works : List Working) (held : AreHel
       sees = visit x i b stands.sees next less guards;
     }
 
+    no_higher : (b : Bool) → cond b x.bound (min x.bound (lock i - 1)) ≤ x.bound
+    no_higher true = omega arith
+    no_higher false = omega arith
+
     visits_on : (own : Bool) → (own ≡ true → (b : ℕ) → Guards i b)
         → Stands end (visited_on own i (lock i) x)
-    visits_on true guards = met_cases
-        (λ (b : Bool). Stands end (cond (b && true) (on x.bound) x))
-        i x.visited (λ here. goes here x.bound (omega arith) (guards refl x.bound))
+    visits_on true guards =
+        let bound = cond (eqb (lock i) 1 || eqb (lock i) 0) x.bound (min x.bound (lock i - 1)) in
+        met_cases
+        (λ (b : Bool). Stands end (cond (b && true) (on bound) x))
+        i x.visited (λ here. goes here bound
+        (no_higher (eqb (lock i) 1 || eqb (lock i) 0)) (guards refl bound))
         (λ other. stands)
     visits_on false guards =
         let bound : Bool → ℕ = λ b. cond b x.bound (min x.bound (lock i - 1)) in

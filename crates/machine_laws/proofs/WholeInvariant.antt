@@ -4,7 +4,7 @@ use mathlib.Core.Option.{Option}
 use Rattle.wal_core.specs.Views.{HasAt, Plain, Stage, Away, Taken, Looked, Ready, Zeroing, Published, View, mapper_of}
 use Rattle.wal_core.specs.Locked.{HasTurn}
 use Rattle.wal_core.specs.Moves.{entry_reserved, looked, ready}
-use Rattle.wal_core.specs.Steps.{StepKind, MayStep, place_at, word_of_step, load_position, take_write_turn, slot_out, slot_in, release_write_turn, lock_position, load_prev, store_prev, store_position, give_position_back, load_lock, take_lock, advance, release, load_buffer_end, store_ring_word, load_ring_word, load_written, load_flushed, load_moment, load_down, store_written, store_moment, store_flushed, set_down, take_mapping_turn, load_initialised_end, clear_end, zero_ring_word, publish_end, publish_initialised_end, release_mapping_turn, create, write, sync}
+use Rattle.wal_core.specs.Steps.{StepKind, MayStep, place_at, word_of_step, load_position, take_write_turn, slot_out, slot_in, release_write_turn, lock_position, load_prev, store_prev, store_position, give_position_back, stay, load_lock, take_lock, advance, release, load_buffer_end, store_ring_word, load_ring_word, load_written, load_flushed, load_moment, load_down, store_written, store_moment, store_flushed, set_down, load_async, raise_async, take_mapping_turn, load_initialised_end, clear_end, zero_ring_word, publish_end, publish_initialised_end, release_mapping_turn, create, write, sync}
 use Rattle.wal_core.specs.Words.{down_word}
 use Rattle.wal_core.specs.Sound.{IsSound}
 use Rattle.wal_core.proofs.Lists.{part_at}
@@ -23,6 +23,7 @@ use Rattle.machine_laws.proofs.GroundBehind.{grounded_behind, down_stays}
 use Rattle.machine_laws.proofs.OrderBehind.{order_holds}
 use Rattle.machine_laws.proofs.PositionsBehind.{positions_hold}
 use Rattle.machine_laws.proofs.AlignedBehind.{aligned_behind}
+use Rattle.machine_laws.proofs.AsyncBehind.{async_behind}
 use Rattle.segment_disk.specs.Tape.{DiskState}
 
 -- how many pages are mapped behind a step, and the log's words in memory
@@ -78,6 +79,7 @@ module _ {first : DiskState} (words : List ℕ) (home : Option Plain) (views : L
       (sym (ap (place_at v) may.2))
       (ring.ring_behind-reserved v words home views id k here locks value live may)
   ring_holds (give_position_back value) may = ring_left (give_position_back value) tt
+  ring_holds stay may = ring_left stay tt
   ring_holds (load_lock lock limit) may = ring_left (load_lock lock limit) tt
   ring_holds (take_lock lock) may = ring_left (take_lock lock) tt
   ring_holds (advance lock upto) may = ring_left (advance lock upto) tt
@@ -93,6 +95,8 @@ module _ {first : DiskState} (words : List ℕ) (home : Option Plain) (views : L
   ring_holds store_moment may = ring_left store_moment tt
   ring_holds store_flushed may = ring_left store_flushed tt
   ring_holds set_down may = ring_left set_down tt
+  ring_holds load_async may = ring_left load_async tt
+  ring_holds (raise_async expected upto) may = ring_left (raise_async expected upto) tt
   ring_holds take_mapping_turn may = ring_left take_mapping_turn tt
   ring_holds load_initialised_end may = ring_left load_initialised_end tt
   ring_holds clear_end may = ring_left clear_end tt
@@ -123,6 +127,7 @@ module _ {first : DiskState} (words : List ℕ) (home : Option Plain) (views : L
   pages_hold store_prev may = pages_left store_prev may tt
   pages_hold (store_position locks value) may = pages_left (store_position locks value) may tt
   pages_hold (give_position_back value) may = pages_left (give_position_back value) may tt
+  pages_hold stay may = pages_left stay may tt
   pages_hold (load_lock lock limit) may = pages_left (load_lock lock limit) may tt
   pages_hold (take_lock lock) may = pages_left (take_lock lock) may tt
   pages_hold (advance lock upto) may = pages_left (advance lock upto) may tt
@@ -145,6 +150,8 @@ module _ {first : DiskState} (words : List ℕ) (home : Option Plain) (views : L
   pages_hold store_moment may = pages_left store_moment may tt
   pages_hold store_flushed may = pages_left store_flushed may tt
   pages_hold set_down may = pages_left set_down may tt
+  pages_hold load_async may = pages_left load_async may tt
+  pages_hold (raise_async expected upto) may = pages_left (raise_async expected upto) may tt
   pages_hold take_mapping_turn may = page.pages_behind-taken v words home views id k here
   pages_hold load_initialised_end may = by_moved
       (λ (st : Stage). HasPages v words home views id load_initialised_end k.reach st k.memory)
@@ -176,6 +183,7 @@ module _ {first : DiskState} (words : List ℕ) (home : Option Plain) (views : L
   durable_holds
       (store_position locks value) may = durable.durable-reserved words home views id v k here live locks value may
   durable_holds (give_position_back value) may = inside (give_position_back value) may tt tt
+  durable_holds stay may = inside stay may tt tt
   durable_holds (load_lock lock limit) may = inside (load_lock lock limit) may tt tt
   durable_holds (take_lock lock) may = inside (take_lock lock) may tt tt
   durable_holds (advance lock upto) may = inside (advance lock upto) may tt tt
@@ -192,6 +200,8 @@ module _ {first : DiskState} (words : List ℕ) (home : Option Plain) (views : L
   durable_holds store_moment may = inside store_moment may tt tt
   durable_holds store_flushed may = inside store_flushed may tt tt
   durable_holds set_down may = inside set_down may tt tt
+  durable_holds load_async may = inside load_async may tt tt
+  durable_holds (raise_async expected upto) may = inside (raise_async expected upto) may tt tt
   durable_holds take_mapping_turn may = inside take_mapping_turn may tt tt
   durable_holds load_initialised_end may = inside load_initialised_end may tt tt
   durable_holds clear_end may = inside clear_end may tt tt
@@ -232,5 +242,6 @@ module _ {first : DiskState} (words : List ℕ) (home : Option Plain) (views : L
         positions = positions_hold words home views id v k here live e may;
         durable = durable_holds e may;
         watching = (behind.0).watched;
+        answered = async_behind words home views id v k here live e may;
         aligned = aligned_behind words home views id v k here live e may;
       }

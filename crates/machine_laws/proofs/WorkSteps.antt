@@ -1,23 +1,24 @@
 -- Locks, what they tell, and those who watch them, through every step, as the machine tells what it
 -- does.
-use Rattle.std.proofs.Common.{◌≡◌, ◌⊎◌, ℕ, ◌+◌, ◌<◌, ◌≤◌, Bool, cond, eqb, List, [], ◌∷◌, ◌++◌, map, set, slice_index, inl, inr, sym, refl, ◌∙◌, subst, arith}
+use Rattle.std.proofs.Common.{◌≡◌, ◌⊎◌, ℕ, ◌+◌, ◌<◌, ◌≤◌, Bool, cond, eqb, List, [], ◌∷◌, ◌++◌, map, set, slice_index, inl, inr, sym, refl, ap, ◌∙◌, subst, arith}
 use mathlib.Core.Option.{Option, none, some}
 use Rattle.wal_types.specs.declared.record.Record.{Record}
 use Rattle.wal_page.specs.Order.{Entry, end_position}
-use Rattle.wal_page.specs.EntryWords.{address_of_word}
+use Rattle.byte_position.proofs.EndAddresses.{end_address_of-mono}
+use Rattle.wal_page.proofs.OrderLaws.{rooms_of_push}
 use Rattle.wal_core.specs.declared.setup.Setup.{Setup}
 use Rattle.wal_core.specs.Words.{lock_word, end_form}
-use Rattle.wal_core.specs.Views.{HasAt, Taken, Place, Free, Locked, Loaded, Stored, Copy, Copying, Hold, Idle, Turned, Out, Plain, Working, Watching, View, working_of, watching_of}
-use Rattle.wal_core.specs.Locked.{AreHeld, ProgressHolds}
+use Rattle.wal_core.specs.Views.{HasAt, Taken, Place, Free, Locked, Loaded, Stored, StopCause, LogFull, AtSegmentStart, Copy, Copying, Hold, Idle, Turned, Out, Plain, Working, Watching, View, working_of, watching_of}
+use Rattle.wal_core.specs.Locked.{AreHeld, ProgressHolds, most_told}
 use Rattle.wal_core.specs.Watched.{WatchHolds}
-use Rattle.wal_core.specs.Moves.{with_working, with_place, with_hold, with_stage, entry_reserved, after_load_prev, after_store_prev, after_store_position, after_give_back, after_take_lock, after_load_lock, after_release, after_store_word}
-use Rattle.wal_core.specs.Steps.{MayStep, StepKind, word_of_step, value_behind, place_at, with_slot, with_call_on, load_position, take_write_turn, slot_out, slot_in, release_write_turn, lock_position, load_prev, store_prev, store_position, give_position_back, load_lock, take_lock, advance, release, load_buffer_end, store_ring_word, load_ring_word, load_written, load_flushed, load_moment, load_down, store_written, store_moment, store_flushed, set_down, take_mapping_turn, load_initialised_end, clear_end, zero_ring_word, publish_end, publish_initialised_end, release_mapping_turn, create, write, sync}
+use Rattle.wal_core.specs.Moves.{with_working, with_place, with_hold, with_stage, entry_reserved, after_load_prev, after_store_prev, after_store_position, after_stop, after_take_lock, after_advance, after_load_lock, after_release, after_store_word}
+use Rattle.wal_core.specs.Steps.{MayStep, StepKind, word_of_step, value_behind, place_at, with_slot, with_call_on, load_position, take_write_turn, slot_out, slot_in, release_write_turn, lock_position, load_prev, store_prev, store_position, give_position_back, stay, load_lock, take_lock, advance, release, load_buffer_end, store_ring_word, load_ring_word, load_written, load_flushed, load_moment, load_down, store_written, store_moment, store_flushed, set_down, load_async, raise_async, take_mapping_turn, load_initialised_end, clear_end, zero_ring_word, publish_end, publish_initialised_end, release_mapping_turn, create, write, sync}
 use Rattle.wal_core.proofs.Lists.{part_same, part_set, part_at}
 use Rattle.wal_core.proofs.WordLists.{lock_set, lock_else, locks_else, word_again}
 use Rattle.machine_laws.specs.LocksBehind.{words_behind, views_behind, order_behind, WorksHold, StepsFrom}
 use Rattle.machine_laws.proofs.LocksKept.{met_cases}
 use Rattle.machine_laws.proofs.HeldLaws.{held_same, held_told, held_asked, held_released, held_begun, held_copied_on}
-use Rattle.machine_laws.proofs.ToldLaws.{told_same, told_advanced, told_asked, told_released, told_begun, told_copied_on}
+use Rattle.machine_laws.proofs.ToldLaws.{told_same, told_advanced, told_asked, told_released, told_begun, told_copied_on, told_later, most_told_later}
 use Rattle.machine_laws.proofs.WatchLaws.{watch_visits, watched_asked, watched_released, watched_copied_on, watched_reserved}
 
 -- ---- what a step leaves of its view
@@ -47,11 +48,12 @@ works_on_store_prev v (Locked at) = (refl, refl)
 works_on_store_prev v (Loaded at prev) = (refl, refl)
 works_on_store_prev v (Stored at prev) = (refl, refl)
 
-works_on_give_back : (v : View) (p : Place) → WorksAs v (after_give_back (with_place p v))
-works_on_give_back v Free = (refl, refl)
-works_on_give_back v (Locked at) = (refl, refl)
-works_on_give_back v (Loaded at prev) = (refl, refl)
-works_on_give_back v (Stored at prev) = (refl, refl)
+works_on_stop : (cause : StopCause) (v : View) (p : Place)
+    → WorksAs v (after_stop cause (with_place p v))
+works_on_stop cause v Free = (refl, refl)
+works_on_stop cause v (Locked at) = (refl, refl)
+works_on_stop cause v (Loaded at prev) = (refl, refl)
+works_on_stop cause v (Stored at prev) = (refl, refl)
 
 works_on_slot : (v : View) (home : Option Plain) → WorksAs v (with_slot v home)
 works_on_slot v none = (refl, refl)
@@ -99,8 +101,8 @@ module _ (setup : Setup) (order : List Entry) (words : List ℕ) (home : Option 
         held = subst (λ (ps : List Working). AreHeld (lock_word (set words i n)) ps) (sym same)
             (held_same (lock_word words) parts k.held (lock_word (set words i n)) others);
         told = subst (λ (ps : List Working).
-            ProgressHolds setup.segment_size (lock_word (set words i n)) ps) (sym same)
-            (told_same setup.segment_size (lock_word words) parts k.told k.held
+            ProgressHolds setup.segment_size end (lock_word (set words i n)) ps) (sym same)
+            (told_same setup.segment_size end (lock_word words) parts k.told k.held
             (lock_word (set words i n)) others);
         watched = subst (λ (x : List Working × List Watching).
             WatchHolds setup.segment_size end x.0 x.1)
@@ -110,7 +112,8 @@ module _ (setup : Setup) (order : List Entry) (words : List ℕ) (home : Option 
   -- where a step changes its view's work alone
   works : (order' : List Entry) (words' : List ℕ) (w : View) → watching_of w ≡ watching_of v
       → AreHeld (lock_word words') (set parts id (working_of w))
-      → ProgressHolds setup.segment_size (lock_word words') (set parts id (working_of w))
+      → ProgressHolds setup.segment_size (end_form setup (end_position setup.segment_size order'))
+      (lock_word words') (set parts id (working_of w))
       → WatchHolds setup.segment_size
       (end_form setup (end_position setup.segment_size order'))
       (set parts id (working_of w)) watches
@@ -121,22 +124,24 @@ module _ (setup : Setup) (order : List Entry) (words : List ℕ) (home : Option 
       record {
         held = subst (λ (ps : List Working). AreHeld (lock_word words') ps) (sym set_as) held;
         told = subst (λ (ps : List Working).
-            ProgressHolds setup.segment_size (lock_word words') ps) (sym set_as) told;
+            ProgressHolds setup.segment_size (end_form setup
+            (end_position setup.segment_size order')) (lock_word words') ps) (sym set_as) told;
         watched = subst (λ (x : List Working × List Watching). WatchHolds setup.segment_size
             (end_form setup (end_position setup.segment_size order')) x.0 x.1)
             (λ j. (sym set_as j, sym seen j)) watched;
       }
 
   -- where a step changes a lock's word alone
-  words_only : (words' : List ℕ) → AreHeld (lock_word words') parts
-      → ProgressHolds setup.segment_size (lock_word words') parts
-      → WorksHold setup order words' (set views id v)
-  words_only words' held told =
-      let same = part_same working_of views id v v s.here refl in
-      let seen = part_same watching_of views id v v s.here refl in
+  words_only : (words' : List ℕ) (w : View) → working_of w ≡ working_of v
+      → watching_of w ≡ watching_of v → AreHeld (lock_word words') parts
+      → ProgressHolds setup.segment_size end (lock_word words') parts
+      → WorksHold setup order words' (set views id w)
+  words_only words' w like watches_on held told =
+      let same = part_same working_of views id v w s.here like in
+      let seen = part_same watching_of views id v w s.here watches_on in
       record {
         held = subst (λ (ps : List Working). AreHeld (lock_word words') ps) (sym same) held;
-        told = subst (λ (ps : List Working). ProgressHolds setup.segment_size (lock_word words') ps)
+        told = subst (λ (ps : List Working). ProgressHolds setup.segment_size end (lock_word words') ps)
             (sym same) told;
         watched = subst (λ (x : List Working × List Watching).
             WatchHolds setup.segment_size end x.0 x.1)
@@ -157,7 +162,7 @@ module _ (setup : Setup) (order : List Entry) (words : List ℕ) (home : Option 
       (watch_on_take lock (lock_word words lock) v)
       (held_asked (lock_word words) parts k.held id v.working mine v refl later lock low
       (λ j below ne. lock_else words lock n j ne) is)
-      (told_asked setup.segment_size (lock_word words) parts k.told k.held id v.working mine later
+      (told_asked setup.segment_size end (lock_word words) parts k.told k.held id v.working mine later
       lock (λ j below ne. lock_else words lock n j ne) v refl is)
       (watched_asked setup.segment_size end parts watches id lock v k.watched mine
       (lock_word words lock))
@@ -170,16 +175,20 @@ module _ (setup : Setup) (order : List Entry) (words : List ℕ) (home : Option 
       let later : ℕ → ℕ = lock_word (set words (2 + lock) n) in
       let low : lock < 8 = (k.held.each id lock v.working mine may.0).0 in
       let is : later lock ≡ n = lock_set words setup s.wide lock n low in
-      let c : Copy = may.1.0 in
-      let least : upto ≤ address_of_word setup.segment_size c.entry c.copied
-      = subst (λ (x : Setup). upto ≤ address_of_word x.segment_size c.entry c.copied) s.setup_is
-      may.1.2.1 in
-      words_only (set words (2 + lock) n)
+      let up : end_form setup (v.reserving).seen ≤ end
+      = end_address_of-mono setup.segment_size s.size (v.reserving).seen
+      (end_position setup.segment_size order) s.seen in
+      let seen : upto < most_told setup.segment_size (end_form setup (v.reserving).seen) lock
+      (v.working).flight
+      = subst (λ (x : Setup). upto < most_told x.segment_size (end_form x (v.reserving).seen) lock
+      (v.working).flight) s.setup_is may.1 in
+      let least = most_told_later setup.segment_size (end_form setup (v.reserving).seen) end lock
+      (v.working).flight up in
+      words_only (set words (2 + lock) n) (after_advance upto v) refl refl
       (held_told (lock_word words) parts k.held id v.working mine later lock may.0
       (λ j below ne. lock_else words lock n j ne) (λ z. let no = sym is ∙ z in omega arith))
-      (told_advanced setup.segment_size (lock_word words) parts k.told k.held id v.working mine
-      later lock (λ j below ne. lock_else words lock n j ne) may.0 c may.1.1 may.1.2.0
-      (omega arith))
+      (told_advanced setup.segment_size end (lock_word words) parts k.told k.held id v.working mine
+      later lock (λ j below ne. lock_else words lock n j ne) may.0 (omega (arith, least, is)))
 
   release_works : (lock : ℕ) → MayStep v (release lock)
       → WorksHold setup order (words_behind words v (release lock))
@@ -191,7 +200,7 @@ module _ (setup : Setup) (order : List Entry) (words : List ℕ) (home : Option 
       works order (set words (2 + lock) 0) (after_release lock v) refl
       (held_released (lock_word words) parts k.held id v.working mine later lock may.0 is
       (λ j below ne. lock_else words lock 0 j ne))
-      (told_released setup.segment_size (lock_word words) parts k.told k.held id v.working mine
+      (told_released setup.segment_size end (lock_word words) parts k.told k.held id v.working mine
       later lock (λ j below ne. lock_else words lock 0 j ne) may.0 is)
       (watched_released setup.segment_size end parts watches k.watched id v.working mine lock
       (after_release lock v).working.locks)
@@ -208,8 +217,8 @@ module _ (setup : Setup) (order : List Entry) (words : List ℕ) (home : Option 
       = held_copied_on (lock_word words) parts k.held id v.working mine in
       works order (set words i n) (after_store_word v) refl
       (held_same (lock_word words) after held (lock_word (set words i n)) others)
-      (told_same setup.segment_size (lock_word words) after
-      (told_copied_on setup.segment_size (lock_word words) parts k.told id v.working mine)
+      (told_same setup.segment_size end (lock_word words) after
+      (told_copied_on setup.segment_size end (lock_word words) parts k.told id v.working mine)
       held (lock_word (set words i n)) others)
       (watched_copied_on setup.segment_size end parts watches k.watched id v.working mine)
 
@@ -240,15 +249,25 @@ module _ (setup : Setup) (order : List Entry) (words : List ℕ) (home : Option 
       = set parts id (record { locks = (v.working).locks; flight = Copying c }) in
       let held : AreHeld (lock_word words) after
       = held_begun (lock_word words) parts k.held id v.working mine c may.5 in
+      let starts : at ≡ end_position setup.segment_size order = s.starts at prev may.2 in
+      let first : end_form setup at ≡ end = ap (λ (n : ℕ). end_form setup n) starts in
+      let rooms = rooms_of_push setup.segment_size order c.entry in
+      let later_end : ℕ = end_form setup
+      (end_position setup.segment_size (order ++ c.entry ∷ [])) in
+      let up : end ≤ later_end = end_address_of-mono setup.segment_size s.size
+      (end_position setup.segment_size order)
+      (end_position setup.segment_size (order ++ c.entry ∷ [])) (omega (arith, rooms)) in
       subst (ReservedAt locks value) (sym may.2)
       (works (order ++ c.entry ∷ []) (set words 0 n)
       (after_store_position locks value (with_place (Stored at prev) v)) refl
       (held_same (lock_word words) after held (lock_word (set words 0 n)) others)
-      (told_same setup.segment_size (lock_word words) after
-      (told_begun setup.segment_size (lock_word words) parts k.told id v.working mine c may.6)
+      (told_same setup.segment_size later_end (lock_word words) after
+      (told_later setup.segment_size end later_end (lock_word words) after up
+      (told_begun setup.segment_size end (lock_word words) parts k.told id v.working mine c may.6
+      (omega (arith, first))))
       held (lock_word (set words 0 n)) others)
       (watched_reserved setup order parts watches id c (v.working).locks s.size k.watched
-      (s.starts at prev may.2)))
+      starts))
 
   load_lock_works : (lock limit : ℕ) → WorksHold setup order
       (words_behind words v (load_lock lock limit))
@@ -261,12 +280,12 @@ module _ (setup : Setup) (order : List Entry) (words : List ℕ) (home : Option 
       (sym (word_again words (2 + lock)))
       (record {
         held = subst (λ (ps : List Working). AreHeld (lock_word words) ps) (sym same) k.held;
-        told = subst (λ (ps : List Working). ProgressHolds setup.segment_size (lock_word words) ps)
+        told = subst (λ (ps : List Working). ProgressHolds setup.segment_size end (lock_word words) ps)
             (sym same) k.told;
         watched = subst (λ (x : List Working × List Watching).
             WatchHolds setup.segment_size end x.0 x.1)
             (λ j. (sym same j, sym seen j))
-            (watch_visits setup.segment_size (lock_word words) parts k.held k.told setup s.size
+            (watch_visits setup.segment_size (lock_word words) parts k.held end k.told setup s.size
             order watches id lock limit v s.setup_is s.seen k.watched mine
             (part_at watching_of views id v s.here));
       })
@@ -291,7 +310,9 @@ module _ (setup : Setup) (order : List Entry) (words : List ℕ) (home : Option 
       (works_by_place after_store_prev v (works_on_store_prev v))
   works_behind (store_position locks value) may = store_position_works locks value may
   works_behind (give_position_back value) may = stays 0 _ _ (inl (omega arith))
-      (works_by_place after_give_back v (works_on_give_back v))
+      (works_by_place (after_stop LogFull) v (works_on_stop LogFull v))
+  works_behind stay may = stays 0 _ _ (inl (omega arith))
+      (works_by_place (after_stop AtSegmentStart) v (works_on_stop AtSegmentStart v))
   works_behind (load_lock lock limit) may = load_lock_works lock limit
   works_behind (take_lock lock) may = take_lock_works lock may
   works_behind (advance lock upto) may = advance_works lock upto may
@@ -308,6 +329,8 @@ module _ (setup : Setup) (order : List Entry) (words : List ℕ) (home : Option 
   works_behind store_moment may = stays 15 _ _ (inr (omega arith)) (refl, refl)
   works_behind store_flushed may = stays 14 _ _ (inr (omega arith)) (refl, refl)
   works_behind set_down may = stays 16 _ _ (inr (omega arith)) (refl, refl)
+  works_behind load_async may = stays _ _ _ (inr (omega arith)) (refl, refl)
+  works_behind (raise_async expected upto) may = stays _ _ _ (inr (omega arith)) (refl, refl)
   works_behind take_mapping_turn may = stays 10 _ _ (inr (omega arith))
       (works_met v (with_stage Taken v) (refl, refl) (slice_index words 10) 0)
   works_behind load_initialised_end may = stays 12 _ _ (inr (omega arith)) (refl, refl)

@@ -36,7 +36,9 @@ order_behind v other order = order
 pub record WorksHold (setup : Setup) (order : List Entry) (words : List ℕ) (views : List View)
     : Type 0 where
   pub held : AreHeld (lock_word words) (map working_of views)
-  pub told : ProgressHolds setup.segment_size (lock_word words) (map working_of views)
+  pub told : ProgressHolds setup.segment_size
+      (end_form setup (end_position setup.segment_size order)) (lock_word words)
+      (map working_of views)
   pub watched : WatchHolds setup.segment_size
       (end_form setup (end_position setup.segment_size order)) (map working_of views)
       (map watching_of views)

@@ -51,9 +51,9 @@ module _ (opening : Opening) (order : List Entry) (words : List ℕ) (views : Li
     pub entries : r.entries ≡ entries_under r.number order
     pub joined : All (λ j. j.entries ≡ entries_under j.number order) r.joined
     -- each position at which one of them met a full log
-    pub filled : All (FrontEndsAt size r.number opening.found order r.entries) r.filled
-    pub joined_filled : All
-        (λ j. All (FrontEndsAt size j.number opening.found order j.entries) j.filled) r.joined
+    pub stops : All (FrontEndsAt size r.number opening.found order r.entries) r.stops
+    pub joined_stops : All
+        (λ j. All (FrontEndsAt size j.number opening.found order j.entries) j.stops) r.joined
 
   pub record OrderIsShared : Type 0 where
     pub each : (id : ℕ) (v : View) → HasAt views id v → (v.reserving).live ≡ true

@@ -42,10 +42,17 @@ pub record IsToldBy (size lock told : ℕ) (v : View) : Type 0 where
   pub none_left : words_owned size copy.entry ≤ copy.copied
       → told ≤ finish_of size copy.entry + 1
 
--- a lock's word above 1 is told by the view that holds the lock
-abbrev pub LocksTellCopies : ℕ → List ℕ → List View → Type 0
-LocksTellCopies size words views = (lock : ℕ) → lock < 8 → 1 < lock_word words lock
-    → SomeView views (λ v. HoldsLock lock v × IsToldBy size lock (lock_word words lock) v)
+-- or, where this view has nothing in flight under the lock, it lies not past the reserved end
+pub record IsToldAhead (end lock told : ℕ) (v : View) : Type 0 where
+  pub none_under : (c : Copy) → (v.working).flight ≡ Copying c → Contains c.locks lock → ⊥
+  pub within : told ≤ end + 1
+
+-- a lock's word above 1 is told by the view that holds the lock; `end` is the reserved end, as an
+-- address
+abbrev pub LocksTellCopies : (size end : ℕ) → List ℕ → List View → Type 0
+LocksTellCopies size end words views = (lock : ℕ) → lock < 8 → 1 < lock_word words lock
+    → SomeView views (λ v. HoldsLock lock v × (IsToldBy size lock (lock_word words lock) v
+    ⊎ IsToldAhead end lock (lock_word words lock) v))
 
 -- ---- entries
 

@@ -15,7 +15,7 @@ ghost use Rattle.wal_core.specs.Steps.{StepKind, MayStep, value_behind, view_beh
 ghost use Rattle.wal_core.specs.Ordered.{BeginsWith, OrderHolds, entries_under};
 ghost use Rattle.wal_core.specs.Moves.{entry_reserved, after_split, split_off, after_join, spent, without_work, orphan_of};
 ghost use Rattle.wal_core.specs.Steps.{place_at, load_position, load_flushed, store_position};
-ghost use Rattle.wal_core.specs.Steps.{lock_position, load_prev, store_prev, give_position_back};
+ghost use Rattle.wal_core.specs.Steps.{lock_position, load_prev, store_prev, give_position_back, stay};
 ghost use Rattle.machine_laws.specs.OrderParts.{TakesPart, HoldsWith};
 ghost use Rattle.machine_laws.specs.SharedOrders.{OrderIsShared};
 ghost use Rattle.wal_core.specs.Sound.{IsSound};
@@ -42,10 +42,15 @@ pub fn positions_are_locked_and_given_back()
         → TakesPart order position prev parts id v → MayStep v (give_position_back value)
         → HoldsWith order (value_behind v (give_position_back value) position) prev parts id v
         (view_behind v (give_position_back value) position home) }
+    ensures stay { (order : List Entry) (position prev : ℕ) (parts : List Reserving) (id : ℕ)
+        (v : View) (home : Option Plain)
+        → TakesPart order position prev parts id v → MayStep v stay
+        → HoldsWith order (value_behind v stay position) prev parts id v
+        (view_behind v stay position home) }
 {}
 
 /// An entry that is reserved is the order's last, and its pass's: other passes keep theirs, and
-/// where the log was full before, a front of the order still ends.
+/// where one stopped before, a front of the order still ends.
 pub fn orders_grow_by_one_entry()
     ensures store_position { (order : List Entry) (position prev : ℕ) (parts : List Reserving)
         (id : ℕ) (v : View) (home : Option Plain) (locks : List ℕ) (value : Record)

@@ -23,7 +23,9 @@ pub fn watches_go_from_lock_to_lock()
     ensures { (setup : Setup) (order : List Entry) (lock : ℕ → ℕ) (works : List Working)
         (watches : List Watching) (id i limit : ℕ) (v : View)
         → IsSegmentSize setup.segment_size → AreHeld lock works
-        → ProgressHolds setup.segment_size lock works → v.opening.setup ≡ setup
+        → ProgressHolds setup.segment_size
+        (end_form setup (end_position setup.segment_size order)) lock works
+        → v.opening.setup ≡ setup
         → v.reserving.seen ≤ end_position setup.segment_size order
         → WatchHolds setup.segment_size
         (end_form setup (end_position setup.segment_size order)) works watches

@@ -14,6 +14,8 @@ pub enum Event {
     StorePrev,
     StorePosition,
     GivePositionBack,
+    /// Given back where the log stands at a segment's start; no backend of a replay makes it.
+    StayInPlace,
     LoadLock {
         lock: u32,
     },
@@ -44,6 +46,9 @@ pub enum Event {
     StoreMoment,
     StoreFlushed,
     SetDown,
+    /// Up to where commits are answered is loaded or raised; no backend of a replay does it.
+    LoadAsync,
+    RaiseAsync,
     TakeMappingTurn,
     LoadInitialisedEnd,
     ClearEnd,

@@ -1,7 +1,7 @@
 -- The numbers of the words that all share.
 use Rattle.std.specs.Prelude.{ℕ, ◌+◌, ◌*◌, ◌<◌, List, slice_index}
 use Rattle.machine_words.specs.declared.word.Word.{Word}
-use Rattle.machine_words.specs.declared.word.Word.TheVariants.{Position, LastStart, Lock, MappingTurn, WriteTurn, InitialisedEnd, Written, Flushed, Moment, Down, BufferEnd, Ring}
+use Rattle.machine_words.specs.declared.word.Word.TheVariants.{Position, LastStart, Lock, MappingTurn, WriteTurn, InitialisedEnd, Written, Flushed, Moment, Down, BufferEnd, Ring, Async}
 
 -- the words, and how many pages the ring has
 pub record WordsState : Type 0 where
@@ -22,6 +22,7 @@ number_of_word pages Moment = 15
 number_of_word pages Down = 16
 number_of_word pages (BufferEnd buffer) = 17 + buffer
 number_of_word pages (Ring place) = 17 + pages + place
+number_of_word pages Async = 17 + pages + pages * 1024
 
 -- the word of a name
 abbrev pub word_named : ℕ → List ℕ → Word → ℕ
@@ -41,3 +42,4 @@ IsWord pages Moment = Unit {0}
 IsWord pages Down = Unit {0}
 IsWord pages (BufferEnd buffer) = buffer < pages
 IsWord pages (Ring place) = place < pages * 1024
+IsWord pages Async = Unit {0}

@@ -3,8 +3,8 @@
 
 ghost use Rattle.std.specs.Prelude.{◌≡◌, ℕ, List, slice_index};
 ghost use Rattle.wal_core.specs.declared.setup.Setup.{Setup};
-ghost use Rattle.wal_core.specs.Words.{position_word, prev_word, lock_word, mapping_turn, write_turn, initialised_word, written_word, flushed_word, moment_word, down_word, end_word, word_of_ring};
-ghost use Rattle.machine_words.specs.declared.word.Word.TheVariants.{Position, LastStart, Lock, MappingTurn, WriteTurn, InitialisedEnd, Written, Flushed, Moment, Down, BufferEnd, Ring};
+ghost use Rattle.wal_core.specs.Words.{position_word, prev_word, lock_word, mapping_turn, write_turn, initialised_word, written_word, flushed_word, moment_word, down_word, end_word, word_of_ring, async_word};
+ghost use Rattle.machine_words.specs.declared.word.Word.TheVariants.{Position, LastStart, Lock, MappingTurn, WriteTurn, InitialisedEnd, Written, Flushed, Moment, Down, BufferEnd, Ring, Async};
 ghost use Rattle.machine_words.specs.Numbers.{word_named};
 
 /// The word of each name is the one that the machine means by it.
@@ -32,4 +32,6 @@ pub fn names_are_the_machines()
         → word_named n words (BufferEnd buffer) ≡ end_word words buffer }
     ensures ring { (setup : Setup) (place : ℕ) (words : List ℕ)
         → word_named setup.ring_pages words (Ring place) ≡ word_of_ring setup words place }
+    ensures answered { (setup : Setup) (words : List ℕ)
+        → word_named setup.ring_pages words Async ≡ async_word setup words }
 {}

@@ -1,6 +1,10 @@
 //! Where the words that all backends share stand: their numbers, in a machine's list as in the
 //! table of the log that threads share. Behind the buffers' ends stand the words of the ring, 1,024
-//! for each buffer.
+//! for each buffer, and behind these the last word.
+
+ghost use Rattle.std.specs.Prelude.{◌≡◌, ◌+◌, ◌*◌, ◌≤◌};
+
+use byte_position::PAGE_WORDS;
 
 /// The byte position up to which records are reserved.
 pub const POSITION: usize = 0;
@@ -37,3 +41,13 @@ pub const DOWN: usize = 16;
 
 /// The first buffer's end word.
 pub const BUFFER_ENDS: usize = 17;
+
+/// The last word, behind a ring of so many pages: the address up to which commits are answered that
+/// may not be durable yet.
+pub fn async_number(ring_pages: u32) -> usize
+    requires { ring_pages ≤ 64 }
+    ensures { result ≡ 17 + ring_pages + ring_pages * 1024 }
+{
+    let pages = ring_pages as usize;
+    BUFFER_ENDS + pages + pages * PAGE_WORDS as usize
+}

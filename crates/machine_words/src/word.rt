@@ -28,4 +28,6 @@ pub enum Word {
     BufferEnd(u32),
     /// A word of the ring, eight bytes of a page: 1,024 for each buffer.
     Ring(u32),
+    /// The last word: the address up to which commits are answered that may not be durable yet.
+    Async,
 }

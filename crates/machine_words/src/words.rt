@@ -1,20 +1,19 @@
-ghost use Rattle.std.specs.Prelude.{◌≡◌, ◌+◌, ◌<◌, ◌^◌, length, set, IfOk};
+ghost use Rattle.std.specs.Prelude.{◌≡◌, ◌+◌, ◌<◌, ◌^◌, [], length, set, IfOk};
 ghost use Rattle.wal_core.specs.Words.{Opening};
 ghost use Rattle.wal_core.specs.Sound.{IsSetup};
 ghost use Rattle.wal_core.specs.Opened.{AreFirstWords};
+ghost use Rattle.machine_words.specs.EmptyWords.{AreEmptyWords};
 ghost use Rattle.machine_words.specs.Numbers.{IsWord, number_of_word, word_named};
 
 use crate::first::set_first_words;
 use crate::layout::{
     BUFFER_ENDS, DOWN, FIRST_LOCK, FLUSHED, INITIALISED_END, LAST_START, MAPPING_TURN, MOMENT,
-    POSITION, WRITE_TURN, WRITTEN,
+    POSITION, WRITE_TURN, WRITTEN, async_number,
 };
 use crate::word::Word;
 use std::alloc::{AllocError, Global};
 use std::marker::Model;
 use wal_core::Setup;
-
-const PAGE_WORDS: usize = byte_position::PAGE_WORDS as usize;
 
 /// The words that all backends share, as plain numbers; contracts see the list of them, and how
 /// many pages the ring has.
@@ -33,7 +32,7 @@ impl Model for MachineWords {
     ghost view = { λ w. record { pages = w.pages; words = w.words.items } };
 
     ghost invariant = { λ w.
-        (w.pages ≤ 64) × (length w.words.items ≡ 17 + w.pages + w.pages * 1024) };
+        (w.pages ≤ 64) × (length w.words.items ≡ 17 + w.pages + w.pages * 1024 + 1) };
 }
 
 impl MachineWords {
@@ -43,11 +42,9 @@ impl MachineWords {
         requires { IsSetup setup }
         ensures pages { IfOk result (λ words. words.pages ≡ setup.ring_pages) }
         ensures first { (opening : Opening) → opening.setup ≡ setup → opening.moment ≡ moment
-            → IfOk result (λ words. AreFirstWords opening words.words) }
+            → opening.found ≡ [] → IfOk result (λ words. AreFirstWords opening words.words) }
     {
-        let pages = setup.ring_pages as usize;
-        let mut words = vec![in alloc; 0; BUFFER_ENDS + pages + pages * PAGE_WORDS]?;
-        set_first_words(&mut words, pages, setup.segment_size, moment);
+        let words = empty_words(alloc, setup, moment)?;
         Ok(MachineWords {
             pages: setup.ring_pages,
             words,
@@ -101,6 +98,16 @@ impl MachineWords {
             Word::Down => DOWN,
             Word::BufferEnd(buffer) => BUFFER_ENDS + buffer as usize,
             Word::Ring(place) => first_of_ring + place as usize,
+            Word::Async => async_number(self.pages),
         }
     }
+}
+
+fn empty_words(alloc: Global, setup: Setup, moment: u64) -> Result<Vec<u64>, AllocError>
+    requires { IsSetup setup }
+    ensures { IfOk result (λ words. AreEmptyWords setup moment words.items) }
+{
+    let mut words = vec![in alloc; 0; async_number(setup.ring_pages) + 1]?;
+    set_first_words(&mut words, setup.ring_pages, setup.segment_size, moment);
+    Ok(words)
 }

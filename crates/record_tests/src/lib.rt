@@ -1,4 +1,5 @@
-//! Tests of a log's values, records, positions and pages, of its reader, and of a listing.
+//! Tests of a log's values, records, positions and pages, of its reader, of a listing, and of
+//! redo.
 #![tactic(auto)]
 
 #[cfg(test)]
@@ -13,6 +14,8 @@ mod placing;
 mod positions;
 #[cfg(test)]
 mod reading;
+#[cfg(test)]
+mod redoing;
 #[cfg(test)]
 mod rows;
 #[cfg(test)]

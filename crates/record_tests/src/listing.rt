@@ -9,7 +9,7 @@ use std::alloc::{AllocError, Global};
 use std::test::Fail;
 use wal_reader::ReadErr;
 use wal_types::{BlockList, Bytes, Lsn, Record, Xid};
-use waldump_text::{DumpErr, Filter, Listed, dump, line};
+use waldump_text::{DumpErr, Filter, Listed, dump, line, stats};
 
 // A commit as the first record of its log.
 fn commit_listed(alloc: Global) -> Result<Listed, AllocError>
@@ -58,5 +58,29 @@ fn nothing_is_read_for_a_limit_of_none(rt: HostRuntime) -> Result<(), Fail> {
     filter.limit = Some(1);
     let counted = dump(alloc, &mut disk, smallest(), &filter, &mut out);
     assert_eq!(rt; counted, Err(DumpErr::Read(ReadErr::Disk { faults: 1 })));
+    Ok(())
+}
+
+// A record as large as its number can tell.
+fn largest_listed(alloc: Global) -> Result<Listed, AllocError>
+    ensures { IfOk result IsListable }
+{
+    let mut r = commit_listed(alloc)?;
+    r.total = u32::MAX;
+    Ok(r)
+}
+
+#[test]
+fn sums_have_more_than_32_bits(rt: HostRuntime) -> Result<(), Fail> {
+    let alloc = rt.alloc();
+    let records = vec![in alloc; largest_listed(alloc)?, largest_listed(alloc)?]?;
+    let mut out = MemSink::new(alloc, 400, Vec::new(alloc))?;
+    assert_eq!(rt; stats(records.as_slice(), &mut out), Ok(()));
+    assert_eq!(rt;
+        out.taken(),
+        b"stats: rmgr Transaction records 2 rec 8589934590 fpi 0 total 8589934590\n\
+          stats: total records 2 rec 8589934590 fpi 0 total 8589934590\n"
+            .as_slice()
+    );
     Ok(())
 }

@@ -43,7 +43,7 @@ fn put_word(page: &mut [u8; 8192], lsn: Lsn, word: u64) {
 /// What a step tells. Of a record: its start, its end and the start of the one before, its size,
 /// its transaction and its manager.
 #[derive(Clone, Copy, Debug, PartialEq, Eq)]
-enum Told {
+pub(crate) enum Told {
     Record([u64; 3], u32, u32, u8),
     End(u64),
     Failed(ReadErr),
@@ -68,21 +68,22 @@ fn told_by(step: Result<Step, ReadErr>) -> Told {
 /// Records with the words before them and the start of the one before, a byte that is changed, and
 /// how many pages reach the disk; where a reader starts and ends, which of its reads fail, and what
 /// its steps tell.
-struct Scene {
-    records: &'static [(RecordRow, u16, u64)],
-    changed: Option<(u8, u8)>,
-    pages: u8,
-    start: u64,
-    end: Option<u64>,
-    failing: &'static [u64],
-    told: &'static [Told],
+#[derive(Drop)]
+pub(crate) struct Scene {
+    pub(crate) records: &'static [(RecordRow, u16, u64)],
+    pub(crate) changed: Option<(u8, u8)>,
+    pub(crate) pages: u8,
+    pub(crate) start: u64,
+    pub(crate) end: Option<u64>,
+    pub(crate) failing: &'static [u64],
+    pub(crate) told: &'static [Told],
 }
 
 const FIRST_COMMIT: Told = Told::Record([0x10_0028, 0x10_0050, 0], 34, 700, 1);
 
 const SECOND_COMMIT: Told = Told::Record([0x10_0050, 0x10_0078, 0x10_0028], 34, 700, 1);
 
-const TWO_COMMITS: Scene = Scene {
+pub(crate) const TWO_COMMITS: Scene = Scene {
     records: &[(COMMIT, 0, 0), (COMMIT, 5, 0x10_0028)],
     changed: None,
     pages: 2,
@@ -198,7 +199,7 @@ fn pages_of(alloc: Global, scene: &Scene) -> Result<TwoPages, Fail> {
     Ok(pages)
 }
 
-fn disk_of(alloc: Global, scene: &Scene) -> Result<MemDisk, Fail> {
+pub(crate) fn disk_of(alloc: Global, scene: &Scene) -> Result<MemDisk, Fail> {
     let pages = pages_of(alloc, scene)?;
     let mut disk = MemDisk::new(alloc, 1, 3, Vec::new(alloc), scene.failing.to_vec(alloc)?)?;
     if scene.pages > 0 {

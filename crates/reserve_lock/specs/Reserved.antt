@@ -7,7 +7,7 @@ use Rattle.wal_page.specs.Order.{Entry, assembled_room_at, position_behind}
 use Rattle.wal_page.specs.Placed.{PlacedState}
 use Rattle.wal_core.specs.declared.setup.Setup.{Setup}
 use Rattle.wal_core.specs.Words.{log_limit}
-use Rattle.wal_core.specs.Views.{Copying, Free, Locked, View}
+use Rattle.wal_core.specs.Views.{Copying, Free, Locked, LogFull, View}
 use Rattle.wal_core.specs.Moves.{entry_reserved, unlocked}
 use Rattle.wal_core.specs.Steps.{load_position, lock_position}
 use Rattle.wal_rule.specs.Stepping.{Meets}
@@ -29,8 +29,12 @@ locked_view at v = record v { reserving = record v.reserving { seen = at; place 
 abbrev pub full_view : ℕ → View → View
 full_view at v = record v {
   reserving = record v.reserving {
-    filled = (v.reserving).filled
-        ++ (record { position = at; entries = length (v.reserving).entries }) ∷ [];
+    stops = (v.reserving).stops
+        ++ (record {
+          cause = LogFull;
+          position = at;
+          entries = length (v.reserving).entries;
+        }) ∷ [];
     place = Free;
   };
 }

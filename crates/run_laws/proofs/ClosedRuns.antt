@@ -1,10 +1,12 @@
 -- What is assured of a run whose log was closed: the laws of closed logs, for the order that the
 -- lines were told.
-use Rattle.std.specs.Prelude.{IfSome}
+use Rattle.std.specs.Prelude.{IfSome, IsSome, None}
+use Rattle.std.proofs.lemmas.Bool.{true≢false}
 use Rattle.std.proofs.Common.{◌≡◌, inl, inr, ℕ, ◌-◌, ◌^◌, ◌<◌, ◌≤◌, List, Option, Some, length, refl, sym, ap, ◌∙◌, subst, arith}
 use mathlib.Core.Option.{Option as Maybe, none, some}
 use Rattle.segment_disk.specs.Cause.{Rose}
-use Rattle.segment_disk.specs.Tape.{Tape}
+use Rattle.segment_disk.specs.Tape.{DiskState, Tape}
+use Rattle.segment_disk.specs.declared.disk.Call.{Call}
 use Rattle.flush_core.specs.Pages.{HoldsNothing}
 use Rattle.wal_page.specs.Order.{Entry, IsChained, end_position, rooms_of}
 use Rattle.wal_script.specs.Asked.{AskedLine}
@@ -17,7 +19,8 @@ use Rattle.wal_core.specs.Views.{View}
 use Rattle.wal_core.specs.Words.{Opening}
 use Rattle.wal_core.proofs.Tapes.{at_told, told_as}
 use Rattle.closed_log.specs.Closed.{IsClosedOn}
-use Rattle.wal_rule.specs.Slotted.{first_on, slot_disk, slot_plain}
+use Rattle.closed_log.proofs.Fronts.{no_other_words}
+use Rattle.wal_rule.specs.Slotted.{GoesOnFrom, first_on, slot_disk, slot_plain}
 use Rattle.wal_rule.specs.declared.writer.LogWriter.{LogWriter}
 use Rattle.wal_rule.proofs.SlotTapes.{tape_on_first}
 use Rattle.wal_rule.proofs.OpeningTold.{began_suited}
@@ -32,9 +35,22 @@ use Rattle.run_laws.proofs.RefusedLines.{refused_for_want_of_room}
 use Rattle.run_laws.proofs.RunCrashes.{told_survive, told_timely}
 use Rattle.run_laws.proofs.RunOrder.{told_order, told_rise}
 use Rattle.run_laws.proofs.RunTells.{run_tells}
-use Rattle.run_laws.specs.Assured.{RunAssures, order_told}
+use Rattle.run_laws.specs.Assured.{LeavesLogWords, RunAssures, TapeGoesOn, order_told}
 use Rattle.run_laws.specs.ClosedRuns.{HasFlushedAll, IsRunClosed}
 use Rattle.run_laws.proofs.ClosedLogs.{closed_on, fault_rose, knows_no_fault, none_is_later, rooms_are_low}
+
+-- a tape goes on from the one of the opening
+tape_goes_on : (began now : Option Tape) → (IsSome began → IsSome now)
+    → IfSome now (λ t. t.at_first ≡ first_on began) → IfSome now (GoesOnFrom began)
+    → TapeGoesOn began now
+tape_goes_on None None told on_first goes_on = refl
+tape_goes_on None (Some t) told on_first goes_on = absurd goes_on
+tape_goes_on (Some b) None told on_first goes_on = absurd (true≢false (sym (told refl)))
+tape_goes_on (Some b) (Some t) told on_first goes_on = (
+  goes_on.0,
+  ap (λ (s : DiskState). Some (record { at_first = s; calls = t.calls })) on_first
+      ∙ ap (λ (calls : List Call). Some (record b { calls = calls })) goes_on.1,
+)
 
 -- a number that may be missing is missing where it can be none
 none_unless : (fault : Maybe ℕ) → ((faults : ℕ) → fault ≡ some faults → ⊥) → fault ≡ none
@@ -83,13 +99,19 @@ module _ {D : Type 0} (tape : D → Option Tape) (moment faults : D → ℕ) (be
   own = tape_on_first (first_on began) (tape (slot_disk w)) ((r.closes).of_log).on_first
 
   began_on : HoldsNothing began → IfSome (tape (slot_disk w)) (BeganSuited opening)
-  began_on nothing = began_suited opening began (tape (slot_disk w)) nothing r.counted
+  began_on nothing = began_suited opening began (tape (slot_disk w)) r.none_made nothing r.counted
       ((r.closes).of_log).on_first ((r.closes).of_log).goes_on
 
   closed_there : HoldsNothing began → (t : Tape) → tape (slot_disk w) ≡ Some t
       → IsClosedOn opening order t last_view
   closed_there nothing t is = closed_on opening order last_view closed r.narrow t (own ∙ is)
       (at_told (BeganSuited opening) (tape (slot_disk w)) t is (began_on nothing))
+
+  words : HoldsNothing began → IfSome (tape (slot_disk w))
+      (LeavesLogWords (opening.setup).segment_size (opening.setup).sysid order opening.moment)
+  words nothing = told_as (tape (slot_disk w)) (λ t is moment image from left k.
+      (no_other_words opening order t last_view (closed_there nothing t is) moment image from
+      left).words k)
 
   crash : HoldsNothing began → IfSome (tape (slot_disk w))
       (SurvivesCrashes (opening.setup).segment_size opening.moment order lists)
@@ -113,6 +135,10 @@ module _ {D : Type 0} (tape : D → Option Tape) (moment faults : D → ℕ) (be
     in_line_order = told_rise opening order last_view closed script lists r.taken;
     moments = run_rises opening last_view script lists r.taken (r.closes).in_order
         (moment (slot_disk w)) (none_is_later opening order last_view closed);
+    goes_on = tape_goes_on began (tape (slot_disk w)) ((r.closes).of_log).told
+        ((r.closes).of_log).on_first ((r.closes).of_log).goes_on;
+    words = subst (λ (es : List Entry). HoldsNothing began → IfSome (tape (slot_disk w))
+        (LeavesLogWords size (opening.setup).sysid es opening.moment)) order_is words;
     crash = subst (λ (es : List Entry). HoldsNothing began → IfSome (tape (slot_disk w))
         (SurvivesCrashes size opening.moment es lists)) order_is crash;
     no_late_receipt = subst (λ (es : List Entry). HoldsNothing began

@@ -6,7 +6,7 @@ use Rattle.byte_position.specs.Position.{first_position}
 use Rattle.wal_types.specs.declared.record.Record.{Record}
 use Rattle.wal_page.specs.Order.{Entry, IsChained, end_position, room_at}
 use Rattle.wal_page.proofs.OrderLaws.{FollowsFrom-parts}
-use Rattle.wal_core.specs.Views.{Filled}
+use Rattle.wal_core.specs.Views.{LogFull, Stop}
 use Rattle.wal_core.specs.Ordered.{entries_under, FrontEndsAt}
 use Rattle.told_lines.specs.Told.{Logged, MayBeFull}
 use Rattle.told_lines.proofs.AllLaws.{parts_all}
@@ -45,15 +45,19 @@ module _ (logged : Logged) (limit pass : ℕ) (chained : IsChained logged.size l
 
   pub full_cause : (value : Record) (free : ℕ) (before after : PassLog)
       → AddsFull logged.size limit pass value free before after
-      → All (FrontEndsAt logged.size pass found logged.order all) after.filled
+      → All (FrontEndsAt logged.size pass found logged.order all) after.stops
       → take (length before.entries) all ≡ before.entries
       → MayBeFull logged
       (behind_last_own logged.size (first_position logged.size) before.entries) value free
   full_cause value free before after full ends own =
-      let here : Filled = record { position = full.at; entries = length before.entries } in
+      let here : Stop = record {
+        cause = LogFull;
+        position = full.at;
+        entries = length before.entries;
+      } in
       let Ends = FrontEndsAt size pass found logged.order all in
-      let all_ends = subst (All Ends) (ap (λ (l : PassLog). l.filled) full.log_is) ends in
+      let all_ends = subst (All Ends) (ap (λ (l : PassLog). l.stops) full.log_is) ends in
       let end : FrontEndsAt size pass found logged.order all here =
-      All-head Ends here [] (parts_all Ends before.filled (here ∷ []) all_ends).1 in
+      All-head Ends here [] (parts_all Ends before.stops (here ∷ []) all_ends).1 in
       cause value free full.at before.entries end.front end.back end.are end.end (end.own ∙ own)
       full.free_is full.short

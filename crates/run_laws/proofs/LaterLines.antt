@@ -3,7 +3,7 @@ use Rattle.std.proofs.Common.{ℕ, All, List, [], ◌∷◌, Some, None, subst, 
 use Rattle.wal_types.specs.declared.answers.Cause.TheVariants.{Full, Disk, Down}
 use Rattle.wal_types.specs.declared.record.Record.{Record}
 use Rattle.wal_script.specs.Asked.{Asked, AskedLine, Insert, Commit, Flush}
-use Rattle.wal_core.specs.Views.{Filled, FlushPromise}
+use Rattle.wal_core.specs.Views.{Stop, FlushPromise}
 use Rattle.told_lines.specs.declared.told.Told.{Told}
 use Rattle.told_lines.specs.declared.told.Told.TheVariants.{Wrote, Hard, Flushed, Refused}
 use Rattle.told_lines.proofs.AllLaws.{parts_all}
@@ -24,10 +24,10 @@ module _ (size limit pass : ℕ) where
       (subst (λ (t : Told). Leaves size limit pass line.asked t before plays.0)
       ((plays.1).again faults knows) (plays.1).leaves))
 
-  module _ (P : Filled → Type 0) (Q : FlushPromise → Type 0) where
+  module _ (P : Stop → Type 0) (Q : FlushPromise → Type 0) where
     -- this holds of each place at which the log was full, and that of each promise
     abbrev pub Held : PassLog → Type 0
-    Held l = All P l.filled × All Q l.promises
+    Held l = All P l.stops × All Q l.promises
 
     held_reserving : (value : Record) (start : ℕ) (before after : PassLog)
         → Reserves size limit pass value start before after → Held after → Held before
@@ -37,7 +37,7 @@ module _ (size limit pass : ℕ) where
         → AddsFull size limit pass value free before after → Held after → Held before
     held_full value free before after f held =
         let h = subst Held f.log_is held in
-        ((parts_all P before.filled _ h.0).0, h.1)
+        ((parts_all P before.stops _ h.0).0, h.1)
 
     pub held_promising : (asked upto moment : ℕ) (before after : PassLog)
         → AddsPromise size limit pass asked upto moment before after → Held after → Held before

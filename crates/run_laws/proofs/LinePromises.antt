@@ -2,7 +2,7 @@
 use Rattle.std.proofs.Common.{◌≡◌, ℕ, ◌≤◌, All, List, [], ◌∷◌, inl, inr, length, refl, sym, ap, subst, arith}
 use Rattle.std.proofs.lemmas.List.Elements.{All-head}
 use Rattle.wal_script.specs.Asked.{Asked, AskedLine, Insert, Commit, Flush}
-use Rattle.wal_core.specs.Views.{Filled, FlushPromise}
+use Rattle.wal_core.specs.Views.{Stop, FlushPromise}
 use Rattle.told_lines.specs.declared.told.Told.{Told}
 use Rattle.told_lines.specs.declared.told.Told.TheVariants.{Wrote, Hard, Flushed, Refused}
 use Rattle.told_lines.specs.Crash.{SaysDurable}
@@ -13,7 +13,7 @@ use Rattle.run_laws.specs.Played.{Leaves, PassState, PlaysLines, AddsPromise}
 use Rattle.run_laws.proofs.LaterLines.{lines_held}
 
 -- nothing is asked of the places at which the log was full
-abbrev Anywhere : Filled → Type 0
+abbrev Anywhere : Stop → Type 0
 Anywhere f = Unit {0}
 
 module _ (Q : FlushPromise → Type 0) where

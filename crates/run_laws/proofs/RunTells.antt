@@ -29,12 +29,12 @@ ArePromised logged j = All (IsWithin logged) j.promises
 
 abbrev AreFilled : Logged → List Entry → Joined → Type 0
 AreFilled logged found j =
-    All (FrontEndsAt logged.size j.number found logged.order j.entries) j.filled
+    All (FrontEndsAt logged.size j.number found logged.order j.entries) j.stops
 
 module _ (logged : Logged) (limit : ℕ) (found : List Entry) where
   -- a pass of which both hold, and which knows faults that the disk told
   record IsRight (w : View) : Type 0 where
-    filled : AreFilled logged found (joined_of w)
+    stops : AreFilled logged found (joined_of w)
     promised : ArePromised logged (joined_of w)
     faulty : (faults : ℕ) → KnowsFault faults (pass_state_of w) → IsFault logged faults
 
@@ -55,7 +55,7 @@ module _ (logged : Logged) (limit : ℕ) (found : List Entry) where
         tells logged limit pass size_is chained limited found entries lines told state_at_first
             (pass_state_of w) played.1 refl (
               subst (λ (n : ℕ). All (FrontEndsAt logged.size n found logged.order entries)
-                  (w.reserving).filled) played.0 here.filled,
+                  (w.reserving).stops) played.0 here.stops,
               here.promised,
             ) here.faulty,
         all_tell size_is chained limited (pass + 1) script lists others played.2
@@ -125,26 +125,26 @@ module _ (opening : Opening) (order : List Entry) (v : View) (c : IsClosedLog op
 
   rights : (others : List View) → All (IsKnownTo opening v) others → All FilledThere others
       → All PromisedThere others → All Right others
-  rights [] known filled promised = All-nil Right
-  rights (w ∷ others) known filled promised =
+  rights [] known stops promised = All-nil Right
+  rights (w ∷ others) known stops promised =
       All-cons Right w others
       (record {
-        filled = All-head FilledThere w others filled;
+        stops = All-head FilledThere w others stops;
         promised = All-head PromisedThere w others promised;
         faulty = faulty_of w (All-head (IsKnownTo opening v) w others known);
       })
       (rights others (All-tail (IsKnownTo opening v) w others known)
-      (All-tail FilledThere w others filled) (All-tail PromisedThere w others promised))
+      (All-tail FilledThere w others stops) (All-tail PromisedThere w others promised))
 
   pub run_tells : TellsAll (logged_at_end opening order last) 1 script lists
   run_tells =
       let part = (accounted opening order v c script lists taken).part in
-      let filled = subst (All (AreFilled logged opening.found)) taken.joined part.joined_filled in
+      let stops = subst (All (AreFilled logged opening.found)) taken.joined part.joined_stops in
       let promised = subst (All (ArePromised logged)) taken.joined promised_of in
       all_tell logged (log_limit opening.setup) opening.found
       (valid opening order v c script lists taken)
       (accounted opening order v c script lists taken).chained refl 1 script lists taken.others
       taken.played
       (rights taken.others taken.known
-      (unmapped (AreFilled logged opening.found) taken.others filled)
+      (unmapped (AreFilled logged opening.found) taken.others stops)
       (unmapped (ArePromised logged) taken.others promised))

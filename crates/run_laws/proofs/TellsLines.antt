@@ -11,7 +11,7 @@ use Rattle.wal_types.specs.declared.lsn.Lsn.{Lsn}
 use Rattle.wal_types.specs.declared.record.Record.{Record}
 use Rattle.wal_page.specs.Order.{Entry, IsChained, end_position, position_behind, room_at}
 use Rattle.wal_script.specs.Asked.{Asked, AskedLine, Insert, Commit, Flush}
-use Rattle.wal_core.specs.Views.{Filled, FlushPromise}
+use Rattle.wal_core.specs.Views.{Stop, FlushPromise}
 use Rattle.wal_core.specs.Ordered.{FrontEndsAt}
 use Rattle.told_lines.specs.declared.told.Told.{Told}
 use Rattle.told_lines.specs.declared.told.Told.TheVariants.{Wrote, Hard, Flushed, Refused}
@@ -45,7 +45,7 @@ module _ (logged : Logged) (limit pass : ℕ) (valid : IsSegmentSize logged.size
   abbrev pub IsWithin : FlushPromise → Type 0
   IsWithin p = p.upto ≤ end_address_of logged.size (end_position logged.size logged.order)
 
-  abbrev pub Ends : Filled → Type 0
+  abbrev pub Ends : Stop → Type 0
   Ends f = FrontEndsAt logged.size pass found logged.order all f
 
   start_position : (value : Record) (start : Lsn) (before after : PassLog)

@@ -1,7 +1,11 @@
 -- What is assured of a run, by what its lines were told.
-use Rattle.std.specs.Prelude.{ℕ, ◌<◌, List, IfSome, Option}
+use Rattle.std.specs.Prelude.{◌≡◌, ℕ, ◌*◌, ◌<◌, ◌≤◌, List, ◌++◌, IfSome, Option, None, Some}
+use Rattle.segment_disk.specs.declared.disk.Call.{Call}
+use Rattle.segment_disk.specs.DiskImage.{DiskImage, LeftAt}
+use Rattle.segment_disk.specs.ImageWords.{image_word}
 use Rattle.segment_disk.specs.Tape.{Tape}
 use Rattle.flush_core.specs.Pages.{HoldsNothing}
+use Rattle.wal_page.specs.Log.{IsLawfulWord}
 use Rattle.wal_page.specs.Order.{Entry, IsChained}
 use Rattle.wal_core.specs.Words.{Opening}
 use Rattle.wal_script.specs.Asked.{AskedLine}
@@ -16,6 +20,20 @@ use Rattle.run_laws.specs.Ended.{logged_at_end}
 abbrev pub order_told : Opening → List (List AskedLine) → List (List Told) → List Entry
 order_told opening script lists = order_from (opening.setup).segment_size 1 script lists
 
+-- a disk tells what it holds where it told it before: what it held at first is as it was, and its
+-- calls are those before and some behind them
+abbrev pub TapeGoesOn : Option Tape → Option Tape → Type 0
+TapeGoesOn None after = after ≡ None
+TapeGoesOn (Some before) after =
+    (later : List Call) × (after ≡ Some (record before { calls = before.calls ++ later }))
+
+-- each image that a crash leaves from a moment on has no words but 0 and those of the log that an
+-- order and a system id give
+abbrev pub LeavesLogWords : (size sysid : ℕ) → List Entry → ℕ → Tape → Type 0
+LeavesLogWords size sysid order from t =
+    (moment : ℕ) (image : DiskImage) → from ≤ moment → LeftAt t moment image
+    → (k : ℕ) → IsLawfulWord size sysid order (8 * k) (image_word size image (8 * k))
+
 -- the disk had the tape `began` at the opening, and has the tape `now`, this moment and this count
 -- of faults in the end
 pub record RunAssures (opening : Opening) (began now : Option Tape) (moment faults : ℕ)
@@ -26,6 +44,9 @@ pub record RunAssures (opening : Opening) (began now : Option Tape) (moment faul
   pub gapless : IsChained (opening.setup).segment_size (order_told opening script lists)
   pub in_line_order : RiseInLineOrder (opening.setup).segment_size 1 script lists
   pub moments : EachRises opening.moment lists moment
+  pub goes_on : TapeGoesOn began now
+  pub words : HoldsNothing began → IfSome now (LeavesLogWords (opening.setup).segment_size
+      (opening.setup).sysid (order_told opening script lists) opening.moment)
   pub crash : HoldsNothing began → IfSome now (SurvivesCrashes (opening.setup).segment_size
       opening.moment (order_told opening script lists) lists)
   pub no_late_receipt : HoldsNothing began → IfSome now

@@ -26,6 +26,7 @@ pub record IsRunClosed {D : Type 0} (tape : D → Option Tape) (moment faults : 
   pub closes : ClosesWith tape moment faults began opening v w position
   pub taken : HasTakenIn opening v script lists
   pub none_found : opening.found ≡ []
+  pub none_made : opening.made ≡ 0
   -- a page tells the system id in eight bytes
   pub narrow : (opening.setup).sysid < 2 ^ 64
   pub counted : IfSome began (λ t. opening.moment ≡ length t.calls)

@@ -30,7 +30,7 @@ pass_state_of v = record {
 -- before its first line
 abbrev pub state_at_first : PassState
 state_at_first = record {
-  log = record { entries = []; filled = []; promises = [] };
+  log = record { entries = []; stops = []; promises = [] };
   met = 0;
   set = 0;
 }
@@ -47,6 +47,17 @@ behind_last_own size behind (e ∷ es) = behind_last_own size (position_behind s
 
 abbrev pub end_of_own : ℕ → List Entry → ℕ
 end_of_own size es = end_address_of size (behind_last_own size (first_position size) es)
+
+-- by what a refused line learned of a failed disk its cause is told: a full log, no fault; a fault
+-- of its own, one that it set as the down value; any other, one that it met there, and it set none
+abbrev pub TellsCause : Told → PassState → PassState → Type 0
+TellsCause (Wrote start end) before after = Unit {0}
+TellsCause (Hard start end moment) before after = Unit {0}
+TellsCause (Flushed upto moment) before after = Unit {0}
+TellsCause (Refused (Full free) reserved) before after = (after.met ≡ 0) × (after.set ≡ 0)
+TellsCause (Refused (Disk faults) reserved) before after = after.set ≡ faults
+TellsCause (Refused (Down faults) reserved) before after =
+    (after.met ≡ faults) × (after.set ≡ before.set)
 
 module _ (size limit pass : ℕ) where
   -- the record was reserved for the pass, and starts at this address
@@ -130,6 +141,7 @@ module _ (size limit pass : ℕ) where
   -- and where the pass knew a fault, it is told again and nothing else
   pub record PlaysLine (asked : Asked) (told : Told) (before after : PassState) : Type 0 where
     pub leaves : Leaves asked told before after
+    pub cause : TellsCause told before after
     pub again : (faults : ℕ) → KnowsFault faults before → told ≡ Refused (Down faults) None
 
   -- line by line

@@ -127,7 +127,7 @@ pub fn full_has_its_cause()
         → limit ≡ first_position logged.size + logged.capacity → (found all : List Entry)
         (value : Record) (free : ℕ) (before after : PassLog)
         → AddsFull logged.size limit pass value free before after
-        → All (FrontEndsAt logged.size pass found logged.order all) after.filled
+        → All (FrontEndsAt logged.size pass found logged.order all) after.stops
         → take (length before.entries) all ≡ before.entries
         → MayBeFull logged
         (behind_last_own logged.size (first_position logged.size) before.entries) value free }

@@ -27,6 +27,8 @@ fn named<'a>(command: &'a str, topic: Option<&'a str>) -> GivenWords<'a> {
         end: None,
         limit: None,
         quiet: false,
+        stats: false,
+        times: false,
     }
 }
 

@@ -3,3 +3,4 @@ pub mod WordLists
 pub mod Stages
 pub mod Landing
 pub mod Tapes
+pub mod NothingFound

@@ -88,7 +88,7 @@ module _ (opening : Opening) where
   pub began_before : (t : Tape) (call : Call) → opening.moment ≤ length t.calls
       → BeganSuited opening (record t { calls = t.calls ++ call ∷ [] }) → BeganSuited opening t
   began_before t call within suited =
-      subst (λ (calls : List Call). IsSuited (after_calls t.at_first calls))
+      subst (λ (calls : List Call). IsSuited opening (after_calls t.at_first calls))
       (take-before t.calls (call ∷ []) opening.moment within) suited
 
   pub began_behind : (call : Call) (outcome : CallOutcome) (t : Tape)
@@ -103,7 +103,7 @@ module _ (opening : Opening) where
   began_stays : (t : Tape) (call : Call) → opening.moment ≤ length t.calls → BeganSuited opening t
       → BeganSuited opening (record t { calls = t.calls ++ call ∷ [] })
   began_stays t call within suited =
-      subst (λ (calls : List Call). IsSuited (after_calls t.at_first calls))
+      subst (λ (calls : List Call). IsSuited opening (after_calls t.at_first calls))
       (sym (take-before t.calls (call ∷ []) opening.moment within)) suited
 
   pub began_still : (call : Call) (outcome : CallOutcome) (t : Tape)

@@ -1,8 +1,8 @@
 -- Every address and every byte position that a pass learns is a multiple of 8, as the words of the
 -- log are: records and page headers begin and end at words, a lock tells of a copy by its next
--- word, and a page is written up to such an address. So whatever is written next raises the written
--- address by a word at least. That reserved positions are multiples of 8 follows from where the log
--- begins and from the rooms of records, and is not said again.
+-- word, and a page is written up to such an address. So a write that raises the written address
+-- raises it by a word at least. That reserved positions are multiples of 8 follows from where the
+-- log begins and from the rooms of records, and is not said again.
 use Rattle.std.specs.Prelude.{◌≡◌, ◌⊎◌, ℕ, ◌%◌, ◌<◌, List}
 use Rattle.wal_core.specs.Views.{HasAt, Plain, Hold, Idle, Turned, Out, View}
 

@@ -8,6 +8,7 @@ pub mod Watched
 pub mod Suited
 pub mod Positioned
 pub mod Durable
+pub mod Answered
 pub mod Aligned
 pub mod Sound
 pub mod Moves

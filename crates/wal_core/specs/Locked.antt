@@ -2,7 +2,8 @@
 -- (PostgreSQL's xlog.c, WALInsertLockAcquire, WALInsertLockRelease and
 -- WALInsertLockUpdateInsertingAt; WALBufMappingLock and WALWriteLock). A lock or a turn is taken by
 -- one exchange of a word that is 0, and only its holder stores into the word: so none has two
--- holders. A lock's word may tell less than is copied, and never more: on that a watcher rests. The
+-- holders. A lock's word may tell less than is copied, and never more, and of a holder that has no
+-- record yet an address that its record will not begin below: on that a watcher rests. The
 -- writer is at home, or in the hand of the one that has the turn to write.
 use Rattle.std.specs.Prelude.{◌≡◌, ◌≢◌, ℕ, ◌+◌, ◌<◌, ◌≤◌, List, Contains, if◌then◌else◌}
 use mathlib.Core.Option.{Option, none, some}
@@ -22,19 +23,19 @@ pub record AreHeld (lock : ℕ → ℕ) (parts : List Working) : Type 0 where
   pub under : (id : ℕ) (w : Working) (c : Copy) → HasAt parts id w → w.flight ≡ Copying c
       → AreSomeOf c.locks w.locks
 
--- the most that a lock's word may be: one more than the address of the next word to copy, behind
--- the last one where none is left; 1 where nothing is being copied under it. Each of the locks
--- under which an entry stands may tell so
-abbrev pub most_told : ℕ → ℕ → Flight → ℕ
-most_told size lock Landed = 1
-most_told size lock (Copying c) =
-    if is_among c.locks lock then address_of_word size c.entry c.copied + 1 else 1
+-- the most that a held lock's word may be. Of an entry that stands under it: one more than the
+-- address of its next word to copy, behind the last one where none is left. Where none does: one
+-- more than the reserved end, since any entry that comes under it starts there or above
+abbrev pub most_told : (size end lock : ℕ) → Flight → ℕ
+most_told size end lock Landed = end + 1
+most_told size end lock (Copying c) =
+    if is_among c.locks lock then address_of_word size c.entry c.copied + 1 else end + 1
 
--- no lock's word tells more than is copied
-abbrev pub ProgressHolds : ℕ → (ℕ → ℕ) → List Working → Type 0
-ProgressHolds size lock parts =
+-- no lock's word tells more than is copied; `end` is the order's end, as an address
+abbrev pub ProgressHolds : (size end : ℕ) → (ℕ → ℕ) → List Working → Type 0
+ProgressHolds size end lock parts =
     (id i : ℕ) (w : Working) → HasAt parts id w → Contains w.locks i
-    → lock i ≤ most_told size i w.flight
+    → lock i ≤ most_told size end i w.flight
 
 -- ---- the turn to map a page
 

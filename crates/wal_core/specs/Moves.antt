@@ -10,7 +10,7 @@ use mathlib.Core.Option.{Option, none, some}
 use Rattle.wal_types.specs.declared.record.Record.{Record}
 use Rattle.wal_page.specs.Order.{Entry, position_behind}
 use Rattle.wal_core.specs.Words.{Opening, end_form}
-use Rattle.wal_core.specs.Views.{Place, Free, Locked, Loaded, Stored, Joined, Reserving, Copy, Flight, Landed, Copying, Working, is_among, Watching, Stage, Away, Taken, Looked, Ready, Zeroing, Published, Plain, Lent, Hold, Idle, Turned, Out, Writing, View}
+use Rattle.wal_core.specs.Views.{Place, Free, Locked, Loaded, Stored, StopCause, Joined, Reserving, Copy, Flight, Landed, Copying, Working, is_among, Watching, Stage, Away, Taken, Looked, Ready, Zeroing, Published, Plain, Lent, Hold, Idle, Turned, Out, Writing, View}
 
 -- ---- a view with one part changed
 
@@ -95,7 +95,7 @@ fresh_view opening number spare spare_end seen = record {
     spare = spare;
     spare_end = spare_end;
     entries = [];
-    filled = [];
+    stops = [];
     seen = seen;
     joined = [];
     place = Free;
@@ -104,6 +104,8 @@ fresh_view opening number spare spare_end seen = record {
   watching = record { end = 0; visited = 0; bound = 0 };
   mapping = record { confirmed = 0; stage = Away };
   writing = no_writing;
+  told = 0;
+  answered = 0;
 }
 
 abbrev pub split_off : View → View
@@ -114,15 +116,15 @@ abbrev pub joined_of : View → Joined
 joined_of v = record {
   number = (v.reserving).number;
   entries = (v.reserving).entries;
-  filled = (v.reserving).filled;
+  stops = (v.reserving).stops;
   promises = (v.writing).promises;
 }
 
 abbrev pub has_spares : Reserving → Bool
 has_spares r = nat_lt r.spare r.spare_end
 
--- one pass takes another in: its log, what it took in, what it has seen, its spare numbers, and the
--- down values that it knows
+-- one pass takes another in: its log, what it took in, what it has seen, its spare numbers, the
+-- down values that it knows, and up to where commits are answered
 abbrev pub after_join : View → View → View
 after_join v w =
     let r = v.reserving in
@@ -138,6 +140,7 @@ after_join v w =
         down_met = max (v.writing).down_met (w.writing).down_met;
         down_set = max (v.writing).down_set (w.writing).down_set;
       };
+      answered = max v.answered w.answered;
     }
 
 -- what is left of a pass that was taken in
@@ -210,14 +213,18 @@ after_store_position locks value v = reserved (v.reserving).place
     reserved (Locked at) = v
     reserved (Loaded at prev) = v
 
--- too few bytes are left: nothing was reserved
-abbrev pub after_give_back : View → View
-after_give_back v = given (v.reserving).place
+-- the position is given back: too few bytes are left, or the log stands at a segment's start, and
+-- nothing was reserved
+abbrev pub after_stop : StopCause → View → View
+after_stop cause v = given (v.reserving).place
   where
     given : Place → View
     given (Locked at) = with_reserving (record v.reserving {
-      filled = (v.reserving).filled
-          ++ (record { position = at; entries = length (v.reserving).entries }) ∷ [];
+      stops = (v.reserving).stops ++ (record {
+        cause = cause;
+        position = at;
+        entries = length (v.reserving).entries;
+      }) ∷ [];
       place = Free;
     }) v
     given Free = v
@@ -243,15 +250,15 @@ is_landed (Copying c) = false
 abbrev pub is_own : ℕ → Working → Bool
 is_own lock w = is_among w.locks lock && is_landed w.flight
 
--- a lock that is visited next: free, or the watcher's own, it holds nothing back; held by another
--- one, it tells how far its copy is, or nothing, and then the watcher stays
+-- a lock that is visited next: free, or the watcher's own that tells nothing, it holds nothing
+-- back; else it tells how far its copy is, or nothing, and then the watcher stays
 abbrev pub visited_on : Bool → ℕ → ℕ → Watching → Watching
 visited_on own lock met x =
     if (lock == x.visited) && (own || not (met == 1))
     then record {
       end = x.end;
       visited = x.visited + 1;
-      bound = (if own || (met == 0) then x.bound else min x.bound (met - 1));
+      bound = (if (own && (met == 1)) || (met == 0) then x.bound else min x.bound (met - 1));
     }
     else x
 
@@ -262,6 +269,9 @@ after_load_lock lock limit met v =
 abbrev pub after_take_lock : ℕ → ℕ → View → View
 after_take_lock lock met v =
     if met == 0 then with_working ((v.working).locks ++ lock ∷ []) (v.working).flight v else v
+
+abbrev pub after_advance : ℕ → View → View
+after_advance upto v = record v { told = upto }
 
 abbrev pub without_lock : ℕ → List ℕ → List ℕ
 without_lock lock locks = filter (λ one. not (one == lock)) locks
@@ -351,6 +361,17 @@ after_store_moment v = with_hold (with_lent hardened (v.writing).hold) v
 abbrev pub after_store_flushed : ℕ → ℕ → View → View
 after_store_flushed upto moment v =
     with_seen (position_of ((v.opening).setup).segment_size upto) (with_flush_promise upto moment v)
+
+-- commits may be answered up to an address, though they are not durable yet
+abbrev pub with_answered : ℕ → View → View
+with_answered async v = record v { answered = max v.answered async }
+
+abbrev pub after_load_async : ℕ → View → View
+after_load_async met v = with_answered met v
+
+-- the exchange stores the address where it meets what it expects; else the pass learns what it met
+abbrev pub after_raise_async : (expected upto met : ℕ) → View → View
+after_raise_async expected upto met v = with_answered (if met == expected then upto else met) v
 
 abbrev pub after_set_down : ℕ → View → View
 after_set_down faults v = with_writing (record v.writing { down_set = faults }) v

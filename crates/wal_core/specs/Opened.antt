@@ -1,43 +1,64 @@
--- How a log begins that holds nothing: its words, its writer, and the view of its first pass.
--- Nobody holds anything: the locks and turns are free, the writer is at home, and the first pass
--- has all numbers, of which it may give all others away.
-use Rattle.std.specs.Prelude.{◌≡◌, ℕ, ◌+◌, ◌*◌, ◌/◌, ◌<◌, ◌≤◌, List, [], length, slice_index, IfSome}
+-- How a log begins, or goes on behind the entries that were found: its words, its writer, and the
+-- view of its first pass. Nobody holds anything: the locks and turns are free, the writer is at
+-- home, and the first pass has all numbers, of which it may give all others away. Of the entries
+-- found it reserved none; they come first in the order. A log that holds nothing is the case of no
+-- entries and no segments.
+use Rattle.std.specs.Prelude.{◌≡◌, ℕ, ◌+◌, ◌*◌, ◌/◌, ◌%◌, ◌<◌, ◌≤◌, All, List, length, slice_index, IfSome, None}
 use mathlib.Core.Option.{none}
-use Rattle.wal_core.specs.Words.{Opening, position_word, initialised_word, written_word, flushed_word, moment_word, down_word, end_word, word_of_ring, word_count, log_start}
+use Rattle.wal_page.specs.Order.{IsChained, end_position, prev_of}
+use Rattle.wal_core.specs.Words.{Opening, position_word, prev_word, initialised_word, written_word, flushed_word, moment_word, down_word, async_word, end_word, word_of_ring, word_count, end_form, log_limit}
 use Rattle.wal_core.specs.Views.{Plain, View}
 use Rattle.wal_core.specs.Moves.{fresh_view}
 use Rattle.wal_core.specs.Paged.{HoldsPage}
+use Rattle.wal_core.specs.Ringed.{log_word_of}
 use Rattle.wal_core.specs.Sound.{IsSetup}
 
--- a log that holds nothing yet, of a setup that a log can have
-pub record IsNew (opening : Opening) : Type 0 where
-  pub setup_is : IsSetup opening.setup
-  pub none_found : opening.found ≡ []
+-- the byte position and the address at which the log that was found ends
+abbrev pub found_position : Opening → ℕ
+found_position opening = end_position (opening.setup).segment_size opening.found
 
--- The words: records begin with segment 1, and nothing is reserved, held or told; the ring holds
--- the log's first pages, in whichever buffers they lie, all zeros
+abbrev pub found_end : Opening → ℕ
+found_end opening = end_form opening.setup (found_position opening)
+
+-- a log that may be opened, of a setup that a log can have: what was found stands without a gap, is
+-- no pass's, and lies within the log and in the segments that are there
+pub record IsOpenable (opening : Opening) : Type 0 where
+  pub setup_is : IsSetup opening.setup
+  pub chained : IsChained (opening.setup).segment_size opening.found
+  pub nobodys : All (λ e. e.pass ≡ None) opening.found
+  pub within : found_position opening ≤ log_limit opening.setup
+  pub made : found_end opening
+      ≤ opening.made * (opening.setup).segment_size + (opening.setup).segment_size
+
+-- The words: records go on where the log that was found ends, behind its last start, and all of it
+-- is written, durable and answered; nothing is held. The ring has the page in which it ends and
+-- those behind, in whichever buffers they lie, with its words, and zeros behind it
 pub record AreFirstWords (opening : Opening) (words : List ℕ) : Type 0 where
   pub wide : length words ≡ word_count opening.setup
-  pub position : position_word words ≡ log_start opening.setup
-  pub zeros : (n : ℕ) → 1 ≤ n → n < 12 → slice_index words n ≡ 0
+  pub position : position_word words ≡ found_position opening
+  pub prev : prev_word words ≡ prev_of (opening.setup).segment_size 0 opening.found
+  pub zeros : (n : ℕ) → 2 ≤ n → n < 12 → slice_index words n ≡ 0
   pub initialised : initialised_word words
-      ≡ (opening.setup).segment_size + (opening.setup).ring_pages * 8192
-  pub written : written_word words ≡ (opening.setup).segment_size
-  pub flushed : flushed_word words ≡ (opening.setup).segment_size
+      ≡ (found_end opening / 8192 + (opening.setup).ring_pages) * 8192
+  pub written : written_word words ≡ found_end opening
+  pub flushed : flushed_word words ≡ found_end opening
   pub moment : moment_word words ≡ opening.moment
   pub down : down_word words ≡ 0
+  pub async : async_word opening.setup words ≡ found_end opening
   pub ends : (b : ℕ) → b < (opening.setup).ring_pages
-      → HoldsPage (opening.setup).ring_pages ((opening.setup).segment_size / 8192)
-      ((opening.setup).segment_size / 8192 + (opening.setup).ring_pages) b (end_word words b)
-  pub ring : (k : ℕ) → k < (opening.setup).ring_pages * 1024
-      → word_of_ring opening.setup words k ≡ 0
+      → HoldsPage (opening.setup).ring_pages (found_end opening / 8192)
+      (found_end opening / 8192 + (opening.setup).ring_pages) b (end_word words b)
+  pub ring : (page j : ℕ) → found_end opening / 8192 ≤ page
+      → page < found_end opening / 8192 + (opening.setup).ring_pages → j < 1024
+      → word_of_ring opening.setup words (page % (opening.setup).ring_pages * 1024 + j)
+      ≡ log_word_of opening.setup opening.found (8 * (page * 1024 + j))
 
--- a writer that has written nothing, on any disk
+-- a writer that has written what was found and nothing else, on any disk
 pub record IsFirstWriter (opening : Opening) (writer : Plain) : Type 0 where
   pub moment_is : writer.moment ≡ opening.moment
   pub counted : IfSome writer.calls (λ calls. writer.moment ≡ length calls)
-  pub written : writer.written ≡ (opening.setup).segment_size
-  pub made : writer.made ≡ 0
+  pub written : writer.written ≡ found_end opening
+  pub made : writer.made ≡ opening.made
   pub waiting : writer.waiting ≡ none
   pub fault : writer.fault ≡ none
 

@@ -9,7 +9,7 @@ use Rattle.byte_position.specs.Position.{address_of}
 use Rattle.wal_page.specs.Order.{Entry, IsChained, end_position, prev_of}
 use Rattle.wal_core.specs.declared.setup.Setup.{Setup}
 use Rattle.wal_core.specs.Words.{log_limit}
-use Rattle.wal_core.specs.Views.{HasAt, Place, Free, Locked, Loaded, Stored, Filled, Joined, Reserving}
+use Rattle.wal_core.specs.Views.{HasAt, Place, Free, Locked, Loaded, Stored, Stop, Joined, Reserving}
 
 -- whether an entry is of the pass with this number; one that a restart found has no pass
 abbrev pub is_pass : ℕ → Option ℕ → Bool
@@ -37,16 +37,16 @@ IsUnused (spare id) = Unit {0}
 IsUnused (ended id) = ⊥
 IsUnused unborn = Unit {0}
 
--- the log was full where an order's front ends that holds all that the pass had reserved by then,
--- and all that was found
-pub record FrontEndsAt (size number : ℕ) (found order entries : List Entry) (full : Filled)
+-- a pass stopped where an order's front ends that holds all that the pass had reserved by then, and
+-- all that was found
+pub record FrontEndsAt (size number : ℕ) (found order entries : List Entry) (stop : Stop)
     : Type 0 where
   pub front : List Entry
   pub back : List Entry
   pub are : order ≡ front ++ back
-  pub end : full.position ≡ end_position size front
-  pub own : entries_under number front ≡ take full.entries entries
-  pub within : full.entries ≤ length entries
+  pub end : stop.position ≡ end_position size front
+  pub own : entries_under number front ≡ take stop.entries entries
+  pub within : stop.entries ≤ length entries
   pub found_within : length found ≤ length front
 
 -- a pass that this view took in reserves no more, and its log is all that it reserved
@@ -54,7 +54,7 @@ pub record IsEnded (size : ℕ) (found order : List Entry) (role : ℕ → Role)
     : Type 0 where
   pub role_is : role j.number ≡ ended id
   pub entries_are : j.entries ≡ entries_under j.number order
-  pub filled : All (FrontEndsAt size j.number found order j.entries) j.filled
+  pub stops : All (FrontEndsAt size j.number found order j.entries) j.stops
 
 -- passes that were taken in have numbers that differ
 abbrev pub AreApart : List Joined → Type 0
@@ -67,7 +67,7 @@ pub record IsPartOf (size : ℕ) (found order : List Entry) (role : ℕ → Role
   pub entries_are : r.entries ≡ entries_under r.number order
   pub spares : (n : ℕ) → r.spare ≤ n → n < r.spare_end → role n ≡ spare id
   pub seen : r.seen ≤ end_position size order
-  pub filled : All (FrontEndsAt size r.number found order r.entries) r.filled
+  pub stops : All (FrontEndsAt size r.number found order r.entries) r.stops
   pub joined : All (IsEnded size found order role id) r.joined
   pub apart : AreApart r.joined
 

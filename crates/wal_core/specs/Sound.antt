@@ -8,8 +8,8 @@ use Rattle.segment_disk.specs.Tape.{DiskState}
 use Rattle.byte_position.specs.Geometry.{IsSegmentSize}
 use Rattle.wal_page.specs.Order.{Entry, end_position}
 use Rattle.wal_core.specs.declared.setup.Setup.{Setup}
-use Rattle.wal_core.specs.Words.{Opening, position_word, prev_word, lock_word, mapping_turn, write_turn, initialised_word, written_word, flushed_word, moment_word, down_word, end_word, word_of_ring, word_count, end_form}
-use Rattle.wal_core.specs.Views.{HasAt, Landed, Away, Idle, Plain, View, Stage, reserving_of, working_of, flight_of, watching_of, mapper_of, confirmed_of, writer_of, writing_of, receipts_of}
+use Rattle.wal_core.specs.Words.{Opening, position_word, prev_word, lock_word, mapping_turn, write_turn, initialised_word, written_word, flushed_word, moment_word, down_word, end_word, word_of_ring, word_count, async_word, end_form}
+use Rattle.wal_core.specs.Views.{HasAt, Landed, Away, Idle, Plain, View, Stage, reserving_of, working_of, flight_of, watching_of, mapper_of, confirmed_of, writer_of, writing_of, receipts_of, answered_of}
 use Rattle.wal_core.specs.Ordered.{OrderHolds}
 use Rattle.wal_core.specs.Locked.{LocksHold, ProgressHolds}
 use Rattle.wal_core.specs.Ringed.{RingHolds}
@@ -17,6 +17,7 @@ use Rattle.wal_core.specs.Paged.{PagesHold}
 use Rattle.wal_core.specs.Watched.{WatchHolds}
 use Rattle.wal_core.specs.Positioned.{PositionsHold}
 use Rattle.wal_core.specs.Durable.{DurabilityHolds}
+use Rattle.wal_core.specs.Answered.{AsyncHolds}
 use Rattle.wal_core.specs.Aligned.{AlignmentHolds}
 
 -- the setup is one that a log can have: 4 to 64 pages of ring, 1 to 4,096 segments, 1 to 65,536
@@ -64,7 +65,9 @@ pub record IsSound (first : DiskState) (opening : Opening) (words : List ℕ) (h
       (mapping_turn words) stage (map mapper_of views)
       (write_turn words) home writer (map writer_of views)
   -- no lock tells more than is copied under it
-  pub progress : ProgressHolds opening.setup.segment_size (lock_word words) (map working_of views)
+  pub progress : ProgressHolds opening.setup.segment_size
+      (end_form opening.setup (end_position opening.setup.segment_size order))
+      (lock_word words) (map working_of views)
   -- each word in memory is the log's, or 0 and still to be copied
   pub ring : RingHolds opening.setup order reach memory (map flight_of views)
   -- the buffers hold a window of pages with these words; what was given up is written
@@ -81,6 +84,10 @@ pub record IsSound (first : DiskState) (opening : Opening) (words : List ℕ) (h
   pub watching : WatchHolds opening.setup.segment_size
       (end_form opening.setup (end_position opening.setup.segment_size order))
       (map working_of views) (map watching_of views)
+  -- what is answered is reserved, and no pass counts on more
+  pub answered : AsyncHolds (async_word opening.setup words)
+      (end_form opening.setup (end_position opening.setup.segment_size order))
+      (map answered_of views)
   -- addresses that passes learn are multiples of 8
   pub aligned : AlignmentHolds (lock_word words) (written_word words) (flushed_word words) writer
       views

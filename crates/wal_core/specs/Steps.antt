@@ -17,10 +17,11 @@ use Rattle.wal_page.specs.EntryWords.{address_of_word, words_owned}
 use Rattle.wal_page.specs.Order.{room_at}
 use Rattle.wal_page.specs.Placed.{entry_word}
 use Rattle.wal_core.specs.declared.setup.Setup.{Setup}
-use Rattle.wal_core.specs.Words.{log_limit}
-use Rattle.wal_core.specs.Views.{HasAt, Place, Free, Locked, Loaded, Stored, Copy, Flight, Landed, Copying, AreSomeOf, Stage, Taken, Looked, Ready, Zeroing, Published, Plain, Lent, Hold, Idle, Turned, Out, Away, View}
+use Rattle.wal_core.specs.Words.{async_number, end_form, log_limit}
+use Rattle.wal_core.specs.Views.{HasAt, Place, Free, Locked, Loaded, Stored, StopCause, LogFull, AtSegmentStart, Copy, Flight, Landed, Copying, AreSomeOf, Stage, Taken, Looked, Ready, Zeroing, Published, Plain, Lent, Hold, Idle, Turned, Out, Away, View}
+use Rattle.wal_core.specs.Locked.{most_told}
 use Rattle.wal_core.specs.Paged.{IsOpen}
-use Rattle.wal_core.specs.Moves.{CallOutcome, Done, Failed, after_split, split_off, after_join, spent, without_work, orphan_of, with_stage, with_hold, with_confirmed, with_writer, after_load_position, after_take_write_turn, after_slot_out, after_lock_position, after_load_prev, after_store_prev, after_store_position, after_give_back, after_load_lock, after_take_lock, after_release, after_store_word, after_load_word, after_load_written, after_load_flushed, after_load_moment, after_load_down, after_store_written, after_store_moment, after_store_flushed, after_set_down, after_take_mapping_turn, after_load_initialised, after_create, after_write, after_sync}
+use Rattle.wal_core.specs.Moves.{CallOutcome, Done, Failed, after_split, split_off, after_join, spent, without_work, orphan_of, with_stage, with_hold, with_confirmed, with_writer, after_load_position, after_take_write_turn, after_slot_out, after_lock_position, after_load_prev, after_store_prev, after_store_position, after_stop, after_load_lock, after_take_lock, after_advance, after_release, after_store_word, after_load_word, after_load_written, after_load_flushed, after_load_moment, after_load_down, after_store_written, after_store_moment, after_store_flushed, after_set_down, after_load_async, after_raise_async, after_take_mapping_turn, after_load_initialised, after_create, after_write, after_sync}
 
 -- ---- what a step may rest on
 
@@ -95,6 +96,9 @@ pub data StepKind : Type 0 where
   -- the entry is to stand under these locks
   store_position : List ℕ → Record → StepKind
   give_position_back : Record → StepKind
+  -- given back where the log stands at a segment's start, which a switch would leave as it is
+  -- (RequestXLogSwitch, ReserveXLogSwitch)
+  stay : StepKind
   -- insertion locks (WALInsertLockAcquire, WALInsertLockUpdateInsertingAt, WALInsertLockRelease); a
   -- watcher's visit, which learns up to the limit at most; an insert's vain try has the limit 0
   load_lock : (lock limit : ℕ) → StepKind
@@ -114,6 +118,9 @@ pub data StepKind : Type 0 where
   store_moment : StepKind
   store_flushed : StepKind
   set_down : StepKind
+  -- up to where commits are answered that may not be durable (XLogSetAsyncXactLSN)
+  load_async : StepKind
+  raise_async : (expected upto : ℕ) → StepKind
   -- mapping, in this order, with `load_written` behind the load (AdvanceXLInsertBuffer)
   take_mapping_turn : StepKind
   load_initialised_end : StepKind
@@ -181,6 +188,7 @@ module _ (v : View) where
   word_of_step store_prev = 1
   word_of_step (store_position locks value) = 0
   word_of_step (give_position_back value) = 0
+  word_of_step stay = 0
   word_of_step (load_lock lock limit) = 2 + lock
   word_of_step (take_lock lock) = 2 + lock
   word_of_step (advance lock upto) = 2 + lock
@@ -197,6 +205,8 @@ module _ (v : View) where
   word_of_step store_moment = 15
   word_of_step store_flushed = 14
   word_of_step set_down = 16
+  word_of_step load_async = async_number setup_of
+  word_of_step (raise_async expected upto) = async_number setup_of
   word_of_step take_mapping_turn = 10
   word_of_step load_initialised_end = 12
   word_of_step clear_end = end_number setup_of (buffer_of setup_of (page_mapped stage_of))
@@ -247,6 +257,7 @@ module _ (v : View) where
       place_at (v.reserving).place
       + room_at (setup_of).segment_size (place_at (v.reserving).place) value
   value_behind (give_position_back value) met = place_at (v.reserving).place
+  value_behind stay met = place_at (v.reserving).place
   value_behind (load_lock lock limit) met = met
   value_behind (take_lock lock) met = exchanged 0 1 met
   value_behind (advance lock upto) met = upto + 1
@@ -262,6 +273,8 @@ module _ (v : View) where
   value_behind store_moment met = number_lent (λ l. (l.writer).moment) (v.writing).hold
   value_behind store_flushed met = number_lent (λ l. l.hard) (v.writing).hold
   value_behind set_down met = number_lent (λ l. fault_number (l.writer).fault) (v.writing).hold
+  value_behind load_async met = met
+  value_behind (raise_async expected upto) met = exchanged expected upto met
   value_behind take_mapping_turn met = exchanged 0 ((v.reserving).number + 1) met
   value_behind load_initialised_end met = met
   value_behind clear_end met = 0
@@ -276,10 +289,12 @@ module _ (v : View) where
   -- ---- what the pass must know for the step (`MayStep`)
   -- Reserving: each step needs the one before it; the entry can be written and fits, nothing is in
   -- flight, and it is to stand under locks that are held. Locks: only a holder tells or releases;
-  -- it tells at most up to its next word, and releases what is copied whole; addresses that are
-  -- told, asked for or written up to are multiples of 8 (Aligned). Words of the ring: a
-  -- copy's next one, below an end that was met; for a write, those of a page that is not written
-  -- whole and begins where all is copied. With the writer in hand alone: the calls of the device,
+  -- it tells at most up to its next word, or, where no entry stands under the lock, up to the end
+  -- that it has seen reserved; and it releases what is copied whole. Addresses that are told, asked
+  -- for, answered or written up to are multiples of 8 (Aligned). Words of the ring: a copy's next
+  -- one, below an end that was met; for a write, those of a page that is not written whole and
+  -- begins where all is copied. The async address is only raised, and to what was seen reserved at
+  -- most. With the writer in hand alone: the calls of the device,
   -- and the stores of what it did. The moment is stored where no fault was met and nothing waits
   -- for a sync; the flushed address where that moment is stored, and written too; down behind a
   -- fault. The writer goes back with what it has written stored, or with down set. Mapping: stage
@@ -313,11 +328,13 @@ module _ (v : View) where
       × AreSomeOf locks (v.working).locks × ((v.working).flight ≡ Landed)
   MayStep (give_position_back value) = (at : ℕ) × ((v.reserving).place ≡ Locked at)
       × (log_limit setup_of < at + room_at (setup_of).segment_size at value)
+  MayStep stay = (at : ℕ) × ((v.reserving).place ≡ Locked at)
+      × (end_form setup_of at % (setup_of).segment_size ≡ 0)
   MayStep (load_lock lock limit) = (lock < 8) × (limit % 8 ≡ 0)
   MayStep (take_lock lock) = lock < 8
   MayStep (advance lock upto) = Contains (v.working).locks lock
-      × IsCopying (λ c. Contains c.locks lock
-      × (upto ≤ address_of_word (setup_of).segment_size c.entry c.copied) × (upto % 8 ≡ 0))
+      × (upto < most_told (setup_of).segment_size (end_form setup_of (v.reserving).seen) lock
+      (v.working).flight) × (upto % 8 ≡ 0)
   MayStep (release lock) = Contains (v.working).locks lock
       × ((c : Copy) → (v.working).flight ≡ Copying c → Contains c.locks lock
       → c.copied ≡ words_owned (setup_of).segment_size c.entry)
@@ -333,6 +350,9 @@ module _ (v : View) where
   MayStep store_flushed =
       HasOut (λ l. (l.hard ≡ (l.writer).written) × (l.stored ≡ (l.writer).written))
   MayStep set_down = HasOut (λ l. (faults : ℕ) × ((l.writer).fault ≡ some faults))
+  MayStep load_async = Unit {0}
+  MayStep (raise_async expected upto) = (expected < upto)
+      × (upto ≤ end_form setup_of (v.reserving).seen) × (upto % 8 ≡ 0)
   MayStep take_mapping_turn = (v.mapping).stage ≡ Away
   MayStep load_initialised_end = Unit {0}
   MayStep clear_end = (at written : ℕ) × ((v.mapping).stage ≡ Ready at written)
@@ -368,10 +388,11 @@ module _ (v : View) where
   view_behind load_prev met home = after_load_prev met v
   view_behind store_prev met home = after_store_prev v
   view_behind (store_position locks value) met home = after_store_position locks value v
-  view_behind (give_position_back value) met home = after_give_back v
+  view_behind (give_position_back value) met home = after_stop LogFull v
+  view_behind stay met home = after_stop AtSegmentStart v
   view_behind (load_lock lock limit) met home = after_load_lock lock limit met v
   view_behind (take_lock lock) met home = after_take_lock lock met v
-  view_behind (advance lock upto) met home = v
+  view_behind (advance lock upto) met home = after_advance upto v
   view_behind (release lock) met home = after_release lock v
   view_behind (load_buffer_end buffer) met home = with_confirmed met v
   view_behind store_ring_word met home = after_store_word v
@@ -387,6 +408,8 @@ module _ (v : View) where
       (number_lent (λ l. l.hard_moment) (v.writing).hold) v
   view_behind set_down met home =
       after_set_down (number_lent (λ l. fault_number (l.writer).fault) (v.writing).hold) v
+  view_behind load_async met home = after_load_async met v
+  view_behind (raise_async expected upto) met home = after_raise_async expected upto met v
   view_behind take_mapping_turn met home = after_take_mapping_turn met v
   view_behind load_initialised_end met home = after_load_initialised met v
   view_behind clear_end met home = with_stage (Zeroing (page_mapped stage_of) 0) v

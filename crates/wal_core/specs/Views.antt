@@ -25,8 +25,14 @@ pub data Place : Type 0 where
   Loaded : ℕ → ℕ → Place
   Stored : ℕ → ℕ → Place
 
--- where a pass found the log full: the byte position, and how many entries it had then
-pub record Filled : Type 0 where
+-- where a pass locked the position and reserved nothing: too few bytes were left, or the log stood
+-- at a segment's start; with the byte position, and how many entries it had then
+pub data StopCause : Type 0 where
+  LogFull : StopCause
+  AtSegmentStart : StopCause
+
+pub record Stop : Type 0 where
+  pub cause : StopCause
   pub position : ℕ
   pub entries : ℕ
 
@@ -41,19 +47,19 @@ pub record FlushPromise : Type 0 where
 pub record Joined : Type 0 where
   pub number : ℕ
   pub entries : List Entry
-  pub filled : List Filled
+  pub stops : List Stop
   pub promises : List FlushPromise
 
 -- the pass's number, the numbers from `spare` up to `spare_end` that it may give to others, the
--- entries that it reserved in order, where it found the log full, a reserved end that it has seen,
--- and the passes that it took in. A pass that was taken in is not live
+-- entries that it reserved in order, where it stopped and reserved nothing, a reserved end that it
+-- has seen, and the passes that it took in. A pass that was taken in is not live
 pub record Reserving : Type 0 where
   pub live : Bool
   pub number : ℕ
   pub spare : ℕ
   pub spare_end : ℕ
   pub entries : List Entry
-  pub filled : List Filled
+  pub stops : List Stop
   pub seen : ℕ
   pub joined : List Joined
   pub place : Place
@@ -155,6 +161,9 @@ pub record Writing : Type 0 where
 
 -- ---- the whole
 
+-- beside the parts, what the pass told last of a lock that it holds (no other step changes it), and
+-- the highest async address that it met or stored, up to which its own entries count as answered:
+-- those of plain inserts too, since they then lie before a commit that was answered
 pub record View : Type 0 where
   pub opening : Opening
   pub reserving : Reserving
@@ -162,6 +171,8 @@ pub record View : Type 0 where
   pub watching : Watching
   pub mapping : Mapping
   pub writing : Writing
+  pub told : ℕ
+  pub answered : ℕ
 
 abbrev pub reserving_of : View → Reserving
 reserving_of v = v.reserving
@@ -188,6 +199,9 @@ writer_of v = (v.reserving.number, v.writing.hold)
 
 abbrev pub writing_of : View → Writing
 writing_of v = v.writing
+
+abbrev pub answered_of : View → ℕ
+answered_of v = v.answered
 
 -- a pass's entries and those that it took in, with what was promised to it and to them
 pub record Receipts : Type 0 where

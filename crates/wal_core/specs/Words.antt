@@ -3,8 +3,8 @@
 -- change it: the position (0) who finds it unlocked, by locking it, and then its locker alone, who
 -- alone stores the last start (1) too; an insertion lock (2 to 9) or a turn (10, 11) who finds it
 -- 0, and then its holder alone; the initialised end (12), the buffers' ends and, to make it 0, a
--- word of the ring who has the turn to map; 13 to 16 who has the writer in hand; else a word of the
--- ring the copy whose word it is.
+-- word of the ring who has the turn to map; 13 to 16 who has the writer in hand; the last one
+-- anybody, who only raises it; else a word of the ring the copy whose word it is.
 use Rattle.std.specs.Prelude.{ℕ, ◌+◌, ◌*◌, List, slice_index}
 use Rattle.byte_position.specs.Position.{end_address_of, first_position, usable_bytes_in_segment}
 use Rattle.wal_page.specs.Order.{Entry}
@@ -19,7 +19,8 @@ abbrev pub prev_word : List ℕ → ℕ
 prev_word words = slice_index words 1
 
 -- an insertion lock: 0 where it is free, 1 where it is held and nothing is told, else one more than
--- an address below which all words of the holder's record are copied
+-- an address below which all words of the holder's record are copied, or, where it has none yet,
+-- below which none of it will lie
 abbrev pub lock_word : List ℕ → ℕ → ℕ
 lock_word words lock = slice_index words (2 + lock)
 
@@ -58,9 +59,16 @@ end_word words buffer = slice_index words (17 + buffer)
 abbrev pub word_of_ring : Setup → List ℕ → ℕ → ℕ
 word_of_ring setup words k = slice_index words (17 + setup.ring_pages + k)
 
+-- the last word: the address up to which commits may have been answered that are not durable yet
+abbrev pub async_number : Setup → ℕ
+async_number setup = 17 + setup.ring_pages + setup.ring_pages * 1024
+
+abbrev pub async_word : Setup → List ℕ → ℕ
+async_word setup words = slice_index words (async_number setup)
+
 -- how many words there are
 abbrev pub word_count : Setup → ℕ
-word_count setup = 17 + setup.ring_pages + setup.ring_pages * 1024
+word_count setup = async_number setup + 1
 
 -- the byte position at which the log begins, and the one at which it is full
 abbrev pub log_start : Setup → ℕ
@@ -70,11 +78,12 @@ abbrev pub log_limit : Setup → ℕ
 log_limit setup =
     log_start setup + setup.cap_segments * usable_bytes_in_segment setup.segment_size
 
--- what is fixed of a run: how its log was set up, the entries that it held when it was opened, and
--- the disk's moment and count of faults then
+-- what is fixed of a run: how its log was set up, the entries that it held when it was opened, how
+-- many segments its disk had then, from segment 1 on, and the disk's moment and count of faults
 pub record Opening : Type 0 where
   pub setup : Setup
   pub found : List Entry
+  pub made : ℕ
   pub moment : ℕ
   pub faults : ℕ
 

@@ -22,7 +22,7 @@ use Rattle.word_ring.specs.Copied.{rest_of}
 use Rattle.wal_log.specs.declared.beginning.Begun.{Begun}
 use Rattle.wal_log.specs.declared.beginning.TryErr.{TryErr}
 use Rattle.wal_log.specs.declared.beginning.TryErr.TheVariants as tries
-use Rattle.wal_log.specs.Beginning.{AnswersBeginTry, IsPlaceBegun, TellsBeginTry, try_err_of_reserve}
+use Rattle.wal_log.specs.Beginning.{AnswersBeginTry, IsPlaceBegun, TellsBeginTry, TriesInVain, try_err_of_reserve}
 use Rattle.wal_log.specs.Downs.{KnowsNoFault}
 use Rattle.wal_log.specs.Inserting.{FindsLogFull, HasReserved}
 use Rattle.wal_log.specs.PassLogs.{log_of_pass, log_with_entry, log_with_full}
@@ -181,7 +181,14 @@ module _ (setup : Setup) (body : Assembled) (old between : View) where
 
   tells_in_vain : KnowsNoFault old → (e : ReserveErr) → TellsWhy setup body old between e
       → TellsBeginTry setup body old (rested between) (try_err_of_reserve e)
-  tells_in_vain up (Busy seen) why = ap (λ (v : View). log_of_pass v) why.new_is
+  tells_in_vain up (Busy seen) why =
+      let still = up_in_vain up (Busy seen) why in (
+        (old, between, why),
+        record {
+          up = record { met = still.met; set = still.set };
+          log_is = ap (λ (v : View). log_of_pass v) why.new_is;
+        },
+      )
   tells_in_vain up (Full free) why =
       let still = up_in_vain up (Full free) why in (
         record {
@@ -265,10 +272,13 @@ module _ (setup : Setup) (body : Assembled) (old between new : View)
     log_is = f.log_is ∙ ap (log_with_full f.at) same;
   }
 
+  vain_since : TriesInVain between new → TriesInVain old new
+  vain_since vain = record { up = vain.up; log_is = vain.log_is ∙ same }
+
   pub try_since : between.writing.down_set ≡ old.writing.down_set → (e : TryErr)
       → TellsBeginTry setup body between new e → TellsBeginTry setup body old new e
-  try_since set_none (tries.Busy seen) told = told ∙ same
-  try_since set_none (tries.AllHeld held) told = (told.0, told.1 ∙ same)
+  try_since set_none (tries.Busy seen) told = (told.0, vain_since told.1)
+  try_since set_none (tries.AllHeld held) told = (told.0, vain_since told.1)
   try_since set_none (tries.Full free) told = (full_since free told.0, told.1)
   try_since set_none (tries.Down faults) told =
       (meets_since old between new faults set_none told.0, told.1 ∙ same)
@@ -309,6 +319,13 @@ module _ (old loaded : View) (met : ℕ) (load : loaded ≡ view_behind old load
         stage = rests.stage;
         hold = rests.hold;
       })
+
+  -- no lock was taken
+  pub vain_loaded : met ≡ 0 → (new : View) → new ≡ loaded → TriesInVain old new
+  vain_loaded none_met new is = record {
+    up = subst KnowsNoFault (sym is) (none_loaded old met loaded load known none_met);
+    log_is = ap (λ (v : View). log_of_pass v) is ∙ loaded_log;
+  }
 
   module _ (lock : ℕ) (taken : View) (take : taken ≡ with_lock lock loaded) where
     pub taken_sets_none : taken.writing.down_set ≡ old.writing.down_set

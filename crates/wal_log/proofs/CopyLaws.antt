@@ -13,26 +13,24 @@ use Rattle.wal_page.specs.Order.{Entry, IsChained, end_position, finish_of, posi
 use Rattle.wal_page.specs.EntryWords.{address_of_word, words_owned}
 use Rattle.wal_page.specs.Placed.{PlacedState, placed_end}
 use Rattle.wal_page.proofs.OrderLaws.{FollowsFrom-parts, rooms_of-append, rooms_of_cons}
+use Rattle.wal_core.specs.Moves.{after_advance}
 use Rattle.wal_core.specs.declared.setup.Setup.{Setup}
 use Rattle.wal_core.specs.Ringed.{IsOfOrder}
 use Rattle.wal_core.specs.Sound.{IsSound}
 use Rattle.wal_core.specs.Views.{Copy, Copying, Flight, HasAt, Working, flight_of, View}
 use Rattle.machine_laws.proofs.RingLaws.{copy-whole, last_word-ends}
 use Rattle.wal_rule.specs.Stepping.{Stands}
-use Rattle.word_ring.specs.declared.copying.Copied.{Copied}
-use Rattle.word_ring.specs.declared.mapping.MapTry.{MapTry}
-use Rattle.word_ring.specs.declared.mapping.MapTry.TheVariants.{Mapped, There, Taken, Unwritten}
-use Rattle.word_ring.specs.Copied.{CopiesPage, copied_view, further, rest_of}
-use Rattle.word_ring.specs.Mapped.{IsOldPageUnwritten, TriesMapping, looked_view}
-use Rattle.word_ring.specs.Ring.{confirmed_view, end_of_page}
+use Rattle.word_ring.specs.Copied.{CopiesPage, IsRestOf, copied_view, further, rest_of}
+use Rattle.word_ring.specs.Mapped.{IsOldPageUnwritten}
+use Rattle.word_ring.specs.Ring.{end_of_page}
 use Rattle.wal_rule.specs.declared.seated.SeatedPass.{SeatedPass}
-use Rattle.wal_rule.specs.SeatedPasses.{StaysSeated, setup_of, view_of}
-use Rattle.wal_log.specs.Copying.{CopyGoesOn, IsSamePlace}
+use Rattle.wal_rule.specs.SeatedPasses.{HasView, StaysSeated, setup_of, view_of}
+use Rattle.wal_log.specs.Copying.{CopyGoesOn, IsSamePlace, MapsPage, mapped_view}
 use Rattle.wal_log.specs.Downs.{KnowsNoFault}
 use Rattle.wal_log.specs.PassLogs.{log_of_pass}
 use Rattle.wal_log.specs.Standing.{CopiesAlone, CopiesUnderOneLock, GoesOnSeated, HasNoTurn, KeepsPass, KeepsWork}
-use Rattle.wal_log.proofs.Keeping.{copies_stay, further_pass, same_pass}
-use Rattle.wal_log.proofs.Seated.{further_seated, own_setup, same_setup}
+use Rattle.wal_log.proofs.Keeping.{copies_stay, further_pass, same_pass, told_pass}
+use Rattle.wal_log.proofs.Seated.{further_seated, own_setup, same_setup, seat_stays, view_is}
 
 -- an entry in flight ends at the order's end or before
 entry-within : (size : ℕ) (order : List Entry) → IsChained size order → (c : Copy)
@@ -142,33 +140,9 @@ module _ (setup : Setup) (p : PlacedState) (v : View) where
     log_is = refl;
   }
 
-  pub confirmed_stays : (end : ℕ) → StaysCopying setup p p v (confirmed_view end v)
-  confirmed_stays end = record {
-    copies = λ lock c. record {
-      copy = c.copy;
-      working = c.working;
-      under = c.under;
-      rest = c.rest;
-      place = c.place;
-      stage = c.stage;
-      hold = c.hold;
-    };
-    keeps = record {
-      opening = refl;
-      live = refl;
-      number = refl;
-      spare = refl;
-      spare_end = refl;
-      joined = refl;
-      rises = omega arith;
-      down = λ faults knows. knows;
-    };
-    up = λ up. record { met = up.met; set = up.set };
-    log_is = refl;
-  }
-
-  pub looked_stays : (at written : ℕ) → StaysCopying setup p p v (looked_view at written v)
-  looked_stays at written = record {
+  pub mapped_stays : (confirmed written : ℕ)
+      → StaysCopying setup p p v (mapped_view confirmed written v)
+  mapped_stays confirmed written = record {
     copies = λ lock c. record {
       copy = c.copy;
       working = c.working;
@@ -234,38 +208,6 @@ module _ (setup : Setup) (p q r : PlacedState) (u v w : View) where
     up = λ up. y.up (x.up up);
     log_is = y.log_is ∙ x.log_is;
   }
-
--- a page's end is met, and then its words are copied, or one try is made to map a page
-module _ (setup : Setup) (p : PlacedState) (old met new : View) (end : ℕ)
-    (is : met ≡ confirmed_view end old) where
-  met_stays : StaysCopying setup p p old met
-  met_stays = subst (λ (w : View). StaysCopying setup p p old w) (sym is)
-      (confirmed_stays setup p old end)
-
-  pub page_copied : (q : PlacedState) (stop : Copied) → CopiesPage met new p q stop
-      → StaysCopying setup p q old new
-  page_copied q stop k = stays_on setup p p q old met new met_stays
-      (subst (λ (w : View). StaysCopying setup p q met w) (sym k.view_is)
-      (subst (λ (s : PlacedState). StaysCopying setup p s met (copied_view k.count met))
-      (sym k.placed_is) (copied_stays setup p met k.count)))
-
-  tried : (page : ℕ) (t : MapTry) → TriesMapping setup page met new t
-      → StaysCopying setup p p met new
-  tried page Mapped k = subst (λ (w : View). StaysCopying setup p p met w) (sym k.3)
-      (stays_on setup p p p met (looked_view k.0 k.1 met)
-      (confirmed_view (k.0 + 8192) (looked_view k.0 k.1 met))
-      (looked_stays setup p met k.0 k.1)
-      (confirmed_stays setup p (looked_view k.0 k.1 met) (k.0 + 8192)))
-  tried page There k = subst (λ (w : View). StaysCopying setup p p met w) (sym k.3)
-      (looked_stays setup p met k.0 k.1)
-  tried page (Taken turn) k = subst (λ (w : View). StaysCopying setup p p met w)
-      (sym k.1) (stays setup p met)
-  tried page (Unwritten told) k = subst (λ (w : View). StaysCopying setup p p met w)
-      (sym k.3) (looked_stays setup p met k.0 told)
-
-  pub map_tried : (page : ℕ) (t : MapTry) → TriesMapping setup page met new t
-      → StaysCopying setup p p old new
-  map_tried page t k = stays_on setup p p p old met new met_stays (tried page t k)
 
 -- what is written ends far below the last address, where a page that is asked for does
 pub written_low : (setup : Setup) (page at told : ℕ) → page < 2 ^ 40 → at < end_of_page page
@@ -339,3 +281,44 @@ copied_on p q r a b c x y = record {
 pub stood_still : {D : Type 0} → (p : PlacedState) (a b : SeatedPass D) → GoesOnSeated a b
     → log_of_pass (view_of b) ≡ log_of_pass (view_of a) → CopyGoesOn p p a b
 stood_still p a b goes_on same = record { place = refl; goes_on = goes_on; log = same }
+
+-- ---- a page is reached, and its words are copied
+
+-- the words that are left of a pass's copy are those of its record
+pub alone_rest : {D : Type 0} → (v : SeatedPass D) (lock : ℕ) (p : PlacedState)
+    → CopiesAlone lock p v → IsRestOf (setup_of v) (view_of v) p
+alone_rest v lock p c = (
+  (c.under).copy,
+  ap (λ (w : Working). w.flight) (c.under).working,
+  (c.under).rest,
+)
+
+pub reached_stays : {D : Type 0} → (p : PlacedState) (a b : SeatedPass D) → MapsPage a b
+    → StaysCopying (setup_of a) p p (view_of a) (view_of b)
+reached_stays p a b maps = subst (λ (w : View). StaysCopying (setup_of a) p p (view_of a) w)
+    (sym maps.view_is) (mapped_stays (setup_of a) p (view_of a) maps.confirmed maps.written)
+
+pub page_stays : {D : Type 0} → (p q : PlacedState) (a b c : SeatedPass D) (most count : ℕ)
+    → MapsPage a b → CopiesPage most count (view_of b) (view_of c) p q
+    → StaysCopying (setup_of a) p q (view_of a) (view_of c)
+page_stays p q a b c most count maps k =
+    stays_on (setup_of a) p p q (view_of a) (view_of b) (view_of c) (reached_stays p a b maps)
+    (subst (λ (w : View). StaysCopying (setup_of a) p q (view_of b) w) (sym k.view_is)
+    (subst (λ (s : PlacedState).
+    StaysCopying (setup_of a) p s (view_of b) (copied_view count (view_of b)))
+    (sym k.placed_is) (copied_stays (setup_of a) p (view_of b) count)))
+
+-- a pass as it was, and one that has told how far its copy is
+pub goes_on_itself : {D : Type 0} → (a : SeatedPass D) → GoesOnSeated a a
+goes_on_itself a = record {
+  stays = record { same_table = refl; same_hand = refl };
+  keeps = same_pass (view_of a);
+}
+
+pub told_keeps : {D : Type 0} → (a b : SeatedPass D) (upto : ℕ)
+    → HasView (after_advance upto (view_of a)) a b → GoesOnSeated a b
+told_keeps a b upto has = record {
+  stays = seat_stays has;
+  keeps = subst (λ (w : View). KeepsPass (view_of a) w) (sym (view_is has))
+      (told_pass upto (view_of a));
+}

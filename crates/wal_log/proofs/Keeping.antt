@@ -3,7 +3,7 @@ use Rattle.std.proofs.Common.{◌≡◌, ◌⊎◌, inl, inr, ℕ, refl, sym, ap
 use mathlib.Core.Logic.{dite}
 use mathlib.Core.Option.{none}
 use native.Mathlib.Decide.{ℕ_discrete}
-use Rattle.wal_core.specs.Moves.{with_hold}
+use Rattle.wal_core.specs.Moves.{after_advance, with_hold}
 use Rattle.wal_core.specs.Steps.{IsResting, load_down, view_behind}
 use Rattle.wal_core.specs.declared.setup.Setup.{Setup}
 use Rattle.wal_core.specs.Views.{Idle, Hold, View, Working}
@@ -21,6 +21,19 @@ use Rattle.wal_log.proofs.Plain.{down_loaded}
 
 pub same_pass : (v : View) → KeepsPass v v
 same_pass v = record {
+  opening = refl;
+  live = refl;
+  number = refl;
+  spare = refl;
+  spare_end = refl;
+  joined = refl;
+  rises = omega arith;
+  down = λ faults knows. knows;
+}
+
+-- what a lock was told changes nothing of that
+pub told_pass : (upto : ℕ) (v : View) → KeepsPass v (after_advance upto v)
+told_pass upto v = record {
   opening = refl;
   live = refl;
   number = refl;

@@ -4,11 +4,13 @@ pub mod Closes
 pub mod CommitLaws
 pub mod CopyLaws
 pub mod FlushLaws
+pub mod FlightLaws
 pub mod InHandLaws
 pub mod InsertLaws
 pub mod Keeping
 pub mod NextWord
 pub mod Opens
+pub mod PageLaws
 pub mod Passing
 pub mod Plain
 pub mod Trying

@@ -5,7 +5,10 @@ use Rattle.wal_page.specs.EntryWords.{address_of_word}
 use Rattle.wal_page.specs.Placed.{PlacedState}
 use Rattle.wal_core.specs.declared.setup.Setup.{Setup}
 use Rattle.wal_core.specs.Steps.{advance, MayStep}
-use Rattle.wal_core.specs.Views.{Copy, Copying, Working, View}
+use Rattle.wal_core.specs.Locked.{most_told}
+use Rattle.wal_core.specs.Words.{end_form}
+use Rattle.wal_core.specs.Views.{Copy, Copying, Flight, Working, View}
+use Rattle.machine_laws.proofs.ToldLaws.{told_of_copy}
 use Rattle.wal_rule.specs.declared.seated.SeatedPass.{SeatedPass}
 use Rattle.wal_rule.specs.SeatedPasses.{view_of}
 use Rattle.word_ring.proofs.CopyLaws.{next-whole}
@@ -39,13 +42,14 @@ module _ {D : Type 0} (p : SeatedPass D) (lock : ℕ) (placed : PlacedState)
   pub may_tell : MayStep v (advance lock placed.next)
   may_tell = (
     one_lock (v.working).locks (ap (λ (w : Working). w.locks) (copies.under).working),
-    (
-      copy,
-      flight,
-      (
-        one_lock copy.locks (copies.under).under,
-        omega (arith, next_is),
-        next-whole p placed (copy, flight, (copies.under).rest),
-      ),
-    ),
+    subst (λ (f : Flight). placed.next < most_told ((v.opening).setup).segment_size
+        (end_form (v.opening).setup (v.reserving).seen) lock f) (sym flight)
+        (omega (
+          arith,
+          next_is,
+          told_of_copy ((v.opening).setup).segment_size
+              (end_form (v.opening).setup (v.reserving).seen) copy lock
+              (one_lock copy.locks (copies.under).under),
+        )),
+    next-whole p placed (copy, flight, (copies.under).rest),
   )

@@ -13,11 +13,11 @@ use Rattle.wal_rule.specs.SeatedPasses.{StandsAtRest, setup_of, view_of}
 use Rattle.wal_rule.specs.Tables.{IsPassOn, setup_of_table}
 use Rattle.wal_log.specs.declared.wal.Wal.{Wal}
 use Rattle.wal_log.specs.Logs.{IsPassOfLog, setup_of_log, table_of}
-use Rattle.wal_log.specs.Standing.{ComesToRest}
+use Rattle.wal_log.specs.Standing.{ComesToRest, KeepsPass}
 
 module _ {D : Type 0} (wal : Wal D) (pass : Pass) (seated : SeatedPass D)
     (view : (seated.seat).me ≡ (view_of_pass pass, [])) where
-  seen_is : view_of seated ≡ view_of_pass pass
+  pub seen_is : view_of seated ≡ view_of_pass pass
   seen_is = ap (λ (m : View × List (ℕ × LogWriter D)). m.0) view
 
   -- it begins at rest
@@ -27,26 +27,38 @@ module _ {D : Type 0} (wal : Wal D) (pass : Pass) (seated : SeatedPass D)
     empty = ap (λ (m : View × List (ℕ × LogWriter D)). m.1) view;
   }
 
+  -- a pass goes back with the numbers that it has kept
+  pub numbers_kept : (new : View) → KeepsPass (view_of seated) new → (mid : Pass)
+      → IsPassOn (table_of wal) pass → SamePass pass mid
+      → HasNumbers mid.number mid.spare mid.spare_end new
+  numbers_kept new keeps mid of_log same =
+      let had = of_log.numbers in record {
+        own = same.own ∙ had.own
+            ∙ sym (keeps.number ∙ ap (λ (v : View). (v.reserving).number) seen_is);
+        low = same.low ∙ had.low
+            ∙ sym (keeps.spare ∙ ap (λ (v : View). (v.reserving).spare) seen_is);
+        high = same.high ∙ had.high
+            ∙ sym (keeps.spare_end ∙ ap (λ (v : View). (v.reserving).spare_end) seen_is);
+      }
+
+  -- to the log's table
+  pub back_on : (new : SeatedPass D) → new.table ≡ seated.table
+      → (seated.table).now ≡ table_of wal → (after : Pass) → IsPassOn (new.table).now after
+      → IsPassOn (table_of wal) after
+  back_on new same table after put = subst (λ (t : LogTable D). IsPassOn t after)
+      (ap (λ t. t.now) same ∙ table) put
+
   module _ (new : SeatedPass D) (comes : ComesToRest seated new) where
-    -- with the numbers that the pass has kept
     pub numbers_back : (mid : Pass) → IsPassOfLog wal pass → SamePass pass mid
         → HasNumbers mid.number mid.spare mid.spare_end (view_of new)
     numbers_back mid of_log same =
-        let had = (of_log.of_log).numbers in record {
-          own = same.own ∙ had.own
-              ∙ sym ((comes.keeps).number ∙ ap (λ (v : View). (v.reserving).number) seen_is);
-          low = same.low ∙ had.low
-              ∙ sym ((comes.keeps).spare ∙ ap (λ (v : View). (v.reserving).spare) seen_is);
-          high = same.high ∙ had.high ∙ sym ((comes.keeps).spare_end
-              ∙ ap (λ (v : View). (v.reserving).spare_end) seen_is);
-        }
+        numbers_kept (view_of new) comes.keeps mid of_log.of_log same
 
     module _ (table : (seated.table).now ≡ table_of wal) (after : Pass)
         (back : view_of_pass after ≡ view_of new) where
       pub still_pass : IsPassOn (new.table).now after → IsPassOfLog wal after
       still_pass put = record {
-        of_log = subst (λ (t : LogTable D). IsPassOn t after)
-            (ap (λ t. t.now) comes.same_table ∙ table) put;
+        of_log = back_on new comes.same_table table after put;
         rests = subst IsResting (sym back) (comes.rests).rests;
       }
 

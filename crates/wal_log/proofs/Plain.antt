@@ -3,7 +3,7 @@ use Rattle.std.specs.Prelude.{if◌then◌else◌, ◌==◌}
 use Rattle.std.proofs.Common.{◌≡◌, ◌≢◌, ℕ, Bool, [], ◌∷◌, ◌++◌, length, max, refl, sym, ap, ◌∙◌, ne_eqb}
 use mathlib.Core.Option.{Option, none, some}
 use Rattle.byte_position.specs.Position.{position_of}
-use Rattle.wal_core.specs.Moves.{with_hold}
+use Rattle.wal_core.specs.Moves.{after_advance, with_hold}
 use Rattle.wal_core.specs.Steps.{advance, fault_number, load_down, load_flushed, load_moment, set_down, store_written, take_write_turn, view_behind}
 use Rattle.wal_core.specs.Views.{Turned, Out, Hold, View}
 use Rattle.page_writing.specs.InHand.{lent_in, writer_in}
@@ -34,7 +34,8 @@ module _ (met : ℕ) (v : View) where
   }
   moment_loaded = refl
 
-  pub advanced : (lock upto : ℕ) → view_behind v (advance lock upto) met none ≡ v
+  pub advanced : (lock upto : ℕ)
+      → view_behind v (advance lock upto) met none ≡ after_advance upto v
   advanced lock upto = refl
 
   -- ---- the turn to write

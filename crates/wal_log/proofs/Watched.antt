@@ -1,5 +1,5 @@
 -- What a pass keeps that watches the locks, or sees how far records are reserved.
-use Rattle.std.proofs.Common.{◌≡◌, ◌≢◌, ℕ, ◌≤◌, refl, sym, ap, subst, ◌∙◌, arith}
+use Rattle.std.proofs.Common.{◌≡◌, ◌⊎◌, inl, inr, ℕ, ◌-◌, ◌<◌, ◌≤◌, min, refl, sym, ap, subst, ◌∙◌, arith}
 use Rattle.byte_position.specs.Geometry.{IsSegmentSize}
 use Rattle.byte_position.proofs.EndAddresses.{end_address_of-mono}
 use Rattle.wal_core.specs.Moves.{copied_below, is_own, visited_on}
@@ -9,6 +9,7 @@ use Rattle.wal_rule.specs.declared.seated.SeatedPass.{SeatedPass}
 use Rattle.wal_rule.specs.SeatedPasses.{StaysSeated, view_of}
 use Rattle.insert_locks.specs.Watching.{HasFinished, IsHeldBack, watched_to, with_sight, with_watching}
 use Rattle.wal_log.specs.Downs.{KnowsNoFault}
+use Rattle.wal_log.specs.Flushing.{MeetsHeldLock}
 use Rattle.wal_log.specs.PassLogs.{log_of_pass}
 use Rattle.wal_log.specs.Standing.{AddsNothing, HasNoTurn, KeepsWork}
 
@@ -60,8 +61,19 @@ module _ (upto : ℕ) (old new : View) where
       (visited_on (is_own lock old.working) lock word (watched_to held.end lock held.bound)) old
       new held.rises held.new_is
 
-  pub behind_word : (lock word : ℕ) → IsHeldBack upto lock word old new → word ≢ 0
-  behind_word lock word held = (held.holds_back).0
+  pub behind_word : (lock word : ℕ) → IsHeldBack upto lock word old new
+      → MeetsHeldLock upto lock word
+  behind_word lock word held = record {
+    lock_low = held.lock_low;
+    view = held.before;
+    limit = held.end;
+    met = held.met;
+    holds_back = ((held.holds_back).0, below (held.holds_back).1);
+  }
+    where
+      below : (word ≡ 1) ⊎ (word - 1 < min upto held.end) → (word ≡ 1) ⊎ (word - 1 < upto)
+      below (inl held_so) = inl held_so
+      below (inr low) = inr (omega (arith, low))
 
   module _ (bound : ℕ) (done : HasFinished upto bound old new) where
     pub finished_leaves : LeavesAll old new

@@ -9,7 +9,7 @@ use Rattle.wal_core.specs.Views.{View}
 use Rattle.reserve_lock.specs.declared.reserving.ReserveErr.{ReserveErr}
 use Rattle.reserve_lock.specs.declared.reserving.ReserveErr.TheVariants as reserving
 use Rattle.insert_locks.specs.Taking.{AreHeldWords}
-use Rattle.reserve_lock.specs.Reserved.{placed_first}
+use Rattle.reserve_lock.specs.Reserved.{IsPositionBusy, placed_first}
 use Rattle.wal_log.specs.declared.beginning.Begun.{Begun}
 use Rattle.wal_log.specs.declared.beginning.TryErr.{TryErr}
 use Rattle.wal_log.specs.declared.beginning.TryErr.TheVariants.{Busy, AllHeld, Full, Down}
@@ -32,12 +32,20 @@ pub record IsPlaceBegun (setup : Setup) (body : Assembled) (old new : View) (beg
   pub start_is : begun.start.0 ≡ start_of setup.segment_size entry
   pub end_is : begun.end.0 ≡ placed_end begun.placed
 
+-- the position was met locked, or met as another one where it was to be locked
+abbrev pub IsFoundBusy : ℕ → Type 0
+IsFoundBusy seen = (before : View) × (after : View) × IsPositionBusy seen before after
+
+-- a try added nothing to the pass's log, where the disk had not failed
+pub record TriesInVain (old new : View) : Type 0 where
+  pub up : KnowsNoFault new
+  pub log_is : log_of_pass new ≡ log_of_pass old
+
 -- why nothing was reserved
 abbrev pub TellsBeginTry : Setup → Assembled → View → View → TryErr → Type 0
-TellsBeginTry setup body old new (Busy seen) = log_of_pass new ≡ log_of_pass old
+TellsBeginTry setup body old new (Busy seen) = IsFoundBusy seen × TriesInVain old new
 TellsBeginTry setup body old new (AllHeld held) =
-    ((v : View) × AreHeldWords v held.seen)
-    × (log_of_pass new ≡ log_of_pass old)
+    ((v : View) × AreHeldWords v held.seen) × TriesInVain old new
 TellsBeginTry setup body old new (Full free) =
     FindsLogFull setup body free old new × KnowsNoFault new
 TellsBeginTry setup body old new (Down faults) =

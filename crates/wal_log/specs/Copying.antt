@@ -1,10 +1,18 @@
--- A copy of a record's words, step by step.
-use Rattle.std.specs.Prelude.{◌≡◌, ◌≢◌, ◌<◌, ◌^◌}
+-- A copy of a record's words: how far it came, and why it stopped.
+use Rattle.std.specs.Prelude.{◌≡◌, ◌≢◌, ◌⊎◌, ℕ, ◌+◌, ◌*◌, ◌/◌, ◌%◌, ◌<◌, ◌≤◌, ◌^◌}
 use Rattle.wal_page.specs.Placed.{PlacedState, placed_end}
 use Rattle.wal_rule.specs.declared.seated.SeatedPass.{SeatedPass}
-use Rattle.wal_rule.specs.SeatedPasses.{view_of}
-use Rattle.wal_log.specs.declared.copying.CopyStep.{CopyStep}
-use Rattle.wal_log.specs.declared.copying.CopyStep.TheVariants as steps
+use Rattle.wal_rule.specs.SeatedPasses.{StaysSeated, view_of}
+use Rattle.wal_rule.specs.Stepping.{Meets}
+use Rattle.wal_core.specs.declared.setup.Setup.{Setup}
+use Rattle.wal_core.specs.Steps.{load_buffer_end, take_mapping_turn}
+use Rattle.wal_core.specs.Views.{View}
+use Rattle.word_ring.specs.Mapped.{IsOldPageUnwritten, LooksAt}
+use Rattle.word_ring.specs.Ring.{end_of_page}
+use Rattle.wal_log.specs.declared.copying.Absent.{Absent}
+use Rattle.wal_log.specs.declared.copying.Copied.{Copied}
+use Rattle.wal_log.specs.declared.copying.CopyStop.{CopyStop}
+use Rattle.wal_log.specs.declared.copying.CopyStop.TheVariants as stops
 use Rattle.wal_log.specs.PassLogs.{log_of_pass}
 use Rattle.wal_log.specs.Standing.{GoesOnSeated}
 
@@ -20,10 +28,83 @@ pub record CopyGoesOn {D : Type 0} (placed_old placed_new : PlacedState) (old ne
   pub goes_on : GoesOnSeated old new
   pub log : log_of_pass (view_of new) ≡ log_of_pass (view_of old)
 
--- how far a step came: no word is left just where it says so; the turn to map was taken; what is
--- written ends far below the last address
-abbrev pub TellsStep : PlacedState → PlacedState → CopyStep → Type 0
-TellsStep old new steps.Whole = new.next ≡ placed_end old
-TellsStep old new steps.GoesOn = Unit {0}
-TellsStep old new (steps.Taken turn) = (turn ≢ 0) × (new ≡ old)
-TellsStep old new (steps.Unwritten written) = (written < 2 ^ 60) × (new ≡ old)
+-- ---- pages
+
+-- of a view: it met this as the highest end of a page, and as written
+abbrev pub mapped_view : (confirmed written : ℕ) → View → View
+mapped_view confirmed written v = record v {
+  mapping = record v.mapping { confirmed = confirmed };
+  writing = record v.writing { written = written };
+}
+
+-- of a pass at most the highest end met, which is no less, and the written address loaded changed
+pub record MapsPage {D : Type 0} (old new : SeatedPass D) : Type 0 where
+  pub stays : StaysSeated old new
+  pub confirmed : ℕ
+  pub written : ℕ
+  pub view_is : view_of new ≡ mapped_view confirmed written (view_of old)
+  pub rises : ((view_of old).mapping).confirmed ≤ confirmed
+
+-- the end word of a page's buffer was met, and is not the page's own
+pub record MeetsOther (setup : Setup) (page end : ℕ) : Type 0 where
+  pub view : View
+  pub met : Meets view (load_buffer_end (page % setup.ring_pages)) end
+  pub other : end ≢ end_of_page page
+
+-- the turn to map was somebody else's, whose word was met
+pub record MeetsMapper (turn : ℕ) : Type 0 where
+  pub view : View
+  pub met : Meets view take_mapping_turn turn
+  pub taken : turn ≢ 0
+
+-- with the turn to map had, the initialised end and the written address were met, and the page that
+-- begins at that end, which lies before this one's, has a buffer whose page ends above the other
+pub record MeetsOldPage (setup : Setup) (page written : ℕ) : Type 0 where
+  pub view : View
+  pub at : ℕ
+  pub looks : LooksAt view at written
+  pub below : at < end_of_page page
+  pub old : IsOldPageUnwritten setup at written
+
+-- why a page was not mapped: the turn was taken, or the page to be replaced is not written
+abbrev pub IsInTheWay : Setup → (page turn written : ℕ) → Type 0
+IsInTheWay setup page turn written = (MeetsMapper turn × (written ≡ 0))
+    ⊎ ((turn ≡ 0) × MeetsOldPage setup page written)
+
+-- the page is not in its buffer, and could not be mapped
+pub record TellsAbsent (setup : Setup) (page : ℕ) (absent : Absent) : Type 0 where
+  pub page_is : absent.page ≡ page
+  pub other : MeetsOther setup page absent.end
+  pub why : IsInTheWay setup page absent.turn absent.written
+  pub low : absent.written < 2 ^ 60
+
+-- ---- words
+
+-- so many words were copied, one at least and as many as were asked for at most
+pub record CopiesSome (most count : ℕ) (old new : PlacedState) : Type 0 where
+  pub some : 0 < count
+  pub few : count ≤ most
+  pub next_is : new ≡ record old { next = old.next + 8 * count }
+  pub within : new.next ≤ placed_end old
+
+-- a word is left, and none was copied: none was asked for, or its page could not be mapped
+abbrev pub StopsAtOnce : Setup → (most : ℕ) → PlacedState → CopyStop → Type 0
+StopsAtOnce setup most placed stops.Asked = most ≡ 0
+StopsAtOnce setup most placed stops.Whole = ⊥
+StopsAtOnce setup most placed (stops.Absent absent) =
+    (0 < most) × TellsAbsent setup (placed.next / 8192) absent
+
+-- why a copy stopped behind `k` words, of which so many at most were asked for: these, and words
+-- are left; no word is left; or fewer, since the page of the next one could not be mapped
+abbrev pub TellsStop : Setup → (most k : ℕ) → PlacedState → CopyStop → Type 0
+TellsStop setup most k placed stops.Asked = (k ≡ most) × (placed.next < placed_end placed)
+TellsStop setup most k placed stops.Whole = placed.next ≡ placed_end placed
+TellsStop setup most k placed (stops.Absent absent) = (k < most)
+    × (placed.next < placed_end placed) × TellsAbsent setup (placed.next / 8192) absent
+
+-- so many words were copied, in order, and why it stopped there
+pub record CopiesFront (setup : Setup) (most : ℕ) (old new : PlacedState) (copied : Copied) : Type 0
+  where
+    pub few : copied.k ≤ most
+    pub next_is : new ≡ record old { next = old.next + 8 * copied.k }
+    pub stop : TellsStop setup most copied.k new copied.stop

@@ -24,3 +24,8 @@ pub record SetsDownItself (faults : ℕ) (v : View) : Type 0 where
 abbrev pub MeetsFault : View → View → Fault → Type 0
 MeetsFault old new (Disk faults) = SetsDownItself faults new
 MeetsFault old new (Down faults) = MeetsDown faults old new
+
+-- what is told where no device call is made: it met the down value
+abbrev pub FindsDown : View → View → Fault → Type 0
+FindsDown old new (Disk faults) = ⊥
+FindsDown old new (Down faults) = MeetsDown faults old new

@@ -1,9 +1,12 @@
 -- What a flush answers, and what it leaves of its pass.
-use Rattle.std.specs.Prelude.{◌≡◌, ◌≢◌, ◌⊎◌, ℕ, ◌<◌, ◌≤◌, Result, Ok, Err}
+use Rattle.std.specs.Prelude.{◌≡◌, ◌⊎◌, ℕ, ◌<◌, ◌≤◌, Result, Ok, Err}
+use mathlib.Core.Option.{none}
 use Rattle.byte_position.specs.Position.{position_of}
 use Rattle.wal_types.specs.declared.answers.Hard.{Hard}
+use Rattle.wal_core.specs.Steps.{load_flushed, load_lock, load_moment, view_behind}
 use Rattle.wal_core.specs.Words.{end_form}
-use Rattle.insert_locks.specs.Watching.{SeesPosition}
+use Rattle.wal_rule.specs.Stepping.{Meets}
+use Rattle.insert_locks.specs.Watching.{HoldsBack, SeesPosition}
 use Rattle.wal_core.specs.Views.{View}
 use Rattle.wal_log.specs.declared.fault.Fault.{Fault}
 use Rattle.wal_log.specs.declared.fault.Fault.TheVariants as faults
@@ -14,7 +17,7 @@ use Rattle.wal_log.specs.declared.flushing.TryFlushErr.TheVariants as tries
 use Rattle.wal_log.specs.declared.flushing.FlushErr.{FlushErr}
 use Rattle.wal_log.specs.declared.flushing.FlushErr.TheVariants.{Unreserved, Disk, Down}
 use Rattle.wal_log.specs.Downs.{KnowsNoFault, MeetsDown, SetsDownItself}
-use Rattle.wal_log.specs.Hands.{IsLatestPromise}
+use Rattle.wal_log.specs.Hands.{IsLatestPromise, MeetsWriteTurn}
 use Rattle.wal_log.specs.PassLogs.{log_of_pass, log_with_promise}
 
 -- all below an address, which is at least the one asked for, is told to be durable from a moment
@@ -26,6 +29,16 @@ pub record IsToldHard (asked upto moment : ℕ) (old new : View) : Type 0 where
   pub since : (old.opening).moment ≤ moment
   pub latest : IsLatestPromise upto moment old
   pub up : KnowsNoFault new
+  pub seen : position_of ((old.opening).setup).segment_size upto ≤ (new.reserving).seen
+
+-- what was met as flushed, and the moment that was met behind it, are told; nothing that was told
+-- before names more or a later moment
+pub record TellsHard (upto moment : ℕ) (old new : View) : Type 0 where
+  pub flushed_met : Meets old load_flushed upto
+  pub moment_met : Meets (view_behind old load_flushed upto none) load_moment moment
+  pub log_is : log_of_pass new ≡ log_with_promise upto moment (log_of_pass old)
+  pub since : (old.opening).moment ≤ moment
+  pub latest : IsLatestPromise upto moment old
   pub seen : position_of ((old.opening).setup).segment_size upto ≤ (new.reserving).seen
 
 -- the address asked for is above the end of what was reserved, as a load of the position met it,
@@ -67,28 +80,40 @@ TellsFlushErr asked old new (Disk faults) = FailsItsFlush asked faults old new
 TellsFlushErr asked old new (Down faults) = MeetsDown faults old new
 TellsFlushErr asked old new (Unreserved end) = IsUnreserved asked end.0 old new
 
+-- a lock's word was met, and its holder tells nothing, or that all is copied below a lesser address
+-- than the one asked for
+pub record MeetsHeldLock (asked lock word : ℕ) : Type 0 where
+  pub lock_low : lock < 8
+  pub view : View
+  pub limit : ℕ
+  pub met : Meets view (load_lock lock limit) word
+  pub holds_back : HoldsBack asked word
+
 -- why one try told nothing: the pass's log is as it was
 abbrev pub TellsFlushTry : ℕ → View → View → TryFlushErr → Type 0
 TellsFlushTry asked old new (tries.Fault fault) =
     TellsFlushErr asked old new (flush_err_of_fault fault)
 TellsFlushTry asked old new (tries.Unreserved end) = IsUnreserved asked end.0 old new
 TellsFlushTry asked old new (tries.Behind lock word) =
-    (word ≢ 0) × (new.writing.flushed < asked) × KnowsNoFault new
+    MeetsHeldLock asked lock word × (new.writing.flushed < asked) × KnowsNoFault new
 TellsFlushTry asked old new (tries.Turn turn) =
-    (turn ≢ 0) × (new.writing.flushed < asked) × KnowsNoFault new
+    MeetsWriteTurn turn × (new.writing.flushed < asked) × KnowsNoFault new
+
+-- all below an address is told to be durable; where the flushed address that was loaded has reached
+-- the one asked for, it is that one
+abbrev pub HasReached : ℕ → Hard → View → View → Type 0
+HasReached asked hard old new = IsToldHard asked hard.upto.0 hard.moment old new
+    × ((hard.upto.0 ≡ new.writing.flushed) ⊎ (new.writing.flushed < asked))
 
 -- what one try answers: the address asked for, the pass's view before it, the answer, and the view
--- after it; where the flushed address that it loaded has reached the one asked for, it tells that
+-- after it
 abbrev pub AnswersFlushTry : ℕ → View → Result Hard TryFlushErr → View → Type 0
-AnswersFlushTry asked old (Ok hard) new = IsToldHard asked hard.upto.0 hard.moment old new
-    × ((hard.upto.0 ≡ new.writing.flushed) ⊎ (new.writing.flushed < asked))
+AnswersFlushTry asked old (Ok hard) new = HasReached asked hard old new
 AnswersFlushTry asked old (Err e) new =
     TellsFlushTry asked old new e × (log_of_pass new ≡ log_of_pass old)
 
--- flush: the address asked for, the pass's view before it, the answer, and the view after it. Where
--- the flushed address that it loaded has reached the one asked for, it tells that
+-- flush: the address asked for, the pass's view before it, the answer, and the view after it
 abbrev pub AnswersFlush : ℕ → View → Result Hard FlushErr → View → Type 0
-AnswersFlush asked old (Ok hard) new = IsToldHard asked hard.upto.0 hard.moment old new
-    × ((hard.upto.0 ≡ new.writing.flushed) ⊎ (new.writing.flushed < asked))
+AnswersFlush asked old (Ok hard) new = HasReached asked hard old new
 AnswersFlush asked old (Err e) new =
     (log_of_pass new ≡ log_of_pass old) × TellsFlushErr asked old new e

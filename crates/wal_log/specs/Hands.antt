@@ -1,18 +1,26 @@
 -- The writer in hand, between taking the turn to write and giving it back.
 use Rattle.std.specs.Prelude.{◌≡◌, ◌≢◌, ℕ, ◌≤◌, All, Option}
 use Rattle.segment_disk.specs.Tape.{Tape}
+use Rattle.wal_core.specs.Steps.{take_write_turn}
 use Rattle.wal_core.specs.Views.{FlushPromise, Idle, View}
 use Rattle.wal_rule.specs.declared.seated.SeatedPass.{SeatedPass}
 use Rattle.wal_rule.specs.SeatedPasses.{view_of}
+use Rattle.wal_rule.specs.Stepping.{Meets}
 use Rattle.page_writing.specs.InHand.{IsReady, lent_in, writer_in}
 use Rattle.wal_log.specs.declared.turns.TurnErr.{TurnErr}
 use Rattle.wal_log.specs.declared.turns.TurnErr.TheVariants.{Fault, Taken}
 use Rattle.wal_log.specs.Downs.{KnowsNoFault, MeetsFault}
 
+-- somebody had the turn to write: its word was met, and is not 0
+pub record MeetsWriteTurn (turn : ℕ) : Type 0 where
+  pub view : View
+  pub met : Meets view take_write_turn turn
+  pub taken : turn ≢ 0
+
 -- why the turn to write was not had: the disk has failed, or it was taken
 abbrev pub TellsTurnErr : View → View → TurnErr → Type 0
 TellsTurnErr old new (Fault fault) = MeetsFault old new fault
-TellsTurnErr old new (Taken turn) = (turn ≢ 0) × KnowsNoFault new
+TellsTurnErr old new (Taken turn) = MeetsWriteTurn turn × KnowsNoFault new
 
 -- the writer is in hand and no call of it has failed, all that it has written is stored, and the
 -- disk is not known to have failed

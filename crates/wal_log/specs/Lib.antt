@@ -10,5 +10,6 @@ pub mod Inserting
 pub mod Beginning
 pub mod Copying
 pub mod Committing
+pub mod Flights
 pub mod Closing
 pub mod Sharing

@@ -5,6 +5,6 @@ pub use Rattle.wal_core.specs.PassLogs.{PassLog, log_with_entry, log_with_full, 
 abbrev pub log_of_pass : View → PassLog
 log_of_pass v = record {
   entries = (v.reserving).entries;
-  filled = (v.reserving).filled;
+  stops = (v.reserving).stops;
   promises = v.writing.promises;
 }

@@ -8,6 +8,7 @@ use Rattle.wal_log.specs.declared.turns.TurnErr.TheVariants as turns
 use Rattle.wal_log.specs.declared.writing.WriteErr.{WriteErr}
 use Rattle.wal_log.specs.declared.writing.WriteErr.TheVariants.{Fault, Behind, Turn}
 use Rattle.wal_log.specs.Downs.{KnowsNoFault, MeetsFault}
+use Rattle.wal_log.specs.Hands.{MeetsWriteTurn}
 
 -- the turn to write was not had
 abbrev pub write_err_of_turn : TurnErr → WriteErr
@@ -18,7 +19,7 @@ write_err_of_turn (turns.Taken turn) = Turn turn
 abbrev pub TellsWriteErr : View → View → WriteErr → Type 0
 TellsWriteErr old new (Fault fault) = MeetsFault old new fault
 TellsWriteErr old new (Behind lock word) = (word ≢ 0) × KnowsNoFault new
-TellsWriteErr old new (Turn turn) = (turn ≢ 0) × KnowsNoFault new
+TellsWriteErr old new (Turn turn) = MeetsWriteTurn turn × KnowsNoFault new
 
 -- what the writer in hand has written is stored; all else is as it was
 abbrev pub stored_view : View → View

@@ -1,15 +1,19 @@
 // A reserved record's words are copied, page by page (PostgreSQL's xlog.c, CopyXLogRecordToWAL,
 // GetXLogBuffer). The record is in flight under one insertion lock, which stays held. Of the page
 // of its next word the buffer's end is loaded: if it is the page's own, the words are stored, else
-// one page is mapped and the end loaded again. If somebody else has the turn to map, or the page to
-// be replaced is not written, the pass tells its progress under its lock, which PostgreSQL does
-// before it maps any page (WALInsertLockUpdateInsertingAt): a lock that tells nothing holds every
-// watcher back, also one that would write that page. Then it loads down (word 16) before it pauses.
-ghost use Rattle.std.specs.Prelude.{◌≡◌, MatchResult};
+// one page is mapped and the end loaded again. A copy stops where so many words are copied as were
+// asked for, where somebody else has the turn to map, or where the page to be replaced is not
+// written. Where words are left it tells its progress under its lock, which PostgreSQL does before
+// it maps any page (WALInsertLockUpdateInsertingAt): a lock that tells nothing holds every watcher
+// back, also one that would write that page. An insert goes on from there: it loads down (word 16)
+// before it pauses.
+ghost use Rattle.std.specs.Prelude.{◌≡◌, ◌<◌, ◌≤◌, ◌^◌, MatchResult};
+ghost use Rattle.wal_core.specs.Views.{Away};
 ghost use Rattle.wal_page.specs.Placed.{placed_end};
-ghost use Rattle.wal_rule.specs.SeatedPasses.{view_of};
-ghost use Rattle.wal_log.specs.Copying.{CopyGoesOn, TellsStep};
-ghost use Rattle.wal_log.specs.Downs.{KnowsNoFault, MeetsFault};
+ghost use Rattle.wal_rule.specs.SeatedPasses.{setup_of, view_of};
+ghost use Rattle.word_ring.specs.Ring.{end_of_page};
+ghost use Rattle.wal_log.specs.Copying.{CopiesFront, CopiesSome, CopyGoesOn, MapsPage, StopsAtOnce, TellsAbsent};
+ghost use Rattle.wal_log.specs.Downs.{FindsDown, KnowsNoFault, MeetsFault};
 ghost use Rattle.wal_log.specs.PassLogs.{log_of_pass};
 ghost use Rattle.wal_log.specs.Standing.{CopiesAlone, GoesOnSeated, StaysAtWork};
 
@@ -22,24 +26,41 @@ use std::sync::Wait;
 use wal_page::Placed;
 use wal_rule::SeatedPass;
 use wal_types::Lsn;
-use word_ring::{Copied, MapTry, Presence, confirm, copy_page, try_map};
+use word_ring::{MapTry, Presence, confirm, copy_page, try_map};
 
-/// How far one step of a copy came.
+/// Why a copy stopped.
 #[derive(Clone, Copy, Debug, PartialEq, Eq)]
-pub enum CopyStep {
+pub enum CopyStop {
+    /// So many words are copied as were asked for, and more are left.
+    Asked,
     /// No word is left.
     Whole,
-    /// A page's words are copied, or a page is mapped.
-    GoesOn,
-    /// Somebody has the turn to map: the turn's word.
-    Taken { turn: u64 },
-    /// The page that is to be replaced is not all written: the written address.
-    Unwritten { written: u64 },
+    /// The page of the next word could not be mapped.
+    Absent(Absent),
+}
+
+/// A page that is in no buffer, and could not be mapped.
+#[derive(Clone, Copy, Debug, PartialEq, Eq)]
+pub struct Absent {
+    /// The page, counted from the log's address 0.
+    pub page: u64,
+    /// The end of the page that its buffer held, 0 for none.
+    pub end: u64,
+    /// The turn's word, where somebody had the turn to map; else 0.
+    pub turn: u64,
+    /// Where nobody had it, the written address: the page to be replaced ends above it.
+    pub written: u64,
+}
+
+/// How many words a copy stored, and why it stopped.
+#[derive(Clone, Copy, Debug, PartialEq, Eq)]
+pub struct Copied {
+    pub k: u32,
+    pub stop: CopyStop,
 }
 
 // Copies a record's words, as long as any is left. Where a page's buffer is wanted whose page is
-// not written, it writes that itself. Before it waits it tells its progress: a lock that tells
-// nothing holds every watcher back. The record's last word ends at `end`.
+// not written, it writes that itself. The record's last word ends at `end`.
 pub(crate) fn copy_whole<'p, 'a, D: Disk, R: Wait>(
     rt: &R,
     seated: &mut SeatedPass<'p, D>,
@@ -62,59 +83,164 @@ pub(crate) fn copy_whole<'p, 'a, D: Disk, R: Wait>(
 {
     let backoff = Backoff::new();
     for _ in rt.forever() {
-        match copy_some(seated, placed, end) {
-            CopyStep::Whole => return Ok(()),
-            CopyStep::GoesOn => backoff.reset(),
-            CopyStep::Taken { .. } => {
-                tell_progress(seated, lock, placed);
-                wait_up(seated, &backoff)?;
-            }
-            CopyStep::Unwritten { written } => {
-                let upto = (written / PAGE_SIZE + 1) * PAGE_SIZE;
-                make_room(seated, lock, placed, upto, &backoff)?;
+        let copied = copy_front(seated, lock, end, placed, u32::MAX);
+        match copied.stop {
+            CopyStop::Whole => return Ok(()),
+            CopyStop::Asked => backoff.reset(),
+            CopyStop::Absent(absent) => {
+                reset_behind(&backoff, copied.k);
+                wait_for_page(seated, lock, placed, absent, &backoff)?;
             }
         }
     }
     unreachable!()
 }
 
-// Copies the words on the next word's page, or maps a page on the way to that one. The record's
-// last word ends at `end`.
-fn copy_some<'p, 'a, D: Disk>(
+// Behind words that were copied the next pause is a short one.
+fn reset_behind(backoff: &Backoff, copied: u32) {
+    if copied > 0 {
+        backoff.reset();
+    }
+}
+
+// Copies a record's next words, at most so many, and tells its progress if words are left. It does
+// not wait. The record's last word ends at `end`.
+pub(crate) fn copy_front<'p, 'a, D: Disk>(
     seated: &mut SeatedPass<'p, D>,
-    placed: &mut Placed<'a>,
+    lock: u32,
     end: Lsn,
-) -> CopyStep
-    // The pass copies this record under one lock, and does so still behind the step.
-    requires copies { (lock : _) × CopiesAlone lock placed.old seated.old }
+    placed: &mut Placed<'a>,
+    most: u32,
+) -> Copied
+    // The pass copies this record under this one lock and is about nothing else.
+    requires copies { CopiesAlone lock placed.old seated.old }
     requires end { end.0 ≡ placed_end placed.old }
-    ensures copies { (lock : _) → CopiesAlone lock placed.old seated.old
-        → CopiesAlone lock placed.new seated.new }
-    // Whole: no word is left. Taken or unwritten: nothing was copied, and it has to wait.
-    ensures tells { TellsStep placed.old placed.new result }
+    // So it does behind it. It tells how many words were copied, and why it stopped.
+    ensures copies { CopiesAlone lock placed.new seated.new }
+    ensures tells { CopiesFront (setup_of seated.old) most placed.old placed.new result }
     // No fault was met on the way.
     ensures up { KnowsNoFault (view_of seated.old) → KnowsNoFault (view_of seated.new) }
     ensures copies_on { CopyGoesOn placed.old placed.new seated.old seated.new }
 {
-    let next = placed.next_lsn().0;
-    let page = next / PAGE_SIZE;
-    if let Presence::Present = confirm(seated, page) {
-        return match copy_page(seated, placed, next, end.0) {
-            Copied::Whole => CopyStep::Whole,
-            Copied::PageEnd => CopyStep::GoesOn,
-        };
+    let mut k = 0;
+    while placed.next_lsn().0 < end.0 {
+        match copy_some(seated, end, placed, most - k) {
+            Ok(count) => k += count,
+            Err(stop) => {
+                tell_progress(seated, lock, placed);
+                return Copied { k, stop };
+            }
+        }
     }
-    match try_map(seated, page) {
-        MapTry::Mapped | MapTry::There => CopyStep::GoesOn,
-        MapTry::Taken { turn } => CopyStep::Taken { turn },
-        MapTry::Unwritten { written } => CopyStep::Unwritten { written },
+    Copied {
+        k,
+        stop: CopyStop::Whole,
+    }
+}
+
+// Copies the words on the next word's page, at most so many, or tells why it copies none. A word is
+// left, and the last one ends at `end`.
+fn copy_some<'p, 'a, D: Disk>(
+    seated: &mut SeatedPass<'p, D>,
+    end: Lsn,
+    placed: &mut Placed<'a>,
+    most: u32,
+) -> Result<u32, CopyStop>
+    // The pass copies this record under one lock, and does so still behind the step.
+    requires copies { (lock : _) × CopiesAlone lock placed.old seated.old }
+    requires end { end.0 ≡ placed_end placed.old }
+    requires left { placed.old.next < placed_end placed.old }
+    ensures copies { (lock : _) → CopiesAlone lock placed.old seated.old
+        → CopiesAlone lock placed.new seated.new }
+    ensures tells { MatchResult result (λ count. CopiesSome most count placed.old placed.new)
+        (λ stop. (placed.new ≡ placed.old)
+        × StopsAtOnce (setup_of seated.old) most placed.old stop) }
+    ensures up { KnowsNoFault (view_of seated.old) → KnowsNoFault (view_of seated.new) }
+    ensures copies_on { CopyGoesOn placed.old placed.new seated.old seated.new }
+{
+    if most == 0 {
+        return Err(CopyStop::Asked);
+    }
+    let next = placed.next_lsn().0;
+    match reach_page(seated, next / PAGE_SIZE) {
+        Ok(()) => Ok(copy_page(seated, placed, next, end.0, most)),
+        Err(absent) => Err(CopyStop::Absent(absent)),
+    }
+}
+
+// Meets a page's end, and maps the pages up to it that are not mapped yet, or tells why that could
+// not be done.
+fn reach_page<'p, D: Disk>(seated: &mut SeatedPass<'p, D>, page: u64) -> Result<(), Absent>
+    // The pass is not mapping, and is not behind it. Of its view only the highest end met and the
+    // written address loaded have changed.
+    requires away { (view_of seated.old).mapping.stage ≡ Away }
+    requires low { page < 2 ^ 40 }
+    ensures ends { MatchResult result
+        (λ _. end_of_page page ≤ (view_of seated.new).mapping.confirmed)
+        (λ absent. TellsAbsent (setup_of seated.old) page absent) }
+    ensures maps { MapsPage seated.old seated.new }
+{
+    loop {
+        let end = match confirm(seated, page) {
+            Presence::Present => return Ok(()),
+            Presence::Other { end } => end,
+        };
+        match try_map(seated, page) {
+            MapTry::There => return Ok(()),
+            MapTry::Mapped => {}
+            MapTry::Taken { turn } => {
+                return Err(Absent {
+                    page,
+                    end,
+                    turn,
+                    written: 0,
+                });
+            }
+            MapTry::Unwritten { written } => {
+                return Err(Absent {
+                    page,
+                    end,
+                    turn: 0,
+                    written,
+                });
+            }
+        }
+    }
+}
+
+// Pauses where somebody has the turn to map; else makes room, or pauses if that cannot be done.
+fn wait_for_page<'p, 'a, D: Disk>(
+    seated: &mut SeatedPass<'p, D>,
+    lock: u32,
+    placed: &Placed<'a>,
+    absent: Absent,
+    backoff: &Backoff,
+) -> Result<(), Fault>
+    requires copies { CopiesAlone lock placed.now seated.old }
+    requires up { KnowsNoFault (view_of seated.old) }
+    requires low { absent.written < 2 ^ 60 }
+    // It copies so behind it. That the page can be mapped now is not said; the caller looks again.
+    ensures copies { CopiesAlone lock placed.now seated.new }
+    ensures ends { MatchResult result (λ _. KnowsNoFault (view_of seated.new))
+        (λ e. MeetsFault (view_of seated.old) (view_of seated.new) e) }
+    ensures goes_on { GoesOnSeated seated.old seated.new }
+    ensures log { log_of_pass (view_of seated.new) ≡ log_of_pass (view_of seated.old) }
+{
+    if absent.turn != 0 {
+        return wait_up(seated, backoff);
+    }
+    let upto = (absent.written / PAGE_SIZE + 1) * PAGE_SIZE;
+    match write_early(seated, lock, placed, upto) {
+        Ok(()) => Ok(()),
+        Err(WriteErr::Fault(fault)) => Err(fault),
+        Err(_) => wait_up(seated, backoff),
     }
 }
 
 // Pauses, unless the disk has failed. Its lock and its copy the pass has as before.
 fn wait_up<'p, D: Disk>(seated: &mut SeatedPass<'p, D>, backoff: &Backoff) -> Result<(), Fault>
     ensures ends { MatchResult result (λ _. KnowsNoFault (view_of seated.new))
-        (λ e. MeetsFault (view_of seated.old) (view_of seated.new) e) }
+        (λ e. FindsDown (view_of seated.old) (view_of seated.new) e) }
     ensures stays { StaysAtWork seated.old seated.new }
     ensures log { log_of_pass (view_of seated.new) ≡ log_of_pass (view_of seated.old) }
 {
@@ -124,30 +250,4 @@ fn wait_up<'p, D: Disk>(seated: &mut SeatedPass<'p, D>, backoff: &Backoff) -> Re
     }
     backoff.snooze();
     Ok(())
-}
-
-// Tries once to write all that is copied, at least up to an address, so that a page may be
-// replaced; else pauses, unless the disk has failed.
-fn make_room<'p, 'a, D: Disk>(
-    seated: &mut SeatedPass<'p, D>,
-    lock: u32,
-    placed: &Placed<'a>,
-    upto: u64,
-    backoff: &Backoff,
-) -> Result<(), Fault>
-    requires copies { CopiesAlone lock placed.now seated.old }
-    requires up { KnowsNoFault (view_of seated.old) }
-    // It copies so behind it: nothing was copied, and the turn to write is had no longer. That the
-    // page is written now is not said; the caller looks again.
-    ensures copies { CopiesAlone lock placed.now seated.new }
-    ensures ends { MatchResult result (λ _. KnowsNoFault (view_of seated.new))
-        (λ e. MeetsFault (view_of seated.old) (view_of seated.new) e) }
-    ensures goes_on { GoesOnSeated seated.old seated.new }
-    ensures log { log_of_pass (view_of seated.new) ≡ log_of_pass (view_of seated.old) }
-{
-    match write_early(seated, lock, placed, upto) {
-        Ok(()) => Ok(()),
-        Err(WriteErr::Fault(fault)) => Err(fault),
-        Err(_) => wait_up(seated, backoff),
-    }
 }

@@ -4,8 +4,9 @@
 /// Why a call broke off.
 #[derive(Clone, Copy, Debug, PartialEq, Eq)]
 pub enum Fault {
-    /// A device call failed in this call: the disk's count of faults then.
+    /// This pass set the down value, to the disk's count of faults: a device call of its own failed
+    /// in this call.
     Disk { faults: u64 },
-    /// The disk had failed before: the down value that was met.
+    /// The down value was met, which somebody had set: the count that it told.
     Down { faults: u64 },
 }

@@ -35,10 +35,13 @@ use std::sync::Wait;
 use wal_rule::{Pass, SeatedPass};
 use wal_types::{Hard, Lsn};
 
-/// Why one try of a flush told nothing, in this order: down, unreserved, behind, turn, disk.
+/// Why one try of a flush told nothing. It looks in this order: whether the disk has failed before,
+/// whether the address is reserved, at the locks, at the turn; then it calls the device.
 #[derive(Clone, Copy, Debug, PartialEq, Eq)]
 pub enum TryFlushErr {
+    /// The disk has failed, in this call or before.
     Fault(Fault),
+    /// The address is above the end of what is reserved, which is this one.
     Unreserved { end: Lsn },
     /// An insertion lock's holder has not copied so far: the lock's word.
     Behind { lock: u32, word: u64 },
@@ -108,6 +111,26 @@ impl<D: Disk> Wal<D> {
     {
         let mut seated = pass.seat(&self.table);
         let answer = flush_on(rt, &mut seated, upto);
+        pass.put_back(seated);
+        answer
+    }
+
+    /// One try of a flush, which does not wait: it tells which insertion lock or turn is in its
+    /// way, and the caller may try again.
+    pub fn try_flush(&self, pass: &mut Pass, upto: Lsn) -> Result<Hard, TryFlushErr>
+        requires pass { IsPassOfLog self.now pass.old }
+        // As a flush tells it, which makes such tries. Or it tells why not, and adds nothing.
+        ensures tries { AnswersFlushTry upto.0 (view_of_pass pass.old) result
+            (view_of_pass pass.new) }
+        // A pass that knows of a failed disk is told of it, also if the address is durable.
+        ensures down_again { (faults : _) → KnowsDown faults (view_of_pass pass.old)
+            → result ≡ try_flush_err_known_down faults }
+        // However it ends, the pass is about nothing, with its numbers and all that it had seen.
+        ensures keeps { KeepsPass (view_of_pass pass.old) (view_of_pass pass.new) }
+        ensures pass { IsPassOfLog self.now pass.new }
+    {
+        let mut seated = pass.seat(&self.table);
+        let answer = try_flush(&mut seated, upto);
         pass.put_back(seated);
         answer
     }

@@ -3,8 +3,9 @@
 //! XLogFlush).
 //!
 //! `wal` says what a pass may hold at once. An insert is `inserting`: its place is reserved in
-//! `beginning`, its words are copied in `copying`. A flush is `flushing`. `writing` and `turns`
-//! serve it, and an insert that needs a buffer.
+//! `beginning`, its words are copied in `copying`. Its steps are calls of their own in `in_flight`.
+//! A flush is `flushing`; `promised` tells what is durable without one. `writing` and `turns` serve
+//! a flush, and an insert that needs a buffer.
 #![tactic(auto)]
 
 mod beginning;
@@ -13,17 +14,23 @@ mod committing;
 mod copying;
 mod fault;
 mod flushing;
+mod in_flight;
 mod inserting;
 pub mod numbers;
 mod opening;
+mod promised;
 pub mod shared_numbers;
 mod splitting;
 mod turns;
 mod wal;
 mod writing;
 
+pub use beginning::TryErr;
 pub use closing::Closed;
-pub use flushing::FlushErr;
+pub use copying::{Absent, Copied, CopyStop};
+pub use fault::Fault;
+pub use flushing::{FlushErr, TryFlushErr};
+pub use in_flight::Inflight;
 pub use inserting::InsertErr;
 pub use opening::{OpenFault, OpenFaultKind};
 pub use wal::Wal;

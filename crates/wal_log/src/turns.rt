@@ -25,6 +25,7 @@ use wal_rule::SeatedPass;
 /// Why the turn to write was not had.
 #[derive(Clone, Copy, Debug, PartialEq, Eq)]
 pub enum TurnErr {
+    /// The disk has failed.
     Fault(Fault),
     /// Somebody has it: the turn's word.
     Taken { turn: u64 },

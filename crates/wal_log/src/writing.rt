@@ -6,6 +6,7 @@
 // lock, which would hold its own watch back else; it watches; it takes the turn to write and the
 // writer; it writes, stores what is written, and gives writer and turn back.
 ghost use Rattle.std.specs.Prelude.{◌≡◌, ◌≤◌, MatchResult};
+ghost use Rattle.wal_core.specs.Moves.{after_advance};
 ghost use Rattle.page_writing.specs.InHand.{IsReady, known_copied, writer_in};
 ghost use Rattle.wal_rule.specs.SeatedPasses.{HasView, view_of};
 ghost use Rattle.wal_log.specs.Downs.{KnowsNoFault, SetsDownItself};
@@ -29,6 +30,7 @@ use wal_rule::SeatedPass;
 /// Why a page was not written early.
 #[derive(Clone, Copy, Debug, PartialEq, Eq)]
 pub enum WriteErr {
+    /// The disk has failed, in this call or before.
     Fault(Fault),
     /// An insertion lock's holder has not copied so far: the lock's word.
     Behind { lock: u32, word: u64 },
@@ -95,14 +97,16 @@ fn store_written<'p, D: Disk>(seated: &mut SeatedPass<'p, D>)
 }
 
 // Tells how far a record's copy has come under its lock: up to the address of its next word. No
-// word of it is left below, so a watch may pass the lock up to there. The view keeps no trace.
+// word of it is left below, so a watch may pass the lock up to there. The view keeps what was told,
+// and is else as it was.
 pub(crate) fn tell_progress<'p, 'a, D: Disk>(
     seated: &mut SeatedPass<'p, D>,
     lock: u32,
     placed: &Placed<'a>,
 )
     requires copies { CopiesAlone lock placed.now seated.old }
-    ensures view { HasView (view_of seated.old) seated.old seated.new }
+    ensures view { HasView (after_advance placed.now.next (view_of seated.old))
+        seated.old seated.new }
 {
     let next = placed.next_lsn().0;
     seated.advance(lock, next);

@@ -25,7 +25,7 @@ front_of_front {A} xs ys zs f g = (
 pub grows_itself : (l : PassLog) → GrowsTo l l
 grows_itself l = record {
   entries = front_itself l.entries;
-  filled = front_itself l.filled;
+  stops = front_itself l.stops;
   promises = front_itself l.promises;
 }
 
@@ -33,7 +33,7 @@ pub grows_again : (first second third : PassLog) → GrowsTo first second → Gr
     → GrowsTo first third
 grows_again first second third f g = record {
   entries = front_of_front first.entries second.entries third.entries f.entries g.entries;
-  filled = front_of_front first.filled second.filled third.filled f.filled g.filled;
+  stops = front_of_front first.stops second.stops third.stops f.stops g.stops;
   promises = front_of_front first.promises second.promises third.promises f.promises g.promises;
 }
 
@@ -43,7 +43,7 @@ abbrev taken_in : View → Joined
 taken_in w = record {
   number = (w.reserving).number;
   entries = (w.reserving).entries;
-  filled = (w.reserving).filled;
+  stops = (w.reserving).stops;
   promises = w.writing.promises;
 }
 

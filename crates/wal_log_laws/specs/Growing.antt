@@ -11,7 +11,7 @@ IsFrontOf {A} front whole = (back : List A) × (whole ≡ front ++ back)
 -- a log grew to another one: what it had stays, and new things stand behind
 pub record GrowsTo (old new : PassLog) : Type 0 where
   pub entries : IsFrontOf old.entries new.entries
-  pub filled : IsFrontOf old.filled new.filled
+  pub stops : IsFrontOf old.stops new.stops
   pub promises : IsFrontOf old.promises new.promises
 
 -- a pass has a log: it is its own, or that of a pass that it took in

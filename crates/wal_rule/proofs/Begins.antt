@@ -6,7 +6,7 @@ use Rattle.atomic_table.specs.Table.{State, Me, Allows, Final, Seen, gives, rest
 use Rattle.segment_disk.specs.Tape.{Tape}
 use Rattle.wal_core.specs.Words.{Opening}
 use Rattle.wal_core.specs.Views.{Idle, Turned, Out, Hold, View}
-use Rattle.wal_core.specs.Opened.{AreFirstWords, IsFirstWriter, IsNew, first_view}
+use Rattle.wal_core.specs.Opened.{AreFirstWords, IsFirstWriter, IsOpenable, first_view}
 use Rattle.wal_core.proofs.WordLists.{word_again}
 use Rattle.wal_rule.specs.declared.writer.LogWriter.{LogWriter}
 use Rattle.wal_rule.specs.Beginning.{HoldsRule, IsBeginning, IsUncalledWriter, reading_view, view_before, view_by_home, waiting_view}
@@ -133,7 +133,7 @@ module _ {D : Type 0} (tape : D → Rattle.std.specs.Prelude.Option Tape) (momen
         here = refl;
       }
 
-      begun : IsNew opening → faults (slot_disk w) ≡ opening.faults → (words : List ℕ)
+      begun : IsOpenable opening → faults (slot_disk w) ≡ opening.faults → (words : List ℕ)
           → AreFirstWords opening words
           → IsRuled tape moment faults opening began words (some w ∷ []) (first_view opening ∷ [])
       begun new up words first = subst (λ (t : Rattle.std.specs.Prelude.Option Tape).
@@ -142,7 +142,7 @@ module _ {D : Type 0} (tape : D → Rattle.std.specs.Prelude.Option Tape) (momen
           (is_of_log tape moment faults opening (slot_disk w) words w refl uncalled.size_is (sym up)
           uncalled.first) new first uncalled.first)
 
-      begins_with : IsNew opening → faults (slot_disk w) ≡ opening.faults
+      begins_with : IsOpenable opening → faults (slot_disk w) ≡ opening.faults
           → Allows Whole slots id in_hand 11 (λ n. n)
           (λ r n. (n ≡ (first_view opening, [])) × Stands n.0)
       begins_with new up s h _ here _ =
@@ -162,7 +162,7 @@ module _ {D : Type 0} (tape : D → Rattle.std.specs.Prelude.Option Tape) (momen
           )
 
       pub begins : (me : Me (LogWriter D) View) → me ≡ in_hand
-          → IsNew opening → faults (slot_disk w) ≡ opening.faults
+          → IsOpenable opening → faults (slot_disk w) ≡ opening.faults
           → Allows Whole slots id me 11 (λ n. n)
           (λ r n. (n ≡ (first_view (me.0).opening, [])) × Stands n.0)
       begins me is new up = subst (λ (m : Me (LogWriter D) View).

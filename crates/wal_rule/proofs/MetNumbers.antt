@@ -5,10 +5,10 @@ use Rattle.atomic_table.proofs.Lists.{at_map}
 use Rattle.segment_disk.specs.Cause.{Rose}
 use Rattle.machine_words.proofs.Bounds.{limit_low}
 use Rattle.wal_core.specs.Words.{down_word, flushed_word, moment_word, position_word, prev_word}
-use Rattle.wal_core.specs.Views.{FlushPromise, reserving_of, receipts_of, View}
+use Rattle.wal_core.specs.Views.{FlushPromise, answered_of, reserving_of, receipts_of, View}
 use Rattle.wal_core.specs.Durable.{IsPromised, IsToldRightly}
 use Rattle.wal_core.specs.Moves.{unlocked}
-use Rattle.wal_core.specs.Steps.{StepKind, load_down, load_flushed, load_moment, load_position}
+use Rattle.wal_core.specs.Steps.{StepKind, load_async, load_down, load_flushed, load_moment, load_position}
 use Rattle.machine_laws.proofs.OrderSteps.{unlocked-is}
 use Rattle.wal_rule.specs.Downs.{KnowsDown}
 use Rattle.wal_rule.specs.Stepping.{Meets, Stands}
@@ -87,3 +87,11 @@ module _ (v : View) (met : ℕ) where
   moment_met m = All-weaker (promised m) (λ (p : FlushPromise). p.moment ≤ met)
       (λ p is. subst (λ (n : ℕ). p.moment ≤ n) (sym m.met_is) is.moment_low) v.writing.promises
       (told_rightly v m.before).own_promised
+
+  -- what the pass counts as answered is so
+  pub async_met : Meets v load_async met → v.answered ≤ met
+  async_met m =
+      let s : Stands v = m.before in
+      let low = (((s.sound).answered).met s.id v.answered
+      (at_map answered_of s.views s.id v s.here)).0 in
+      subst (λ (n : ℕ). v.answered ≤ n) (sym m.met_is) low

@@ -1,11 +1,12 @@
 -- A tape that goes on from the one at the opening tells what the disk held then.
 use Rattle.std.specs.Prelude.{IfSome}
-use Rattle.std.proofs.Common.{◌≡◌, ℕ, List, ◌++◌, length, take, sym, ap, ◌∙◌, subst, Some, None}
+use Rattle.std.proofs.Common.{◌≡◌, ℕ, ◌≤◌, List, ◌++◌, length, take, sym, ap, ◌∙◌, subst, Some, None, arith}
 use Rattle.std.proofs.Math.Seq.{take-append_seam}
 use Rattle.segment_disk.specs.declared.disk.Call.{Call}
+use Rattle.segment_disk.specs.Assured.{SegmentAssures}
 use Rattle.segment_disk.specs.Tape.{DiskState, Tape, after_calls, state_at, state_now}
 use Rattle.flush_core.specs.Pages.{HoldsNothing}
-use Rattle.wal_core.specs.Suited.{BeganSuited, IsSuited}
+use Rattle.wal_core.specs.Suited.{BeganSuited, IsLogAt, IsSuited}
 use Rattle.wal_core.specs.Words.{Opening}
 use Rattle.wal_rule.specs.Slotted.{GoesOnFrom, first_on}
 
@@ -19,11 +20,20 @@ state_then b t moment counted same goes =
     ∙ ap (λ (calls : List Call). after_calls b.at_first calls)
     (take-append_seam b.calls goes.0)
 
+-- where no segment was there at the opening, no word is
+none_assures : (opening : Opening) → opening.made ≡ 0 → (state : DiskState)
+    → ((n : ℕ) → state n ≡ None) → IsSuited opening state
+none_assures opening none_made state none_there = λ n. subst
+    (SegmentAssures (opening.setup).segment_size
+    (λ segment. (1 ≤ segment) × (segment ≤ opening.made)) (IsLogAt opening.setup opening.found) n)
+    (sym (none_there n)) (λ made. omega (arith, none_made, made.0, made.1))
+
 pub began_suited : (opening : Opening) (began now : Rattle.std.specs.Prelude.Option Tape)
-    → HoldsNothing began → IfSome began (λ (t : Tape). opening.moment ≡ length t.calls)
+    → opening.made ≡ 0 → HoldsNothing began → IfSome began (λ (t : Tape). opening.moment ≡ length t.calls)
     → IfSome now (λ (t : Tape). t.at_first ≡ first_on began) → IfSome now (GoesOnFrom began)
     → IfSome now (BeganSuited opening)
-began_suited opening began None none_there counted same goes = tt
-began_suited opening None (Some t) none_there counted same goes = absurd goes
-began_suited opening (Some b) (Some t) none_there counted same goes =
-    subst IsSuited (sym (state_then b t opening.moment counted same goes)) none_there
+began_suited opening began None none_made none_there counted same goes = tt
+began_suited opening None (Some t) none_made none_there counted same goes = absurd goes
+began_suited opening (Some b) (Some t) none_made none_there counted same goes =
+    subst (IsSuited opening) (sym (state_then b t opening.moment counted same goes))
+    (none_assures opening none_made (state_now b) none_there)

@@ -6,7 +6,7 @@ use mathlib.Core.Option.{some, some-injective, some-ne-none}
 use Rattle.segment_disk.specs.Tape.{Tape}
 use Rattle.wal_core.specs.Views.{Plain}
 use Rattle.wal_core.specs.Words.{Opening}
-use Rattle.wal_core.specs.Opened.{AreFirstWords, IsFirstWriter, IsNew, first_view}
+use Rattle.wal_core.specs.Opened.{AreFirstWords, IsFirstWriter, IsOpenable, first_view}
 use Rattle.machine_laws.proofs.OpeningLaws.{logs_begin}
 use Rattle.machine_laws.proofs.EveryMoment.{first_rises}
 use Rattle.wal_rule.specs.declared.writer.LogWriter.{LogWriter}
@@ -44,7 +44,7 @@ module _ {D : Type 0} (tape : D → Rattle.std.specs.Prelude.Option Tape) (momen
 
   pub opens : (items : List (LogWriter D)) → items ≡ writer ∷ []
       → IsOfLog tape faults (tape disk) opening writer
-      → IsNew opening → AreFirstWords opening words
+      → IsOpenable opening → AreFirstWords opening words
       → IsFirstWriter opening (slot_plain tape moment writer)
       → IsRuled tape moment faults opening (tape disk) words (map some items)
       (first_view opening ∷ [])

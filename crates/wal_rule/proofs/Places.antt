@@ -3,7 +3,7 @@ use Rattle.std.proofs.Common.{◌≡◌, ℕ, ◌+◌, ◌*◌, ◌<◌, arith, 
 use Rattle.std.proofs.Math.Logic.{∥∥₁_elim}
 use Rattle.std.specs.Coded.{le_prop}
 use Rattle.wal_core.specs.declared.setup.Setup.{Setup}
-use Rattle.wal_core.specs.Words.{Opening, word_count}
+use Rattle.wal_core.specs.Words.{Opening, async_number, word_count}
 use Rattle.wal_core.specs.Views.{Stage, View}
 use Rattle.wal_core.specs.Steps.{buffer_of, end_number, page_mapped, ring_number, ring_place, words_zeroed, zero_ring_word, MayStep}
 use Rattle.machine_laws.proofs.PutWords.{buffer-below, place-below, ring_place-below}
@@ -40,3 +40,6 @@ module _ (n word : ℕ) (v : View) (opening : Opening) (wide : n ≡ word_count 
       (words_zeroed (v.mapping).stage)
       (buffer-below setup some (page_mapped (v.mapping).stage)) few in
       omega (arith, below, wide_own, are)
+
+  pub async_there : word ≡ async_number opening.setup → word < n
+  async_there are = omega (arith, wide, are)

@@ -3,7 +3,7 @@
 use Rattle.std.proofs.Common.{◌≡◌, ℕ, refl}
 use mathlib.Core.Option.{Option}
 use Rattle.wal_core.specs.Views.{Plain, View}
-use Rattle.wal_core.specs.Steps.{StepKind, home_behind, view_behind, load_position, take_write_turn, slot_out, slot_in, release_write_turn, lock_position, load_prev, store_prev, store_position, give_position_back, load_lock, take_lock, advance, release, load_buffer_end, store_ring_word, load_ring_word, load_written, load_flushed, load_moment, load_down, store_written, store_moment, store_flushed, set_down, take_mapping_turn, load_initialised_end, clear_end, zero_ring_word, publish_end, publish_initialised_end, release_mapping_turn, create, write, sync}
+use Rattle.wal_core.specs.Steps.{StepKind, home_behind, view_behind, load_position, take_write_turn, slot_out, slot_in, release_write_turn, lock_position, load_prev, store_prev, store_position, give_position_back, stay, load_lock, take_lock, advance, release, load_buffer_end, store_ring_word, load_ring_word, load_written, load_flushed, load_moment, load_down, store_written, store_moment, store_flushed, set_down, load_async, raise_async, take_mapping_turn, load_initialised_end, clear_end, zero_ring_word, publish_end, publish_initialised_end, release_mapping_turn, create, write, sync}
 use Rattle.wal_rule.specs.Stepping.{IsQuiet}
 
 pub home_on : (v : View) (e : StepKind) → IsQuiet e → (home : Option Plain)
@@ -18,6 +18,7 @@ home_on v load_prev quiet home = refl
 home_on v store_prev quiet home = refl
 home_on v (store_position locks value) quiet home = refl
 home_on v (give_position_back value) quiet home = refl
+home_on v stay quiet home = refl
 home_on v (load_lock lock limit) quiet home = refl
 home_on v (take_lock lock) quiet home = refl
 home_on v (advance lock upto) quiet home = refl
@@ -33,6 +34,8 @@ home_on v store_written quiet home = refl
 home_on v store_moment quiet home = refl
 home_on v store_flushed quiet home = refl
 home_on v set_down quiet home = refl
+home_on v load_async quiet home = refl
+home_on v (raise_async expected upto) quiet home = refl
 home_on v take_mapping_turn quiet home = refl
 home_on v load_initialised_end quiet home = refl
 home_on v clear_end quiet home = refl
@@ -56,6 +59,7 @@ quiet_behind v load_prev quiet met home other = refl
 quiet_behind v store_prev quiet met home other = refl
 quiet_behind v (store_position locks value) quiet met home other = refl
 quiet_behind v (give_position_back value) quiet met home other = refl
+quiet_behind v stay quiet met home other = refl
 quiet_behind v (load_lock lock limit) quiet met home other = refl
 quiet_behind v (take_lock lock) quiet met home other = refl
 quiet_behind v (advance lock upto) quiet met home other = refl
@@ -71,6 +75,8 @@ quiet_behind v store_written quiet met home other = refl
 quiet_behind v store_moment quiet met home other = refl
 quiet_behind v store_flushed quiet met home other = refl
 quiet_behind v set_down quiet met home other = refl
+quiet_behind v load_async quiet met home other = refl
+quiet_behind v (raise_async expected upto) quiet met home other = refl
 quiet_behind v take_mapping_turn quiet met home other = refl
 quiet_behind v load_initialised_end quiet met home other = refl
 quiet_behind v clear_end quiet met home other = refl

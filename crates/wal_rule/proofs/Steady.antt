@@ -4,7 +4,7 @@ use Rattle.std.proofs.Common.{◌≡◌, ℕ, Bool, true, false, List, ◌==◌,
 use mathlib.Core.Option.{Option}
 use Rattle.wal_types.specs.declared.record.Record.{Record}
 use Rattle.wal_core.specs.Views.{Place, Free, Locked, Loaded, Stored, Plain, View}
-use Rattle.wal_core.specs.Steps.{StepKind, view_behind, load_position, take_write_turn, slot_out, slot_in, release_write_turn, lock_position, load_prev, store_prev, store_position, give_position_back, load_lock, take_lock, advance, release, load_buffer_end, store_ring_word, load_ring_word, load_written, load_flushed, load_moment, load_down, store_written, store_moment, store_flushed, set_down, take_mapping_turn, load_initialised_end, clear_end, zero_ring_word, publish_end, publish_initialised_end, release_mapping_turn, create, write, sync}
+use Rattle.wal_core.specs.Steps.{StepKind, view_behind, load_position, take_write_turn, slot_out, slot_in, release_write_turn, lock_position, load_prev, store_prev, store_position, give_position_back, stay, load_lock, take_lock, advance, release, load_buffer_end, store_ring_word, load_ring_word, load_written, load_flushed, load_moment, load_down, store_written, store_moment, store_flushed, set_down, load_async, raise_async, take_mapping_turn, load_initialised_end, clear_end, zero_ring_word, publish_end, publish_initialised_end, release_mapping_turn, create, write, sync}
 use Rattle.wal_rule.specs.Stepping.{IsQuiet}
 
 -- two views are of one log and one pass, and both are live or neither is
@@ -47,6 +47,13 @@ placed_give_position_back v value (Locked at) met home = (refl, refl, refl)
 placed_give_position_back v value (Loaded at prev) met home = (refl, refl, refl)
 placed_give_position_back v value (Stored at prev) met home = (refl, refl, refl)
 
+placed_stay : (v : View) (p : Place) (met : ℕ) (home : Option Plain)
+    → IsSteady (at_place p v) (view_behind (at_place p v) stay met home)
+placed_stay v Free met home = (refl, refl, refl)
+placed_stay v (Locked at) met home = (refl, refl, refl)
+placed_stay v (Loaded at prev) met home = (refl, refl, refl)
+placed_stay v (Stored at prev) met home = (refl, refl, refl)
+
 pub steady : (v : View) (e : StepKind) → IsQuiet e → (met : ℕ) (home : Option Plain)
     → IsSteady v (view_behind v e met home)
 steady v load_position quiet met home = (refl, refl, refl)
@@ -59,6 +66,7 @@ steady v load_prev quiet met home = placed_load_prev v (v.reserving).place met h
 steady v store_prev quiet met home = placed_store_prev v (v.reserving).place met home
 steady v (store_position locks value) quiet met home = placed_store_position v locks value (v.reserving).place met home
 steady v (give_position_back value) quiet met home = placed_give_position_back v value (v.reserving).place met home
+steady v stay quiet met home = placed_stay v (v.reserving).place met home
 steady v (load_lock lock limit) quiet met home = (refl, refl, refl)
 steady v (take_lock lock) quiet met home = either_steady v _ (met == 0) (refl, refl, refl)
 steady v (advance lock upto) quiet met home = (refl, refl, refl)
@@ -74,6 +82,8 @@ steady v store_written quiet met home = (refl, refl, refl)
 steady v store_moment quiet met home = (refl, refl, refl)
 steady v store_flushed quiet met home = (refl, refl, refl)
 steady v set_down quiet met home = (refl, refl, refl)
+steady v load_async quiet met home = (refl, refl, refl)
+steady v (raise_async expected upto) quiet met home = (refl, refl, refl)
 steady v take_mapping_turn quiet met home = either_steady v _ (met == 0) (refl, refl, refl)
 steady v load_initialised_end quiet met home = (refl, refl, refl)
 steady v clear_end quiet met home = (refl, refl, refl)

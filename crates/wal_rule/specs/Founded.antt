@@ -7,7 +7,7 @@ use Rattle.wal_rule.specs.declared.seats.Founding.{Founding}
 -- what is fixed of a log that holds nothing
 abbrev pub empty_log_opening : Setup → (moment faults : ℕ) → Opening
 empty_log_opening setup moment faults =
-    record { setup = setup; found = []; moment = moment; faults = faults }
+    record { setup = setup; found = []; made = 0; moment = moment; faults = faults }
 
 abbrev pub founded_opening : {D : Type 0} → Founding D → Opening
 founded_opening founding = empty_log_opening founding.setup founding.moment founding.faults

@@ -18,6 +18,7 @@ no_view = first_view (record {
     passes = 0;
   };
   found = [];
+  made = 0;
   moment = 0;
   faults = 0;
 })

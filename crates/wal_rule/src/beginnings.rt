@@ -7,11 +7,12 @@ ghost use Rattle.wal_core.specs.Suited.{BeganSuited};
 ghost use Rattle.wal_core.specs.Words.{Opening};
 ghost use Rattle.wal_rule.specs.Slotted.{GoesOnFrom, first_on};
 
-/// Where a disk held no segment when its log was opened, a tape that goes on from the one then
+/// Where a log was opened on a disk without a segment, a tape that goes on from the one then
 /// tells so: the machine's `BeganSuited`, on which rests what crashes leave. What is asked of the
 /// tape now is what `IsOfLog` says of the writer's disk.
 pub fn tapes_tell_the_opening()
-    ensures { (opening : Opening) (began now : Option Tape) → HoldsNothing began
+    ensures { (opening : Opening) (began now : Option Tape) → opening.made ≡ 0
+        → HoldsNothing began
         → IfSome began (λ t. opening.moment ≡ length t.calls)
         → IfSome now (λ t. t.at_first ≡ first_on began) → IfSome now (GoesOnFrom began)
         → IfSome now (BeganSuited opening) }

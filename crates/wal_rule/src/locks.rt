@@ -1,7 +1,8 @@
 // The insertion locks, words 2 to 9 (PostgreSQL's xlog.c, WALInsertLockAcquire,
 // WALInsertLockRelease, WALInsertLockUpdateInsertingAt; a visit is what WaitXLogInsertionsToFinish
 // makes of each lock). A word is 0 where its lock is free, 1 where it is held and tells nothing,
-// else one more than an address: of the holder's record all words below it are copied. Anybody
+// else one more than an address: of the holder's record all words below it are copied, and if it
+// has none yet, it will lie at or above it. Anybody
 // takes a lock that is free; only its holder stores into it, and gives it back once no word of its
 // record is left to copy. So who has seen how far records are reserved, and has visited all eight
 // then, knows below which address all is copied. As each step (quiet.rt) these are made by a seated
@@ -43,9 +44,10 @@ impl<'a, D: Disk> SeatedPass<'a, D> {
         self.exchanges::<Brand>(FIRST_LOCK + lock as usize, 0, 1, lock_and(lock, 0))
     }
 
-    /// Tells that all below an address is copied under a lock that is held: the pass's record is in
-    /// flight under it, and the address is a multiple of 8 that lies not past the record's next
-    /// word to copy.
+    /// Tells that all below an address is copied under a lock that is held. If the pass's record is
+    /// in flight under it, the address lies not past the record's next word to copy; if nothing is,
+    /// not past the reserved end that the pass has seen, since whatever comes under the lock starts
+    /// there or above. It is a multiple of 8. The view keeps what was told.
     pub fn advance(&mut self, lock: u32, upto: u64)
         requires lock { lock < 8 }
         requires low { upto + 1 < 2 ^ 64 }

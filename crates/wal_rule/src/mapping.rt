@@ -74,6 +74,7 @@ impl<'a, D: Disk> SeatedPass<'a, D> {
     /// taken the turn it says where the page begins that is to be mapped.
     pub fn load_initialised_end(&mut self) -> u64
         ensures steps { Steps load_initialised_end result self.old self.new }
+        ensures met { Meets (view_of self.old) load_initialised_end result }
     {
         self.loads::<LoadsInitialisedEnd>(INITIALISED_END, NO_OPERANDS)
     }

@@ -7,7 +7,7 @@
 // ended and the disk comes back, of which no call was counted.
 ghost use Rattle.std.specs.Prelude.{◌≡◌, [], ◌∷◌, IfErr, IfOk, IfSome, None};
 ghost use Rattle.segment_disk.specs.Tape.{page_of_segment, state_now};
-ghost use Rattle.wal_core.specs.Opened.{AreFirstWords, IsNew, first_view};
+ghost use Rattle.wal_core.specs.Opened.{AreFirstWords, IsOpenable, first_view};
 ghost use Rattle.wal_rule.specs.Beginning.{IsUncalledWriter, reading_view, waiting_view};
 ghost use Rattle.wal_rule.specs.Founded.{disk_of_founding, founded_opening};
 ghost use Rattle.wal_rule.specs.Opening.{IsFoundedWriter, TellsOpenErr};
@@ -48,7 +48,7 @@ impl<D: Disk> LogTable<D> {
     ) -> Result<(LogTable<D>, LogSeat<D>), OpenErr<D>>
         // The words and the writer are those of a new log, and what is fixed of the table is what
         // the writer's disk tells now.
-        requires new { IsNew (founded_opening founding.now) }
+        requires openable { IsOpenable (founded_opening founding.now) }
         requires shape { shape ≡ founding.now.setup }
         requires words { AreFirstWords (founded_opening founding.now) words.now }
         requires writer { IsFoundedWriter D.tape D.moment D.faults founding.now writer }
@@ -78,7 +78,7 @@ impl<D: Disk> LogTable<D> {
         self,
         mut seat: LogSeat<D>,
     ) -> Result<(LogTable<D>, LogSeat<D>), OpenErr<D>>
-        requires new { IsNew (opening_of_table self) }
+        requires openable { IsOpenable (opening_of_table self) }
         // The seat waits: the table is not begun, and nothing was called since what is fixed was
         // told.
         requires table { seat.table_id ≡ table_number self }
@@ -132,7 +132,7 @@ impl<D: Disk> LogTable<D> {
     // Gives the writer back, and makes the seat the first pass's. Nothing but a read was called
     // with the writer, and the disk's count of faults is the opening's: so the log begins sound.
     fn start(&self, seat: &mut LogSeat<D>)
-        requires new { IsNew (opening_of_table self.now) }
+        requires openable { IsOpenable (opening_of_table self.now) }
         requires table { seat.old.table_id ≡ table_number self.now }
         requires reads { (w : _) × IsUncalledWriter D.tape D.moment (opening_of_table self.now)
             (began_of_table D.tape self.now) w

@@ -1,24 +1,27 @@
-// How far the log is reserved, written and durable, and whether its disk has failed (PostgreSQL's
-// xlog.c, LogwrtResult): words 0 and 13 to 16. Each pass may load them. Only who has the writer in
-// hand stores 13 to 16: what is written (13); behind a sync the disk's moment (15); behind both the
-// flushed address (14). Who loads 14 and then 15 is promised that all below the one is durable from
-// the other on: its moment was stored before it, and one that is stored meanwhile is later, so
-// nothing is promised too early. Down (16) is set by who met the fault, to the disk's count, and
-// stays. As each step (quiet.rt) these are made by a seated pass whose view lets it step.
+// How far the log is reserved, written, durable and answered, and whether its disk has failed
+// (PostgreSQL's xlog.c, LogwrtResult, asyncXactLSN): words 0, 13 to 16 and the last one. Each pass
+// may load them. Only who has the writer in hand stores 13 to 16: what is written (13); behind a
+// sync the disk's moment (15); behind both the flushed address (14). Who loads 14 and then 15 is
+// promised that all below the one is durable from the other on: its moment was stored before it,
+// and one that is stored meanwhile is later, so nothing is promised too early. Down (16) is set by
+// who met the fault, to the disk's count, and stays. The last word tells up to where commits are
+// answered that may not be durable: anybody raises it, to what it has seen reserved at most. As
+// each step (quiet.rt) these are made by a seated pass whose view lets it step.
 ghost use Rattle.std.specs.Prelude.{◌≡◌, ◌≢◌, ℕ, ◌<◌, ◌≤◌, ◌^◌, All};
 ghost use Rattle.segment_disk.specs.Cause.{Rose};
 ghost use Rattle.wal_core.specs.Moves.{unlocked};
 ghost use Rattle.wal_core.specs.Views.{FlushPromise};
-ghost use Rattle.wal_core.specs.Steps.{load_down, load_flushed, load_moment, load_position, load_written, set_down, store_flushed, store_moment, store_written, MayStep, value_behind};
+ghost use Rattle.wal_core.specs.Steps.{load_down, load_flushed, load_moment, load_position, load_async, load_written, raise_async, set_down, store_flushed, store_moment, store_written, MayStep, value_behind};
 ghost use Rattle.wal_rule.specs.Downs.{KnowsDown};
 ghost use Rattle.wal_rule.specs.Stepping.{Meets};
 ghost use Rattle.wal_rule.specs.SeatedPasses.{Steps, opening_of, view_of};
 
 use crate::plays::OfKind;
-use crate::quiet::NO_OPERANDS;
+use crate::quiet::{NO_OPERANDS, Operands};
 use crate::seated::SeatedPass;
-use machine_words::layout::{DOWN, FLUSHED, MOMENT, POSITION, WRITTEN};
+use machine_words::layout::{DOWN, FLUSHED, MOMENT, POSITION, WRITTEN, async_number};
 use segment_disk::Disk;
+use std::marker::Brand;
 
 pub struct LoadsPosition;
 
@@ -48,6 +51,12 @@ pub struct LoadsDown;
 
 impl OfKind for LoadsDown {
     ghost kind = { load_down };
+}
+
+pub struct LoadsAsync;
+
+impl OfKind for LoadsAsync {
+    ghost kind = { load_async };
 }
 
 pub struct StoresWritten;
@@ -130,6 +139,28 @@ impl<'a, D: Disk> SeatedPass<'a, D> {
         self.loads::<LoadsDown>(DOWN, NO_OPERANDS)
     }
 
+    /// The address up to which commits are answered that may not be durable yet. The pass counts on
+    /// it then for its own entries, and counted on nothing beyond it.
+    pub fn load_async(&mut self) -> u64
+        ensures steps { Steps load_async result self.old self.new }
+        ensures met { Meets (view_of self.old) load_async result }
+        ensures furthest { (view_of self.old).answered ≤ result }
+    {
+        let word = async_number(self.shape().ring_pages());
+        self.loads::<LoadsAsync>(word, NO_OPERANDS)
+    }
+
+    /// Raises that address where it is still the expected one, and else leaves it; it answers what
+    /// was there. The pass has seen so much reserved, and the address is a multiple of 8.
+    pub fn raise_async(&mut self, expected: u64, upto: u64) -> u64
+        requires may { MayStep (view_of self.old) (raise_async expected upto) }
+        ensures steps { Steps (raise_async expected upto) result self.old self.new }
+        ensures met { Meets (view_of self.old) (raise_async expected upto) result }
+    {
+        let word = async_number(self.shape().ring_pages());
+        self.exchanges::<Brand>(word, expected, upto, two(expected, upto))
+    }
+
     /// Stores as written what the writer in hand has written: from now on pages below that address
     /// may be given up, and the writer may go back, unless it met a fault.
     pub fn store_written(&mut self, written: u64)
@@ -169,4 +200,11 @@ impl<'a, D: Disk> SeatedPass<'a, D> {
     {
         self.stores::<SetsDown>(DOWN, faults, NO_OPERANDS);
     }
+}
+
+// Two numbers.
+fn two(first: u64, second: u64) -> Operands
+    ensures { result ≡ record { first = first; second = second } }
+{
+    Operands { first, second }
 }

@@ -4,11 +4,12 @@
 // the next one; the position behind the record is stored, which unlocks it. Nobody else stores into
 // words 0 and 1 between. From the last store on the record stands in the order, in flight under
 // insertion locks that the pass held before: who sees it reserved, and then visits the locks, finds
-// it. Where it does not fit, the position is stored as it was, before word 1 is loaded. As each
-// step (quiet.rt) these are made by a seated pass whose view lets it step.
+// it. Where it does not fit, or a switch would leave the log where it stands, the position is
+// stored as it was, before word 1 is loaded. As each step (quiet.rt) these are made by a seated
+// pass whose view lets it step.
 ghost use Rattle.std.specs.Prelude.{◌≡◌, ℕ, List};
 ghost use Rattle.wal_types.specs.declared.record.Record.{Record};
-ghost use Rattle.wal_core.specs.Steps.{give_position_back, load_prev, lock_position, store_position, store_prev, MayStep, value_behind};
+ghost use Rattle.wal_core.specs.Steps.{give_position_back, load_prev, lock_position, stay, store_position, store_prev, MayStep, value_behind};
 ghost use Rattle.wal_rule.specs.Stepping.{Meets};
 ghost use Rattle.wal_rule.specs.SeatedPasses.{Steps, view_of};
 
@@ -29,6 +30,12 @@ pub struct StoresPrev;
 
 impl OfKind for StoresPrev {
     ghost kind = { store_prev };
+}
+
+pub struct Stays;
+
+impl OfKind for Stays {
+    ghost kind = { stay };
 }
 
 impl<'a, D: Disk> SeatedPass<'a, D> {
@@ -79,11 +86,22 @@ impl<'a, D: Disk> SeatedPass<'a, D> {
     /// record, which is picked with the kind.
     pub fn give_position_back<K: OfKind>(&mut self, position: u64)
         requires kind { (value : Record) × (K.kind ≡ give_position_back value) }
-        // The position is locked, and nothing was loaded or stored since: so no trace is left.
+        // The position is locked, and nothing was loaded or stored since: no word is left changed.
         requires may { MayStep (view_of self.old) K.kind }
         requires value { position ≡ value_behind (view_of self.old) K.kind 0 }
         ensures steps { Steps K.kind 0 self.old self.new }
     {
         self.stores::<K>(POSITION, position, NO_OPERANDS);
+    }
+
+    /// Stores the position as it was before it was locked, where the log stands at a segment's
+    /// start: a switch has nothing to do there (RequestXLogSwitch).
+    pub fn stay(&mut self, position: u64)
+        // The position is locked, and nothing was loaded or stored since.
+        requires may { MayStep (view_of self.old) stay }
+        requires value { position ≡ value_behind (view_of self.old) stay 0 }
+        ensures steps { Steps stay 0 self.old self.new }
+    {
+        self.stores::<Stays>(POSITION, position, NO_OPERANDS);
     }
 }

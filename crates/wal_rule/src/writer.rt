@@ -5,7 +5,7 @@
 // sync, since the disk may have any word of it. A sync that failed leaves the segment waiting.
 // Behind a fault nothing more may be called: this is not checked here but asked by the table's
 // calls (`may`).
-ghost use Rattle.std.specs.Prelude.{◌≡◌, ◌↔◌, ◌*◌, ◌/◌, ◌<◌, ◌≤◌, ◌^◌, IfOk, IfSome, IsSome, IsTrue, Some};
+ghost use Rattle.std.specs.Prelude.{◌≡◌, ◌↔◌, ◌*◌, ◌/◌, ◌<◌, ◌≤◌, ◌^◌, length, IfOk, IfSome, IsSome, IsTrue, Some};
 ghost use Rattle.byte_position.specs.Geometry.{pages_of};
 ghost use Rattle.segment_disk.specs.Cause.{HasCause};
 ghost use Rattle.segment_disk.specs.Tape.{IsUncalled, create_call, page_of_segment, state_now, sync_call, write_call};
@@ -13,7 +13,7 @@ ghost use Rattle.wal_core.specs.declared.setup.Setup.{Setup};
 ghost use Rattle.wal_core.specs.Moves.{after_create, after_sync, after_write};
 ghost use Rattle.wal_core.specs.Opened.{IsFirstWriter};
 ghost use Rattle.wal_rule.specs.Founded.{empty_log_opening};
-ghost use Rattle.wal_rule.specs.Slotted.{CallEnds, as_machine_has, slot_disk, slot_plain, slot_segment_size};
+ghost use Rattle.wal_rule.specs.Slotted.{calls_of, CallEnds, as_machine_has, slot_disk, slot_plain, slot_segment_size};
 
 use byte_position::{Geometry, PAGE_SIZE};
 use flush_core::DiskFault;
@@ -45,6 +45,7 @@ impl<D: Disk> LogWriter<D> {
             → IsFirstWriter (empty_log_opening setup (D.moment disk) (D.faults disk))
             (slot_plain D.tape D.moment result) }
     {
+        moments_count_calls(&disk);
         LogWriter {
             disk,
             geometry,
@@ -208,3 +209,8 @@ fn has_address(geometry: Geometry, address: u64, segment: u64)
 {
     prove!(segment <= address / geometry.segment_size());
 }
+
+// A disk's moment is the number of its counted calls: a law of its trait.
+fn moments_count_calls<D: Disk>(disk: &D)
+    ensures { IfSome (calls_of (D.tape disk.now)) (λ calls. D.moment disk.now ≡ length calls) }
+{}

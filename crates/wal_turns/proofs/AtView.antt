@@ -11,7 +11,7 @@ use Rattle.wal_core.specs.Words.{Opening, down_word, lock_word, write_turn}
 use Rattle.wal_core.specs.Views.{Place, Free, Locked, Loaded, Stored, Stage, Away, Taken, Looked, Ready, Zeroing, Published, Plain, Lent, Hold, Turned as HasTurned, Out, View, reserving_of, writer_of, receipts_of}
 use Rattle.wal_core.specs.Ordered.{AtPlace}
 use Rattle.wal_core.specs.Locked.{StandsTo}
-use Rattle.wal_core.specs.Steps.{StepKind, load_prev, give_position_back, take_lock, load_lock, zero_ring_word, publish_end, slot_in, IsLive, returned, home_behind}
+use Rattle.wal_core.specs.Steps.{StepKind, load_prev, give_position_back, stay, take_lock, load_lock, zero_ring_word, publish_end, slot_in, IsLive, returned, home_behind}
 use Rattle.wal_core.specs.Aligned.{LearnsAligned}
 use Rattle.wal_core.specs.Sound.{IsSound}
 use Rattle.wal_core.proofs.Lists.{part_at}

@@ -2,7 +2,7 @@
 use Rattle.std.proofs.Common.{◌≡◌, ◌≢◌, ◌⊎◌, inl, inr, ℕ, ◌<◌, List, Contains, set, slice_index, ap, arith}
 use Rattle.wal_core.specs.Words.{down_word}
 use Rattle.wal_core.specs.Views.{Lent, Out, View}
-use Rattle.wal_core.specs.Steps.{StepKind, MayStep, word_of_step, value_behind, load_position, take_write_turn, slot_out, slot_in, release_write_turn, lock_position, load_prev, store_prev, store_position, give_position_back, load_lock, take_lock, advance, release, load_buffer_end, store_ring_word, load_ring_word, load_written, load_flushed, load_moment, load_down, store_written, store_moment, store_flushed, set_down, take_mapping_turn, load_initialised_end, clear_end, zero_ring_word, publish_end, publish_initialised_end, release_mapping_turn, create, write, sync}
+use Rattle.wal_core.specs.Steps.{StepKind, MayStep, word_of_step, value_behind, load_position, take_write_turn, slot_out, slot_in, release_write_turn, lock_position, load_prev, store_prev, store_position, give_position_back, stay, load_lock, take_lock, advance, release, load_buffer_end, store_ring_word, load_ring_word, load_written, load_flushed, load_moment, load_down, store_written, store_moment, store_flushed, set_down, load_async, raise_async, take_mapping_turn, load_initialised_end, clear_end, zero_ring_word, publish_end, publish_initialised_end, release_mapping_turn, create, write, sync}
 use Rattle.wal_core.proofs.WordLists.{word_again, word_else}
 
 module _ (words : List ℕ) (v : View) where
@@ -31,6 +31,7 @@ module _ (words : List ℕ) (v : View) where
       other (store_position lock value) (λ e. omega arith)
   down_still low (give_position_back value) may =
       other (give_position_back value) (λ e. omega arith)
+  down_still low stay may = other stay (λ e. omega arith)
   down_still low (load_lock lock limit) may =
       other (load_lock lock limit) (λ e. omega (arith, may))
   down_still low (take_lock lock) may = other (take_lock lock) (λ e. omega (arith, may))
@@ -50,6 +51,9 @@ module _ (words : List ℕ) (v : View) where
   down_still low store_moment may = other store_moment (λ e. omega arith)
   down_still low store_flushed may = other store_flushed (λ e. omega arith)
   down_still low set_down may = inr (may.0, may.1)
+  down_still low load_async may = other load_async (λ e. omega arith)
+  down_still low (raise_async expected upto) may =
+      other (raise_async expected upto) (λ e. omega arith)
   down_still low take_mapping_turn may = other take_mapping_turn (λ e. omega arith)
   down_still low load_initialised_end may = other load_initialised_end (λ e. omega arith)
   down_still low clear_end may = other clear_end (λ e. omega arith)

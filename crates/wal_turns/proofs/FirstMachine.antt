@@ -116,7 +116,7 @@ module _ (opening : Opening) where
 
       pub runs_first : IsRunning begun
       runs_first = record {
-        sound = split_sound (logs_begin first opening words writer may.is_new may.first_words
+        sound = split_sound (logs_begin first opening words writer may.openable may.first_words
             may.first_writer) (length lines) may.passes;
         lines = λ j b is.
             let found = got_image first_backend lines j b is in

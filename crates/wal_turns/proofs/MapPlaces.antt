@@ -1,13 +1,16 @@
 -- At the places of mapping, and where an insert tells its progress and releases its lock: the step
 -- that the order names may be made, and the view behind it stands at the next place.
-use Rattle.std.proofs.Common.{◌≡◌, inl, ℕ, ◌+◌, ◌-◌, ◌*◌, ◌≤◌, Bool, true, false, cond, eqb, eq-eqb, not, ◌||◌, List, [], ◌∷◌, Contains, filter, slice_index, refl, sym, ap, subst, arith}
+use Rattle.std.proofs.Common.{◌≡◌, inl, ℕ, ◌+◌, ◌<◌, ◌-◌, ◌*◌, ◌≤◌, Bool, true, false, cond, eqb, eq-eqb, not, ◌||◌, List, [], ◌∷◌, Contains, filter, slice_index, refl, sym, ap, subst, arith}
 use Rattle.std.proofs.Math.Dec.{ltb, leb}
 use Rattle.std.proofs.lemmas.Bool.{leb-false, ltb-true}
 use mathlib.Core.Option.{Option, none, some}
 use Rattle.byte_position.specs.Geometry.{IsSegmentSize}
 use Rattle.byte_position.proofs.Words.{end_address_of-mod_word}
 use Rattle.wal_core.specs.Views.{Free, Copy, Flight, Landed, Copying, Stage, Away, Taken, Looked, Ready, Zeroing, Published, Idle, View, is_among}
-use Rattle.wal_core.specs.Moves.{landed, standing, without_lock}
+use Rattle.wal_core.specs.Moves.{after_advance, landed, standing, without_lock}
+use Rattle.wal_page.specs.EntryWords.{address_of_word}
+use Rattle.wal_core.specs.Words.{end_form}
+use Rattle.wal_core.proofs.Landing.{among_cases}
 use Rattle.wal_core.specs.Paged.{IsOpen}
 use Rattle.wal_core.specs.Steps.{MayStep, IsResting, load_written, zero_ring_word, publish_end, release, word_of_step, view_behind}
 use Rattle.wal_turns.specs.Doing.{Ask, Inserts, Commits, Flushes, Maps, GivesTurn, Tells, Releases, Machine}
@@ -155,26 +158,28 @@ module _ (m : Machine) (ask : Ask) where
     tells_at valid end = (
       (
         (0, omega arith, refl),
-        (
-          c,
-          refl,
-          (
-            subst
-                (λ (ls : List ℕ). Contains ls lock) (sym under.locks_are) (0, omega arith, refl),
-            omega arith,
-            omega (
-              arith,
-              end_address_of-mod_word ((v.opening).setup).segment_size valid (c.entry).start
-                  under.whole,
-            ),
-          ),
+        among_cases (λ (b : Bool). next
+            < cond b (next + 1) (end_form (v.opening).setup (v.reserving).seen + 1)) c.locks lock
+            (λ has. omega arith)
+            (λ none. absurd (none (subst (λ (ls : List ℕ). Contains ls lock) (sym under.locks_are)
+            (0, omega arith, refl)))),
+        omega (
+          arith,
+          end_address_of-mod_word ((v.opening).setup).segment_size valid (c.entry).start
+              under.whole,
         ),
       ),
       (
-        ((c, is_posed Free (lock ∷ []) (Copying c) Away Idle v, under, left), insert),
+        (
+          (c, is_posed Free (lock ∷ []) (Copying c) Away Idle (after_advance next v), under, left),
+          insert,
+        ),
         omega arith,
       ),
     )
+      where
+        next : ℕ
+        next = address_of_word ((v.opening).setup).segment_size c.entry c.copied
 
   pub maps_goes : (lock : ℕ) (v : View) → StandsToDo v (Maps lock) ask
       → can_step m v ask (Maps lock) ≡ true → Goes m ask (Maps lock) v

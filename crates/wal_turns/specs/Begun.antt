@@ -6,7 +6,7 @@ use Rattle.segment_disk.specs.Tape.{DiskState}
 use Rattle.wal_core.specs.Words.{Opening}
 use Rattle.wal_core.specs.Views.{Plain, View}
 use Rattle.wal_core.specs.Moves.{after_split, split_off}
-use Rattle.wal_core.specs.Opened.{AreFirstWords, IsFirstWriter, IsNew, first_view}
+use Rattle.wal_core.specs.Opened.{AreFirstWords, IsFirstWriter, IsOpenable, first_view}
 use Rattle.wal_turns.specs.Doing.{Ask, Backend, Machine}
 use Rattle.wal_turns.specs.Turned.{line_start}
 use Rattle.wal_turns.specs.Standing.{IsLine}
@@ -44,10 +44,10 @@ first_machine first opening words writer failing lines = record {
   full = false;
 }
 
--- the log holds nothing, has a pass for each backend and one more, and each line can be written
+-- the log may be opened so, has a pass for each backend and one more, and each line can be written
 pub record MayBeginRunning (opening : Opening) (words : List ℕ) (writer : Plain)
     (lines : List (List Ask)) : Type 0 where
-  pub is_new : IsNew opening
+  pub openable : IsOpenable opening
   pub first_words : AreFirstWords opening words
   pub first_writer : IsFirstWriter opening writer
   pub passes : length lines < (opening.setup).passes

@@ -22,4 +22,4 @@ kept_of_given start read = filter_again (λ f. keeps (everything_from start) (li
 pub everything_is_listed : EverythingIsListed
 everything_is_listed size pages start end found answer decodes =
     let kept : kept_by (everything_from start) found ≡ found = ap (kept_by (everything_from start)) decodes.given ∙ kept_of_given start decodes.read ∙ sym decodes.given in
-    record { listed = kept; printed = ap line_texts kept; unlimited = λ none. none }
+    record { listed = kept; printed = ap (line_texts false) kept; unlimited = λ none. none }

@@ -6,3 +6,7 @@ pub mod SpelledLaws
 pub mod ListingLaws
 pub mod DumpLaws
 pub mod EverythingLaws
+pub mod StatisticsLaws
+pub mod TallyLaws
+pub mod CountingLaws
+pub mod StatisticsDump

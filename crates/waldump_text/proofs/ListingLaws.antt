@@ -14,27 +14,53 @@ use Rattle.wal_reader.specs.declared.found.FoundRecord.{FoundRecord}
 use Rattle.wal_reader.specs.declared.found.Answer.{Answer}
 use Rattle.listing_filter.specs.declared.Filter.{Filter}
 use Rattle.listing_filter.specs.Keeping.{is_reached, keeps}
-use Rattle.waldump_text.specs.Listing.{IsLimitListed, kept_by, line_text, line_texts, listed_by, listed_of, listing, up_to}
+use Rattle.waldump_text.specs.Listing.{IsLimitListed, kept_by, line_text, line_texts, listed_by, listed_of, listing, listing_in_reading, up_to}
 use Rattle.waldump_text.specs.Put.{HasPut}
 use Rattle.waldump_text.proofs.SinkLaws.{HasPut-front, HasPut-front_of_next, with_behind-append, with_behind-nil}
 
 -- ---- what is printed of records
 
--- the lines of records, unless nothing is printed
-abbrev pub printed : Bool → List FoundRecord → List ℕ
-printed quiet found = if quiet then [] else line_texts found
+-- the lines of records by a filter that asks for no statistics
+abbrev pub printed : Filter → List FoundRecord → List ℕ
+printed by found = if by.quiet then [] else line_texts by.times found
 
-printed-append : (quiet : Bool) (found others : List FoundRecord) → printed quiet (found ++ others) ≡ printed quiet found ++ printed quiet others
-printed-append true found others = refl
-printed-append false found others = flat_map-append (λ f. line_text (listed_of f)) found others
+append-unless : (quiet : Bool) (both one other : List ℕ) → both ≡ one ++ other → (if quiet then [] else both) ≡ (if quiet then [] else one) ++ (if quiet then [] else other)
+append-unless true both one other parts = refl
+append-unless false both one other parts = parts
 
-printed-none : (quiet : Bool) → [] ≡ printed quiet []
-printed-none true = refl
-printed-none false = refl
+printed-append : (by : Filter) (found others : List FoundRecord) → printed by (found ++ others) ≡ printed by found ++ printed by others
+printed-append by found others = append-unless by.quiet _ _ _ (flat_map-append (λ f. line_text by.times (listed_of f)) found others)
 
-pub printed-one : (quiet : Bool) (f : FoundRecord) → (if quiet then [] else line_text (listed_of f)) ≡ printed quiet (f ∷ [])
-printed-one true f = refl
-printed-one false f = sym (append-nil (line_text (listed_of f)))
+same-unless : (quiet : Bool) (a b : List ℕ) → a ≡ b → (if quiet then [] else a) ≡ (if quiet then [] else b)
+same-unless true a b same = refl
+same-unless false a b same = same
+
+none-unless : (quiet : Bool) → ◌≡◌ {A = List ℕ} [] (if quiet then [] else [])
+none-unless true = refl
+none-unless false = refl
+
+printed-none : (by : Filter) → [] ≡ printed by []
+printed-none by = none-unless by.quiet
+
+pub printed-one : (by : Filter) (f : FoundRecord) → (if by.quiet then [] else line_text by.times (listed_of f)) ≡ printed by (f ∷ [])
+printed-one by f = same-unless by.quiet (line_text by.times (listed_of f)) _ (sym (append-nil (line_text by.times (listed_of f))))
+
+-- the lines of what a filter lists
+abbrev pub lines_listed : Filter → List FoundRecord → List ℕ
+lines_listed by found = printed by (listed_by by found)
+
+without_statistics : (quiet stats : Bool) (sums lines : List ℕ) → stats ≡ false → (if quiet then [] else (if stats then sums else lines)) ≡ (if quiet then [] else lines)
+without_statistics quiet stats sums lines none = rw none refl
+
+-- without statistics they are the listing, and all of it that is put while the log is read
+pub listing-lines : (by : Filter) → by.stats ≡ false → (found : List FoundRecord) → listing by found ≡ lines_listed by found
+listing-lines by none found = without_statistics by.quiet by.stats _ (line_texts by.times (listed_by by found)) none
+
+lines_in_reading : (stats : Bool) (text : List ℕ) → stats ≡ false → (if stats then [] else text) ≡ text
+lines_in_reading stats text none = rw none refl
+
+pub listing_in_reading-lines : (by : Filter) → by.stats ≡ false → (found : List FoundRecord) → listing_in_reading by found ≡ lines_listed by found
+listing_in_reading-lines by none found = lines_in_reading by.stats (listing by found) none ∙ listing-lines by none found
 
 -- a record that a filter keeps, and one that it does not
 pub kept : (by : Filter) (f : FoundRecord) → keeps by (listed_of f) ≡ true → kept_by by (f ∷ []) ≡ f ∷ []
@@ -54,14 +80,14 @@ pub IsWithin-none : (limit : Option ℕ) → IsWithin limit 0
 IsWithin-none None = tt
 IsWithin-none (Some limit) = omega arith
 
-up_to-parts : (limit : Option ℕ) (found others : List FoundRecord) → IsWithin limit (length found) → (rest : List FoundRecord) × (up_to limit (found ++ others) ≡ found ++ rest)
+pub up_to-parts : (limit : Option ℕ) (found others : List FoundRecord) → IsWithin limit (length found) → (rest : List FoundRecord) × (up_to limit (found ++ others) ≡ found ++ rest)
 up_to-parts None found others within = (others, refl)
 up_to-parts (Some limit) found others within =
     let left : ℕ = limit - length found in
     let parts : limit ≡ length found + left = omega arith in
     (take left others, ap (λ n. take n (found ++ others)) parts ∙ take-append-add found others left)
 
-up_to-short : (limit : Option ℕ) (found : List FoundRecord) → IsWithin limit (length found) → up_to limit found ≡ found
+pub up_to-short : (limit : Option ℕ) (found : List FoundRecord) → IsWithin limit (length found) → up_to limit found ≡ found
 up_to-short None found within = refl
 up_to-short (Some limit) found within = take_all limit found within
 
@@ -70,7 +96,7 @@ pub IsWithin-more : (limit : Option ℕ) (count : ℕ) → is_reached limit coun
 IsWithin-more None count unreached = tt
 IsWithin-more (Some limit) count unreached = omega (arith, leb-false limit count unreached)
 
-up_to-reached : (limit : Option ℕ) (found others : List FoundRecord) → IsWithin limit (length found) → is_reached limit (length found) ≡ true → up_to limit (found ++ others) ≡ found
+pub up_to-reached : (limit : Option ℕ) (found others : List FoundRecord) → IsWithin limit (length found) → is_reached limit (length found) ≡ true → up_to limit (found ++ others) ≡ found
 up_to-reached None found others within full = cc
 up_to-reached (Some limit) found others within full =
     let exact : limit ≡ length found = omega (arith, leb-true limit (length found) full) in
@@ -80,16 +106,16 @@ up_to-reached (Some limit) found others within full =
 pub record Prints (by : Filter) (f : FoundRecord) (old new : Option (List ℕ)) (count more : ℕ) : Type 0 where
   pub kept : List FoundRecord
   pub kept_is : kept_by by (f ∷ []) ≡ kept
-  pub taken : new ≡ with_behind old (printed by.quiet kept)
+  pub taken : new ≡ with_behind old (printed by kept)
   pub count_is : more ≡ count + length kept
   pub one : more ≤ count + 1
   pub within : IsWithin by.limit more
 
-pub Prints-kept : (by : Filter) (f : FoundRecord) (old new : Option (List ℕ)) (count more : ℕ) → keeps by (listed_of f) ≡ true → new ≡ with_behind old (if by.quiet then [] else line_text (listed_of f)) → more ≡ count + 1 → is_reached by.limit count ≡ false → Prints by f old new count more
+pub Prints-kept : (by : Filter) (f : FoundRecord) (old new : Option (List ℕ)) (count more : ℕ) → keeps by (listed_of f) ≡ true → new ≡ with_behind old (if by.quiet then [] else line_text by.times (listed_of f)) → more ≡ count + 1 → is_reached by.limit count ≡ false → Prints by f old new count more
 Prints-kept by f old new count more keeps taken one unreached = record {
   kept = f ∷ [];
   kept_is = kept by f keeps;
-  taken = taken ∙ ap (with_behind old) (printed-one by.quiet f);
+  taken = taken ∙ ap (with_behind old) (printed-one by f);
   count_is = one;
   one = omega arith;
   within = subst (IsWithin by.limit) (sym one) (IsWithin-more by.limit count unreached);
@@ -99,7 +125,7 @@ pub Prints-passed_over : (by : Filter) (f : FoundRecord) (old new : Option (List
 Prints-passed_over by f old new count more keeps same none within = record {
   kept = [];
   kept_is = passed_over by f keeps;
-  taken = same ∙ sym (with_behind-nil old) ∙ ap (with_behind old) (printed-none by.quiet);
+  taken = same ∙ sym (with_behind-nil old) ∙ ap (with_behind old) (printed-none by);
   count_is = omega arith;
   one = omega arith;
   within = subst (IsWithin by.limit) (sym none) within;
@@ -112,24 +138,24 @@ module _ (by : Filter) (found : List FoundRecord) (within : IsWithin by.limit (l
   kept_by-append others = ap (up_to by.limit) (filter-append (λ f. keeps by (listed_of f)) found others)
 
   -- what is kept so far is printed in front of what comes
-  listing-parts : (others : List FoundRecord) → (rest : List ℕ) × (listing by (found ++ others) ≡ printed by.quiet (kept_by by found) ++ rest)
+  listing-parts : (others : List FoundRecord) → (rest : List ℕ) × (lines_listed by (found ++ others) ≡ printed by (kept_by by found) ++ rest)
   listing-parts others =
       let parts = up_to-parts by.limit (kept_by by found) (kept_by by others) within in
-      (printed by.quiet parts.0, ap (printed by.quiet) (kept_by-append others ∙ parts.1) ∙ printed-append by.quiet (kept_by by found) parts.0)
+      (printed by parts.0, ap (printed by) (kept_by-append others ∙ parts.1) ∙ printed-append by (kept_by by found) parts.0)
 
   -- all of it is listed
-  listed_by-short : listed_by by found ≡ kept_by by found
+  pub listed_by-short : listed_by by found ≡ kept_by by found
   listed_by-short = up_to-short by.limit (kept_by by found) within
 
   -- so is it where more is to come, once the limit is reached
-  listed_by-reached : (others : List FoundRecord) → is_reached by.limit (length (kept_by by found)) ≡ true → listed_by by (found ++ others) ≡ kept_by by found
+  pub listed_by-reached : (others : List FoundRecord) → is_reached by.limit (length (kept_by by found)) ≡ true → listed_by by (found ++ others) ≡ kept_by by found
   listed_by-reached others full = kept_by-append others ∙ up_to-reached by.limit (kept_by by found) (kept_by by others) within full
 
-is_limit_listed : (limit : Option ℕ) (count more : ℕ) → count ≤ more → is_reached limit count ≡ true → IsSomeAnd limit (λ n. n ≤ more)
+pub is_limit_listed : (limit : Option ℕ) (count more : ℕ) → count ≤ more → is_reached limit count ≡ true → IsSomeAnd limit (λ n. n ≤ more)
 is_limit_listed None count more within full = cc
 is_limit_listed (Some limit) count more within full = omega (arith, leb-true limit count full)
 
-is_limit_unreached : (limit : Option ℕ) (count : ℕ) → is_reached limit count ≡ false → IsSomeAnd limit (λ n. n ≤ count) → ⊥
+pub is_limit_unreached : (limit : Option ℕ) (count : ℕ) → is_reached limit count ≡ false → IsSomeAnd limit (λ n. n ≤ count) → ⊥
 is_limit_unreached None count unreached listed = listed
 is_limit_unreached (Some limit) count unreached listed = omega (arith, leb-false limit count unreached)
 
@@ -140,12 +166,12 @@ is_limit_unreached (Some limit) count unreached listed = omega (arith, leb-false
 pub record IsUnderway (by : Filter) (pages : Pages) (start now : ReaderState) (old new : Option (List ℕ)) (count : ℕ) : Type 0 where
   pub given : List FoundRecord
   pub whole : (others : List FoundRecord) (answer : Answer) → GivesRecords pages now others answer → GivesRecords pages start (given ++ others) answer
-  pub taken : new ≡ with_behind old (printed by.quiet (kept_by by given))
+  pub taken : new ≡ with_behind old (printed by (kept_by by given))
   pub counted : length (kept_by by given) ≡ count
 
 module _ (by : Filter) (pages : Pages) (start : ReaderState) (old : Option (List ℕ)) where
   pub IsUnderway-none : IsUnderway by pages start start old old 0
-  IsUnderway-none = record { given = []; whole = λ others answer gives. gives; taken = sym (with_behind-nil old) ∙ ap (with_behind old) (printed-none by.quiet); counted = refl }
+  IsUnderway-none = record { given = []; whole = λ others answer gives. gives; taken = sym (with_behind-nil old) ∙ ap (with_behind old) (printed-none by); counted = refl }
 
   module _ (now : ReaderState) (mid : Option (List ℕ)) (count : ℕ) (underway : IsUnderway by pages start now old mid count) where
     module _ (within : IsWithin by.limit count) where
@@ -153,30 +179,30 @@ module _ (by : Filter) (pages : Pages) (start : ReaderState) (old : Option (List
       given_within = subst (IsWithin by.limit) (sym underway.counted) within
 
       -- wherever the reader stands a front of all is listed
-      pub listed_front : (others : List FoundRecord) → (n : ℕ) × (mid ≡ with_behind old (take n (listing by (underway.given ++ others))))
+      pub listed_front : (others : List FoundRecord) → (n : ℕ) × (mid ≡ with_behind old (take n (lines_listed by (underway.given ++ others))))
       listed_front others =
           let parts = listing-parts by underway.given given_within others in
-          let put : HasPut old mid 0 0 (listing by (underway.given ++ others)) parts.0 = record { front = printed by.quiet (kept_by by underway.given); parts = parts.1; taken = underway.taken; faults = refl } in
+          let put : HasPut old mid 0 0 (lines_listed by (underway.given ++ others)) parts.0 = record { front = printed by (kept_by by underway.given); parts = parts.1; taken = underway.taken; faults = refl } in
           HasPut-front put
 
       -- where the reader stops all is listed
       pub listed_all : (answer : Answer) → GivesRecords pages now [] answer → GivesRecords pages start underway.given answer
-          × (mid ≡ with_behind old (listing by underway.given)) × (count ≡ length (listed_by by underway.given))
+          × (mid ≡ with_behind old (lines_listed by underway.given)) × (count ≡ length (listed_by by underway.given))
       listed_all answer ends =
           let all = listed_by-short by underway.given given_within in (
             subst (λ (found : List FoundRecord). GivesRecords pages start found answer) (append-nil underway.given) (underway.whole [] answer ends),
-            underway.taken ∙ ap (λ (fs : List FoundRecord). with_behind old (printed by.quiet fs)) (sym all),
+            underway.taken ∙ ap (λ (fs : List FoundRecord). with_behind old (printed by fs)) (sym all),
             sym underway.counted ∙ ap length (sym all),
           )
 
       -- so it is where the limit is reached, whatever comes
-      pub listed_reached : (others : List FoundRecord) → is_reached by.limit count ≡ true → (mid ≡ with_behind old (listing by (underway.given ++ others)))
+      pub listed_reached : (others : List FoundRecord) → is_reached by.limit count ≡ true → (mid ≡ with_behind old (lines_listed by (underway.given ++ others)))
           × (count ≡ length (listed_by by (underway.given ++ others))) × IsLimitListed by (underway.given ++ others)
       listed_reached others full =
           let full_of : is_reached by.limit (length (kept_by by underway.given)) ≡ true = ap (is_reached by.limit) underway.counted ∙ full in
           let all = listed_by-reached by underway.given given_within others full_of in
           let more = ap length (filter-append (λ f. keeps by (listed_of f)) underway.given others) ∙ length-append (kept_by by underway.given) (kept_by by others) in (
-            underway.taken ∙ ap (λ (fs : List FoundRecord). with_behind old (printed by.quiet fs)) (sym all),
+            underway.taken ∙ ap (λ (fs : List FoundRecord). with_behind old (printed by fs)) (sym all),
             sym underway.counted ∙ ap length (sym all),
             is_limit_listed by.limit count (length (kept_by by (underway.given ++ others))) (omega (arith, more, underway.counted)) full,
           )
@@ -190,28 +216,28 @@ module _ (by : Filter) (pages : Pages) (start : ReaderState) (old : Option (List
       kept_more = filter-append (λ g. keeps by (listed_of g)) underway.given (f ∷ []) ∙ ap (λ (fs : List FoundRecord). kept_by by underway.given ++ fs) kept_is
 
       -- a record is printed if it is kept
-      pub IsUnderway-more : new ≡ with_behind mid (printed by.quiet kept) → IsUnderway by pages start next old new (count + length kept)
+      pub IsUnderway-more : new ≡ with_behind mid (printed by kept) → IsUnderway by pages start next old new (count + length kept)
       IsUnderway-more taken = record {
         given = underway.given ++ f ∷ [];
         whole = λ others answer gives. subst (λ (found : List FoundRecord). GivesRecords pages start found answer) (sym (append_assoc underway.given (f ∷ []) others)) (underway.whole (f ∷ others) answer (is others answer gives));
         taken =
             taken
-            ∙ ap (λ (text : Option (List ℕ)). with_behind text (printed by.quiet kept)) underway.taken
-            ∙ with_behind-append old (printed by.quiet (kept_by by underway.given)) (printed by.quiet kept)
-            ∙ ap (with_behind old) (sym (ap (printed by.quiet) kept_more ∙ printed-append by.quiet (kept_by by underway.given) kept));
+            ∙ ap (λ (text : Option (List ℕ)). with_behind text (printed by kept)) underway.taken
+            ∙ with_behind-append old (printed by (kept_by by underway.given)) (printed by kept)
+            ∙ ap (with_behind old) (sym (ap (printed by) kept_more ∙ printed-append by (kept_by by underway.given) kept));
         counted = ap length kept_more ∙ length-append (kept_by by underway.given) kept ∙ ap (λ n. n + length kept) underway.counted;
       }
 
       -- the sink fails at its line
-      pub listed_front_of_next : IsWithin by.limit (count + length kept) → (others : List FoundRecord) → (n : ℕ) × (new ≡ with_behind mid (take n (printed by.quiet kept)))
-          → (n : ℕ) × (new ≡ with_behind old (take n (listing by (underway.given ++ f ∷ others))))
+      pub listed_front_of_next : IsWithin by.limit (count + length kept) → (others : List FoundRecord) → (n : ℕ) × (new ≡ with_behind mid (take n (printed by kept)))
+          → (n : ℕ) × (new ≡ with_behind old (take n (lines_listed by (underway.given ++ f ∷ others))))
       listed_front_of_next within others taken =
           let given = underway.given ++ f ∷ [] in
           let counted : length (kept_by by given) ≡ count + length kept = ap length kept_more ∙ length-append (kept_by by underway.given) kept ∙ ap (λ n. n + length kept) underway.counted in
           let parts = listing-parts by given (subst (IsWithin by.limit) (sym counted) within) others in
-          let whole : listing by (underway.given ++ f ∷ others) ≡ printed by.quiet (kept_by by underway.given) ++ (printed by.quiet kept ++ parts.0) =
-          ap (listing by) (sym (append_assoc underway.given (f ∷ []) others)) ∙ parts.1
-          ∙ ap (λ (text : List ℕ). text ++ parts.0) (ap (printed by.quiet) kept_more ∙ printed-append by.quiet (kept_by by underway.given) kept)
-          ∙ append_assoc (printed by.quiet (kept_by by underway.given)) (printed by.quiet kept) parts.0 in
-          let put : HasPut old mid 0 0 (listing by (underway.given ++ f ∷ others)) (printed by.quiet kept ++ parts.0) = record { front = printed by.quiet (kept_by by underway.given); parts = whole; taken = underway.taken; faults = refl } in
-          HasPut-front_of_next (printed by.quiet kept) parts.0 put refl taken
+          let whole : lines_listed by (underway.given ++ f ∷ others) ≡ printed by (kept_by by underway.given) ++ (printed by kept ++ parts.0) =
+          ap (lines_listed by) (sym (append_assoc underway.given (f ∷ []) others)) ∙ parts.1
+          ∙ ap (λ (text : List ℕ). text ++ parts.0) (ap (printed by) kept_more ∙ printed-append by (kept_by by underway.given) kept)
+          ∙ append_assoc (printed by (kept_by by underway.given)) (printed by kept) parts.0 in
+          let put : HasPut old mid 0 0 (lines_listed by (underway.given ++ f ∷ others)) (printed by kept ++ parts.0) = record { front = printed by (kept_by by underway.given); parts = whole; taken = underway.taken; faults = refl } in
+          HasPut-front_of_next (printed by kept) parts.0 put refl taken

@@ -12,7 +12,7 @@ use Rattle.wal_reader.specs.declared.found.Stopped.{Stopped as LogStop}
 use Rattle.wal_reader.specs.declared.standing.ReadErr.TheVariants as reading
 use Rattle.wal_reader.specs.Standings.{HasReadCause}
 use Rattle.listing_filter.specs.declared.Filter.{Filter}
-use Rattle.waldump_text.specs.Listing.{IsLimitListed, listed_by, listing}
+use Rattle.waldump_text.specs.Listing.{IsLimitListed, listed_by, listing, listing_in_reading}
 use Rattle.waldump_text.specs.declared.dumping.DumpErr.{DumpErr}
 use Rattle.waldump_text.specs.declared.dumping.DumpErr.TheVariants.{Read, Sink}
 
@@ -26,41 +26,51 @@ abbrev pub DecodesOnDisk : ℕ → Filter → Tape → List FoundRecord → Answ
 DecodesOnDisk size by t found answer =
     Decodes size (log_of t size) by.start.0 (option_map (λ end. end.0) by.end) found answer
 
--- a sink took the listing of what the disk's log decodes to: these records, and this behind them
-pub record PutsListing (size : ℕ) (by : Filter) (t : Tape) (old new : Option (List ℕ))
-    (found : List FoundRecord) (answer : Answer) : Type 0 where
+-- a sink took a text of what the disk's log decodes to: these records, and this behind them
+pub record PutsText (size : ℕ) (by : Filter) (t : Tape) (old new : Option (List ℕ))
+    (found : List FoundRecord) (answer : Answer) (text : List ℕ) : Type 0 where
   pub decodes : DecodesOnDisk size by t found answer
-  pub put : new ≡ with_behind old (listing by found)
+  pub put : new ≡ with_behind old text
 
 -- all is listed, so many records: the log comes to a clean end, or the limit is listed
 pub record ListsAll (size : ℕ) (by : Filter) (t : Tape) (old new : Option (List ℕ)) (count : ℕ)
     : Type 0 where
   pub found : List FoundRecord
   pub answer : Answer
-  pub puts : PutsListing size by t old new found answer
+  pub puts : PutsText size by t old new found answer (listing by found)
   pub ends : IsEnd answer ⊎ IsLimitListed by found
   pub count_is : count ≡ length (listed_by by found)
 
--- all before a stop is listed, which comes before the limit is
+-- all before a stop is listed, but for statistics; the stop comes before the limit is listed
 pub record ListsUpTo (size : ℕ) (by : Filter) (t : Tape) (old new : Option (List ℕ))
     (stop : LogStop) : Type 0 where
   pub found : List FoundRecord
-  pub puts : PutsListing size by t old new found (answers.Stopped stop)
+  pub puts :
+      PutsText size by t old new found (answers.Stopped stop) (listing_in_reading by found)
   pub below_limit : IsLimitListed by found → ⊥
 
--- a sink took a front of the listing of what the disk's log decodes to
-abbrev pub ListsFront : ℕ → Filter → Tape → Option (List ℕ) → Option (List ℕ) → Type 0
-ListsFront size by t old new =
+-- a sink took a front of a text of what the disk's log decodes to
+abbrev pub PutsFront : (List FoundRecord → List ℕ) → ℕ → Filter → Tape → Option (List ℕ)
+    → Option (List ℕ) → Type 0
+PutsFront text size by t old new =
     (found : List FoundRecord) (answer : Answer) → DecodesOnDisk size by t found answer → (n : ℕ)
-    × (new ≡ with_behind old (take n (listing by found)))
+    × (new ≡ with_behind old (take n (text found)))
+
+-- a front of the listing; where the reading failed there are no statistics in it
+abbrev pub ListsFront : ℕ → Filter → Tape → Option (List ℕ) → Option (List ℕ) → Type 0
+ListsFront size by = PutsFront (listing by) size by
+
+abbrev pub ListsFrontInReading : ℕ → Filter → Tape → Option (List ℕ) → Option (List ℕ) → Type 0
+ListsFrontInReading size by = PutsFront (listing_in_reading by) size by
 
 -- what a listing put, by how it ended
 abbrev pub IsDump : ℕ → Filter → Option (List ℕ) → Option (List ℕ) → Result ℕ DumpErr → Tape
     → Type 0
 IsDump size by old new (Ok count) t = ListsAll size by t old new count
 IsDump size by old new (Err (Read (reading.Stopped stop))) t = ListsUpTo size by t old new stop
-IsDump size by old new (Err (Read reading.Memory)) t = ListsFront size by t old new
-IsDump size by old new (Err (Read (reading.Disk faults))) t = ListsFront size by t old new
+IsDump size by old new (Err (Read reading.Memory)) t = ListsFrontInReading size by t old new
+IsDump size by old new (Err (Read (reading.Disk faults))) t =
+    ListsFrontInReading size by t old new
 IsDump size by old new (Err (Sink fault)) t = ListsFront size by t old new
 
 -- why a listing ended so: the counts of faults of the disk and of the sink, before and after

@@ -1,5 +1,5 @@
 -- That a filter which asks for nothing lists everything.
-use Rattle.std.specs.Prelude.{◌≡◌, ℕ, List, Option}
+use Rattle.std.specs.Prelude.{◌≡◌, ℕ, false, List, Option}
 use Rattle.wal_types.specs.declared.lsn.Lsn.{Lsn}
 use Rattle.wal_reader.specs.Decodes.{Decodes}
 use Rattle.wal_reader.specs.Pages.{Pages}
@@ -12,7 +12,7 @@ use Rattle.waldump_text.specs.Listing.{IsLimitListed, line_texts, listed_by, lis
 -- listed and printed, and no limit ends the listing
 pub record IsListedWhole (start : Lsn) (found : List FoundRecord) : Type 0 where
   pub listed : listed_by (everything_from start) found ≡ found
-  pub printed : listing (everything_from start) found ≡ line_texts found
+  pub printed : listing (everything_from start) found ≡ line_texts false found
   pub unlimited : IsLimitListed (everything_from start) found → ⊥
 
 abbrev pub EverythingIsListed : Type 0

@@ -1,5 +1,9 @@
-pub mod Put
-pub mod Names
-pub mod Listing
+pub mod Counting
 pub mod Dump
 pub mod Everything
+pub mod Listing
+pub mod Names
+pub mod Put
+pub mod Statistics
+pub mod Sums
+pub mod Tally

@@ -1,32 +1,45 @@
 -- The listing of records, a line each, in the form of pg_waldump.
-use Rattle.std.specs.Prelude.{ℕ, ◌-◌, ◌≤◌, IsTrue, not, List, [], ◌∷◌, ◌++◌, length, take, filter, replicate, codes, slice_index_or, sum_by, All, Option, Some, None, IsSomeAnd, ◌==◌, if◌then◌else◌}
+use Rattle.std.specs.Prelude.{ℕ, ◌-◌, ◌/◌, ◌%◌, ◌≤◌, ℤ, Bool, ◌&&◌, nat_le, map, IsTrue, not, List, [], ◌∷◌, ◌++◌, length, take, filter, codes, slice_index_or, All, Option, Some, None, IsSomeAnd, ◌==◌, if◌then◌else◌}
 use Rattle.std.specs.Fmt.{decimal}
+use Rattle.std.specs.Int.{cast_signed, from_le_bytes, w64}
 use Rattle.std.specs.List.{flat_map}
+use Rattle.std.specs.Option.{option_map_or}
 use Rattle.wal_types.specs.LsnText.{lsn_text}
 use Rattle.wal_types.specs.declared.record.Block.{Block}
 use Rattle.wal_types.specs.declared.record.Image.{Image}
+use Rattle.wal_types.specs.declared.record.Record.{Record}
 use Rattle.wal_types.specs.declared.record.Rel.{Rel}
+use Rattle.commit_times.specs.TimeText.{time_text}
 use Rattle.record_spelling.specs.Record.{is_free_manager}
-use Rattle.record_spelling.specs.Spelling.{image_bytes}
 use Rattle.wal_reader.specs.declared.found.FoundRecord.{FoundRecord}
 use Rattle.listing_filter.specs.declared.Filter.{Filter}
 use Rattle.listing_filter.specs.declared.listed.Listed.{Listed}
 use Rattle.listing_filter.specs.Keeping.{keeps}
-use Rattle.waldump_text.specs.Put.{joined, padded_left}
+use Rattle.waldump_text.specs.Put.{joined, padded_left, padded_right}
+use Rattle.waldump_text.specs.Sums.{images_len}
+use Rattle.waldump_text.specs.Statistics.{stats_text}
 use Rattle.listing_filter.specs.Names.{fork_names}
 use Rattle.waldump_text.specs.Names.{manager_name, record_word, hexadecimal}
 
--- a text and blanks behind it up to n bytes
-abbrev pub padded_right : ℕ → List ℕ → List ℕ
-padded_right n text = text ++ replicate (n - length text) 32
-
 -- the main data in hexadecimal, or `-` for none
-abbrev pub data_text : List ℕ → List ℕ
-data_text main = if length main == 0 then codes "-" else hexadecimal main
+abbrev pub main_text : List ℕ → List ℕ
+main_text main = if length main == 0 then codes "-" else hexadecimal main
 
--- how many bytes the images of blocks have together
-abbrev pub images_len : List Block → ℕ
-images_len blocks = sum_by (λ b. length (image_bytes b.image)) blocks
+-- when a transaction committed, by a record that tells it: a commit, by its manager and bits 4 to 6
+-- of its info, whose main data begins with the time, a signed number of 8 bytes
+abbrev pub commit_time_of : Record → Option ℤ
+commit_time_of value =
+    if value.rmid == 1 && value.info / 16 % 8 == 0 && nat_le 8 (length value.main)
+    then Some (cast_signed w64 (from_le_bytes w64 (take 8 value.main))) else None
+
+-- its text, where times are asked for
+abbrev pub commit_time_text : Bool → Record → List ℕ
+commit_time_text times value =
+    if times then option_map_or time_text (commit_time_of value) [] else []
+
+-- the data of a record, and behind it when it committed
+abbrev pub data_text : Bool → Record → List ℕ
+data_text times value = main_text value.main ++ commit_time_text times value
 
 -- the pieces of a record's line before its data: manager, size without and with images,
 -- transaction, its start, that of the record before and its word
@@ -62,10 +75,11 @@ block_pieces b =
 abbrev pub blocks_text : List Block → List ℕ
 blocks_text blocks = flat_map (λ b. joined (block_pieces b)) blocks
 
--- a record's line: its head, its main data and its block references
-abbrev pub line_text : Listed → List ℕ
-line_text r =
-    joined (head_pieces r ++ data_text r.value.main ∷ blocks_text r.value.blocks ∷ codes "\n" ∷ [])
+-- a record's line: its head, its data and its block references
+abbrev pub line_text : Bool → Listed → List ℕ
+line_text times r =
+    joined
+    (head_pieces r ++ data_text times r.value ∷ blocks_text r.value.blocks ∷ codes "\n" ∷ [])
 
 -- a record that has a line: its manager and its forks have names, and its images are no more than
 -- all of it
@@ -96,10 +110,17 @@ abbrev pub IsLimitListed : Filter → List FoundRecord → Type 0
 IsLimitListed by found = IsSomeAnd by.limit (λ limit. limit ≤ length (kept_by by found))
 
 -- the lines of records, one behind another
-abbrev pub line_texts : List FoundRecord → List ℕ
-line_texts found = flat_map (λ f. line_text (listed_of f)) found
+abbrev pub line_texts : Bool → List FoundRecord → List ℕ
+line_texts times found = flat_map (λ f. line_text times (listed_of f)) found
 
--- the listing of a log's records by a filter: the lines of those that it lists, or nothing where it
--- is quiet
+-- the listing of a log's records by a filter: the lines of those that it lists, or their
+-- statistics, or nothing where it is quiet
 abbrev pub listing : Filter → List FoundRecord → List ℕ
-listing by found = if by.quiet then [] else line_texts (listed_by by found)
+listing by found =
+    if by.quiet then []
+    else (if by.stats then stats_text (map listed_of (listed_by by found))
+    else line_texts by.times (listed_by by found))
+
+-- what is put of a listing while the log is read: lines as they come, and no statistics
+abbrev pub listing_in_reading : Filter → List FoundRecord → List ℕ
+listing_in_reading by found = if by.stats then [] else listing by found

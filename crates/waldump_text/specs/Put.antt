@@ -33,3 +33,7 @@ PutsBut old new before after text held (Err fault) = Puts old new before after t
 -- a text behind as many blanks as make it n bytes long, and before as many
 abbrev pub padded_left : ℕ → List ℕ → List ℕ
 padded_left n text = replicate (n - length text) 32 ++ text
+
+-- a text and blanks behind it up to n bytes
+abbrev pub padded_right : ℕ → List ℕ → List ℕ
+padded_right n text = text ++ replicate (n - length text) 32

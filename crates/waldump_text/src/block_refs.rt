@@ -3,7 +3,8 @@
 ghost use Rattle.std.specs.Prelude.{◌≡◌, ◌+◌, ◌^◌, ◌<◌, ◌≤◌, ◌++◌, length, All};
 ghost use Rattle.record_spelling.specs.Spelling.{image_bytes};
 ghost use Rattle.waldump_text.specs.Put.{PutsBut, joined};
-ghost use Rattle.waldump_text.specs.Listing.{block_pieces, blocks_text, fork_text, image_text, images_len, relation_text};
+ghost use Rattle.waldump_text.specs.Listing.{block_pieces, blocks_text, fork_text, image_text, relation_text};
+ghost use Rattle.waldump_text.specs.Sums.{images_len};
 ghost use Rattle.waldump_text.specs.declared.line_buffer.TheConstants.{ROOM};
 
 use crate::line_buffer::LineBuffer;

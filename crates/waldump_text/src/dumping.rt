@@ -1,12 +1,16 @@
-ghost use Rattle.std.specs.Prelude.{◌≡◌, [], IfSome, OnOk, if◌then◌else◌};
+ghost use Rattle.std.specs.Prelude.{◌≡◌, [], IfSome, IsFalse, IsTrue, OnOk, if◌then◌else◌};
 ghost use Rattle.segment_disk.specs.Tape.{IsUncalled};
 ghost use Rattle.waldump_text.specs.Dump.{HasDumpCause, IsDump};
 ghost use Rattle.waldump_text.specs.Listing.{IsListable, line_text};
 ghost use Rattle.waldump_text.specs.Put.{Puts};
+ghost use Rattle.waldump_text.specs.Tally.{TallyFits, tally_text};
 
+use crate::counting::tally_log;
 use crate::line_buffer::LineBuffer;
 use crate::lines::put_line;
 use crate::putting::SinkFault;
+use crate::statistics::put_tally;
+use crate::sums::Tally;
 use byte_position::Geometry;
 use listing_filter::{Filter, Listed};
 use segment_disk::{Disk, Sink};
@@ -48,7 +52,8 @@ impl From<SinkFault> for DumpErr {
 
 /// Lists what the disk's log decodes to, by a filter, a line for each record as it comes, and
 /// answers how many records are listed. Reading begins on the page that holds the filter's start;
-/// once the limit is listed, nothing is read any more.
+/// once the limit is listed, nothing is read any more. Statistics are put in place of the lines
+/// once all is read.
 pub fn dump<D: Disk, O: Sink>(
     alloc: Global,
     disk: &mut D,
@@ -56,6 +61,28 @@ pub fn dump<D: Disk, O: Sink>(
     filter: &Filter,
     out: &mut O,
 ) -> Result<u64, DumpErr>
+    ensures listed { IfSome (D.tape disk.old)
+        (IsDump geometry filter.now (O.taken out.old) (O.taken out.new) result) }
+    ensures uncalled { IsUncalled D.tape D.moment disk.old disk.new }
+    ensures cause { HasDumpCause (D.faults disk.old) (D.faults disk.new) (O.faults out.old)
+        (O.faults out.new) result }
+{
+    if filter.stats {
+        dump_statistics(alloc, disk, geometry, filter, out)
+    } else {
+        dump_lines(alloc, disk, geometry, filter, out)
+    }
+}
+
+// Lists records by a line for each, as it comes.
+fn dump_lines<D: Disk, O: Sink>(
+    alloc: Global,
+    disk: &mut D,
+    geometry: Geometry,
+    filter: &Filter,
+    out: &mut O,
+) -> Result<u64, DumpErr>
+    requires { IsFalse filter.now.stats }
     ensures listed { IfSome (D.tape disk.old)
         (IsDump geometry filter.now (O.taken out.old) (O.taken out.new) result) }
     ensures uncalled { IsUncalled D.tape D.moment disk.old disk.new }
@@ -83,7 +110,7 @@ pub fn dump<D: Disk, O: Sink>(
                     value,
                 };
                 if filter.keeps(&listed) {
-                    print(&mut buffer, filter.quiet, &listed, out)?;
+                    print(&mut buffer, filter, &listed, out)?;
                     count += 1;
                 }
             }
@@ -93,21 +120,55 @@ pub fn dump<D: Disk, O: Sink>(
     Ok(count)
 }
 
+// Lists records by their statistics, once all of the log is read.
+fn dump_statistics<D: Disk, O: Sink>(
+    alloc: Global,
+    disk: &mut D,
+    geometry: Geometry,
+    filter: &Filter,
+    out: &mut O,
+) -> Result<u64, DumpErr>
+    requires { IsTrue filter.now.stats }
+    ensures listed { IfSome (D.tape disk.old)
+        (IsDump geometry filter.now (O.taken out.old) (O.taken out.new) result) }
+    ensures uncalled { IsUncalled D.tape D.moment disk.old disk.new }
+    ensures cause { HasDumpCause (D.faults disk.old) (D.faults disk.new) (O.faults out.old)
+        (O.faults out.new) result }
+{
+    // That a log decodes to something rests on a valid size.
+    let _size = geometry.segment_size();
+    let tally = tally_log(alloc, disk, geometry, filter)?;
+    put_statistics(filter.quiet, &tally, out)?;
+    Ok(tally.all.records)
+}
+
+// Puts a tally's lines, unless nothing is to be printed.
+fn put_statistics<O: Sink>(quiet: bool, tally: &Tally, out: &mut O) -> Result<(), SinkFault>
+    requires { TallyFits tally.now }
+    ensures { Puts (O.taken out.old) (O.taken out.new) (O.faults out.old) (O.faults out.new)
+        (if quiet then [] else tally_text tally.now) result }
+{
+    if quiet {
+        return Ok(());
+    }
+    put_tally(tally, out)
+}
+
 // Puts a record's line, unless nothing is to be printed.
 fn print<O: Sink>(
     buffer: &mut LineBuffer,
-    quiet: bool,
+    filter: &Filter,
     r: &Listed,
     out: &mut O,
 ) -> Result<(), SinkFault>
     requires listable { IsListable r.now }
     requires empty { buffer.old ≡ [] }
     ensures put { Puts (O.taken out.old) (O.taken out.new) (O.faults out.old) (O.faults out.new)
-        (if quiet then [] else line_text r.now) result }
+        (if filter.now.quiet then [] else line_text filter.now.times r.now) result }
     ensures empty { OnOk result (buffer.new ≡ []) }
 {
-    if quiet {
+    if filter.quiet {
         return Ok(());
     }
-    put_line(buffer, r, out)
+    put_line(buffer, filter.times, r, out)
 }

@@ -2,6 +2,7 @@
 #![tactic(auto)]
 
 mod block_refs;
+mod counting;
 mod digits;
 mod dumping;
 mod laws;
@@ -9,10 +10,15 @@ mod line_buffer;
 mod lines;
 mod names;
 mod putting;
+mod statistics;
+mod sums;
 
+pub use commit_times::{TimeText, time_text};
 pub use dumping::{DumpErr, dump};
 pub use laws::{decoding_is_settled, everything_is_listed};
 pub use lines::line;
 pub use listing_filter::{Filter, Listed, fork_name};
 pub use names::{ManagerName, RecordWord, manager_name, record_word};
 pub use putting::{SinkFault, padding, put, put_all};
+pub use statistics::stats;
+pub use sums::Sums;

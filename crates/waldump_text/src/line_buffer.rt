@@ -29,8 +29,7 @@ impl LineBuffer {
     ghost use Rattle.std.specs.Prelude.{◌≡◌, ◌+◌, ◌≤◌, [], ◌++◌, length, max, OnOk};
     ghost use Rattle.std.specs.Fmt.{decimal};
     ghost use Rattle.wal_types.specs.LsnText.{lsn_text};
-    ghost use Rattle.waldump_text.specs.Put.{Puts, PutsBut, padded_left};
-    ghost use Rattle.waldump_text.specs.Listing.{padded_right};
+    ghost use Rattle.waldump_text.specs.Put.{Puts, PutsBut, padded_left, padded_right};
 
     pub(crate) fn new() -> LineBuffer
         ensures { result ≡ [] }
@@ -73,6 +72,16 @@ impl LineBuffer {
         requires { length self.old + 10 ≤ ROOM }
         ensures text { self.new ≡ self.old ++ decimal n }
         ensures length { length self.new ≤ length self.old + 10 }
+    {
+        let mut buffer = Buffer::new();
+        self.push(buffer.format(n).as_bytes());
+    }
+
+    /// A sum in decimal.
+    pub(crate) fn push_sum(&mut self, n: u128)
+        requires { length self.old + 40 ≤ ROOM }
+        ensures text { self.new ≡ self.old ++ decimal n }
+        ensures length { length self.new ≤ length self.old + 40 }
     {
         let mut buffer = Buffer::new();
         self.push(buffer.format(n).as_bytes());
@@ -123,7 +132,8 @@ impl LineBuffer {
         Ok(())
     }
 
-    /// A text that may have to wait for room.
+    /// A text that may have to wait for room. Where it is called its length is known.
+    #[inline(always)]
     pub(crate) fn append<O: Sink>(&mut self, text: &[u8], out: &mut O) -> Result<(), SinkFault>
         requires { length text.now ≤ ROOM }
         ensures { PutsBut (O.taken out.old) (O.taken out.new) (O.faults out.old) (O.faults out.new)

@@ -1,5 +1,5 @@
 -- The initialised end and the written address that a mapper loads are far below the last address.
-use Rattle.std.proofs.Common.{◌≡◌, ℕ, ◌^◌, ◌<◌, sym, ◌∙◌, subst, arith}
+use Rattle.std.proofs.Common.{◌≡◌, ℕ, ◌^◌, ◌<◌, ◌≤◌, sym, ◌∙◌, subst, arith}
 use Rattle.std.proofs.Math.Logic.{∥∥₁_elim}
 use Rattle.std.specs.Coded.{le_prop, ×_prop}
 use Rattle.atomic_table.proofs.Lists.{at_map}
@@ -12,7 +12,7 @@ use Rattle.wal_core.specs.Words.{Opening, initialised_word, word_of_ring, writte
 use Rattle.wal_core.specs.Locked.{HasTurn}
 use Rattle.wal_core.specs.Paged.{AtStage}
 use Rattle.wal_core.specs.Sound.{IsSound}
-use Rattle.wal_core.specs.Views.{Ready, Stage, mapper_of, View}
+use Rattle.wal_core.specs.Views.{Ready, Stage, confirmed_of, mapper_of, View}
 use Rattle.wal_rule.specs.Stepping.{Stands}
 
 module _ (v : View) (at written : ℕ) (stands : Stands v)
@@ -72,6 +72,19 @@ module _ (v : View) (at written : ℕ) (stands : Stands v)
         omega (arith, low, stage.0.0, stage.0.1, stage.1, given_up, few),
         omega (arith, low, stage.2),
       )
+
+  -- and no end of a page that was met is above the initialised one
+  met_below : (v.mapping).confirmed ≤ at
+  met_below =
+      let seen = (sound.pages).seen stands.id (v.mapping).confirmed
+      (at_map confirmed_of stands.views stands.id v stands.here) in
+      let stage = at_stage in
+      omega (arith, seen, stage.0.1, stage.1)
+
+pub ready_met : (v : View) (at written : ℕ) → ∥ Stands v ∥₁ → (v.mapping).stage ≡ Ready at written
+    → (v.mapping).confirmed ≤ at
+ready_met v at written stands ready = ∥∥₁_elim stands le_prop
+    (λ (s : Stands v). met_below v at written s ready)
 
 pub ready_low : (v : View) (at written : ℕ) → ∥ Stands v ∥₁ → (v.mapping).stage ≡ Ready at written
     → (at < 2 ^ 60) × (written < 2 ^ 60)

@@ -1,13 +1,11 @@
 -- Words of a record are copied to a page: what a pass's view is behind so many of them.
-use Rattle.std.specs.Prelude.{◌≡◌, ℕ, ◌+◌, ◌*◌, ◌/◌, ◌<◌}
+use Rattle.std.specs.Prelude.{◌≡◌, ℕ, ◌+◌, ◌-◌, ◌*◌, ◌/◌, min}
 use Rattle.record_spelling.specs.Spelling.{assembled}
 use Rattle.wal_page.specs.EntryWords.{address_of_word}
 use Rattle.wal_page.specs.Placed.{PlacedState, placed_end}
 use Rattle.wal_core.specs.declared.setup.Setup.{Setup}
 use Rattle.wal_core.specs.Steps.{ring_number, ring_place}
 use Rattle.wal_core.specs.Views.{Copy, Copying, Flight, Landed, View}
-use Rattle.word_ring.specs.declared.copying.Copied.{Copied}
-use Rattle.word_ring.specs.declared.copying.Copied.TheVariants.{Whole, PageEnd}
 
 -- its copy is so many words further on; all else is as it was
 abbrev pub further : ℕ → Flight → Flight
@@ -42,15 +40,14 @@ IsPlaceOf setup address place = place ≡ ring_number setup (ring_place setup (a
 abbrev pub page_end_at : ℕ → ℕ
 page_end_at address = (address / 8192 + 1) * 8192
 
--- a copy stops where the record ends, or before that where its page ends
-abbrev pub StopsAt : (old new : PlacedState) → Copied → Type 0
-StopsAt old new Whole = new.next ≡ placed_end old
-StopsAt old new PageEnd = (new.next ≡ page_end_at old.next) × (new.next < placed_end old)
+-- so many words of a record are left on the page of the next one
+abbrev pub left_on_page : PlacedState → ℕ
+left_on_page p = min ((placed_end p - p.next) / 8) ((page_end_at p.next - p.next) / 8)
 
--- so many words were copied to a page, and the record at its place gives those behind them
-pub record CopiesPage (old new : View) (placed_old placed_new : PlacedState) (stop : Copied)
+-- as many words as are left on the page were copied to it, or as were asked for where these are
+-- fewer; the record at its place gives those behind them
+pub record CopiesPage (most count : ℕ) (old new : View) (placed_old placed_new : PlacedState)
     : Type 0 where
-  pub count : ℕ
+  pub count_is : count ≡ min (left_on_page placed_old) most
   pub view_is : new ≡ copied_view count old
   pub placed_is : placed_new ≡ record placed_old { next = placed_old.next + 8 * count }
-  pub stops : StopsAt placed_old placed_new stop

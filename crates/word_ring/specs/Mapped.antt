@@ -1,8 +1,10 @@
 -- A try to map the next page: what it leaves of its pass's view, and when it maps none.
 use Rattle.std.specs.Prelude.{◌≡◌, ◌≢◌, ℕ, ◌+◌, ◌*◌, ◌<◌, ◌≤◌}
+use mathlib.Core.Option.{none}
 use Rattle.wal_core.specs.declared.setup.Setup.{Setup}
 use Rattle.wal_core.specs.Views.{Stage, View}
-use Rattle.wal_core.specs.Steps.{take_mapping_turn}
+use Rattle.wal_core.specs.Views as stages
+use Rattle.wal_core.specs.Steps.{load_initialised_end, load_written, take_mapping_turn, view_behind}
 use Rattle.wal_rule.specs.Stepping.{Meets}
 use Rattle.word_ring.specs.Ring.{confirmed_view, end_of_page}
 use Rattle.word_ring.specs.declared.mapping.MapTry.{MapTry}
@@ -28,6 +30,13 @@ looked_view at written v = written_view written (confirmed_view at v)
 abbrev pub IsOldPageUnwritten : Setup → (at written : ℕ) → Type 0
 IsOldPageUnwritten setup at written = written + setup.ring_pages * 8192 < at + 8192
 
+-- with the turn to map had, these were met as the initialised end and then as written; no end of a
+-- page that was met before is above the initialised one
+pub record LooksAt (v : View) (at written : ℕ) : Type 0 where
+  pub end_met : Meets v load_initialised_end at
+  pub written_met : Meets (view_behind v load_initialised_end at none) load_written written
+  pub rises : (v.mapping).confirmed ≤ at
+
 -- what a try tells, and what it leaves of the view, which is not mapping: somebody else had the
 -- turn, whose word was met; or it had the turn, and met the initialised end `at` and the written
 -- address
@@ -35,8 +44,11 @@ abbrev pub TriesMapping : Setup → (page : ℕ) → (old new : View) → MapTry
 TriesMapping setup page old new (Taken turn) = (turn ≢ 0) × (new ≡ old)
     × Meets old take_mapping_turn turn
 TriesMapping setup page old new There = (at written : ℕ) × (end_of_page page ≤ at)
-    × (new ≡ looked_view at written old)
+    × (new ≡ looked_view at written old) × LooksAt (staged_view stages.Taken old) at written
 TriesMapping setup page old new (Unwritten told) = (at : ℕ) × (at < end_of_page page)
     × IsOldPageUnwritten setup at told × (new ≡ looked_view at told old)
+    × LooksAt (staged_view stages.Taken old) at told
 TriesMapping setup page old new Mapped = (at written : ℕ) × (at < end_of_page page)
     × (new ≡ confirmed_view (at + 8192) (looked_view at written old))
+    × LooksAt (staged_view stages.Taken old) at written
+    × (IsOldPageUnwritten setup at written → ⊥)

@@ -21,45 +21,39 @@ use wal_rule::SeatedPass;
 // How many words are made of a record at once, before they are stored one by one.
 const RUN: usize = 64;
 
-/// Where a copy stopped.
-#[derive(Clone, Copy, Debug, PartialEq, Eq)]
-pub enum Copied {
-    /// No word of the record is left.
-    Whole,
-    /// The page's last word is copied, and more are left.
-    PageEnd,
-}
-
-/// Copies the words of a record that are left, up to the end of the page of the next one, which
-/// lies at the address `next`. The pass has met that page. The record's last word ends at `end`.
+/// Copies the words of a record that are left, at most so many, up to the end of the page of the
+/// next one, which lies at the address `next`. The pass has met that page. The record's last word
+/// ends at `end`. Answers how many it copied.
 pub fn copy_page<'p, 'a, D: Disk>(
     seated: &mut SeatedPass<'p, D>,
     placed: &mut Placed<'a>,
     next: u64,
     end: u64,
-) -> Copied
+    most: u32,
+) -> u32
     // `placed` gives the words that are left of the pass's copy. The next one lies on a page whose
     // end, or a higher one, the pass has met.
     requires rest { IsRestOf (setup_of seated.old) (view_of seated.old) placed.old }
     requires next { next ≡ placed.old.next }
     requires end { end ≡ placed_end placed.old }
     requires met { page_end_at next ≤ (view_of seated.old).mapping.confirmed }
-    // The copy has come to the end of the record or of the page, and nothing else of the view has
-    // changed; `placed` goes on from there.
-    ensures copies { CopiesPage (view_of seated.old) (view_of seated.new) placed.old placed.new
-        result }
+    // As many words were copied as are left on the page, or as were asked for where these are
+    // fewer; nothing else of the view has changed, and `placed` goes on from there.
+    ensures copies { CopiesPage most result (view_of seated.old) (view_of seated.new) placed.old
+        placed.new }
     ensures rest { IsRestOf (setup_of seated.old) (view_of seated.new) placed.new }
+    // One at least, where one is left and asked for.
+    ensures some { 0 < most → next < end → 0 < result }
+    ensures within { placed.new.next ≤ end }
     ensures stays { StaysSeated seated.old seated.new }
 {
     let on_page = (PAGE_SIZE - next % PAGE_SIZE) / WORD;
     let left = (end - next) / WORD;
+    let here = left.min(on_page);
+    let count = here.min(u64::from(most)) as u32;
     let place = place_of(seated.shape(), next);
-    copy_words(seated, placed, place, left.min(on_page) as usize);
-    if left <= on_page {
-        Copied::Whole
-    } else {
-        Copied::PageEnd
-    }
+    copy_words(seated, placed, place, count as usize);
+    count
 }
 
 // Copies so many words, which lie on one page, the first of them to this place.

@@ -13,5 +13,5 @@ mod copying;
 mod mapping;
 
 pub use confirming::{Presence, confirm};
-pub use copying::{Copied, copy_page};
+pub use copying::copy_page;
 pub use mapping::{MapTry, try_map};

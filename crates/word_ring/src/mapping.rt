@@ -12,7 +12,7 @@ ghost use Rattle.wal_core.specs.Steps.{buffer_of, take_mapping_turn};
 ghost use Rattle.wal_core.specs.Views.{Away, Ready, Taken, Zeroing};
 ghost use Rattle.wal_rule.specs.SeatedPasses.{HasView, StaysSeated, setup_of, view_of};
 ghost use Rattle.wal_rule.specs.Stepping.{Meets};
-ghost use Rattle.word_ring.specs.Mapped.{TriesMapping, looked_view, staged_view};
+ghost use Rattle.word_ring.specs.Mapped.{LooksAt, TriesMapping, looked_view, staged_view};
 ghost use Rattle.word_ring.specs.Ring.{confirmed_view};
 
 use byte_position::PAGE_SIZE;
@@ -85,6 +85,7 @@ fn look<'p, D: Disk>(seated: &mut SeatedPass<'p, D>) -> (u64, u64)
     requires taken { (view_of seated.old).mapping.stage ≡ Taken }
     ensures view { HasView (staged_view (Ready result.0 result.1)
         (looked_view result.0 result.1 (view_of seated.old))) seated.old seated.new }
+    ensures looks { LooksAt (view_of seated.old) result.0 result.1 }
     ensures low { (result.0 < 2 ^ 60) × (result.1 < 2 ^ 60) }
 {
     let at = seated.load_initialised_end();

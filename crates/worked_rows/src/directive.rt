@@ -1,6 +1,6 @@
 //! What rows ask for.
 
-use crate::stop::Stop;
+use crate::halt::Halt;
 use crate::words::{address, bytes_of, number, numbers, parted, small_number, small_numbers};
 use segment_disk::Pick;
 use std::alloc::Global;
@@ -71,7 +71,7 @@ enum NewDiskOption {
 
 impl NewDisk {
     // Takes a number of an option.
-    fn take(&mut self, option: NewDiskOption, word: &str) -> Result<(), Stop> {
+    fn take(&mut self, option: NewDiskOption, word: &str) -> Result<(), Halt> {
         match option {
             NewDiskOption::Segments => self.segments = small_number(word)?,
             NewDiskOption::Fail => self.fail.push(number(word)?)?,
@@ -82,7 +82,7 @@ impl NewDisk {
 }
 
 /// What a row asks for.
-pub fn asked_by<'a>(alloc: Global, row: &'a str) -> Result<Directive<'a>, Stop> {
+pub fn asked_by<'a>(alloc: Global, row: &'a str) -> Result<Directive<'a>, Halt> {
     if row.is_empty() || row.starts_with('#') {
         return Ok(Directive::Nothing);
     }
@@ -94,7 +94,7 @@ pub fn asked_by<'a>(alloc: Global, row: &'a str) -> Result<Directive<'a>, Stop> 
 }
 
 // What a row asks for whose first word is `>` and this.
-fn asked_of_script<'a>(alloc: Global, kind: &str, rest: &'a str) -> Result<Directive<'a>, Stop> {
+fn asked_of_script<'a>(alloc: Global, kind: &str, rest: &'a str) -> Result<Directive<'a>, Halt> {
     match kind {
         "" => Ok(Directive::Line {
             text: rest,
@@ -107,13 +107,13 @@ fn asked_of_script<'a>(alloc: Global, kind: &str, rest: &'a str) -> Result<Direc
                 text: rest,
                 times: small_number(times)?,
             }),
-            None => Err(Stop::NotUnderstood),
+            None => Err(Halt::NotUnderstood),
         },
     }
 }
 
 // What a row asks for by its first word.
-fn asked_by_word<'a>(alloc: Global, word: &str, rest: &'a str) -> Result<Directive<'a>, Stop> {
+fn asked_by_word<'a>(alloc: Global, word: &str, rest: &'a str) -> Result<Directive<'a>, Halt> {
     match word {
         "$" | "%" => Ok(Directive::Command {
             words: rest,
@@ -134,7 +134,7 @@ fn asked_by_word<'a>(alloc: Global, word: &str, rest: &'a str) -> Result<Directi
     }
 }
 
-fn failing<'a>(alloc: Global, stream: Stream, rest: &str) -> Result<Directive<'a>, Stop> {
+fn failing<'a>(alloc: Global, stream: Stream, rest: &str) -> Result<Directive<'a>, Halt> {
     Ok(Directive::Failing {
         stream,
         calls: numbers(alloc, rest)?,
@@ -142,7 +142,7 @@ fn failing<'a>(alloc: Global, stream: Stream, rest: &str) -> Result<Directive<'a
 }
 
 // What becomes of the disk by a row's first word.
-fn change_by(alloc: Global, word: &str, rest: &str) -> Result<Change, Stop> {
+fn change_by(alloc: Global, word: &str, rest: &str) -> Result<Change, Halt> {
     match word {
         "disk" => Ok(Change::New(room_of(alloc, rest)?)),
         "poke" => {
@@ -165,12 +165,12 @@ fn change_by(alloc: Global, word: &str, rest: &str) -> Result<Change, Stop> {
         }
         "keep" => Ok(Change::Keep),
         "again" => Ok(Change::Again),
-        _ => Err(Stop::NotUnderstood),
+        _ => Err(Halt::NotUnderstood),
     }
 }
 
 // Four segments where nothing else is said, and no call that fails.
-fn room_of(alloc: Global, rest: &str) -> Result<NewDisk, Stop> {
+fn room_of(alloc: Global, rest: &str) -> Result<NewDisk, Halt> {
     let mut room = NewDisk {
         segments: 4,
         fail: Vec::new(alloc),
@@ -180,7 +180,7 @@ fn room_of(alloc: Global, rest: &str) -> Result<NewDisk, Stop> {
     for word in rest.split_whitespace() {
         match option_named(word) {
             Some(named) => option = Some(named),
-            None => room.take(option.ok_or(Stop::NotUnderstood)?, word)?,
+            None => room.take(option.ok_or(Halt::NotUnderstood)?, word)?,
         }
     }
     Ok(room)
@@ -195,7 +195,7 @@ fn option_named(word: &str) -> Option<NewDiskOption> {
     }
 }
 
-fn pick_of(alloc: Global, rest: &str) -> Result<Pick, Stop> {
+fn pick_of(alloc: Global, rest: &str) -> Result<Pick, Halt> {
     match rest {
         "old" => Ok(Pick::Old),
         "new" => Ok(Pick::New),

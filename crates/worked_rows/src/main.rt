@@ -2,21 +2,21 @@
 #![tactic(auto)]
 
 mod directive;
+mod halt;
 mod pages;
 mod player;
-mod stop;
 mod words;
 
 use directive::asked_by;
+use halt::Halt;
 use player::RowPlayer;
 use std::io::{self, Write};
 use std::process::ExitCode;
 use std::sync::Wait;
 use std::thread::Threads;
-use stop::Stop;
 
 // Plays each row, up to one that cannot be played.
-fn play<R: Threads + Wait + Sync>(rt: &R, rows: &str, player: &mut RowPlayer) -> Result<(), Stop> {
+fn play<R: Threads + Wait + Sync>(rt: &R, rows: &str, player: &mut RowPlayer) -> Result<(), Halt> {
     for row in rows.lines() {
         let played = match asked_by(player.alloc(), row) {
             Ok(asked) => player.play(rt, row, asked),

@@ -1,7 +1,7 @@
 //! Bytes of a disk with segments of 1 MiB, by their addresses in the log.
 ghost use Rattle.std.specs.Prelude.{◌≡◌, ◌<◌, ◌^◌, ◌/◌};
 
-use crate::stop::Stop;
+use crate::halt::Halt;
 use byte_position::Geometry;
 use segment_disk::{Disk, MemDisk, Pick};
 use std::alloc::Global;
@@ -44,33 +44,33 @@ fn offset_of(at: u64) -> usize
 }
 
 // The page that has an address.
-fn read_page(disk: &mut MemDisk, at: u64) -> Result<[u8; 8192], Stop> {
+fn read_page(disk: &mut MemDisk, at: u64) -> Result<[u8; 8192], Halt> {
     let mut page = [0; PAGE_SIZE];
     if disk.read_page(geometry(), segment_of(at), page_of(at), &mut page)? {
         Ok(page)
     } else {
-        Err(Stop::NotUnderstood)
+        Err(Halt::NotUnderstood)
     }
 }
 
-fn write_page(disk: &mut MemDisk, at: u64, page: &[u8; 8192]) -> Result<(), Stop> {
+fn write_page(disk: &mut MemDisk, at: u64, page: &[u8; 8192]) -> Result<(), Halt> {
     Ok(disk.write_page(geometry(), segment_of(at), page_of(at), page)?)
 }
 
 /// So many bytes at an address, within one page.
-pub fn peek(alloc: Global, disk: &mut MemDisk, at: u64, count: u32) -> Result<Vec<u8>, Stop> {
+pub fn peek(alloc: Global, disk: &mut MemDisk, at: u64, count: u32) -> Result<Vec<u8>, Halt> {
     let page = read_page(disk, at)?;
     let rest = &page[offset_of(at)..];
-    let bytes = rest.get(..count as usize).ok_or(Stop::NotUnderstood)?;
+    let bytes = rest.get(..count as usize).ok_or(Halt::NotUnderstood)?;
     Ok(Vec::from_slice(alloc, bytes)?)
 }
 
 /// Puts bytes in place of those at an address, within one page.
-pub fn poke(disk: &mut MemDisk, at: u64, bytes: &[u8]) -> Result<(), Stop> {
+pub fn poke(disk: &mut MemDisk, at: u64, bytes: &[u8]) -> Result<(), Halt> {
     let mut page = read_page(disk, at)?;
     let offset = offset_of(at);
     if bytes.len() > PAGE_SIZE - offset {
-        return Err(Stop::NotUnderstood);
+        return Err(Halt::NotUnderstood);
     }
     page[offset..offset + bytes.len()].copy_from_slice(bytes);
     write_page(disk, at, &page)
@@ -78,13 +78,13 @@ pub fn poke(disk: &mut MemDisk, at: u64, bytes: &[u8]) -> Result<(), Stop> {
 
 /// Makes the CRC right of the record that starts at an address, as far as its length says and its
 /// page goes.
-pub fn seal(disk: &mut MemDisk, at: u64) -> Result<(), Stop> {
+pub fn seal(disk: &mut MemDisk, at: u64) -> Result<(), Halt> {
     let mut page = read_page(disk, at)?;
     let record = &mut page[offset_of(at)..];
-    let length = record.first_chunk::<4>().ok_or(Stop::NotUnderstood)?;
+    let length = record.first_chunk::<4>().ok_or(Halt::NotUnderstood)?;
     let total = record.len().min(u32::from_le_bytes(*length) as usize);
     if total < 24 {
-        return Err(Stop::NotUnderstood);
+        return Err(Halt::NotUnderstood);
     }
     let mut crc = Crc::new();
     crc.update(&record[24..total]);
@@ -93,7 +93,7 @@ pub fn seal(disk: &mut MemDisk, at: u64) -> Result<(), Stop> {
     write_page(disk, at, &page)
 }
 
-fn copy_page(from: &mut MemDisk, to: &mut MemDisk, at: u64) -> Result<(), Stop> {
+fn copy_page(from: &mut MemDisk, to: &mut MemDisk, at: u64) -> Result<(), Halt> {
     let mut page = [0; PAGE_SIZE];
     if from.read_page(geometry(), segment_of(at), page_of(at), &mut page)? {
         write_page(to, at, &page)?;
@@ -101,7 +101,7 @@ fn copy_page(from: &mut MemDisk, to: &mut MemDisk, at: u64) -> Result<(), Stop> 
     Ok(())
 }
 
-fn copy_segment(from: &mut MemDisk, to: &mut MemDisk, segment: u32) -> Result<(), Stop> {
+fn copy_segment(from: &mut MemDisk, to: &mut MemDisk, segment: u32) -> Result<(), Halt> {
     let start = u64::from(segment) * SEGMENT_SIZE;
     if read_page(from, start).is_err() {
         return Ok(());
@@ -114,7 +114,7 @@ fn copy_segment(from: &mut MemDisk, to: &mut MemDisk, segment: u32) -> Result<()
 }
 
 /// A disk with what another one has in its first segments, but for one of these.
-pub fn without(alloc: Global, disk: &mut MemDisk, lost: u64) -> Result<MemDisk, Stop> {
+pub fn without(alloc: Global, disk: &mut MemDisk, lost: u64) -> Result<MemDisk, Halt> {
     let mut left = MemDisk::new(alloc, SEGMENTS, CALLS, Vec::new(alloc), Vec::new(alloc))?;
     for segment in 1..=SEGMENTS {
         if u64::from(segment) != lost {
@@ -125,6 +125,6 @@ pub fn without(alloc: Global, disk: &mut MemDisk, lost: u64) -> Result<MemDisk, 
 }
 
 /// A disk with what another one has, on which no call is counted yet and none fails.
-pub fn copy_of(alloc: Global, disk: &MemDisk) -> Result<MemDisk, Stop> {
+pub fn copy_of(alloc: Global, disk: &MemDisk) -> Result<MemDisk, Halt> {
     Ok(disk.crash(alloc, disk.moment(), Pick::New)?)
 }

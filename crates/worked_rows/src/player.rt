@@ -1,8 +1,8 @@
 //! Rows played one after another.
 
 use crate::directive::{Change, Directive, NewDisk, Stream};
+use crate::halt::Halt;
 use crate::pages::{CALLS, copy_of, peek, poke, seal, without};
-use crate::stop::Stop;
 use crate::words::digits_of;
 use backend_cli::{Ended, OpenGate, pgwal};
 use segment_disk::{Disk, MemDisk, MemSink, MemSource, Pick};
@@ -87,7 +87,7 @@ impl RowPlayer {
         rt: &R,
         row: &str,
         asked: Directive<'_>,
-    ) -> Result<(), Stop> {
+    ) -> Result<(), Halt> {
         self.print_line(row)?;
         match asked {
             Directive::Nothing => Ok(()),
@@ -107,7 +107,7 @@ impl RowPlayer {
         }
     }
 
-    fn change(&mut self, change: Change) -> Result<(), Stop> {
+    fn change(&mut self, change: Change) -> Result<(), Halt> {
         match change {
             Change::New(room) => self.disk = Some(new_disk(self.alloc, room)?),
             Change::Poke { at, bytes } => {
@@ -132,23 +132,23 @@ impl RowPlayer {
     }
 
     // The disk, taken: a copy of the kept one where that goes on.
-    fn take_disk(&mut self) -> Result<MemDisk, Stop> {
+    fn take_disk(&mut self) -> Result<MemDisk, Halt> {
         if let Some(disk) = self.disk.take() {
             return Ok(disk);
         }
-        let kept = self.kept.as_ref().ok_or(Stop::NotUnderstood)?;
+        let kept = self.kept.as_ref().ok_or(Halt::NotUnderstood)?;
         copy_of(self.alloc, kept)
     }
 
     // What a crash leaves goes on.
-    fn crash(&mut self, moment: u64, pick: Pick) -> Result<(), Stop> {
+    fn crash(&mut self, moment: u64, pick: Pick) -> Result<(), Halt> {
         let disk = self.disk.as_ref().or(self.kept.as_ref());
-        let disk = disk.ok_or(Stop::NotUnderstood)?;
+        let disk = disk.ok_or(Halt::NotUnderstood)?;
         self.disk = Some(disk.crash(self.alloc, moment, pick)?);
         Ok(())
     }
 
-    fn add_lines(&mut self, text: &str, times: u32) -> Result<(), Stop> {
+    fn add_lines(&mut self, text: &str, times: u32) -> Result<(), Halt> {
         for _ in 0..times {
             self.script.extend_from_slice(text.as_bytes())?;
             self.script.push(b'\n')?;
@@ -162,7 +162,7 @@ impl RowPlayer {
         rt: &R,
         words: &str,
         is_long: bool,
-    ) -> Result<(), Stop> {
+    ) -> Result<(), Halt> {
         let words = words_of(self.alloc, words)?;
         let streams = mem::replace(&mut self.streams, Streams::sound(self.alloc));
         let script = mem::replace(&mut self.script, Vec::new(self.alloc));
@@ -185,7 +185,7 @@ impl RowPlayer {
     }
 
     // Tells how a command ended, and goes on with its disk.
-    fn end(&mut self, ended: Ended<MemDisk>) -> Result<(), Stop> {
+    fn end(&mut self, ended: Ended<MemDisk>) -> Result<(), Halt> {
         let status = ended.status;
         let calls = ended.disk.moment();
         self.print_line(format!(in self.alloc; "status {status} calls {calls}")?.as_str())?;
@@ -194,7 +194,7 @@ impl RowPlayer {
     }
 
     // Prints what a command printed, or its size.
-    fn print_out(&mut self, out: &[u8], is_long: bool) -> Result<(), Stop> {
+    fn print_out(&mut self, out: &[u8], is_long: bool) -> Result<(), Halt> {
         if !is_long {
             return Ok(self.print_text(out)?);
         }
@@ -208,7 +208,7 @@ impl RowPlayer {
     }
 
     // Prints bytes of the disk.
-    fn print_bytes(&mut self, at: u64, count: u32) -> Result<(), Stop> {
+    fn print_bytes(&mut self, at: u64, count: u32) -> Result<(), Halt> {
         let mut disk = self.take_disk()?;
         let bytes = peek(self.alloc, &mut disk, at, count)?;
         self.disk = Some(disk);
@@ -238,7 +238,7 @@ impl RowPlayer {
     }
 }
 
-fn new_disk(alloc: Global, room: NewDisk) -> Result<MemDisk, Stop> {
+fn new_disk(alloc: Global, room: NewDisk) -> Result<MemDisk, Halt> {
     Ok(MemDisk::new(alloc, room.segments, CALLS, room.fail, room.fail_reads)?)
 }
 

@@ -1,24 +1,24 @@
 //! Numbers, addresses and bytes, as rows spell them.
 
-use crate::stop::Stop;
+use crate::halt::Halt;
 use command_words::lsn;
 use decimal_numbers::hexadecimal_digit;
 use std::alloc::{AllocError, Global};
 
 /// What stands before the first blank, and what behind it.
-pub fn parted(text: &str) -> Result<(&str, &str), Stop> {
-    text.split_once(' ').ok_or(Stop::NotUnderstood)
+pub fn parted(text: &str) -> Result<(&str, &str), Halt> {
+    text.split_once(' ').ok_or(Halt::NotUnderstood)
 }
 
-pub fn number(word: &str) -> Result<u64, Stop> {
-    word.parse().map_err(|_| Stop::NotUnderstood)
+pub fn number(word: &str) -> Result<u64, Halt> {
+    word.parse().map_err(|_| Halt::NotUnderstood)
 }
 
-pub fn small_number(word: &str) -> Result<u32, Stop> {
-    word.parse().map_err(|_| Stop::NotUnderstood)
+pub fn small_number(word: &str) -> Result<u32, Halt> {
+    word.parse().map_err(|_| Halt::NotUnderstood)
 }
 
-pub fn numbers(alloc: Global, text: &str) -> Result<Vec<u64>, Stop> {
+pub fn numbers(alloc: Global, text: &str) -> Result<Vec<u64>, Halt> {
     let mut all = Vec::new(alloc);
     for word in text.split_whitespace() {
         all.push(number(word)?)?;
@@ -26,7 +26,7 @@ pub fn numbers(alloc: Global, text: &str) -> Result<Vec<u64>, Stop> {
     Ok(all)
 }
 
-pub fn small_numbers(alloc: Global, text: &str) -> Result<Vec<u32>, Stop> {
+pub fn small_numbers(alloc: Global, text: &str) -> Result<Vec<u32>, Halt> {
     let mut all = Vec::new(alloc);
     for word in text.split_whitespace() {
         all.push(small_number(word)?)?;
@@ -35,8 +35,8 @@ pub fn small_numbers(alloc: Global, text: &str) -> Result<Vec<u32>, Stop> {
 }
 
 /// An address of the log, as `0/00100028`.
-pub fn address(word: &str) -> Result<u64, Stop> {
-    let at = lsn(word).ok_or(Stop::NotUnderstood)?;
+pub fn address(word: &str) -> Result<u64, Halt> {
+    let at = lsn(word).ok_or(Halt::NotUnderstood)?;
     Ok(at.0)
 }
 
@@ -46,13 +46,13 @@ fn byte_of(high: u8, low: u8) -> Option<u8> {
 }
 
 /// The bytes that a text spells, each by two digits.
-pub fn bytes_of(alloc: Global, text: &str) -> Result<Vec<u8>, Stop> {
+pub fn bytes_of(alloc: Global, text: &str) -> Result<Vec<u8>, Halt> {
     let mut bytes = Vec::new(alloc);
     for pair in text.as_bytes().chunks(2) {
         let &[high, low] = pair else {
-            return Err(Stop::NotUnderstood);
+            return Err(Halt::NotUnderstood);
         };
-        bytes.push(byte_of(high, low).ok_or(Stop::NotUnderstood)?)?;
+        bytes.push(byte_of(high, low).ok_or(Halt::NotUnderstood)?)?;
     }
     Ok(bytes)
 }

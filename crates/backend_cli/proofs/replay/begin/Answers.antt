@@ -2,7 +2,7 @@
 use Rattle.std.proofs.Common.{◌≡◌, ◌+◌, ◌<◌, List, length, map, ap, ◌∙◌, arith}
 use Rattle.machine_turns.specs.declared.script.PlainLine.{PlainLine as MachineLine}
 use Rattle.wal_core.specs.declared.setup.Setup.{Setup}
-use Rattle.backend_cli.specs.Replaying.{setup_asked}
+use Rattle.backend_cli.specs.Replaying.{replay_setup}
 use Rattle.backend_cli.proofs.ReplayLaws.{begun_as}
 use Rattle.backend_cli.proofs.ReplayScripts.{as_many_scripts}
 use Rattle.backend_cli.proofs.replay.begin.Goals as goal
@@ -17,7 +17,7 @@ unreachable-requires c =
 pub returns-in-Ok : goal.returns-in-Ok
 returns-in-Ok c = λ asked are.
     let len : c.len.result ≡ length c.args.backends.items = omega (arith, c.len.ensures) in
-    let setup_is = c.setup_asked-setup.ensures.value ∙ ap (setup_asked c.args.options.now) len in
+    let setup_is = c.setup_asked-setup.ensures.value ∙ ap (replay_setup c.args.options.now) len in
     let counts = c.in_ok-line_counts.ensures ∙ ap (map (λ (lines : List MachineLine). length lines)) c.deref.ensures.value in
     begun_as c.args.options.now asked c.args.backends.items c.setup_asked-setup.result c.in_ok-scripts.scripts.items c.new.result.items (record { core = c.in-Ok.core; line_counts = c.in_ok-line_counts.line_counts })
     are setup_is c.in_ok-scripts.ensures c.new.ensures.items counts c.in-Ok.ensures.begun c.in-Ok.ensures.plays c.in-Ok.ensures.played

@@ -2,7 +2,7 @@ use Rattle.std.proofs.Common.{◌≡◌, ◌∙◌, ap, ap₂, codes, rules, tru
 use Rattle.std.proofs.lemmas.Result.{IfOk-weaker}
 use Rattle.clap.specs.Words.{app_of, new_rule, with_rule}
 use Rattle.clap.specs.Simple.{app_of_fields, on_top}
-use Rattle.command_line.specs.Syntax.{block_rules, extent_rules, record_rules, script_rules, shape_rules, start_command}
+use Rattle.command_line.specs.Syntax.{block_rules, extent_rules, form_rules, record_rules, script_rules, shape_rules, start_command}
 use Rattle.command_line.proofs.Declaring.{then_rules}
 use Rattle.command_line.proofs.declared.declared.Goals as goal
 
@@ -15,4 +15,5 @@ returns c =
     let of_script = then_rules _ _ _ script_rules of_shape c.in_ok-command-4.ensures in
     let of_record = then_rules _ _ _ record_rules of_script c.in_ok-command-5.ensures in
     let of_block = then_rules _ _ _ block_rules of_record c.in_ok-command-6.ensures in
-    IfOk-weaker c.with_extent_options.result _ _ (λ new is. then_rules _ _ _ extent_rules of_block is) c.with_extent_options.ensures
+    let of_extent = then_rules _ _ _ extent_rules of_block c.in_ok-command-7.ensures in
+    IfOk-weaker c.with_form_options.result _ _ (λ new is. then_rules _ _ _ form_rules of_extent is) c.with_form_options.ensures

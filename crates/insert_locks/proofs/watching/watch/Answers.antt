@@ -16,7 +16,7 @@ loop-lock-preserved g c =
           (view_of old) (view_of met) (view_of visit.new.seated)
           c.loop-lock.invariant.0 visit.result (ap (λ me. me.0) visit.ensures.visits.me_is)
           (subst (λ asked. LetsPass asked visit.result) c.min-asked.ensures
-          (c.holds_back.ensures.passes c.if-holds_back.false)) visit.ensures.own),
+          (c.holds_back.ensures.passes c.if-holds_back.false))),
       record {
         same_table = visit.ensures.visits.same_table ∙ stays.same_table;
         same_hand = ap (λ me. me.1) visit.ensures.visits.me_is ∙ stays.same_hand;

@@ -1,22 +1,40 @@
 -- The words and the writer are those of the log that the table is of.
-use Rattle.std.proofs.Common.{◌≡◌, ◌∙◌, ap, sym, subst, refl}
+use Rattle.std.proofs.Common.{◌≡◌, ◌∙◌, ap, sym, subst, refl, arith}
 use Rattle.segment_disk.specs.declared.memory.disk.MemDisk.{MemDisk}
 use Rattle.wal_core.specs.Words.{Opening}
 use Rattle.wal_core.specs.declared.setup.Setup.{Setup}
 use Rattle.wal_core.specs.Views.{Plain}
+use Rattle.wal_core.proofs.NothingFound.{nothing_opens}
 use Rattle.wal_core.specs.Opened.{AreFirstWords, IsFirstWriter}
+use Rattle.wal_core.specs.Sound.{IsSetup}
 use Rattle.wal_rule.specs.Founded.{founded_opening}
 use Rattle.log_tests.proofs.tables.open.Goals as goal
 
 first_of : (o p : Opening) (w : Plain) → o ≡ p → IsFirstWriter p w → IsFirstWriter o w
 first_of o p w is first = subst (λ (q : Opening). IsFirstWriter q w) (sym is) first
 
+pub open-requires-clause-openable : goal.open-requires-clause-openable
+open-requires-clause-openable c =
+    nothing_opens (founded_opening c.of-founding.result)
+    (subst (λ (o : Opening). IsSetup o.setup) (sym c.of-founding.ensures.opening) (record {
+      size = refl;
+      ring_low = omega arith;
+      ring_high = omega arith;
+      cap_low = omega arith;
+      cap_high = omega arith;
+      named = λ none. omega (arith, none);
+      passes_low = omega arith;
+      passes_high = omega arith;
+    }))
+    (ap (λ (o : Opening). o.found) c.of-founding.ensures.opening)
+
 pub open-requires-clause-words : goal.open-requires-clause-words
 open-requires-clause-words c =
     let opening = founded_opening c.of-founding.result in
     subst (λ ws. AreFirstWords opening ws) (sym c.as_slice.ensures)
     (c.in_ok-words.ensures.first opening
-    (ap (λ (o : Opening). o.setup) c.of-founding.ensures.opening) refl)
+    (ap (λ (o : Opening). o.setup) c.of-founding.ensures.opening) refl
+    (ap (λ (o : Opening). o.found) c.of-founding.ensures.opening))
 
 pub open-requires-clause-writer : goal.open-requires-clause-writer
 open-requires-clause-writer c =

@@ -1,3 +1,4 @@
+use Rattle.wal_core.proofs.NothingFound.{nothing_ends, nothing_opens}
 use Rattle.machine_laws.proofs.OpeningLaws.{logs_begin, suited_begins}
 use Rattle.machine_laws.proofs.opening.logs_begin_sound.Goals as goal
 
@@ -6,3 +7,7 @@ returns-clause-sound c = logs_begin
 
 pub returns-clause-suited : goal.returns-clause-suited
 returns-clause-suited c = suited_begins
+
+pub returns-clause-nothing : goal.returns-clause-nothing
+returns-clause-nothing c = λ opening valid none.
+    (nothing_opens opening valid none, nothing_ends opening valid.size none)

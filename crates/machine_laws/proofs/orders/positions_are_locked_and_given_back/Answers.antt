@@ -1,4 +1,4 @@
-use Rattle.machine_laws.proofs.OrderKept.{lock_position_keeps, load_prev_keeps, store_prev_keeps, give_position_back_keeps}
+use Rattle.machine_laws.proofs.OrderKept.{lock_position_keeps, load_prev_keeps, store_prev_keeps, give_position_back_keeps, stay_keeps}
 use Rattle.machine_laws.proofs.orders.positions_are_locked_and_given_back.Goals as goal
 
 pub returns-clause-lock_position : goal.returns-clause-lock_position
@@ -12,3 +12,6 @@ returns-clause-store_prev c = store_prev_keeps
 
 pub returns-clause-give_position_back : goal.returns-clause-give_position_back
 returns-clause-give_position_back c = give_position_back_keeps
+
+pub returns-clause-stay : goal.returns-clause-stay
+returns-clause-stay c = stay_keeps

@@ -4,9 +4,8 @@ use Rattle.wal_core.specs.Steps.{IsResting}
 use Rattle.wal_core.specs.Views.{View}
 use Rattle.wal_rule.specs.SeatedPasses.{setup_of, view_of}
 use Rattle.wal_log.specs.Beginning.{try_err_known_down}
-use Rattle.wal_log.specs.PassLogs.{log_of_pass}
 use Rattle.wal_log.proofs.Keeping.{further_pass}
-use Rattle.wal_log.proofs.BeginLaws.{answers_since, held_one, loaded_keeps, loaded_log, loaded_rests, none_known, taken_keeps, taken_log, taken_sets_none, taken_up}
+use Rattle.wal_log.proofs.BeginLaws.{answers_since, held_one, loaded_keeps, loaded_rests, none_known, taken_keeps, taken_log, taken_sets_none, taken_up, vain_loaded}
 use Rattle.wal_log.proofs.Seated.{further_seated, same_setup, seat_stays, view_is}
 use Rattle.wal_log.proofs.beginning.try_begin.Goals as goal
 
@@ -32,9 +31,8 @@ returns-in_err-lock-clause-begins g c =
     rw (p.1, p.2) (
       (
         (view_of load.new.self, held.0),
-        ap (λ (v : View). log_of_pass v) same
-            ∙ loaded_log (view_of c.args.seated.now) (view_of load.new.self) load.result loads
-            load.ensures.known,
+        vain_loaded (view_of c.args.seated.now) (view_of load.new.self) load.result loads
+            load.ensures.known c.if-faults-ne0.false (view_of c.try_take.new.seated) same,
       ),
       subst IsResting (sym same) (loaded_rests (view_of c.args.seated.now) (view_of load.new.self)
           load.result loads load.ensures.known c.requires.rests.rests),

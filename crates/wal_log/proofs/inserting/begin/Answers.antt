@@ -114,7 +114,7 @@ loop-preserved-in-Err-Busy g c =
     _ (c.in-Err-Busy.is ∙ ap failed c.in-Err-Busy.field-0-is) in record {
       goes_on = (tt, tt);
       tried = tried_in_vain_again c.args.seated.now c.loop.seated c.try_begin.new.seated
-          c.loop.invariant.tried c.try_begin.ensures.goes_on told.1 told.0
+          c.loop.invariant.tried c.try_begin.ensures.goes_on told.1 told.0.1.log_is
           c.try_begin.ensures.sets_none;
     }
 
@@ -124,6 +124,6 @@ loop-preserved g c =
     _ (c.in-Err-AllHeld.is ∙ ap failed c.in-Err-AllHeld.field-0-is) in record {
       goes_on = (tt, tt);
       tried = tried_in_vain_again c.args.seated.now c.loop.seated c.try_begin.new.seated
-          c.loop.invariant.tried c.try_begin.ensures.goes_on told.1 told.0.1
+          c.loop.invariant.tried c.try_begin.ensures.goes_on told.1 told.0.1.log_is
           c.try_begin.ensures.sets_none;
     }

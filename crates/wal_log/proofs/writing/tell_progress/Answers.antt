@@ -1,4 +1,5 @@
-use Rattle.std.proofs.Common.{ℕ, sym, ◌∙◌, subst, arith}
+use Rattle.std.proofs.Common.{ℕ, sym, ap, ◌∙◌, subst, arith}
+use Rattle.wal_core.specs.Moves.{after_advance}
 use Rattle.wal_core.specs.Steps.{advance, MayStep}
 use Rattle.wal_rule.specs.SeatedPasses.{view_of}
 use Rattle.wal_log.proofs.NextWord.{may_tell, told_low}
@@ -21,6 +22,7 @@ pub returns : goal.returns
 returns g c = record {
   view = has_view c.advance.ensures.steps.same_table
       (view_is c.advance.ensures.steps
-      ∙ advanced 0 (view_of c.args.seated.now) c.args.lock c.next_lsn-next.result.0)
+      ∙ (advanced 0 (view_of c.args.seated.now) c.args.lock c.next_lsn-next.result.0
+      ∙ ap (λ (n : ℕ). after_advance n (view_of c.args.seated.now)) c.next_lsn-next.ensures))
       (hand_is c.advance.ensures.steps);
 }

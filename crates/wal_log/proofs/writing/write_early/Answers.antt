@@ -1,6 +1,7 @@
 use Rattle.std.proofs.Common.{◌≡◌, ℕ, sym, ap, ◌∙◌, subst}
 use Rattle.std.proofs.lemmas.Result.{err_from_is_err_and}
 use Rattle.wal_page.specs.Placed.{PlacedState}
+use Rattle.wal_core.specs.Moves.{after_advance}
 use Rattle.wal_core.specs.Views.{Idle, View}
 use Rattle.wal_rule.specs.declared.seated.SeatedPass.{SeatedPass}
 use Rattle.wal_rule.specs.SeatedPasses.{HasView, StaysSeated, view_of}
@@ -14,7 +15,7 @@ use Rattle.wal_log.specs.declared.turns.TurnErr.TheVariants.{Fault, Taken}
 use Rattle.wal_log.proofs.AddingNothing.{adds_on, held_else}
 use Rattle.wal_log.proofs.CopyLaws.{alone_still}
 use Rattle.wal_log.proofs.InHandLaws.{may_put_stored}
-use Rattle.wal_log.proofs.Keeping.{fault_since, still_up}
+use Rattle.wal_log.proofs.Keeping.{fault_since, further_pass, still_up, told_pass}
 use Rattle.wal_log.proofs.Seated.{further_seated, seat_stays, view_is}
 use Rattle.wal_log.proofs.Watched.{LeavesAll, Watches, behind_leaves, copied_is, finished_leaves, still_no_turn, watches}
 use Rattle.wal_log.proofs.writing.write_early.Given.{Over}
@@ -41,24 +42,43 @@ module _ {D : Type 0} (old new : SeatedPass D) (lock : ℕ) (placed : PlacedStat
 
 -- ---- behind the watch
 
-watches_told : {D : Type 0} → (old one new : SeatedPass D) → HasView (view_of old) old one
-    → StaysSeated one new → LeavesAll (view_of one) (view_of new) → Watches old new
-watches_told old one new told stays leaves = watches old new
+-- what a lock was told is no matter
+leaves_told : (upto : ℕ) (v w : View) → LeavesAll (after_advance upto v) w → LeavesAll v w
+leaves_told upto v w left = record {
+  work = record {
+    pass = further_pass v (after_advance upto v) w (told_pass upto v) left.work.pass;
+    place = left.work.place;
+    working = left.work.working;
+    stage = left.work.stage;
+    confirmed = left.work.confirmed;
+  };
+  log = left.log;
+  hold = left.hold;
+  flushed = left.flushed;
+  down_set = left.down_set;
+  up = λ none. left.up (record { met = none.met; set = none.set });
+}
+
+watches_told : {D : Type 0} → (old one new : SeatedPass D) (upto : ℕ)
+    → HasView (after_advance upto (view_of old)) old one → StaysSeated one new
+    → LeavesAll (view_of one) (view_of new) → Watches old new
+watches_told old one new upto told stays leaves = watches old new
     (further_seated old one new (seat_stays told) stays)
-    (subst (λ (v : View). LeavesAll v (view_of new)) (view_is told) leaves)
+    (leaves_told upto (view_of old) (view_of new)
+    (subst (λ (v : View). LeavesAll v (view_of new)) (view_is told) leaves))
 
 module _ (g : Over) (c : After-watch g) where
   behind : (lock word : ℕ) → c.watch.result ≡ Watched.Behind lock word
       → Watches c.args.seated.now c.watch.new.seated
   behind lock word is = watches_told c.args.seated.now c.tell_progress.new.seated c.watch.new.seated
-      c.tell_progress.ensures.view c.watch.ensures.stays
+      (c.args.placed.now).next c.tell_progress.ensures.view c.watch.ensures.stays
       (behind_leaves c.args.upto (view_of c.tell_progress.new.seated)
       (view_of c.watch.new.seated) lock word (c.watch.ensures.behind lock word is))
 
   all_seen : (bound : ℕ) → c.watch.result ≡ Watched.Finished bound
       → Watches c.args.seated.now c.watch.new.seated
   all_seen bound is = watches_told c.args.seated.now c.tell_progress.new.seated c.watch.new.seated
-      c.tell_progress.ensures.view c.watch.ensures.stays
+      (c.args.placed.now).next c.tell_progress.ensures.view c.watch.ensures.stays
       (finished_leaves c.args.upto (view_of c.tell_progress.new.seated)
       (view_of c.watch.new.seated) bound (c.watch.ensures.finished bound is))
 

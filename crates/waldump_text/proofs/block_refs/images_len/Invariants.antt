@@ -1,5 +1,5 @@
 use Rattle.std.proofs.Common.{◌≡◌, take}
-use Rattle.waldump_text.specs.Listing.{images_len}
+use Rattle.waldump_text.specs.Sums.{images_len}
 use Rattle.waldump_text.proofs.block_refs.images_len.Given as goal
 
 abbrev pub invariant-loop-block : goal.invariant-loop-block

@@ -14,10 +14,12 @@ overflow_sub-left g c =
 pub copy_words-requires-clause-may : goal.copy_words-requires-clause-may
 copy_words-requires-clause-may g c =
     let left = words-left c.args.seated.now c.args.placed.now c.requires.rest in
+    let few = c.min-here.ensures in
+    let least = c.min-count.ensures in
     record {
       rest = c.requires.rest;
-      left = omega (arith, left.1, c.requires.next, c.requires.end, c.min.ensures);
-      on_page = omega (arith, c.requires.next, c.min.ensures);
+      left = omega (arith, left.1, c.requires.next, c.requires.end, few, least);
+      on_page = omega (arith, c.requires.next, few, least);
       met = omega (arith, c.requires.next, c.requires.met);
       place_is = subst (λ (s : Setup). IsPlaceOf s c.args.placed.now.next c.place_of-place.result)
           c.shape.ensures
@@ -25,36 +27,34 @@ copy_words-requires-clause-may g c =
           c.requires.next c.place_of-place.ensures.place);
     }
 
-pub returns-then-left-on_page-clause-copies : goal.returns-then-left-on_page-clause-copies
-returns-then-left-on_page-clause-copies g c =
+pub returns-clause-copies : goal.returns-clause-copies
+returns-clause-copies g c =
     let left = words-left c.args.seated.now c.args.placed.now c.requires.rest in
     let copied = c.copy_words.ensures.copied in
-    let few = c.if-left-on_page.true in
-    let next = next_behind c.min.result c.args.seated.now c.copy_words.new.seated
-    c.args.placed.now c.copy_words.new.placed copied in
+    let few = c.min-here.ensures in
+    let least = c.min-count.ensures in
+    let most = c.from.ensures in
     record {
-      count = c.min.result;
-      view_is = view_is (copied_view c.min.result (view_of c.args.seated.now)) c.args.seated.now
-          c.copy_words.new.seated copied.view;
+      count_is = omega (arith, left.0, c.requires.next, c.requires.end, few, least, most);
+      view_is = view_is (copied_view c.min-count.result (view_of c.args.seated.now))
+          c.args.seated.now c.copy_words.new.seated copied.view;
       placed_is = copied.placed_is;
-      stops = omega (arith, next, few, left.1, c.requires.next, c.requires.end, c.min.ensures);
     }
 
-pub returns-else-left-on_page-clause-copies : goal.returns-else-left-on_page-clause-copies
-returns-else-left-on_page-clause-copies g c =
+pub returns-clause-some : goal.returns-clause-some
+returns-clause-some g c = λ asked more.
     let whole = next-whole c.args.seated.now c.args.placed.now c.requires.rest in
     let left = words-left c.args.seated.now c.args.placed.now c.requires.rest in
-    let copied = c.copy_words.ensures.copied in
-    let many = c.if-left-on_page.false in
-    let next = next_behind c.min.result c.args.seated.now c.copy_words.new.seated
-    c.args.placed.now c.copy_words.new.placed copied in
-    record {
-      count = c.min.result;
-      view_is = view_is (copied_view c.min.result (view_of c.args.seated.now)) c.args.seated.now
-          c.copy_words.new.seated copied.view;
-      placed_is = copied.placed_is;
-      stops = (
-        omega (arith, next, many, whole, c.requires.next, c.min.ensures),
-        omega (arith, next, many, left.1, c.requires.next, c.requires.end, c.min.ensures),
-      );
-    }
+    let few = c.min-here.ensures in
+    let least = c.min-count.ensures in
+    let most = c.from.ensures in
+    omega (arith, whole, left.1, c.requires.next, c.requires.end, few, least, most, asked, more)
+
+pub returns-clause-within : goal.returns-clause-within
+returns-clause-within g c =
+    let left = words-left c.args.seated.now c.args.placed.now c.requires.rest in
+    let next = next_behind c.min-count.result c.args.seated.now c.copy_words.new.seated
+    c.args.placed.now c.copy_words.new.placed c.copy_words.ensures.copied in
+    let few = c.min-here.ensures in
+    let least = c.min-count.ensures in
+    omega (arith, next, left.1, c.requires.next, c.requires.end, few, least)

@@ -20,7 +20,8 @@ is_setup c = subst IsSetup (sym c.in-Some.ensures.1) c.in-Some.ensures.0
 
 words_first : (c : goal.In_ok-lanes)
     → AreFirstWords (first_opening c.in-Some.shape) c.in_ok-words.words.words
-words_first c = c.in_ok-words.ensures.first (first_opening c.in-Some.shape) c.in-Some.ensures.1 refl
+words_first c =
+    c.in_ok-words.ensures.first (first_opening c.in-Some.shape) c.in-Some.ensures.1 refl refl
 
 few_scripts : (c : goal.In_ok-lanes) → length c.args.scripts.items < c.in-Some.shape.passes
 few_scripts c = omega (
@@ -69,7 +70,7 @@ returns-clause-begun c =
     let pages = c.in_ok-words.ensures.pages
     ∙ ap (λ (s : Setup). s.ring_pages) (sym c.in-Some.ensures.1) in record {
       setup_is = c.in-Some.ensures.1;
-      words = c.in_ok-words.ensures.first (first_opening c.args.setup) refl refl;
+      words = c.in_ok-words.ensures.first (first_opening c.args.setup) refl refl refl;
       writer = subst (λ (s : Setup). IsFirstWriter (first_opening s) w.plain) c.in-Some.ensures.1
           (writer_first shape (is_setup c) c.in_ok-words.words w c.args.fail.items
           c.args.scripts.items (few_scripts c) (words_first c) pages c.log_end-end.result

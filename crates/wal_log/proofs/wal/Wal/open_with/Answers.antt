@@ -1,7 +1,9 @@
 use Rattle.std.specs.Prelude.{IfSome}
-use Rattle.std.proofs.Common.{◌≡◌, ℕ, List, None, sym, ap, ◌∙◌, subst}
+use Rattle.std.proofs.Common.{◌≡◌, ℕ, List, None, refl, sym, ap, ◌∙◌, subst}
 use Rattle.segment_disk.specs.Tape.{Tape, page_of_segment, state_now}
+use Rattle.wal_core.proofs.NothingFound.{nothing_opens}
 use Rattle.wal_core.specs.Opened.{IsFirstWriter, first_view}
+use Rattle.wal_core.specs.Sound.{IsSetup}
 use Rattle.wal_core.specs.Words.{Opening}
 use Rattle.wal_core.specs.declared.setup.Setup.{Setup}
 use Rattle.wal_rule.specs.declared.seats.Founding.{Founding}
@@ -14,6 +16,12 @@ use Rattle.wal_core.specs.Views.{View}
 use Rattle.wal_rule.specs.Slotted.{slot_plain}
 use Rattle.wal_log.proofs.Opens.{first_rests}
 use Rattle.wal_log.proofs.wal.Wal.open_with.Goals as goal
+
+pub open-requires-clause-openable : goal.open-requires-clause-openable
+open-requires-clause-openable g c =
+    nothing_opens (founded_opening c.of-founding.result)
+    (subst (λ (o : Opening). IsSetup o.setup) (sym c.of-founding.ensures.opening) c.requires.setup)
+    refl
 
 pub open-requires-clause-writer : goal.open-requires-clause-writer
 open-requires-clause-writer g c =

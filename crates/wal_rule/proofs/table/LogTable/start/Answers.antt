@@ -9,5 +9,5 @@ load-requires g c = (
   omega (arith, c.args.self.now.wide),
   begins g.D.Disk.tape g.D.Disk.moment g.D.Disk.faults (opening_of_table c.args.self.now)
       (began_of_table g.D.Disk.tape c.args.self.now) _ _ c.requires.reads.0
-      c.requires.reads.1 _ c.requires.reads.3 c.requires.new c.requires.reads.2,
+      c.requires.reads.1 _ c.requires.reads.3 c.requires.openable c.requires.reads.2,
 )

@@ -1,0 +1,17 @@
+-- The setup of a log that a command opens.
+use Rattle.std.specs.Prelude.{ℕ, ◌+◌}
+use Rattle.wal_core.specs.declared.setup.Setup.{Setup}
+
+-- the system id of each log that this program writes
+abbrev pub system_id : ℕ
+system_id = 1
+
+-- it has that system id, and a pass for each backend and one more, which opens it
+abbrev pub setup_asked : (segment_size ring_pages cap_segments backends : ℕ) → Setup
+setup_asked segment_size ring_pages cap_segments backends = record {
+  segment_size = segment_size;
+  ring_pages = ring_pages;
+  cap_segments = cap_segments;
+  sysid = system_id;
+  passes = backends + 1;
+}

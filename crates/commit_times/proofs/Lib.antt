@@ -1,0 +1,2 @@
+mod DayCounts
+mod Pushing

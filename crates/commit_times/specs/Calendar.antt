@@ -1,0 +1,36 @@
+-- The days of the Gregorian calendar, one after another, also before it came into use.
+use Rattle.std.specs.Prelude.{ℕ, zero, suc, ◌+◌, ◌%◌, Bool, not, ◌&&◌, ◌||◌, ◌==◌, nat_lt, if◌then◌else◌}
+use Rattle.commit_times.specs.declared.calendar.Day.{Day}
+
+-- every fourth year, but of the centuries only every fourth
+abbrev pub is_leap_year : ℕ → Bool
+is_leap_year y = (y % 4 == 0) && (not (y % 100 == 0) || (y % 400 == 0))
+
+-- thirty days have September, April, June and November
+abbrev pub days_in_month : ℕ → ℕ → ℕ
+days_in_month y m =
+    if m == 2 then (if is_leap_year y then 29 else 28)
+    else (if (m == 4) || (m == 6) || (m == 9) || (m == 11) then 30 else 31)
+
+-- the day behind a day: of the same month, or the first of the next month or of the next year
+abbrev pub day_after : Day → Day
+day_after d =
+    if nat_lt d.day (days_in_month d.year d.month) then record d { day = d.day + 1 }
+    else (if nat_lt d.month 12 then record { year = d.year; month = d.month + 1; day = 1 }
+    else record { year = d.year + 1; month = 1; day = 1 })
+
+-- the day that lies so many days after a day
+unfoldable pub days_after : ℕ → Day → Day
+days_after zero d = d
+days_after (suc n) d = day_after (days_after n d)
+
+-- 1 January of the year 1
+abbrev pub first_day : Day
+first_day = record { year = 1; month = 1; day = 1 }
+
+-- 1 January of the year 2000, and how many days lie between the two
+abbrev pub first_day_of_2000 : Day
+first_day_of_2000 = record { year = 2000; month = 1; day = 1 }
+
+abbrev pub days_to_2000 : ℕ
+days_to_2000 = 730119

@@ -1,0 +1,3 @@
+pub mod Calendar
+pub mod Digits
+pub mod TimeText

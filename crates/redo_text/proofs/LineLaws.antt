@@ -1,0 +1,31 @@
+-- The lines of the blocks that are left.
+use Rattle.std.proofs.Common.{◌≡◌, ◌≤◌, ℕ, List, [], ◌∷◌, ◌++◌, All, Option, Some, Bor, map, refl, sym, ap, subst, ◌∙◌, append_assoc}
+use Rattle.std.specs.List.{flat_map}
+use Rattle.std.specs.Map.{keys_of}
+use Rattle.std.specs.Map.Iter.{TakesFirst, deref_pair}
+use Rattle.std.proofs.lemmas.List.Elements.{All-tail}
+use Rattle.std.proofs.lemmas.Map.Iter.{rest_more}
+use Rattle.wal_redo.specs.declared.block_id.BlockId.{BlockId}
+use Rattle.redo_text.specs.RedoText.{block_line}
+
+module _ {X : Type 0} (page : X → List ℕ) where
+  -- the lines of entries of a map
+  abbrev pub lines_of : List (BlockId × X) → List ℕ
+  lines_of entries = flat_map (λ e. block_line (e.0, page e.1)) entries
+
+  pub lines_of-told : (entries : List (BlockId × X)) → flat_map block_line (map (λ e. (e.0, page e.1)) entries) ≡ lines_of entries
+  lines_of-told [] = refl
+  lines_of-told (e ∷ entries) = ap (λ (text : List ℕ). block_line (e.0, page e.1) ++ text) (lines_of-told entries)
+
+  module _ (left next : List (BlockId × X)) (result : Option (Bor BlockId × Bor X)) (block : Bor BlockId) (held : Bor X) (is : result ≡ Some (block, held)) (steps : TakesFirst deref_pair left result next) where
+    first_left : left ≡ (block.now, held.now) ∷ next
+    first_left = rest_more deref_pair left next result (block, held) is steps
+
+    pub lines_of-next : (bytes : List ℕ) → bytes ≡ page held.now → (counts : List ℕ) → lines_of left ++ counts ≡ block_line (block.now, bytes) ++ (lines_of next ++ counts)
+    lines_of-next bytes same counts =
+        ap (λ (entries : List (BlockId × X)). lines_of entries ++ counts) first_left
+        ∙ append_assoc (block_line (block.now, page held.now)) (lines_of next) counts
+        ∙ ap (λ (shown : List ℕ). block_line (block.now, shown) ++ (lines_of next ++ counts)) (sym same)
+
+    pub forks_left : All (λ (b : BlockId). b.fork ≤ 3) (keys_of left) → All (λ (b : BlockId). b.fork ≤ 3) (keys_of next)
+    forks_left known = All-tail (λ (b : BlockId). b.fork ≤ 3) block.now (keys_of next) (subst (λ (entries : List (BlockId × X)). All (λ (b : BlockId). b.fork ≤ 3) (keys_of entries)) first_left known)

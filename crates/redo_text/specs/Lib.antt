@@ -1,0 +1,2 @@
+pub mod RedoText
+pub mod RedoListing

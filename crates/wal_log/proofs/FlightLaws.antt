@@ -1,0 +1,298 @@
+-- A record in flight, with its pass seated at the log's table and put back from there.
+use Rattle.std.proofs.Common.{◌≡◌, ◌≢◌, ◌≤◌, inl, ℕ, List, [], refl, sym, ap, ◌∙◌, subst, arith}
+use Rattle.std.proofs.Math.Logic.{∥∥₁_map}
+use Rattle.byte_position.specs.Position.{address_of}
+use Rattle.record_spelling.specs.Spelling.{Assembled}
+use Rattle.wal_types.specs.declared.answers.Receipt.{Receipt}
+use Rattle.wal_page.specs.EntryWords.{words_owned}
+use Rattle.wal_page.specs.Placed.{PlacedState, placed_end}
+use Rattle.wal_core.specs.Steps.{load_down, IsResting, IsStranded, release, MayStep}
+use Rattle.wal_core.specs.Views.{Copy, Copying, Flight, Landed, View, Working}
+use Rattle.wal_core.specs.declared.setup.Setup.{Setup}
+use Rattle.machine_laws.proofs.EntryLaws.{entries_are_whole_or_in_flight}
+use Rattle.machine_laws.proofs.ShownLaws.{entries_are_copied}
+use Rattle.wal_rule.specs.declared.pass.Pass.{Pass}
+use Rattle.wal_rule.specs.declared.seated.SeatedPass.{SeatedPass}
+use Rattle.wal_rule.specs.declared.table.LogTable.{LogTable}
+use Rattle.wal_rule.specs.declared.writer.LogWriter.{LogWriter}
+use Rattle.wal_rule.specs.Downs.{KnowsDown}
+use Rattle.wal_rule.specs.Passes.{view_of_pass}
+use Rattle.wal_rule.specs.SeatedPasses.{HasView, Steps, setup_of, view_of}
+use Rattle.wal_rule.specs.Stepping.{Meets, Stands}
+use Rattle.wal_rule.specs.Tables.{IsPassOn, setup_of_table}
+use Rattle.word_ring.proofs.CopyLaws.{words-left}
+use Rattle.wal_log.specs.declared.beginning.Begun.{Begun}
+use Rattle.wal_log.specs.declared.in_flight.Inflight.{Inflight}
+use Rattle.wal_log.specs.declared.wal.Wal.{Wal}
+use Rattle.wal_log.specs.Beginning.{IsPlaceBegun}
+use Rattle.wal_log.specs.Copying.{CopyGoesOn}
+use Rattle.wal_log.specs.Downs.{KnowsNoFault, MeetsDown}
+use Rattle.wal_log.specs.Flights.{Finishes, GivesUpCopy, HasWhole, IsHandedBack, IsInflightOf, KeepsLog, StandsWhole, view_of_flight}
+use Rattle.wal_log.specs.Logs.{setup_of_log, table_of}
+use Rattle.wal_log.specs.PassLogs.{log_of_pass}
+use Rattle.wal_log.specs.Standing.{CopiesAlone, CopiesUnderOneLock, GoesOnSeated, KeepsPass}
+use Rattle.wal_log.proofs.CopyLaws.{alone_rest, alone_whole}
+use Rattle.wal_log.proofs.Keeping.{copies_stay, down_met_keeps, none_loaded, same_pass}
+use Rattle.wal_log.proofs.Passing.{back_on, seen_is}
+use Rattle.wal_log.proofs.Seated.{view_is}
+use Rattle.wal_log.proofs.Unlocking.{landed_rests, landed_view, may_land, rested, rested_keeps, strands}
+
+-- with the same start, another entry starts at the same address
+same_start : (setup : Setup) (c : Copy) (placed : PlacedState) (start at : ℕ)
+    → start ≡ address_of setup.segment_size at → placed.start ≡ at
+    → (c.entry).start ≡ placed.start → start ≡ address_of setup.segment_size (c.entry).start
+same_start setup c placed start at is there same =
+    is ∙ ap (address_of setup.segment_size) (sym (same ∙ there))
+
+-- in the state in which all words of its entry are copied, each is the log's
+stands_whole : (v : View) → ∥ Stands v ∥₁ → (c : Copy) → (v.working).flight ≡ Copying c
+    → c.copied ≡ words_owned ((v.opening).setup).segment_size c.entry
+    → ∥ StandsWhole v c.entry ∥₁
+stands_whole v stood c is all = ∥∥₁_map stood (λ (s : Stands v). record {
+  stands = s;
+  in_order = ((entries_are_whole_or_in_flight v.opening s.words s.home s.views s.sound).reserved
+      s.id v c s.here is).0;
+  words = λ n owned. (entries_are_copied v.opening s.words s.home s.views s.sound).copied s.id v c
+      n s.here is (omega (arith, owned, all));
+})
+
+module _ {D : Type 0} (wal : Wal D) (pass : Pass) (seated : SeatedPass D)
+    (view : (seated.seat).me ≡ (view_of_pass pass, [])) (table : (seated.table).now ≡ table_of wal)
+  where
+    own : setup_of seated ≡ setup_of_log wal
+    own = ap (λ (t : LogTable D). setup_of_table t) table
+
+    -- what is so of a seated pass is so of the pass that is put back
+    pub moved : (Answers : Setup → View → View → Type 0) (new : View) (after : Pass)
+        → view_of_pass after ≡ new → Answers (setup_of seated) (view_of seated) new
+        → Answers (setup_of_log wal) (view_of_pass pass) (view_of_pass after)
+    moved Answers new after back answers = subst (λ (v : View). Answers (setup_of_log wal)
+        (view_of_pass pass) v) (sym back)
+        (subst (λ (v : View). Answers (setup_of_log wal) v new) (seen_is wal pass seated view)
+        (subst (λ (s : Setup). Answers s (view_of seated) new) own answers))
+
+    -- ---- a place was begun
+
+    module _ (body : Assembled) (new : SeatedPass D) (begun : Begun)
+        (place : IsPlaceBegun (setup_of seated) body (view_of seated) (view_of new) begun)
+        (goes_on : GoesOnSeated seated new) (after : Pass) (back : view_of_pass after ≡ view_of new)
+        (put : IsPassOn (new.table).now after) where
+      begun_so : IsPlaceBegun (setup_of_log wal) body (view_of_pass pass) (view_of_pass after) begun
+      begun_so = moved (λ setup old w. IsPlaceBegun setup body old w begun) (view_of new) after
+          back place
+
+      flight_so : IsInflightOf wal (record { pass = after; begun = begun })
+      flight_so =
+          let b = begun_so in record {
+            of_log = back_on wal pass seated view new (goes_on.stays).same_table table after put;
+            lock_low = b.lock_low;
+            copies = b.copies;
+            start_is = same_start (setup_of_log wal) (b.copies).copy begun.placed begun.start.0
+                (b.entry).start b.start_is (ap (λ (p : PlacedState). p.start) b.placed_is)
+                (sym (ap (λ (p : PlacedState). p.start) (b.copies).rest));
+            end_is = b.end_is;
+          }
+
+      pub flight_begins : IsInflightOf wal (record { pass = after; begun = begun })
+          × IsPlaceBegun (setup_of_log wal) body (view_of_pass pass) (view_of_pass after) begun
+          × KeepsPass (view_of_pass pass) (view_of_pass after)
+      flight_begins = (
+        flight_so,
+        begun_so,
+        moved (λ setup old w. KeepsPass old w) (view_of new) after back goes_on.keeps,
+      )
+
+module _ {D : Type 0} (wal : Wal D) (flight : Inflight) (is : IsInflightOf wal flight)
+    (seated : SeatedPass D) (view : (seated.seat).me ≡ (view_of_pass flight.pass, []))
+    (table : (seated.table).now ≡ table_of wal) where
+  abbrev lock : ℕ
+  lock = (flight.begun).lock
+
+  abbrev placed : PlacedState
+  placed = (flight.begun).placed
+
+  -- seated, it copies under its lock
+  pub flight_copies : CopiesAlone lock placed seated
+  flight_copies = record {
+    low = is.lock_low;
+    under = subst (λ (v : View). CopiesUnderOneLock (setup_of seated) lock placed v)
+        (sym (seen_is wal flight.pass seated view))
+        (subst (λ (s : Setup). CopiesUnderOneLock s lock placed (view_of_flight flight))
+        (sym (own wal flight.pass seated view table)) is.copies);
+    empty = ap (λ (m : View × List (ℕ × LogWriter D)). m.1) view;
+  }
+
+  -- ---- words were copied
+
+  module _ (further : PlacedState) (new : SeatedPass D)
+      (alone : CopiesAlone lock further new) (on : CopyGoesOn placed further seated new)
+      (after : Pass) (back : view_of_pass after ≡ view_of new)
+      (put : IsPassOn (new.table).now after) where
+    still_under : CopiesUnderOneLock (setup_of_log wal) lock further (view_of_pass after)
+    still_under = subst (λ (v : View). CopiesUnderOneLock (setup_of_log wal) lock further v)
+        (sym back)
+        (subst (λ (s : Setup). CopiesUnderOneLock s lock further (view_of new))
+        (ap (λ t. setup_of_table t.now) ((on.goes_on).stays).same_table
+        ∙ own wal flight.pass seated view table) alone.under)
+
+    pub flight_goes_on : IsInflightOf wal (record {
+      pass = after;
+      begun = record flight.begun { placed = further };
+    })
+    flight_goes_on = record {
+      of_log = back_on wal flight.pass seated view new ((on.goes_on).stays).same_table table after
+          put;
+      lock_low = is.lock_low;
+      copies = still_under;
+      start_is = same_start (setup_of_log wal) (still_under.copy) further (flight.begun).start.0
+          ((is.copies).copy.entry).start is.start_is
+          (ap (λ (p : PlacedState). p.start) on.place
+          ∙ ap (λ (p : PlacedState). p.start) (is.copies).rest)
+          (sym (ap (λ (p : PlacedState). p.start) still_under.rest));
+      end_is = is.end_is ∙ sym (ap placed_end on.place);
+    }
+
+  pub log_kept : (new : View) (after : Pass) → view_of_pass after ≡ new
+      → KeepsPass (view_of seated) new → log_of_pass new ≡ log_of_pass (view_of seated)
+      → KeepsLog (view_of_flight flight) (view_of_pass after)
+  log_kept new after back keeps same = moved wal flight.pass seated view table
+      (λ setup old w. KeepsLog old w) new after back (record { keeps = keeps; log = same })
+
+  -- ---- no word is left
+
+  -- a record's next word is no further than its end
+  pub flight_ended : placed_end placed ≤ placed.next → placed.next ≡ placed_end placed
+  flight_ended far =
+      let left = words-left seated placed (alone_rest seated lock placed flight_copies) in
+      omega (arith, left.0, far)
+
+  module _ (ended : placed.next ≡ placed_end placed) where
+    all_copied : (((flight_copies.under).copy).copied)
+        ≡ words_owned (((view_of seated).opening).setup).segment_size
+        ((flight_copies.under).copy).entry
+    all_copied = alone_whole seated lock placed flight_copies placed refl ended
+
+    pub may_finish : MayStep (view_of seated) (release lock)
+    may_finish = may_land (setup_of seated) lock placed (view_of seated) flight_copies.under
+        all_copied
+
+    abbrev IsWhole : ℕ → Flight → Type 0
+    IsWhole size Landed = Unit {0}
+    IsWhole size (Copying c) = c.copied ≡ words_owned size c.entry
+
+    flight_whole : HasWhole (view_of_flight flight)
+    flight_whole c flies =
+        let same : (view_of seated).working.flight ≡ Copying c =
+        ap (λ (v : View). v.working.flight) (seen_is wal flight.pass seated view) ∙ flies in
+        let here : (view_of seated).working.flight ≡ Copying (flight_copies.under).copy =
+        ap (λ (w : Working). w.flight) (flight_copies.under).working in
+        subst (λ (v : View). ∥ StandsWhole v c.entry ∥₁) (seen_is wal flight.pass seated view)
+        (stands_whole (view_of seated) (seated.seated).stands c same
+        (subst (IsWhole (((view_of seated).opening).setup).segment_size) (sym here ∙ same)
+        all_copied))
+
+    pub flight_finishes : (new : SeatedPass D) → Steps (release lock) 0 seated new → (after : Pass)
+        → view_of_pass after ≡ view_of new → IsPassOn (new.table).now after → (receipt : Receipt)
+        → receipt.start ≡ (flight.begun).start → receipt.end ≡ (flight.begun).end
+        → Finishes wal flight receipt after
+    flight_finishes new steps after back put receipt from to =
+        let landed : view_of new ≡ rested (view_of seated) = view_is steps
+        ∙ landed_view (setup_of seated) lock placed (view_of seated) flight_copies.under in record {
+          pass_is = record {
+            of_log = back_on wal flight.pass seated view new steps.same_table table after put;
+            rests = subst IsResting (sym (back ∙ landed))
+                (landed_rests (setup_of seated) lock placed (view_of seated) flight_copies.under);
+          };
+          none_left = ended;
+          whole = flight_whole;
+          start_is = from;
+          end_is = to;
+          keeps = log_kept (view_of new) after back
+              (subst (KeepsPass (view_of seated)) (sym landed)
+              (rested_keeps (view_of seated) (view_of seated) (same_pass (view_of seated))))
+              (ap (λ (v : View). log_of_pass v) landed);
+        }
+
+  -- ---- the down value was loaded
+
+  module _ (faults : ℕ) (loaded : SeatedPass D) (load : Steps load_down faults seated loaded)
+      (known : (n : ℕ) → KnowsDown n (view_of seated) → faults ≡ n)
+      (met : Meets (view_of seated) load_down faults) where
+    loaded_under : CopiesUnderOneLock (setup_of seated) lock placed (view_of loaded)
+    loaded_under = copies_stay (setup_of seated) lock placed (view_of seated) (view_of loaded)
+        flight_copies.under
+        (down_met_keeps (view_of seated) faults (view_of loaded) (view_is load) known)
+        (ap (λ (v : View). v.writing.hold) (view_is load) ∙ (flight_copies.under).hold)
+
+    loaded_keeps : KeepsPass (view_of seated) (view_of loaded)
+    loaded_keeps =
+        (down_met_keeps (view_of seated) faults (view_of loaded) (view_is load) known).pass
+
+    loaded_log : log_of_pass (view_of loaded) ≡ log_of_pass (view_of seated)
+    loaded_log = ap (λ (v : View). log_of_pass v) (view_is load)
+
+    met_so : Meets (view_of_flight flight) load_down faults
+    met_so = subst (λ (v : View). Meets v load_down faults)
+        (seen_is wal flight.pass seated view) met
+
+    -- none was met
+    pub flight_comes_back : faults ≡ 0 → (after : Pass) → view_of_pass after ≡ view_of loaded
+        → IsPassOn (loaded.table).now after
+        → IsHandedBack wal flight (record { pass = after; begun = flight.begun })
+    flight_comes_back none after back put = record {
+      flight_is = record {
+        of_log = back_on wal flight.pass seated view loaded load.same_table table after put;
+        lock_low = is.lock_low;
+        copies = moved wal flight.pass seated view table
+            (λ setup old w. CopiesUnderOneLock setup lock placed w) (view_of loaded) after back
+            loaded_under;
+        start_is = same_start (setup_of_log wal)
+            (moved wal flight.pass seated view table
+            (λ setup old w. CopiesUnderOneLock setup lock placed w) (view_of loaded) after back
+            loaded_under).copy placed (flight.begun).start.0 ((is.copies).copy.entry).start
+            is.start_is (ap (λ (p : PlacedState). p.start) (is.copies).rest)
+            (sym (ap (λ (p : PlacedState). p.start)
+            (moved wal flight.pass seated view table
+            (λ setup old w. CopiesUnderOneLock setup lock placed w) (view_of loaded) after back
+            loaded_under).rest));
+        end_is = is.end_is;
+      };
+      begun = refl;
+      met = subst (λ (n : ℕ). Meets (view_of_flight flight) load_down n) none met_so;
+      up = subst KnowsNoFault (sym back)
+          (none_loaded (view_of seated) faults (view_of loaded) (view_is load) known none);
+      keeps = log_kept (view_of loaded) after back loaded_keeps loaded_log;
+    }
+
+    -- one was: the copy may be given up
+    pub flight_strands : faults ≢ 0 → IsStranded (view_of loaded)
+    flight_strands some = strands (setup_of seated) lock placed (view_of loaded) loaded_under
+        (inl (λ zero. some (sym (ap (λ (v : View). v.writing.down_met) (view_is load)) ∙ zero)))
+
+    pub flight_given_up : faults ≢ 0 → (new : SeatedPass D)
+        → HasView (rested (view_of loaded)) loaded new → (after : Pass)
+        → view_of_pass after ≡ view_of new → IsPassOn (new.table).now after
+        → GivesUpCopy wal flight after
+    flight_given_up some new gives after back put =
+        let is_rested : view_of new ≡ rested (view_of loaded) = view_is gives in record {
+          pass_is = record {
+            of_log = back_on wal flight.pass seated view new
+                (gives.same_table ∙ load.same_table) table after put;
+            rests = subst IsResting (sym (back ∙ is_rested))
+                (landed_rests (setup_of seated) lock placed (view_of loaded) loaded_under);
+          };
+          faults = faults;
+          met = met_so;
+          down = subst (λ (v : View). MeetsDown faults v (view_of_pass after))
+              (seen_is wal flight.pass seated view)
+              (subst (λ (v : View). MeetsDown faults (view_of seated) v) (sym (back ∙ is_rested))
+              (record {
+                met = ap (λ (v : View). v.writing.down_met) (view_is load);
+                some = some;
+                set_none = ap (λ (v : View). v.writing.down_set) (view_is load);
+              }));
+          keeps = log_kept (view_of new) after back
+              (subst (KeepsPass (view_of seated)) (sym is_rested)
+              (rested_keeps (view_of seated) (view_of loaded) loaded_keeps))
+              (ap (λ (v : View). log_of_pass v) is_rested ∙ loaded_log);
+        }

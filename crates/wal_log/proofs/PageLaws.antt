@@ -1,0 +1,88 @@
+-- A page is reached: its end is met, or pages are mapped one by one up to it.
+use Rattle.std.proofs.Common.{◌≡◌, ℕ, ◌+◌, ◌<◌, ◌≤◌, max, refl, ap, ◌∙◌, arith}
+use Rattle.std.proofs.Math.Nat.{le-max_left}
+use Rattle.wal_core.specs.Views.{Taken, View}
+use Rattle.wal_rule.specs.declared.seated.SeatedPass.{SeatedPass}
+use Rattle.wal_rule.specs.SeatedPasses.{HasView, StaysSeated, view_of}
+use Rattle.word_ring.specs.Mapped.{LooksAt, looked_view, staged_view}
+use Rattle.word_ring.specs.Ring.{confirmed_view, end_of_page}
+use Rattle.wal_log.specs.Copying.{MapsPage, mapped_view}
+use Rattle.wal_log.proofs.Seated.{further_seated, seat_stays, view_is}
+
+pub maps_none : {D : Type 0} → (a : SeatedPass D) → MapsPage a a
+maps_none a = record {
+  stays = record { same_table = refl; same_hand = refl };
+  confirmed = (view_of a).mapping.confirmed;
+  written = (view_of a).writing.written;
+  view_is = refl;
+  rises = omega arith;
+}
+
+pub maps_on : {D : Type 0} → (a b c : SeatedPass D) → MapsPage a b → MapsPage b c → MapsPage a c
+maps_on a b c x y =
+    let first = ap (λ (v : View). v.mapping.confirmed) x.view_is in record {
+      stays = further_seated a b c x.stays y.stays;
+      confirmed = y.confirmed;
+      written = y.written;
+      view_is = y.view_is ∙ ap (mapped_view y.confirmed y.written) x.view_is;
+      rises = omega (arith, x.rises, y.rises, first);
+    }
+
+-- an end was met
+pub met_maps : {D : Type 0} → (end : ℕ) (a b : SeatedPass D)
+    → HasView (confirmed_view end (view_of a)) a b → MapsPage a b
+met_maps end a b has = record {
+  stays = seat_stays has;
+  confirmed = max (view_of a).mapping.confirmed end;
+  written = (view_of a).writing.written;
+  view_is = view_is has;
+  rises = le-max_left (view_of a).mapping.confirmed end;
+}
+
+-- with the turn to map had, the initialised end and the written address were met
+pub looked_maps : {D : Type 0} → (at written : ℕ) (a b : SeatedPass D) → StaysSeated a b
+    → view_of b ≡ looked_view at written (view_of a) → MapsPage a b
+looked_maps at written a b stays is = record {
+  stays = stays;
+  confirmed = max (view_of a).mapping.confirmed at;
+  written = written;
+  view_is = is;
+  rises = le-max_left (view_of a).mapping.confirmed at;
+}
+
+-- and a page was mapped
+pub mapped_maps : {D : Type 0} → (at written : ℕ) (a b : SeatedPass D) → StaysSeated a b
+    → view_of b ≡ confirmed_view (at + 8192) (looked_view at written (view_of a)) → MapsPage a b
+mapped_maps at written a b stays is = record {
+  stays = stays;
+  confirmed = max (max (view_of a).mapping.confirmed at) (at + 8192);
+  written = written;
+  view_is = is;
+  rises = omega arith;
+}
+
+module _ {D : Type 0} (page at written : ℕ) (a b : SeatedPass D) where
+  -- the page asked for was mapped
+  pub there_reached : view_of b ≡ looked_view at written (view_of a) → end_of_page page ≤ at
+      → end_of_page page ≤ (view_of b).mapping.confirmed
+  there_reached is far =
+      let high = ap (λ (v : View). v.mapping.confirmed) is in omega (arith, far, high)
+
+  -- a page was mapped that begins before the end of the one asked for: fewer are left
+  pub mapped_nearer : view_of b ≡ confirmed_view (at + 8192) (looked_view at written (view_of a))
+      → at < end_of_page page → LooksAt (staged_view Taken (view_of a)) at written
+      → ((view_of a).mapping.confirmed < end_of_page page)
+      × ((view_of a).mapping.confirmed < (view_of b).mapping.confirmed)
+  mapped_nearer is before looks =
+      let high = ap (λ (v : View). v.mapping.confirmed) is in
+      let rises : (view_of a).mapping.confirmed ≤ at = looks.rises in (
+        omega (arith, rises, before),
+        omega (arith, rises, high),
+      )
+
+-- the page's own end was met
+pub present_reached : {D : Type 0} → (page end : ℕ) (a b : SeatedPass D)
+    → HasView (confirmed_view end (view_of a)) a b → end ≡ end_of_page page
+    → end_of_page page ≤ (view_of b).mapping.confirmed
+present_reached page end a b has own =
+    let high = ap (λ (v : View). v.mapping.confirmed) (view_is has) in omega (arith, own, high)

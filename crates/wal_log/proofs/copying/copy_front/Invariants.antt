@@ -1,0 +1,21 @@
+-- So many words are copied, and no more than were asked for.
+use Rattle.std.proofs.Common.{◌≡◌, ◌+◌, ◌-◌, ◌*◌, ◌≤◌}
+use Rattle.wal_page.specs.Placed.{placed_end}
+use Rattle.wal_rule.specs.SeatedPasses.{view_of}
+use Rattle.wal_log.specs.Copying.{CopyGoesOn}
+use Rattle.wal_log.specs.Downs.{KnowsNoFault}
+use Rattle.wal_log.specs.Standing.{CopiesAlone}
+use Rattle.wal_log.proofs.copying.copy_front.Given as goal
+
+abbrev pub invariant-loop-end : goal.invariant-loop-end
+invariant-loop-end g l = record {
+  few : l.k ≤ l.most;
+  copies : CopiesAlone l.lock l.placed l.seated;
+  next_is : l.placed ≡ record l.fn.placed { next = l.fn.placed.next + 8 * l.k };
+  within : l.placed.next ≤ placed_end l.placed;
+  copies_on : CopyGoesOn l.fn.placed l.placed l.fn.seated l.seated;
+  up : KnowsNoFault (view_of l.fn.seated) → KnowsNoFault (view_of l.seated);
+}
+
+abbrev pub decreases-loop-end : goal.decreases-loop-end
+decreases-loop-end g l = l.most - l.k

@@ -1,0 +1,9 @@
+use Rattle.wal_log.proofs.FlightLaws.{flight_goes_on}
+use Rattle.wal_log.proofs.in_flight.Inflight.copy.Goals as goal
+
+pub returns-clause-flight : goal.returns-clause-flight
+returns-clause-flight g c = flight_goes_on c.args.wal.now c.args.self.now c.requires.flight
+    c.seat-seated.result c.seat-seated.ensures.view c.seat-seated.ensures.table
+    c.copy_front-copied.new.placed c.copy_front-copied.new.seated
+    c.copy_front-copied.ensures.copies c.copy_front-copied.ensures.copies_on c.put_back.new.self
+    c.put_back.ensures.view c.put_back.ensures.pass

@@ -1,0 +1,49 @@
+use Rattle.wal_core.specs.Views.{View}
+use Rattle.wal_core.specs.declared.setup.Setup.{Setup}
+use Rattle.wal_rule.specs.Passes.{view_of_pass}
+use Rattle.wal_rule.specs.SeatedPasses.{setup_of, view_of}
+use Rattle.wal_log.specs.Flushing.{TellsHard}
+use Rattle.wal_log.specs.Logs.{setup_of_log}
+use Rattle.wal_log.specs.Standing.{KeepsPass}
+use Rattle.wal_log.proofs.Passing.{answered, numbers_back, seated_rests, still_pass}
+use Rattle.wal_log.proofs.wal.Wal.hard.Given.{Over}
+use Rattle.wal_log.proofs.wal.Wal.hard.Goals as goal
+use Rattle.wal_log.proofs.wal.Wal.hard.Goals.{After-put_back}
+
+pub hard_on-hard-requires : goal.hard_on-hard-requires
+hard_on-hard-requires g c = record {
+  rests = seated_rests c.args.self.now c.args.pass.now c.seat-seated.result
+      c.seat-seated.ensures.view c.requires.pass;
+}
+
+pub put_back-requires-clause-numbers : goal.put_back-requires-clause-numbers
+put_back-requires-clause-numbers g c = numbers_back c.args.self.now c.args.pass.now
+    c.seat-seated.result c.seat-seated.ensures.view c.hard_on-hard.new.seated
+    c.hard_on-hard.ensures.rests c.seat-seated.new.self c.requires.pass
+    c.seat-seated.ensures.numbers
+
+answered_so : (g : Over) (c : After-put_back g) (Answers : Setup → View → View → Type 0)
+    → Answers (setup_of c.seat-seated.result) (view_of c.seat-seated.result)
+    (view_of c.hard_on-hard.new.seated)
+    → Answers (setup_of_log c.args.self.now) (view_of_pass c.args.pass.now)
+    (view_of_pass c.put_back.new.self)
+answered_so g c = answered c.args.self.now c.args.pass.now c.seat-seated.result
+    c.seat-seated.ensures.view c.hard_on-hard.new.seated c.hard_on-hard.ensures.rests
+    c.seat-seated.ensures.table c.put_back.new.self c.put_back.ensures.view
+
+pub returns-clause-told : goal.returns-clause-told
+returns-clause-told g c =
+    answered_so g (goal.at.returns-clause-told g c).After-put_back
+    (λ setup old new. TellsHard c.hard_on-hard.result.upto.0 c.hard_on-hard.result.moment old new)
+    c.hard_on-hard.ensures.told
+
+pub returns-clause-keeps : goal.returns-clause-keeps
+returns-clause-keeps g c =
+    answered_so g (goal.at.returns-clause-keeps g c).After-put_back
+    (λ setup old new. KeepsPass old new) c.hard_on-hard.ensures.rests.keeps
+
+pub returns-clause-pass : goal.returns-clause-pass
+returns-clause-pass g c = still_pass c.args.self.now c.args.pass.now c.seat-seated.result
+    c.seat-seated.ensures.view c.hard_on-hard.new.seated c.hard_on-hard.ensures.rests
+    c.seat-seated.ensures.table c.put_back.new.self c.put_back.ensures.view
+    c.put_back.ensures.pass

@@ -1,0 +1,7 @@
+pub mod BlockMapLaws
+pub mod PutLaws
+pub mod RedoLaws
+mod ListedImages
+mod StoreLaws
+mod ImageLaws
+mod CountLaws

@@ -1,0 +1,191 @@
+-- A reader whose records are redone one after another.
+use Rattle.std.proofs.Common.{◌≡◌, ℕ, ◌+◌, List, [], ◌∷◌, ◌++◌, Option, Some, None, Result, Ok, Err, sym, ap, subst, ◌∙◌, append_assoc}
+use Rattle.std.specs.Prelude.{IfSome}
+use Rattle.std.proofs.lemmas.Grind.{flat_map-append}
+use Rattle.std.proofs.lemmas.List.{append-nil}
+use Rattle.byte_position.specs.Geometry.{IsSegmentSize}
+use Rattle.segment_disk.specs.DiskImage.{image_as_read}
+use Rattle.segment_disk.specs.Tape.{Tape, state_now}
+use Rattle.wal_types.specs.declared.lsn.Lsn.{Lsn}
+use Rattle.wal_reader.specs.Cache.{log_of}
+use Rattle.wal_reader.specs.Decodes.{Decodes}
+use Rattle.wal_reader.specs.LogReader.{ReaderState, GivesRecords, Knows, reader_state}
+use Rattle.wal_reader.specs.PageCursor.{IsLogOf}
+use Rattle.wal_reader.specs.Pages.{Pages}
+use Rattle.wal_reader.specs.Settled.{IsSettled}
+use Rattle.wal_reader.specs.Standings.{given_as}
+use Rattle.wal_reader.specs.StepIn.{IsStepIn}
+use Rattle.wal_reader.specs.declared.found.Answer.{Answer}
+use Rattle.wal_reader.specs.declared.found.Answer.TheVariants as answers
+use Rattle.wal_reader.specs.declared.found.FoundRecord.{FoundRecord}
+use Rattle.wal_reader.specs.declared.log_reader.Reader.{Reader}
+use Rattle.wal_reader.specs.declared.standing.ReadErr.{ReadErr}
+use Rattle.wal_reader.specs.declared.standing.ReadErr.TheVariants.{Memory, Disk, Stopped}
+use Rattle.wal_reader.specs.declared.standing.Standing.TheVariants.{NotBegun}
+use Rattle.wal_reader.specs.declared.standing.Step.{Step}
+use Rattle.wal_reader.specs.declared.standing.Step.TheVariants.{End}
+use Rattle.wal_reader.proofs.SettledLaws.{decoding_is_settled, gives_something}
+use Rattle.wal_redo.specs.declared.redoing.RedoErr.{RedoErr}
+use Rattle.wal_redo.specs.declared.redoing.RedoErr.TheVariants as redoing
+use Rattle.wal_redo.specs.Again.{RedoAgainChangesNothing, RedoGoesOnBehindARefusal}
+use Rattle.wal_redo.specs.BlockMap.{BlockMap, PagePut, told_behind}
+use Rattle.wal_redo.specs.Images.{puts_in, puts_of}
+use Rattle.wal_redo.specs.Redo.{HasStoreCause, IsRedo, PutsAll, PutsSome, RedoesFront, unread}
+use Rattle.wal_redo.proofs.PutLaws.{PutsAll-again, PutsAll-more, PutsAll-none, PutsSome-all, PutsSome-more, PutsSome-of}
+
+-- there is one thing that a disk's log decodes to
+settled : (size : ℕ) (t : Tape) (start : ℕ) → IsSegmentSize size → IsSettled size (log_of t size) start None
+settled size t start valid = decoding_is_settled size (image_as_read (state_now t)) start None valid
+
+same_found : (size : ℕ) (t : Tape) (start : ℕ) → IsSegmentSize size → (found others : List FoundRecord) (answer other : Answer) → Decodes size (log_of t size) start None found answer → Decodes size (log_of t size) start None others other → found ≡ others
+same_found size t start valid found others answer other one two =
+    let all = settled size t start valid in
+    (all.3 found answer one).0 ∙ sym (all.3 others other two).0
+
+-- ---- a reader whose records are redone
+
+-- a reader from a start on, before it has begun
+abbrev pub unread_from : ℕ → ℕ → ReaderState
+unread_from size start = record { size = size; start = start; end = None; standing = NotBegun }
+
+-- a step of a reader of a disk's log
+abbrev pub Steps : Option Tape → Reader → Reader → Result Step ReadErr → Type 0
+Steps tape old new result = (pages : Pages) → IsLogOf tape (reader_state old).size pages → Knows old pages → IsStepIn pages old new result
+
+-- what a reader gave from a start on was put, so many images, and it still gives what comes behind
+-- that
+pub record IsUnderway (pages : Pages) (start now : ReaderState) (old new : Option BlockMap) (count : ℕ) : Type 0 where
+  pub given : List FoundRecord
+  pub whole : (others : List FoundRecord) (answer : Answer) → GivesRecords pages now others answer → GivesRecords pages start (given ++ others) answer
+  pub puts : PutsAll old new (puts_in given) count
+
+-- the log of a disk that tells was redone as far as the reader has come
+abbrev pub RedoesLog : Option Tape → ℕ → ℕ → Reader → Option BlockMap → Option BlockMap → ℕ → Type 0
+RedoesLog tape size start reader old new count = IfSome tape (λ t. Knows reader (log_of t size) × IsUnderway (log_of t size) (unread_from size start) (reader_state reader) old new count)
+
+puts_in-append : (found others : List FoundRecord) → puts_in (found ++ others) ≡ puts_in found ++ puts_in others
+puts_in-append found others = flat_map-append (λ f. puts_of f.value.blocks) found others
+
+puts_in-one : (f : FoundRecord) → puts_in (f ∷ []) ≡ puts_of f.value.blocks
+puts_in-one f = append-nil (puts_of f.value.blocks)
+
+module _ (size start : ℕ) (valid : IsSegmentSize size) (old : Option BlockMap) where
+  pub RedoesLog-none : (tape : Option Tape) (reader : Reader) → reader_state reader ≡ unread_from size start → ((pages : Pages) → Knows reader pages) → RedoesLog tape size start reader old old 0
+  RedoesLog-none None reader is knows = tt
+  RedoesLog-none (Some t) reader is knows = (
+    knows (log_of t size),
+    record {
+      given = [];
+      whole = λ others answer gives. subst (λ (now : ReaderState). GivesRecords (log_of t size) now others answer) is gives;
+      puts = PutsAll-none old;
+    },
+  )
+
+  module _ (reader : Reader) (sized : (reader_state reader).size ≡ size) (between : Option BlockMap) (count : ℕ) where
+    step_of : (t : Tape) (next : Reader) (result : Result Step ReadErr) → Steps (Some t) reader next result → Knows reader (log_of t size) → IsStepIn (log_of t size) reader next result
+    step_of t next result steps knows = steps (log_of t size) (ap (log_of t) (sym sized)) knows
+
+    -- what it gives still
+    still : (t : Tape) → (others : List FoundRecord) × (answer : Answer) × GivesRecords (log_of t size) (reader_state reader) others answer
+    still t =
+        let some = gives_something (image_as_read (state_now t)) (reader_state reader) (subst IsSegmentSize (sym sized) valid) in
+        (some.0, some.1, subst (λ (n : ℕ). GivesRecords (log_of t n) (reader_state reader) some.0 some.1) sized some.2)
+
+    pub RedoesLog-more : (tape : Option Tape) (next : Reader) (f : FoundRecord) (new : Option BlockMap) (more : ℕ) → RedoesLog tape size start reader old between count → Steps tape reader next (Ok (given_as f)) → PutsAll between new (puts_of f.value.blocks) more
+        → RedoesLog tape size start next old new (count + more)
+    RedoesLog-more None next f new more redoes steps puts = tt
+    RedoesLog-more (Some t) next f new more redoes steps puts =
+        let step = step_of t next (Ok (given_as f)) steps redoes.0 in
+        let underway = redoes.1 in
+        let all : puts_in (underway.given ++ f ∷ []) ≡ puts_in underway.given ++ puts_of f.value.blocks = puts_in-append underway.given (f ∷ []) ∙ ap (λ (puts : List PagePut). puts_in underway.given ++ puts) (puts_in-one f) in (
+          step.knows,
+          record {
+            given = underway.given ++ f ∷ [];
+            whole = λ others answer gives. subst (λ (found : List FoundRecord). GivesRecords (log_of t size) (unread_from size start) found answer) (sym (append_assoc underway.given (f ∷ []) others)) (underway.whole (f ∷ others) answer (step.next others answer gives));
+            puts = subst (λ (puts : List PagePut). PutsAll old new puts (count + more)) (sym all) (PutsAll-more underway.puts puts);
+          },
+        )
+
+    -- a front was put, wherever the reader stands
+    put_front : (t : Tape) → RedoesLog (Some t) size start reader old between count → RedoesFront size start t old between
+    put_front t redoes found answer decodes =
+        let left = still t in
+        let underway = redoes.1 in
+        let all = underway.given ++ left.0 in
+        let same : all ≡ found = same_found size t start valid all found left.1 answer (underway.whole left.0 left.1 left.2) decodes in
+        subst (λ (fs : List FoundRecord). PutsSome old between (puts_in fs)) same (subst (PutsSome old between) (sym (puts_in-append underway.given left.0)) (PutsSome-of underway.puts (puts_in left.0)))
+
+    ended_with : (t : Tape) (answer : Answer) → (underway : IsUnderway (log_of t size) (unread_from size start) (reader_state reader) old between count) → GivesRecords (log_of t size) (reader_state reader) [] answer → Decodes size (log_of t size) start None underway.given answer
+    ended_with t answer underway ends = subst (λ (found : List FoundRecord). GivesRecords (log_of t size) (unread_from size start) found answer) (append-nil underway.given) (underway.whole [] answer ends)
+
+    pub redo_ended : (tape : Option Tape) (next : Reader) (at : Lsn) → RedoesLog tape size start reader old between count → Steps tape reader next (Ok (End at)) → IfSome tape (IsRedo size start old between (Ok count))
+    redo_ended None next at redoes steps = tt
+    redo_ended (Some t) next at redoes steps = record {
+      found = redoes.1.given;
+      at = at;
+      decodes = ended_with t (answers.End at) redoes.1 (step_of t next (Ok (End at)) steps redoes.0).next;
+      puts = redoes.1.puts;
+    }
+
+    pub redo_unread : (tape : Option Tape) (next : Reader) (e : ReadErr) → RedoesLog tape size start reader old between count → Steps tape reader next (Err e) → IfSome tape (IsRedo size start old between (Err (unread e)))
+    redo_unread None next e redoes steps = tt
+    redo_unread (Some t) next Memory redoes steps = put_front t redoes
+    redo_unread (Some t) next (Disk faults) redoes steps = put_front t redoes
+    redo_unread (Some t) next (Stopped reason) redoes steps = record {
+      found = redoes.1.given;
+      decodes = ended_with t (answers.Stopped reason) redoes.1 (step_of t next (Err (Stopped reason)) steps redoes.0).next;
+      put = redoes.1.puts.put;
+    }
+
+  -- a put of a record's images was refused
+  module _ (reader next : Reader) (sized : (reader_state reader).size ≡ size) (next_sized : (reader_state next).size ≡ size) (between new : Option BlockMap) (count : ℕ) where
+    cut_front : (t : Tape) (f : FoundRecord) → RedoesLog (Some t) size start reader old between count → Steps (Some t) reader next (Ok (given_as f)) → PutsSome between new (puts_of f.value.blocks) → RedoesFront size start t old new
+    cut_front t f redoes steps cut found answer decodes =
+        let underway = redoes.1 in
+        let is = (step_of reader sized between count t next (Ok (given_as f)) steps redoes.0).next in
+        let left = still next next_sized new count t in
+        let all = underway.given ++ f ∷ left.0 in
+        let same : all ≡ found = same_found size t start valid all found left.1 answer (underway.whole (f ∷ left.0) left.1 (is left.0 left.1 left.2)) decodes in
+        subst (λ (fs : List FoundRecord). PutsSome old new (puts_in fs)) same (subst (PutsSome old new) (sym (puts_in-append underway.given (f ∷ left.0))) (PutsSome-more underway.puts cut (puts_in left.0)))
+
+    pub redo_refused : (tape : Option Tape) (f : FoundRecord) (e : RedoErr) (faults faults_after : ℕ) → RedoesLog tape size start reader old between count → Steps tape reader next (Ok (given_as f)) → PutsSome between new (puts_of f.value.blocks) → HasStoreCause faults faults_after (Err e)
+        → IfSome tape (IsRedo size start old new (Err e))
+    redo_refused None f e faults faults_after redoes steps cut cause = tt
+    redo_refused (Some t) f redoing.Memory faults faults_after redoes steps cut cause = cut_front t f redoes steps cut
+    redo_refused (Some t) f (redoing.Store count) faults faults_after redoes steps cut cause = cut_front t f redoes steps cut
+    redo_refused (Some t) f (redoing.Disk count) faults faults_after redoes steps cut cause = absurd cause
+    redo_refused (Some t) f (redoing.Stopped reason) faults faults_after redoes steps cut cause = absurd cause
+
+-- ---- redo that is made again
+
+module _ (size start : ℕ) (t : Tape) (valid : IsSegmentSize size) where
+  pub redo_again : {old once twice : Option BlockMap} {count again : ℕ} → IsRedo size start old once (Ok count) t → IsRedo size start once twice (Ok again) t → IsRedo size start old twice (Ok count) t × (again ≡ count)
+  redo_again {old} {once} {twice} {count} {again} first second =
+      let same : second.found ≡ first.found = same_found size t start valid second.found first.found (answers.End second.at) (answers.End first.at) second.decodes first.decodes in
+      let puts = subst (λ (found : List FoundRecord). PutsAll once twice (puts_in found) again) same second.puts in
+      let counts : again ≡ count = puts.count_is ∙ sym first.puts.count_is in
+      let all = PutsAll-again (PutsSome-all first.puts.put) puts in (
+        record { found = first.found; at = first.at; decodes = first.decodes; puts = subst (PutsAll old twice (puts_in first.found)) counts all },
+        counts,
+      )
+
+  behind_front : {old between new : Option BlockMap} {count : ℕ} → RedoesFront size start t old between → IsRedo size start between new (Ok count) t → IsRedo size start old new (Ok count) t
+  behind_front front all = record { found = all.found; at = all.at; decodes = all.decodes; puts = PutsAll-again (front all.found (answers.End all.at) all.decodes) all.puts }
+
+  pub redo_behind : {old between new : Option BlockMap} {count : ℕ} (e : RedoErr) → IsRedo size start old between (Err e) t → IsRedo size start between new (Ok count) t → IsRedo size start old new (Ok count) t
+  redo_behind redoing.Memory refused all = behind_front refused all
+  redo_behind (redoing.Disk faults) refused all = behind_front refused all
+  redo_behind (redoing.Store faults) refused all = behind_front refused all
+  redo_behind {old} {between} {new} (redoing.Stopped reason) refused all =
+      let same : refused.found ≡ all.found = same_found size t start valid refused.found all.found (answers.Stopped reason) (answers.End all.at) refused.decodes all.decodes in
+      let front = PutsSome-all refused.put in
+      record { found = all.found; at = all.at; decodes = all.decodes; puts = PutsAll-again (subst (λ (found : List FoundRecord). PutsSome old between (puts_in found)) same front) all.puts }
+
+pub redo_again_changes_nothing : RedoAgainChangesNothing
+redo_again_changes_nothing size start t old once twice count again valid first second =
+    let all = redo_again size start t valid first second in
+    let same : all.0.found ≡ first.found = same_found size t start valid all.0.found first.found (answers.End all.0.at) (answers.End first.at) all.0.decodes first.decodes in
+    (all.0.puts.put ∙ ap (λ (found : List FoundRecord). told_behind old (puts_in found)) same ∙ sym first.puts.put, all.1)
+
+pub redo_goes_on_behind_a_refusal : RedoGoesOnBehindARefusal
+redo_goes_on_behind_a_refusal size start t old between new error count valid refused all = redo_behind size start t valid error refused all

@@ -1,0 +1,6 @@
+pub mod BlockOrder
+pub mod BlockMap
+pub mod Images
+pub mod Redo
+pub mod MemBlocks
+pub mod Again

@@ -1,0 +1,86 @@
+// The pages of images, and their way into a store.
+ghost use Rattle.std.specs.Prelude.{◌≡◌, ◌≤◌, length, All, IfOk, IfSome, IsTrue};
+ghost use Rattle.wal_redo.specs.Images.{IsRedoable, MakesPage, block_named, page_of, put_of, puts_of};
+ghost use Rattle.wal_redo.specs.Redo.{HasStoreCause, NoPutFailed, EndsPuts};
+
+use crate::block_id::BlockId;
+use crate::blocks::{Blocks, PutErr};
+use crate::redoing::RedoErr;
+use std::alloc::Global;
+use wal_types::{Block, Image};
+
+/// Makes an image's page: its bytes, with zeros in the hole.
+pub(crate) fn restore_image(image: &Image, page: &mut [u8])
+    requires makes { MakesPage image.now }
+    requires room { length page.old ≡ 8192 }
+    ensures { page.new ≡ page_of image.now }
+{
+    let (front, back) = image.bytes.as_slice().split_at(image.hole_offset as usize);
+    let (before, rest) = page.split_at_mut(front.len());
+    let (hole, behind) = rest.split_at_mut(image.hole_len as usize);
+    before.copy_from_slice(front);
+    hole.fill(0);
+    behind.copy_from_slice(back);
+}
+
+// Puts a block's page, where the reference has an image that is to be applied, and answers how many
+// were put.
+fn put_image<B: Blocks>(
+    alloc: Global,
+    block: BlockId,
+    image: &Option<Image>,
+    page: &mut [u8; 8192],
+    blocks: &mut B,
+) -> Result<u64, RedoErr>
+    requires fork { block.fork ≤ 3 }
+    requires makes { IfSome image.now MakesPage }
+    ensures puts { EndsPuts (B.pages blocks.old) (B.pages blocks.new) (put_of block image.now)
+        result }
+    ensures few { IfOk result (λ count. count ≤ 1) }
+    ensures cause { HasStoreCause (B.faults blocks.old) (B.faults blocks.new) result }
+    ensures never { IsTrue (B.never_fails blocks.old)
+        → NoPutFailed result × IsTrue (B.never_fails blocks.new) }
+{
+    match image {
+        Some(image) if image.apply => {
+            restore_image(image, page);
+            match blocks.put(alloc, block, page) {
+                Ok(()) => Ok(1),
+                Err(PutErr::Memory) => Err(RedoErr::Memory),
+                Err(PutErr::Failed) => Err(RedoErr::Store {
+                    faults: blocks.faults(),
+                }),
+            }
+        }
+        Some(_) | None => Ok(0),
+    }
+}
+
+/// Puts the pages of a record's images, one behind another, and answers how many. `page` is room to
+/// make them in.
+pub(crate) fn put_images<B: Blocks>(
+    alloc: Global,
+    references: &[Block],
+    page: &mut [u8; 8192],
+    blocks: &mut B,
+) -> Result<u64, RedoErr>
+    requires { All IsRedoable references.now }
+    ensures puts { EndsPuts (B.pages blocks.old) (B.pages blocks.new) (puts_of references.now)
+        result }
+    ensures few { IfOk result (λ count. count ≤ length references.now) }
+    ensures cause { HasStoreCause (B.faults blocks.old) (B.faults blocks.new) result }
+    ensures never { IsTrue (B.never_fails blocks.old)
+        → NoPutFailed result × IsTrue (B.never_fails blocks.new) }
+{
+    let mut count = 0;
+    for reference in references {
+        count += put_image(
+            alloc,
+            BlockId::of(reference),
+            &reference.image,
+            page,
+            blocks,
+        )?;
+    }
+    Ok(count)
+}

@@ -1,0 +1,53 @@
+ghost use Rattle.std.specs.Prelude.{IfOk, IfSome};
+ghost use Rattle.segment_disk.specs.Tape.{IsUncalled};
+ghost use Rattle.waldump_text.specs.Counting.{HasTallyCause, IsTally};
+ghost use Rattle.waldump_text.specs.Tally.{TallyFits};
+
+use crate::sums::Tally;
+use byte_position::Geometry;
+use listing_filter::{Filter, Listed};
+use segment_disk::Disk;
+use std::alloc::Global;
+use wal_reader::{ReadErr, Reader, Step};
+
+/// Tallies the records that a filter lists. No record is kept, so the memory that it needs does not
+/// grow with the log.
+pub(crate) fn tally_log<D: Disk>(
+    alloc: Global,
+    disk: &mut D,
+    geometry: Geometry,
+    filter: &Filter,
+) -> Result<Tally, ReadErr>
+    ensures tallied { IfSome (D.tape disk.old) (IsTally geometry filter.now result) }
+    ensures sound { IfOk result TallyFits }
+    ensures uncalled { IsUncalled D.tape D.moment disk.old disk.new }
+    ensures cause { HasTallyCause (D.faults disk.old) (D.faults disk.new) result }
+{
+    // That a log decodes to something rests on a valid size.
+    let _size = geometry.segment_size();
+    let mut reader = Reader::new(geometry, filter.start, filter.end);
+    let mut tally = Tally::new();
+    'records: while !filter.is_full(tally.all.records) {
+        match reader.next(alloc, disk)? {
+            Step::Record {
+                start,
+                end: _,
+                prev,
+                total,
+                value,
+            } => {
+                let listed = Listed {
+                    start,
+                    prev,
+                    total,
+                    value,
+                };
+                if filter.keeps(&listed) {
+                    tally.add(&listed);
+                }
+            }
+            Step::End { .. } => return Ok(tally),
+        }
+    }
+    Ok(tally)
+}

@@ -1,0 +1,78 @@
+ghost use Rattle.std.specs.Prelude.{◌≡◌, ℕ, List, [], ◌∷◌, ◌++◌, ◌+◌, ◌^◌, ◌<◌};
+ghost use Rattle.listing_filter.specs.declared.listed.Listed.{Listed};
+ghost use Rattle.waldump_text.specs.Listing.{IsListable};
+ghost use Rattle.waldump_text.specs.Sums.{images_len};
+ghost use Rattle.waldump_text.specs.Tally.{SumsFit, TallyFits, Tallies};
+
+use crate::block_refs::images_len;
+use listing_filter::Listed;
+
+/// What records add up to: how many they are, the bytes of their images, and all their bytes. No
+/// count of records that fits makes the others too large for their type.
+#[derive(Clone, Copy, Debug)]
+pub struct Sums {
+    pub records: u64,
+    pub images: u128,
+    pub total: u128,
+}
+
+impl Sums {
+    const NONE: Sums = Sums {
+        records: 0,
+        images: 0,
+        total: 0,
+    };
+
+    // With one record more, by the bytes of its images and all its bytes.
+    fn with(self, images: u32, total: u32) -> Sums
+        requires bounded { SumsFit (2 ^ 64) self }
+        requires few { self.records + 1 < 2 ^ 64 }
+        ensures { result ≡ record {
+          records = self.records + 1;
+          images = self.images + images;
+          total = self.total + total;
+        } }
+    {
+        Sums {
+            records: self.records + 1,
+            images: self.images + u128::from(images),
+            total: self.total + u128::from(total),
+        }
+    }
+}
+
+/// A tally of records: what each manager's add up to, and what all do.
+#[derive(Drop)]
+pub(crate) struct Tally {
+    pub(crate) own: [Sums; 256],
+    pub(crate) all: Sums,
+}
+
+impl Tally {
+    pub(crate) fn new() -> Tally
+        ensures sound { TallyFits result }
+        ensures none { result.all.records ≡ 0 }
+        ensures tallies { Tallies result [] }
+    {
+        Tally {
+            own: [Sums::NONE; 256],
+            all: Sums::NONE,
+        }
+    }
+
+    pub(crate) fn add(&mut self, r: &Listed)
+        requires sound { TallyFits self.old }
+        requires few { self.old.all.records + 1 < 2 ^ 64 }
+        requires listable { IsListable r.now }
+        ensures sound { TallyFits self.new }
+        ensures counted { self.new.all.records ≡ self.old.all.records + 1 }
+        ensures tallies { (records : List Listed) → Tallies self.old records
+            → Tallies self.new (records ++ r.now ∷ []) }
+    {
+        let total = r.total;
+        let images = images_len(r.value.blocks.as_slice());
+        let rmid = r.value.rmid as usize;
+        self.all = self.all.with(images, total);
+        self.own[rmid] = self.own[rmid].with(images, total);
+    }
+}

@@ -1,0 +1,90 @@
+#!/usr/bin/env python3
+"""Tries the machine's own conditions: each wrong step of a list has to be refused by the laws.
+
+    tests/wrong_definitions.py          tries all
+    tests/wrong_definitions.py WORD..   tries those with one of these words in their name
+
+An edit in must-fail/ changes the code of the crate in which it stands, and what a step may rest on
+is a definition of wal_core, of which the laws stand in machine_laws. So these are tried by hand,
+outside `rt ci`: in a copy of the repository one definition at a time is weakened, by a term that
+has the same shape and always holds, and wal_core must still check, and machine_laws must not. A
+first check of the copy proves what lies below, in some minutes; each edit takes one more. Prints a
+line for each, and its status is 1 if one was not refused.
+"""
+import pathlib
+import re
+import subprocess
+import sys
+import tempfile
+
+TOP = pathlib.Path(__file__).resolve().parent.parent
+STEPS, MOVES = "Steps.antt", "Moves.antt"
+# the name of each, the file of wal_core's specs, the text that stands once in it, and what it becomes
+WRONG = [
+    ("a page is given up before it is written", STEPS,
+     "(at + 8192 ≤ written + (setup_of).ring_pages * 8192)", "(at + 0 ≤ at + written)"),
+    ("a lock is given back with words left", STEPS,
+     "→ c.copied ≡ words_owned (setup_of).segment_size c.entry)", "→ c.copied ≡ c.copied)"),
+    ("a lock tells more than is copied", STEPS,
+     "(upto < most_told (setup_of)", "(upto < 8 + most_told (setup_of)"),
+    ("the flushed address is stored before the moment", STEPS,
+     "HasOut (λ l. (l.hard ≡ (l.writer).written)", "HasOut (λ l. (l.hard ≡ l.hard)"),
+    ("the moment is stored before the sync", STEPS,
+     "((l.writer).waiting ≡ none))\n  MayStep store_flushed",
+     "((l.writer).waiting ≡ (l.writer).waiting))\n  MayStep store_flushed"),
+    ("a write goes past what is known to be copied", STEPS,
+     "pub copied : upto ≤ l.known\n", "pub copied : upto ≤ upto\n"),
+    ("a word is copied to a page that was not met", STEPS,
+     "pub met : address_of_word setup.segment_size c.entry c.copied < confirmed",
+     "pub met : address_of_word setup.segment_size c.entry c.copied\n"
+     "      < confirmed + 1 + address_of_word setup.segment_size c.entry c.copied"),
+    ("an entry is reserved past the log's end", STEPS,
+     "(at + room_at (setup_of).segment_size at value ≤ log_limit setup_of)",
+     "(at + room_at (setup_of).segment_size at value\n"
+     "      ≤ at + room_at (setup_of).segment_size at value)"),
+    ("an answer goes past what is reserved", STEPS,
+     "(upto ≤ end_form setup_of (v.reserving).seen)", "(upto ≤ upto + (v.reserving).seen)"),
+    ("a watcher learns a word too many", MOVES,
+     "else min x.bound (met - 1));", "else min x.bound met);"),
+    ("a watcher passes a lock that tells nothing", MOVES,
+     "if (lock == x.visited) && (own || not (met == 1))",
+     "if (lock == x.visited) && (own || not (met == 2))"),
+]
+
+
+def checked(copy, crate):
+    """Whether a crate of the copy is proved, and what the check said."""
+    ran = subprocess.run(["rt", "check"], cwd=copy / "crates" / crate, capture_output=True, text=True)
+    return ran.returncode == 0, ran.stdout + ran.stderr
+
+
+def main():
+    asked = sys.argv[1:]
+    wrong = [it for it in WRONG if not asked or any(word in it[0] for word in asked)]
+    failed = 0
+    with tempfile.TemporaryDirectory() as folder:
+        copy = pathlib.Path(folder) / "copy"
+        subprocess.run(["git", "clone", "-q", TOP, copy], check=True)
+        if not checked(copy, "machine_laws")[0]:
+            sys.exit("machine_laws is not proved as it stands")
+        for name, file, old, new in wrong:
+            path = copy / "crates" / "wal_core" / "specs" / file
+            text = path.read_text()
+            if text.count(old) != 1:
+                print(f"{name}: its text does not stand once in {file}")
+                failed += 1
+                continue
+            path.write_text(text.replace(old, new))
+            sound, _ = checked(copy, "wal_core")
+            proved, said = checked(copy, "machine_laws") if sound else (False, "")
+            path.write_text(text)
+            where = re.search(r"proofs/(\w+)\.antt:\d+:\d+: error: `(\w+)", said)
+            if not sound or proved or not where:
+                failed += 1
+            print(f"{name}: " + ("wal_core does not check" if not sound else "NOT REFUSED" if proved
+                                 else f"refused by {where[2]} of {where[1]}" if where else "refused, for no law"))
+    print(f"{len(wrong) - failed} passed, {failed} failed")
+    sys.exit(failed != 0)
+
+
+main()
