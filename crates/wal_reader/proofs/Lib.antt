@@ -7,6 +7,7 @@ pub mod GivesLaws
 pub mod LogReaderLaws
 pub mod PagesLaws
 pub mod RecordAt
+pub mod NextPositionLaws
 pub mod RecordReads
 pub mod RecordStages
 pub mod RowLaws

@@ -3,6 +3,7 @@ use Rattle.std.proofs.Common.{◌≡◌, ℕ, ◌+◌, ◌-◌, ◌*◌, ◌/◌
 use Rattle.std.specs.Int.{w64}
 use Rattle.std.specs.List.{slice_index}
 use Rattle.std.proofs.lemmas.List.{get_or-take, take-take}
+use Rattle.byte_position.specs.Geometry.{IsSegmentSize}
 use Rattle.byte_position.specs.Position.{position_of, address_of}
 use Rattle.byte_position.proofs.HeaderSizes.{header_size_bounds}
 use Rattle.byte_position.proofs.Pages.{position_of-next_page}
@@ -24,12 +25,13 @@ use Rattle.wal_reader.specs.declared.read_failure.ReadFailure.{ReadFailure}
 use Rattle.wal_reader.specs.declared.read_failure.ReadFailure.TheVariants as failures
 use Rattle.wal_reader.specs.Pages.{IsPage, Pages, bytes_from}
 use Rattle.wal_reader.specs.PageCursor.{Crosses, HasGathered, HoldsPassed, StandsIn}
-use Rattle.wal_reader.specs.Decodes.{page_of_byte, place_behind, rows_of_pages, crc_rows, header_rows, rest_rows}
+use Rattle.wal_reader.specs.Decodes.{next_position, page_of_byte, place_behind, rows_of_pages, crc_rows, header_rows, rest_rows}
 use Rattle.wal_reader.specs.ReadAt.{found_or}
 use Rattle.wal_reader.specs.RecordRead.{GoesOn, IsRead, said_of}
 use Rattle.wal_reader.specs.RecordPlace.{IsReachable}
 use Rattle.wal_reader.specs.ReadFailures.{IsTold}
 use Rattle.wal_reader.proofs.GatherLaws.{bytes_in_page, crosses_none, gathers_further, page_from}
+use Rattle.wal_reader.proofs.NextPositionLaws.{next_position-below, next_position-further, next_position-whole}
 use Rattle.wal_reader.proofs.RowLaws.{first_of, first_fault-append, number_at-take}
 
 -- ---- four groups of checks, one behind another
@@ -138,48 +140,38 @@ header_rows-front start prev bytes =
 
 -- ---- behind a record
 
-start_found : Result FoundRecord Answer → ℕ
-start_found (Ok found) = found.start.0
-start_found (Err answer) = 0
-
 total_found : Result FoundRecord Answer → ℕ
 total_found (Ok found) = found.total
 total_found (Err answer) = 0
 
--- a record that is found starts where it was looked for, and has the size that it claims
-found_fields : (size : ℕ) (place : RecordPlace) (total prev : ℕ) (reading : Result Record RecErr) (found : FoundRecord) → found_or size place total prev reading ≡ Ok found → (found.start.0 ≡ address_of size place.position) × (found.total ≡ total)
-unfolding start_found total_found
-found_fields size place total prev (Ok value) found e = (ap start_found (sym e), ap total_found (sym e))
-found_fields size place total prev (Err Memory) found e = absurd (cc)
-found_fields size place total prev (Err (Malformed at kind)) found e = absurd (cc)
-found_fields size place total prev (Err (Compressed block)) found e = absurd (cc)
-
-abbrev lsn_at : ℕ → Lsn
-lsn_at address = record { 0 = address }
+-- a record that is found has the size that it claims
+total_found_is : (size : ℕ) (place : RecordPlace) (total prev : ℕ) (reading : Result Record RecErr) (found : FoundRecord) → found_or size place total prev reading ≡ Ok found → found.total ≡ total
+unfolding total_found
+total_found_is size place total prev (Ok value) found e = ap total_found (sym e)
+total_found_is size place total prev (Err Memory) found e = absurd (cc)
+total_found_is size place total prev (Err (Malformed at kind)) found e = absurd (cc)
+total_found_is size place total prev (Err (Compressed block)) found e = absurd (cc)
 
 -- the place behind a record that was read
-abbrev pub behind_read : RecordPlace → Lsn → ℕ → ℕ → RecordPlace
-behind_read at start total timeline =
-    record { position = at.position + (total + 7) / 8 * 8; prev = Some start; timeline = timeline }
+abbrev pub behind_read : ℕ → RecordPlace → FoundRecord → ℕ → ℕ → RecordPlace
+behind_read size at found total timeline =
+    record { position = next_position size at.position total found.value; prev = Some found.start; timeline = timeline }
 
-pub found_behind : (size : ℕ) (pages : Pages) (at : RecordPlace) (start : Lsn) (total prev : ℕ) (reading : Result Record RecErr) (found : FoundRecord) (cursor : PageCursor) (bytes : List ℕ) → found_or size at total prev reading ≡ Ok found
-    → start.0 ≡ address_of size at.position → cursor.page ≡ page_of_byte size at.position total → pages cursor.page ≡ Some bytes → timeline_of bytes ≡ cursor.timeline
-    → behind_read at start total cursor.timeline ≡ place_behind size pages at found
-found_behind size pages at start total prev reading found cursor bytes e starts last here timeline =
-    let fields = found_fields size at total prev reading found e in
-    let same : start ≡ found.start = ap (λ (address : ℕ). lsn_at address) (starts ∙ sym fields.0) in
-    rw (← same, fields.1, ← last, here, ← timeline) refl
+pub found_behind : (size : ℕ) (pages : Pages) (at : RecordPlace) (total prev : ℕ) (reading : Result Record RecErr) (found : FoundRecord) (cursor : PageCursor) (bytes : List ℕ) → found_or size at total prev reading ≡ Ok found
+    → cursor.page ≡ page_of_byte size at.position total → pages cursor.page ≡ Some bytes → timeline_of bytes ≡ cursor.timeline
+    → behind_read size at found total cursor.timeline ≡ place_behind size pages at found
+found_behind size pages at total prev reading found cursor bytes e last here timeline =
+    rw (total_found_is size at total prev reading found e, ← last, here, ← timeline) refl
 
 -- what was found of bytes, by whatever names
-pub found_as : (size own : ℕ) (place : RecordPlace) (total : ℕ) (bytes own_bytes : List ℕ) (found answer : Result FoundRecord Answer) → own ≡ size → own_bytes ≡ bytes → found ≡ found_or own place total (number_at w64 own_bytes 8) (reading_of own_bytes) → found ≡ answer → found_or size place total (number_at w64 bytes 8) (reading_of bytes) ≡ answer
-found_as size own place total bytes own_bytes found answer sized same e f =
-    let by_size : ℕ → Type 0 = λ n. found_or n place total (number_at w64 bytes 8) (reading_of bytes) ≡ answer in
-    let by_bytes : List ℕ → Type 0 = λ bs. found_or own place total (number_at w64 bs 8) (reading_of bs) ≡ answer in
-    subst by_size sized (subst by_bytes same (sym e ∙ f))
+pub found_as : (size : ℕ) (place : RecordPlace) (total : ℕ) (bytes own_bytes : List ℕ) (found answer : Result FoundRecord Answer) → own_bytes ≡ bytes → found ≡ found_or size place total (number_at w64 own_bytes 8) (reading_of own_bytes) → found ≡ answer → found_or size place total (number_at w64 bytes 8) (reading_of bytes) ≡ answer
+found_as size place total bytes own_bytes found answer same e f =
+    let by_bytes : List ℕ → Type 0 = λ bs. found_or size place total (number_at w64 bs 8) (reading_of bs) ≡ answer in
+    subst by_bytes same (sym e ∙ f)
 
--- a record's end is in reach
-pub end_in_reach : (size position total : ℕ) (cursor : PageCursor) → HasGathered size position total cursor → position % 8 ≡ 0 → position + (total + 7) / 8 * 8 < 2 ^ 60
-end_in_reach size position total cursor gathered aligned =
+-- the next record starts in reach, whatever this one is
+pub end_in_reach : (size position total : ℕ) (cursor : PageCursor) → HasGathered size position total cursor → position % 8 ≡ 0 → 0 < total → (value : Record) → next_position size position total value < 2 ^ 60
+end_in_reach size position total cursor gathered aligned some value =
     let stands = gathered.stands in
     let words : (cursor.page + 1) * 8192 ≡ 8 * ((cursor.page + 1) * 1024) = omega arith in
     let pages : (cursor.page + 1) * 8192 ≡ 8192 * (cursor.page + 1) = omega arith in
@@ -190,14 +182,16 @@ end_in_reach size position total cursor gathered aligned =
     let header = header_size_bounds size stands.valid cursor.page in
     let within : position + total ≤ border = omega (arith, stands.at) in
     let small : border < 2 ^ 60 = omega (arith, stands.reach) in
-    omega arith
+    let last : address_of size (position + total - 1) < 2 ^ 60 = omega (arith, gathered.last some, stands.reach) in
+    next_position-below size stands.valid position total value (omega arith) last
 
-pub end_in_page : (size position total : ℕ) (cursor : PageCursor) → HasGathered size position 0 cursor → cursor.offset + total ≤ 8192 → 24 ≤ total → position % 8 ≡ 0 → position + (total + 7) / 8 * 8 < 2 ^ 60
+pub end_in_page : (size position total : ℕ) (cursor : PageCursor) → HasGathered size position 0 cursor → cursor.offset + total ≤ 8192 → 24 ≤ total → position % 8 ≡ 0 → (value : Record) → next_position size position total value < 2 ^ 60
 end_in_page size position total cursor gathered within large aligned =
-    end_in_reach size position total (record cursor { offset = cursor.offset + total }) (gathers_further size position 0 cursor gathered.stands total total (omega arith) within (omega arith)) aligned
+    end_in_reach size position total (record cursor { offset = cursor.offset + total }) (gathers_further size position 0 cursor gathered.stands total total (omega arith) within (omega arith)) aligned (omega arith)
 
-pub goes_on_behind : (at next : RecordPlace) (total : ℕ) → IsReachable at → 24 ≤ total → at.position + (total + 7) / 8 * 8 < 2 ^ 60 → next.position ≡ at.position + (total + 7) / 8 * 8 → GoesOn at next
-goes_on_behind at next total reachable large bound e = (omega arith, record { aligned = omega (arith, reachable.aligned); bounded = omega arith })
+pub goes_on_behind : (size : ℕ) → IsSegmentSize size → (at next : RecordPlace) (total : ℕ) (value : Record) → IsReachable at → 24 ≤ total → next_position size at.position total value < 2 ^ 60 → next.position ≡ next_position size at.position total value → GoesOn at next
+goes_on_behind size valid at next total value reachable large bound e =
+    (omega (arith, next_position-further size valid at.position total value (omega arith)), record { aligned = omega (arith, next_position-whole size valid at.position total value reachable.aligned); bounded = omega arith })
 
 -- ---- a record that its first page has whole
 
@@ -246,8 +240,8 @@ module _ (size : ℕ) (pages : Pages) (at : RecordPlace) (start : Lsn) (total : 
       all_pass size pages at total cursor.page cursor.page cursor.page first (page_has 24 (omega arith) large) (page_has total (omega arith) (omega arith)) crosses_nothing (header_passes_here sound) crosses_nothing (ap first_fault crc_rows_here ∙ intact)
       ∙ ap (λ (bs : List ℕ). found_or size at total (number_at w64 bs 8) (reading_of bs)) record_bytes
 
-  pub found_here : (found : FoundRecord) → timeline_of page ≡ cursor.timeline → found_or size at total (number_at w64 bytes 8) (reading_of bytes) ≡ Ok found → behind_read at start total cursor.timeline ≡ place_behind size pages at found
-  found_here found timeline e = found_behind size pages at start total (number_at w64 bytes 8) (reading_of bytes) found cursor page e starts (page_has total (omega arith) (omega arith)) here timeline
+  pub found_here : (found : FoundRecord) → timeline_of page ≡ cursor.timeline → found_or size at total (number_at w64 bytes 8) (reading_of bytes) ≡ Ok found → behind_read size at found total cursor.timeline ≡ place_behind size pages at found
+  found_here found timeline e = found_behind size pages at total (number_at w64 bytes 8) (reading_of bytes) found cursor page e (page_has total (omega arith) (omega arith)) here timeline
 
 -- ---- a record that was gathered over pages
 

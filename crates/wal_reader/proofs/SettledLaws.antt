@@ -25,6 +25,7 @@ use Rattle.wal_reader.specs.declared.standing.Standing.TheVariants.{NotBegun, At
 use Rattle.wal_reader.specs.Pages.{Pages, bytes_from, pages_in}
 use Rattle.wal_reader.specs.Settled.{DecodingIsSettled, IsBounded, IsSettled, StepsTellDecoding, Tells, stop, step}
 use Rattle.wal_reader.specs.Standings.{told}
+use Rattle.wal_reader.proofs.NextPositionLaws.{next_position-further}
 use Rattle.wal_reader.proofs.PagesLaws.{take-bytes_from}
 use Rattle.wal_reader.proofs.ReadAtLaws.{reads_at, records_computed}
 use Rattle.wal_reader.proofs.RowLaws.{first_of, first_fault-append, number_at-take}
@@ -148,6 +149,7 @@ module _ (size : ℕ) (valid : IsSegmentSize size) (pages : Pages) (bounded : Is
       elim (cases_Result (read_at size pages end place)) [
         | inl (f, e) ↦
             (let total = (record_read size pages end place f e).0 in
+            let further = next_position-further size valid place.position f.total f.value (omega arith) in
             let behind = reading_from turns (place_behind size pages place f) (omega arith) in
             (f ∷ behind.0, behind.1, (reads_at size pages end place (Ok f) e, behind.2)))
         | inr (answer, e) ↦ ([], answer, reads_at size pages end place (Err answer) e)

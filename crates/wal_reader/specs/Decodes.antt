@@ -8,7 +8,7 @@ use Rattle.byte_position.specs.Position.{position_of, address_of, end_address_of
 use Rattle.wal_types.specs.declared.lsn.Lsn.{Lsn}
 use Rattle.wal_types.specs.declared.record.Record.{Record}
 use Rattle.wal_crc32c.specs.Crc32c.{crc32c}
-use Rattle.record_spelling.specs.Record.{is_free_manager}
+use Rattle.record_spelling.specs.Record.{is_free_manager, is_switch}
 use Rattle.record_spelling.specs.Numbers.{number_at}
 use Rattle.record_decode.specs.Fails.{FailsAt}
 use Rattle.record_decode.specs.Spells.{Spells}
@@ -151,11 +151,22 @@ record_rows size pages end place bytes =
     opening_rows size place bytes
     ++ (size_rows size end place.position no_record total ++ rest_rows size pages place total)
 
+-- the first byte position of the segment behind the one in which a byte position's byte stands
+abbrev pub next_segment : ℕ → ℕ → ℕ
+next_segment size position = position_of size (size * (address_of size position / size + 1))
+
+-- where the next record starts behind one of so many bytes: behind its rounding, or after a segment
+-- switch with the segment behind the one in which the switch's last byte stands
+unfoldable pub next_position : ℕ → ℕ → ℕ → Record → ℕ
+next_position size position total value =
+    if is_switch value then next_segment size (position + total - 1)
+    else position + (total + 7) / 8 * 8
+
 -- a record as it is found at a place
 abbrev pub found_record : ℕ → RecordPlace → ℕ → ℕ → Record → FoundRecord
 found_record size place total prev value = record {
   start = record { 0 = address_of size place.position };
-  end = record { 0 = end_address_of size (place.position + (total + 7) / 8 * 8) };
+  end = record { 0 = end_address_of size (next_position size place.position total value) };
   prev = record { 0 = prev };
   total = total;
   value = value;
@@ -199,7 +210,7 @@ ReadsAt size pages end place result =
 -- the place behind a record
 abbrev pub place_behind : ℕ → Pages → RecordPlace → FoundRecord → RecordPlace
 place_behind size pages place found = record {
-  position = place.position + (found.total + 7) / 8 * 8;
+  position = next_position size place.position found.total found.value;
   prev = Some found.start;
   timeline = timeline_or (pages (page_of_byte size place.position found.total)) place.timeline;
 }

@@ -13,7 +13,8 @@ use wal_types::{Lsn, Record};
 #[derive(Debug, Drop)]
 pub struct FoundRecord {
     pub start: Lsn,
-    /// Just behind the record and its rounding.
+    /// Just behind the record and its rounding; of a segment switch, where the next segment
+    /// starts.
     pub end: Lsn,
     /// The start of the record before, as this one names it.
     pub prev: Lsn,

@@ -25,6 +25,9 @@ mod record_start;
 mod standing;
 
 pub use found::{Answer, DamageKind, FoundRecord, Stopped};
-pub use laws::{decoding_is_settled, finding_is_decoding, reading_is_computed, runs_give_fronts};
+pub use laws::{
+    decoding_is_settled, finding_is_decoding, reading_is_computed, runs_give_fronts,
+    switches_end_their_segment,
+};
 pub use log_reader::Reader;
 pub use standing::{ReadErr, Step};

@@ -2,14 +2,15 @@
 //! ValidXLogRecord of xlogreader.c, then DecodeXLogRecord). A header is checked as soon as it is
 //! gathered; the CRC comes over all bytes, before any item is looked at.
 
-ghost use Rattle.std.specs.Prelude.{◌≡◌, ◌+◌, ◌*◌, ◌/◌, ◌^◌, ◌<◌, ◌≤◌, ◌++◌, length, take, drop, option_map, IfOk};
+ghost use Rattle.std.specs.Prelude.{◌≡◌, ◌^◌, ◌<◌, ◌≤◌, ◌++◌, length, take, drop, option_map, IfOk};
 ghost use Rattle.std.specs.Int.{w64};
 ghost use Rattle.byte_position.specs.Position.{address_of, end_address_of};
+ghost use Rattle.wal_types.specs.declared.record.Record.{Record};
 ghost use Rattle.wal_crc32c.specs.Crc32c.{crc32c};
 ghost use Rattle.wal_page.specs.Page.{first_fault};
 ghost use Rattle.record_spelling.specs.Numbers.{number_at};
 ghost use Rattle.record_decode.specs.Reading.{reading_of};
-ghost use Rattle.wal_reader.specs.Decodes.{crc_rows, header_rows};
+ghost use Rattle.wal_reader.specs.Decodes.{crc_rows, header_rows, next_position};
 ghost use Rattle.wal_reader.specs.ReadAt.{found_or};
 ghost use Rattle.wal_reader.specs.Spelled.{IsSpelled};
 ghost use Rattle.wal_reader.specs.ReadFailures.{Passes};
@@ -67,23 +68,25 @@ pub(crate) fn found(
     extent: RecordExtent,
     bytes: &[u8],
 ) -> Result<Result<FoundRecord, Answer>, AllocError>
-    // The bytes are as many as the record claims, and what it takes up ends low enough to have an
-    // address.
+    // The bytes are as many as the record claims, and whatever they say, the next record starts low
+    // enough to have an address.
+    requires at { extent.at.position < 2 ^ 60 }
     requires start { start.0 ≡ address_of geometry extent.at.position }
     requires len { (24 ≤ length bytes.now) × (length bytes.now ≡ extent.total) }
-    requires end { extent.at.position + (extent.total + 7) / 8 * 8 < 2 ^ 60 }
+    requires end { (value : Record)
+        → next_position geometry extent.at.position extent.total value < 2 ^ 60 }
     // What the bytes spell, or why they spell nothing; with the record's place.
     ensures read { IfOk result (λ found. found ≡ found_or geometry extent.at extent.total
         (number_at w64 bytes.now 8) (reading_of bytes.now)) }
     ensures spelled { IfOk result (λ found. IfOk found IsSpelled) }
     ensures start { IfOk result (λ found. IfOk found (λ f. f.start ≡ start)) }
-    ensures end { IfOk result (λ found. IfOk found (λ f. f.end.0
-        ≡ end_address_of geometry (extent.at.position + (extent.total + 7) / 8 * 8))) }
+    ensures end { IfOk result (λ found. IfOk found (λ f. f.end.0 ≡ end_address_of geometry
+        (next_position geometry extent.at.position extent.total f.value))) }
 {
     match decode(alloc, bytes) {
         Ok(value) => Ok(Ok(FoundRecord {
             start,
-            end: geometry.to_end_lsn(extent.end()),
+            end: geometry.to_end_lsn(extent.end(geometry, &value)),
             prev: Lsn(u64_at(bytes, PREV_AT)),
             total: extent.total,
             value,

@@ -104,7 +104,8 @@ fn read_in_page(
     check_header(start, extent.at.prev, bytes)?;
     check_crc(start, bytes)?;
     let found = found(alloc, cache.geometry, start, extent, bytes)??;
-    Ok((found, extent.behind(start, cursor.timeline)))
+    let behind = extent.behind(cache.geometry, &found, cursor.timeline);
+    Ok((found, behind))
 }
 
 fn part_of_page(page: &[u8; 8192], offset: u32, count: u32) -> &[u8]
@@ -143,12 +144,14 @@ fn read_over_pages<D: Disk>(
     ensures cause { HasFailureCause (D.faults disk.old) (D.faults disk.new) result }
 {
     let extent = opened.extent;
-    let start = extent.start(buffers.cache.geometry);
+    let geometry = buffers.cache.geometry;
+    let start = extent.start(geometry);
     buffers.room.clear();
     let cursor = gather(buffers, disk, opened, HEADER_LEN as u32)?;
     check_header(start, extent.at.prev, &buffers.room)?;
     let cursor = gather(buffers, disk, Gathering { extent, cursor }, extent.total)?;
     check_crc(start, &buffers.room)?;
-    let found = found(alloc, buffers.cache.geometry, start, extent, &buffers.room)??;
-    Ok((found, extent.behind(start, cursor.timeline)))
+    let found = found(alloc, geometry, start, extent, &buffers.room)??;
+    let behind = extent.behind(geometry, &found, cursor.timeline);
+    Ok((found, behind))
 }

@@ -39,7 +39,8 @@ pub enum Step {
     /// The next record.
     Record {
         start: Lsn,
-        /// Just behind the record and its rounding.
+        /// Just behind the record and its rounding; of a segment switch, where the next segment
+        /// starts.
         end: Lsn,
         /// The start of the record before, as this one names it.
         prev: Lsn,

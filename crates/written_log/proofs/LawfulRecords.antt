@@ -1,5 +1,5 @@
 -- A record that is read in pages that hold nothing but words of a log is the entry that stands there, where no torn record passes.
-use Rattle.std.proofs.Common.{◌≡◌, ◌⊎◌, ℕ, zero, suc, ◌+◌, ◌-◌, ◌*◌, ◌/◌, ◌%◌, ◌^◌, ◌<◌, ◌≤◌, Bool, true, eqb, List, [], ◌∷◌, ◌++◌, get_or, take, drop, Option, Some, None, Ok, inl, inr, sym, ap, subst, ◌∙◌, append-nil, arith}
+use Rattle.std.proofs.Common.{◌≡◌, ◌⊎◌, ℕ, zero, suc, ◌+◌, ◌-◌, ◌*◌, ◌/◌, ◌%◌, ◌^◌, ◌<◌, ◌≤◌, Bool, true, eqb, List, [], ◌∷◌, ◌++◌, get_or, take, drop, Option, Some, None, Ok, inl, inr, refl, sym, ap, subst, ◌∙◌, append-nil, arith}
 use Rattle.std.specs.Prelude.{◌≢◌}
 use Rattle.std.specs.Int.{w32, w64}
 use Rattle.std.proofs.lemmas.Bool.{eqb-true, eq-eqb, true≢false}
@@ -35,6 +35,7 @@ use Rattle.written_log.specs.Torn.{IsSeenTorn, IsTorn, bytes_in}
 use Rattle.written_log.specs.Written.{found_entry}
 use Rattle.written_log.proofs.LawfulPages.{ArePagesOf}
 use Rattle.written_log.proofs.LogPositions.{address_of-below_end}
+use Rattle.written_log.proofs.NextEntries.{found_as_entry}
 use Rattle.written_log.proofs.ReadRecord.{IsFoundAt, found_at}
 use Rattle.written_log.proofs.RecordBytes.{take-filled}
 use Rattle.written_log.proofs.WordsOfBytes.{SameWord, ZeroWord, all_or_one, same_eight, same_four, zero_eight}
@@ -255,7 +256,8 @@ module _ (size sysid : ℕ) (pages : Pages) (es : List Entry) (upto : ℕ) (vali
             let reads = ap reading_of (bytes ∙ take-filled (assembled e.value) prev []) ∙ spelling_reads e.value prev entry_writable prev_fits in
             let told = sym read.spelled ∙ ap (found_or size place claimed (number_at w64 (bytes_from size pages 24 e.start) 8)) reads
             ∙ ap (λ (m : ℕ). found_or size place m (number_at w64 (bytes_from size pages 24 e.start) 8) (Ok e.value)) claimed_is
-            ∙ ap (λ (m : ℕ). found_or size place n m (Ok e.value)) prev_is in
+            ∙ ap (λ (m : ℕ). found_or size place n m (Ok e.value)) prev_is
+            ∙ ap (λ (f : FoundRecord). Ok f) (found_as_entry size place prev e entry_writable refl) in
             same_read found (found_entry size prev e) told
 
       -- an entry that is read where it stands is read as it is

@@ -4,6 +4,7 @@ pub mod LogHeader
 pub mod LogPages
 pub mod LogPositions
 pub mod LogReads
+pub mod NextEntries
 pub mod RecordBytes
 pub mod RecordRows
 pub mod Tables

@@ -20,7 +20,7 @@ use Rattle.wal_reader.specs.declared.record_place.RecordPlace.{RecordPlace}
 use Rattle.wal_reader.specs.declared.found.Answer.{Answer}
 use Rattle.wal_reader.specs.declared.found.FoundRecord.{FoundRecord}
 use Rattle.wal_reader.specs.Pages.{Pages}
-use Rattle.wal_reader.specs.Decodes.{ReadsRecords, place_behind, is_right_prev, opens_page, continuation_rows, continuation_rows_of, rows_of_pages}
+use Rattle.wal_reader.specs.Decodes.{ReadsRecords, place_behind, is_right_prev, opens_page, continuation_rows, continuation_rows_of, rows_of_pages, timeline_or}
 use Rattle.wal_reader.proofs.ReadAtLaws.{reads_at}
 use Rattle.wal_reader.proofs.SettledLaws.{same_read}
 use Rattle.wal_reader.specs.ReadAt.{ReadsComputed, read_at, found_or}
@@ -31,6 +31,7 @@ use Rattle.written_log.proofs.RecordBytes.{drop-filled}
 use Rattle.written_log.proofs.RecordRows.{IsIn, StandsAt, record_is_read}
 use Rattle.written_log.proofs.LogPositions.{address_of-below_end, opening_position, page_begins, page_from_first, position_of-le}
 use Rattle.written_log.proofs.LogHeader.{sound_answers}
+use Rattle.written_log.proofs.NextEntries.{found_as_entry, next_of_entry}
 use Rattle.written_log.proofs.LogPages.{IsWritten, page_is_sound, owner_here, timeline_is, bytes_from-log}
 
 -- where the checks of each page hold, those of a run of pages do
@@ -159,7 +160,7 @@ module _ (size sysid : ℕ) (pages : Pages) (es : List Entry) (w : IsWritten siz
         let here = entry_is_in in
         record_is_read size pages (log_place size k before) here.0 (assembled e.value) prev here.1 (entry_stands right)
         ∙ ap (found_or size (log_place size k before) (size_of e.value) prev) (spelling_reads e.value prev writable stand.prev_fits)
-        ∙ ap (λ (p : ℕ). found_or size (record { position = p; prev = before; timeline = 1 }) (size_of e.value) prev (Ok e.value)) (sym start_is)
+        ∙ ap (λ (f : FoundRecord). Ok f) (found_as_entry size (log_place size k before) prev e writable (sym start_is))
 
     place_behind_entry : place_behind size pages (log_place size k before) (found_entry size prev e) ≡ log_place size (k + room_at size e.start e.value) (Some (record { 0 = address_of size e.start }))
     place_behind_entry =
@@ -167,7 +168,8 @@ module _ (size sysid : ℕ) (pages : Pages) (es : List Entry) (w : IsWritten siz
         let page = address_of size q / 8192 in
         let begins = page_begins size w.valid q in
         let timeline = timeline_is size sysid pages es w page (page_from_first size w.valid q (omega arith)) (omega (arith, within)) in
-        ap (λ (t : ℕ). record { position = first_position size + k + room_at size e.start e.value; prev = Some (record { 0 = address_of size e.start }); timeline = t }) timeline
+        ap (λ (p : ℕ). record { position = p; prev = Some (record { 0 = address_of size e.start }); timeline = timeline_or (pages page) 1 }) (next_of_entry size (first_position size + k) e.value writable)
+        ∙ ap (λ (t : ℕ). record { position = first_position size + k + room_at size e.start e.value; prev = Some (record { 0 = address_of size e.start }); timeline = t }) timeline
         ∙ ap (λ (p : ℕ). record { position = p; prev = Some (record { 0 = address_of size e.start }); timeline = 1 }) (add_assoc (first_position size) k (room_at size e.start e.value))
 
     others_stand : StandFrom size es (k + room_at size e.start e.value) (address_of size e.start) others

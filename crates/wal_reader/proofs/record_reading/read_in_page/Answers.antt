@@ -40,7 +40,7 @@ returns-clause-answered c =
     let extent = c.args.opened.extent in
     let bound = end_in_page size extent.at.position extent.total c.args.opened.cursor c.requires.opened.none.gathered c.requires.within c.requires.opened.large c.requires.opened.none.reachable.aligned in
     record {
-      further = goes_on_behind extent.at c.behind.result extent.total c.requires.opened.none.reachable c.requires.opened.large bound (ap (λ (next : RecordPlace). next.position) c.behind.ensures);
+      further = goes_on_behind size c.requires.opened.none.gathered.stands.valid extent.at c.behind-behind.result extent.total c.in_ok-found-2.found.value c.requires.opened.none.reachable c.requires.opened.large (bound c.in_ok-found-2.found.value) (ap (λ (next : RecordPlace). next.position) c.behind-behind.ensures);
       behind = search rules;
       spelled = search rules;
     }
@@ -53,4 +53,4 @@ returns-clause-reads c = λ pages here.
     let read = read_here size pages c.args.opened.extent.at c.start-start.result c.args.opened.extent.total c.args.opened.cursor _ _ c.start-start.ensures c.requires.opened.page c.requires.opened.none.gathered here c.requires.whole c.requires.opened.large c.requires.within (own before) c.in_ok-check_header.ensures c.in_ok-check_crc.ensures in
     let said = sym c.in_ok-found.ensures.read ∙ c.in_ok-found-2.was in
     let behind = found_here size pages c.args.opened.extent.at c.start-start.result c.args.opened.extent.total c.args.opened.cursor _ _ c.start-start.ensures c.requires.opened.page c.requires.opened.none.gathered here c.requires.whole c.requires.opened.large c.requires.within (own before) found c.requires.opened.none.on.1 said in
-    (read ∙ said, c.behind.ensures ∙ behind)
+    (read ∙ said, c.behind-behind.ensures ∙ behind)

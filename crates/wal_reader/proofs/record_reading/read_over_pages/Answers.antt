@@ -68,7 +68,7 @@ returns-in_err-check_crc-clause-reads g c = λ pages sees.
 pub found-requires-clause-end : goal.found-requires-clause-end
 found-requires-clause-end g c =
     let after = (goal.at.found-requires-clause-end g c).After-check_crc in
-    end_in_reach c.args.buffers.now.cache.geometry c.args.opened.extent.at.position c.args.opened.extent.total c.in_ok-cursor-2.cursor (gathered_all g after) c.requires.none.reachable.aligned
+    end_in_reach c.args.buffers.now.cache.geometry c.args.opened.extent.at.position c.args.opened.extent.total c.in_ok-cursor-2.cursor (gathered_all g after) c.requires.none.reachable.aligned (omega (arith, c.requires.large))
 
 pub returns-in_err-found-2-clause-reads : goal.returns-in_err-found-2-clause-reads
 returns-in_err-found-2-clause-reads g c = λ pages sees.
@@ -78,18 +78,17 @@ returns-in_err-found-2-clause-reads g c = λ pages sees.
     let first = c.in_ok-cursor.ensures in
     let bytes = c.deref-2.ensures.value ∙ record_items g after pages sees (header_items g before pages sees) in
     let read = read_over c.args.buffers.now.cache.geometry pages c.args.opened.extent.at c.start-start.result c.args.opened.extent.total c.start-start.ensures c.args.opened.cursor.page c.in_ok-cursor.cursor.page c.in_ok-cursor-2.cursor.page c.requires.page ((header_stands g before).last (omega arith)) ((gathered_all g after).last (omega (arith, c.requires.large))) (first.gathers pages sees).checks _ (header_gathered g before pages sees) c.in_ok-check_header.ensures (crosses_further g after pages sees) _ bytes c.in_ok-check_crc.ensures in
-    let size = c.in_ok-cursor-2.ensures.reads_on.geometry ∙ first.reads_on.geometry in
     let same = c.deref-3.ensures.value ∙ sym c.deref-2.ensures.value in
-    let said = found_as c.args.buffers.now.cache.geometry _ c.args.opened.extent.at c.args.opened.extent.total c.deref-2.result.now c.deref-3.result.now c.in_ok-found.field-0 (Err c.in_err-found-2.field-0.0) size same c.in_ok-found.ensures.read c.in_err-found-2.was in
+    let said = found_as c.args.buffers.now.cache.geometry c.args.opened.extent.at c.args.opened.extent.total c.deref-2.result.now c.deref-3.result.now c.in_ok-found.field-0 (Err c.in_err-found-2.field-0.0) same c.in_ok-found.ensures.read c.in_err-found-2.was in
     rw (stop.1, stop.2) (read ∙ said)
 
 pub returns-clause-answered : goal.returns-clause-answered
 returns-clause-answered g c =
     let extent = c.args.opened.extent in
     let after = (goal.at.returns-clause-answered g c).After-check_crc in
-    let bound = end_in_reach c.args.buffers.now.cache.geometry extent.at.position extent.total c.in_ok-cursor-2.cursor (gathered_all g after) c.requires.none.reachable.aligned in
+    let bound = end_in_reach c.args.buffers.now.cache.geometry extent.at.position extent.total c.in_ok-cursor-2.cursor (gathered_all g after) c.requires.none.reachable.aligned (omega (arith, c.requires.large)) in
     record {
-      further = goes_on_behind extent.at c.behind.result extent.total c.requires.none.reachable c.requires.large bound (ap (λ (next : RecordPlace). next.position) c.behind.ensures);
+      further = goes_on_behind c.args.buffers.now.cache.geometry c.requires.none.gathered.stands.valid extent.at c.behind-behind.result extent.total c.in_ok-found-2.found.value c.requires.none.reachable c.requires.large (bound c.in_ok-found-2.found.value) (ap (λ (next : RecordPlace). next.position) c.behind-behind.ensures);
       behind = search rules;
       spelled = search rules;
     }
@@ -123,12 +122,11 @@ returns-clause-reads g c = λ pages sees.
     let bytes = c.deref-2.ensures.value ∙ record_items g after pages sees (header_items g before pages sees) in
     let ends = (gathered_all g after).last (omega (arith, c.requires.large)) in
     let read = read_over c.args.buffers.now.cache.geometry pages c.args.opened.extent.at c.start-start.result c.args.opened.extent.total c.start-start.ensures c.args.opened.cursor.page c.in_ok-cursor.cursor.page last.page c.requires.page ((header_stands g before).last (omega arith)) ends (first.gathers pages sees).checks _ (header_gathered g before pages sees) c.in_ok-check_header.ensures (crosses_further g after pages sees) _ bytes c.in_ok-check_crc.ensures in
-    let size = second.reads_on.geometry ∙ first.reads_on.geometry in
     let same = c.deref-3.ensures.value ∙ sym c.deref-2.ensures.value in
-    let said = found_as c.args.buffers.now.cache.geometry _ c.args.opened.extent.at c.args.opened.extent.total c.deref-2.result.now c.deref-3.result.now c.in_ok-found.field-0 (Ok c.in_ok-found-2.found) size same c.in_ok-found.ensures.read c.in_ok-found-2.was in
+    let said = found_as c.args.buffers.now.cache.geometry c.args.opened.extent.at c.args.opened.extent.total c.deref-2.result.now c.deref-3.result.now c.in_ok-found.field-0 (Ok c.in_ok-found-2.found) same c.in_ok-found.ensures.read c.in_ok-found-2.was in
     let here = held_page (g.D.Disk.tape c.gather-2.new.disk) c.gather-2.new.buffers.cache pages last.page (second.reads_on.sees pages (first.reads_on.sees pages sees)) second.gathered.1.on.0 in
-    let behind = found_behind c.args.buffers.now.cache.geometry pages c.args.opened.extent.at c.start-start.result c.args.opened.extent.total _ _ c.in_ok-found-2.found last c.gather-2.new.buffers.cache.bytes.value said c.start-start.ensures ends here second.gathered.1.on.1 in
-    (read ∙ said, c.behind.ensures ∙ behind)
+    let behind = found_behind c.args.buffers.now.cache.geometry pages c.args.opened.extent.at c.args.opened.extent.total _ _ c.in_ok-found-2.found last c.gather-2.new.buffers.cache.bytes.value said ends here second.gathered.1.on.1 in
+    (read ∙ said, c.behind-behind.ensures ∙ behind)
 
 -- ---- what the room holds
 

@@ -1,0 +1,104 @@
+#!/usr/bin/env bash
+# Makes a small PostgreSQL cluster's log, and compares what `pgwal dump` and pg_waldump list of it: managers, lengths,
+# transactions, addresses and block references, line by line. The log has inserts, an update of an index, a checkpoint,
+# segment switches and logical messages.
+#
+#     tests/with_postgres.sh [PROGRAM]                    with PostgreSQL 16
+#     tests/with_postgres.sh --other-version [PROGRAM]    with another one: a copy is listed, whose pages have version 16's
+#                                                         magic number
+#
+# It tries what the launcher ./pgwal starts, or another build, and is run by hand, outside `rt ci`. The programs of PostgreSQL
+# are those beside the `pg_config` that is found; as root they run as the user postgres. Folders are temporary ones. Prints
+# 'N passed, M failed'; its status is 1 where one failed.
+source "$(dirname "${BASH_SOURCE[0]}")/checks.sh" || exit 1
+programs=$(pg_config --bindir) || exit 1
+version=$("$programs/postgres" --version)
+if [ "${1:-}" = --other-version ]; then
+  shift
+elif [[ $version != *' 16.'* ]]; then
+  echo "this is $version, and not of version 16: see --other-version" && exit 1
+fi
+program=$(realpath -e "${1:-$top/pgwal}") || exit 1
+
+# as_server WORD..: runs a command as a user that a server may have
+as_server() {
+  if [ "$(id -u)" = 0 ]; then
+    (cd / && setpriv --reuid=postgres --regid=postgres --init-groups "$@")
+  else
+    "$@"
+  fi
+}
+
+server() { as_server "$programs/pg_ctl" -D "$base/data" -w "$@" >"$base/said" 2>&1; }
+
+sql() { as_server "$programs/psql" -h "$base" -d postgres -qAtc "$1" >"$base/said" || exit 1; }
+
+# cluster: a server with segments of 1 MiB that keeps its whole log
+cluster() {
+  [ "$(id -u)" != 0 ] || chown postgres "$base"
+  as_server "$programs/initdb" -D "$base/data" --wal-segsize=1 -A trust -U postgres -N >"$base/said" || exit 1
+  as_server tee -a "$base/data/postgresql.conf" >"$base/said" <<CONF
+listen_addresses = ''
+unix_socket_directories = '$base'
+autovacuum = off
+wal_level = logical
+wal_compression = off
+wal_recycle = off
+wal_keep_size = '1GB'
+max_wal_size = '1GB'
+CONF
+  export PGUSER=postgres
+  trap 'server stop -m immediate; rm -rf "$base"' EXIT
+  server start -l "$base/server" || exit 1
+}
+
+# work: what the log is to have
+work() {
+  local round
+  sql "create table t (a int primary key, b text)"
+  sql "insert into t select g, repeat('x', g % 700) from generate_series(1, 2000) g"
+  sql "select pg_switch_wal()"
+  sql "update t set a = a + 10000 where a % 7 = 0"
+  sql "checkpoint"
+  sql "select pg_switch_wal()"
+  sql "select pg_switch_wal()"
+  for round in 1 2 3; do
+    sql "select pg_logical_emit_message($((round % 2 == 0)) = 1, 'p', repeat('z', $round * 3000))"
+    sql "select pg_switch_wal()"
+  done
+  sql "delete from t where a < 500"
+}
+
+# copied: the log's segments in a folder of their own, with version 16's magic number
+copied() {
+  mkdir -p "$base/copy/pg_wal"
+  cp "$base"/data/pg_wal/0000* "$base/copy/pg_wal"
+  python3 - "$base"/copy/pg_wal/* <<'PYTHON'
+import sys
+for path in sys.argv[1:]:
+    text = bytearray(open(path, "rb").read())
+    for page in range(0, len(text), 8192):
+        if text[page + 1] == 0xD1:
+            text[page] = 0x13
+    open(path, "wb").write(text)
+PYTHON
+}
+
+# compared: of the lines of a listing what both programs tell
+compared() { sed -E -e 's/, desc: .*(, blkref #0.*)$/\1/' -e t -e 's/, desc: .*//'; }
+
+cluster
+work
+server stop -m fast || exit 1
+copied
+first=$(ls "$base/copy/pg_wal" | head -n 1)
+start=0/$(printf %X $((16#${first:16} * size)))
+"$programs/pg_waldump" -p "$base/data/pg_wal" -s "$start" 2>"$base/said" | compared >"$base/theirs"
+(cd "$base/copy" && "$program" dump --seg $size -s "$start") >"$base/listing"
+equal 'the listing ends cleanly' $? 0
+compared <"$base/listing" >"$base/ours"
+equal 'as many lines' "$(wc -l <"$base/ours")" "$(wc -l <"$base/theirs")"
+cmp "$base/ours" "$base/theirs"
+equal 'the same lines' $? 0
+equal 'five segment switches' "$(grep -c 'desc: SWITCH' "$base/listing")" 5
+tell
