@@ -24,7 +24,7 @@ pub enum Outcome {
     /// Segment 1 was there before the run.
     NotEmpty,
     DiskFault,
-    /// The log that is listed does not come to a clean end.
+    /// The log that is listed or redone does not come to a clean end.
     Stopped(Stopped),
     /// A line found the log full.
     LogFull,

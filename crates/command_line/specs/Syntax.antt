@@ -25,7 +25,8 @@ long_switch_rule name = record (long_rule name) { action = Some SetTrue }
 abbrev pub word_rules : List Rule
 word_rules = new_rule (codes "command") ∷ new_rule (codes "topic") ∷ []
 
--- the log's shape: the segments' size, which all commands take, and what all but `dump` take
+-- the log's shape: the segments' size, which all commands take, and what `run`, `gen` and `replay`
+-- take
 abbrev pub shape_rules : List Rule
 shape_rules =
     long_rule (codes "seg") ∷ long_rule (codes "ring") ∷ long_rule (codes "cap") ∷ []

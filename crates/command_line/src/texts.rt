@@ -56,9 +56,10 @@ pgwal dump [--seg N] [FILTER]..
     -e, --end LSN          that end below an address
     -n, --limit N          at most so many
     -q, --quiet            prints nothing: the status tells whether the log is sound
-    -z, --stats            in place of the records, how many each resource manager wrote and
-                           their bytes: without images, of images, and all
-        --times            with the date and time of each commit
+    -z, --stats            in place of the records, a line for each resource manager that wrote
+                           any, and one for all: how many, and their bytes without images, of
+                           images, and together. A log that is damaged gives none
+        --times            with the date and time of each commit, in UTC
     Example: the first ten changes of a block
         pgwal dump --rmgr heap --relation 1663/5/16384 --block 8 --limit 10
 
@@ -66,7 +67,7 @@ pgwal redo [--seg N]
     Puts the page images that the log in the folder pg_wal carries for redo into a store in
     memory, and prints a line for each block that they fill: its relation, fork and number, and
     how many bytes of its page are not 0; then how many images and blocks they were. Of a log
-    that is damaged it prints nothing.
+    that is damaged it prints only where, on standard error.
     --seg N    the segments' size, as the log was written
     Example: the blocks that a run of made lines fills
         pgwal gen 10 && pgwal redo

@@ -1,6 +1,6 @@
 -- The calendar's days, counted as the crate jiff_core counts them.
-use Rattle.std.proofs.Common.{◌≡◌, ℕ, zero, suc, ◌+◌, ◌<◌, ◌≤◌, inl, inr, Bool, true, false, cond, nat_lt, pos, ◌+ℤ◌, refl, sym, subst, ◌∙◌, arith}
-use Rattle.std.proofs.lemmas.Bool.{cases_order, ltb-true, ltb-false}
+use Rattle.std.proofs.Common.{◌≡◌, ℕ, zero, suc, ◌+◌, ◌-◌, ◌<◌, ◌≤◌, inl, inr, Bool, true, false, cond, nat_lt, ℤ, pos, negsuc, ◌+ℤ◌, refl, ap, sym, subst, ◌∙◌, arith}
+use Rattle.std.proofs.lemmas.Bool.{cases_order, lt-ltb, ltb-true, ltb-false}
 use Rattle.jiff_core.specs.Calendar.{IsCivilDate, day_count}
 use Rattle.jiff_core.specs.Date.{epoch_day}
 use Rattle.jiff_core.specs.declared.civil.date.Date.{Date}
@@ -8,7 +8,7 @@ use Rattle.jiff_core.proofs.SignedLemmas.{signed_arith}
 use Rattle.jiff_core.proofs.CalendarLemmas.{days_from_civil-day_count, days_in_month_bounds, day_count-day, day_count-next_month, day_count-next_year, day_count-last_of_year, day_count-end}
 use Rattle.jiff_core.proofs.DateLemmas.{epoch_day_injective}
 use Rattle.jiff_core.proofs.MarchLemmas.{day_count-early}
-use Rattle.commit_times.specs.Calendar.{day_after, days_after, days_in_month, days_to_2000, first_day, first_day_of_2000}
+use Rattle.commit_times.specs.Calendar.{dated_days, day_after, day_before, day_from_2000, days_after, days_before, days_from_2000, days_in_month, days_to_2000, first_day, first_day_of_2000, first_day_of_9999}
 use Rattle.commit_times.specs.declared.calendar.Day.{Day}
 
 -- a day that the calendar has, so many days after 1 January of the year -10000
@@ -127,6 +127,83 @@ first_day_of_2000-counted = record {
   counted = day_count-early (pos 2000) 11999 1 1 refl (omega arith) (omega arith) (omega arith);
 }
 
--- 1 January 2000 is so many days after 1 January of the year 1
-pub days_to_2000_are : (n : ℕ) → n ≡ days_to_2000 → days_after n first_day ≡ first_day_of_2000
+first_day_of_9999-counted : IsDayAt first_day_of_9999 7304485
+first_day_of_9999-counted = record {
+  civil = (omega (arith, signed_arith), omega arith, omega arith);
+  counted = day_count-early (pos 9999) 19998 1 1 refl (omega arith) (omega arith) (omega arith);
+}
+
+-- so many days after 1 January of the year 1 lies 1 January 2000, and that of the year 9999
+days_to_2000_are : (n : ℕ) → n ≡ days_to_2000 → days_after n first_day ≡ first_day_of_2000
 days_to_2000_are n is = same_day (days_after n first_day) first_day_of_2000 _ _ (days_after-counted n (omega arith)) first_day_of_2000-counted (omega arith)
+
+days_to_9999_are : (n : ℕ) → n ≡ dated_days → days_after n first_day ≡ first_day_of_9999
+days_to_9999_are n is = same_day (days_after n first_day) first_day_of_9999 _ _ (days_after-counted n (omega arith)) first_day_of_9999-counted (omega arith)
+
+-- ---- days before a day
+
+first_of_month : (y m : ℕ) → 1 < m → day_before (record { year = y; month = m; day = 1 }) ≡ record { year = y; month = m - 1; day = days_in_month y (m - 1) }
+first_of_month y m later = rw (lt-ltb 1 m later) refl
+
+later_in_month : (y m k : ℕ) → 1 < k → day_before (record { year = y; month = m; day = k }) ≡ record { year = y; month = m; day = k - 1 }
+later_in_month y m k later = rw (lt-ltb 1 k later) refl
+
+module _ (d : Day) (n : ℕ) (is : IsDayAt d n) where
+  before_next_month_or_year : (in_year : Bool) → nat_lt d.month 12 ≡ in_year → d.day ≡ days_in_month d.year d.month
+      → day_before (cond in_year (record { year = d.year; month = d.month + 1; day = 1 }) (record { year = d.year + 1; month = 1; day = 1 })) ≡ d
+  before_next_month_or_year true same last =
+      let back : d.month + 1 - 1 ≡ d.month = omega arith in
+      first_of_month d.year (d.month + 1) (omega (arith, is.civil.1.0))
+      ∙ day_of_parts _ d refl back (ap (days_in_month d.year) back ∙ sym last)
+  before_next_month_or_year false same last =
+      let month : d.month ≡ 12 = omega (arith, ltb-false d.month 12 same, is.civil.1.1) in
+      day_of_parts _ d (omega arith) (sym month) (sym (last ∙ december_length d.year d.month month))
+
+  before_next : (in_month : Bool) → nat_lt d.day (days_in_month d.year d.month) ≡ in_month
+      → day_before (cond in_month (record d { day = d.day + 1 }) (cond (nat_lt d.month 12) (record { year = d.year; month = d.month + 1; day = 1 }) (record { year = d.year + 1; month = 1; day = 1 }))) ≡ d
+  before_next true same = later_in_month d.year d.month (d.day + 1) (omega (arith, is.civil.2.0)) ∙ day_of_parts _ d refl refl (omega arith)
+  before_next false same = before_next_month_or_year (nat_lt d.month 12) refl (omega (arith, ltb-false d.day (days_in_month d.year d.month) same, is.civil.2.1))
+
+  day_before-after : day_before (day_after d) ≡ d
+  day_before-after = before_next (nat_lt d.day (days_in_month d.year d.month)) refl
+
+-- to count days back undoes what it is to count them forth
+pub days_before-after : (count upto : ℕ) → count + upto ≤ dated_days → days_before count (days_after (count + upto) first_day) ≡ days_after upto first_day
+unfolding days_after days_before
+days_before-after zero upto low = let none : 0 + upto ≡ upto = omega arith in ap (λ n. days_after n first_day) none
+days_before-after (suc count) upto low =
+    let moved : suc count + upto ≡ count + suc upto = omega arith in
+    ap (λ n. day_before (days_before count (days_after n first_day))) moved
+    ∙ ap day_before (days_before-after count (suc upto) (omega arith))
+    ∙ day_before-after (days_after upto first_day) (upto + 3652791) (days_after-counted upto (omega arith))
+
+-- days after days
+days_after-more : (n m : ℕ) (d : Day) → days_after n (days_after m d) ≡ days_after (n + m) d
+unfolding days_after
+days_after-more zero m d = let none : m ≡ 0 + m = omega arith in ap (λ n. days_after n d) none
+days_after-more (suc n) m d =
+    let moved : suc (n + m) ≡ suc n + m = omega arith in
+    ap day_after (days_after-more n m d) ∙ ap (λ k. days_after k d) moved
+
+-- ---- days from 2000-01-01 on
+
+pub first_days_before : (n : ℕ) → n ≡ days_to_2000 → days_before n first_day_of_2000 ≡ first_day
+unfolding days_after
+first_days_before n is =
+    ap (days_before n) (sym (days_to_2000_are (n + 0) (omega arith))) ∙ days_before-after n 0 (omega arith)
+
+pub days_to_9999 : (n : ℕ) → n ≡ days_from_2000 → days_after n first_day_of_2000 ≡ first_day_of_9999
+days_to_9999 n is = with_2000 days_to_2000 refl
+  where
+    with_2000 : (m : ℕ) → m ≡ days_to_2000 → days_after n first_day_of_2000 ≡ first_day_of_9999
+    with_2000 m known =
+        ap (days_after n) (sym (days_to_2000_are m known)) ∙ days_after-more n m first_day ∙ days_to_9999_are (n + m) (omega arith)
+
+-- a day so many days after 1 January of the year 1 lies by 730119 fewer after 2000-01-01
+pub days_after-from_2000 : (days : ℤ) (n m : ℕ) → m ≡ days_to_2000 → n ≤ dated_days → pos n ≡ days +ℤ pos m → days_after n first_day ≡ day_from_2000 days
+days_after-from_2000 (pos k) n m known low is =
+    let more : n ≡ k + m = omega (arith, signed_arith, is) in
+    ap (λ i. days_after i first_day) more ∙ sym (days_after-more k m first_day) ∙ ap (days_after k) (days_to_2000_are m known)
+days_after-from_2000 (negsuc k) n m known low is =
+    let less : suc k + n ≡ m = omega (arith, signed_arith, is) in
+    sym (days_before-after (suc k) n (omega arith)) ∙ ap (days_before (suc k)) (days_to_2000_are (suc k + n) (less ∙ known))

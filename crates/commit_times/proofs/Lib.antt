@@ -1,2 +1,3 @@
 mod DayCounts
 mod Pushing
+mod TimeLaws

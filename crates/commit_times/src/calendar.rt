@@ -1,5 +1,5 @@
 ghost use Rattle.std.specs.Prelude.{◌≡◌, ◌<◌, ◌≤◌};
-ghost use Rattle.commit_times.specs.Calendar.{days_after, first_day};
+ghost use Rattle.commit_times.specs.Calendar.{dated_days, days_after, first_day};
 
 use jiff_core::civil::Date;
 
@@ -17,7 +17,7 @@ const DAYS_BEFORE_YEAR_1: u32 = 3_652_425;
 
 /// The day that lies so many days after 1 January of the year 1, up to the end of the year 9998.
 pub(crate) fn day_of(days: u32) -> Day
-    requires { days < 3651694 }
+    requires { days < dated_days }
     ensures day { result ≡ days_after days first_day }
     ensures year { result.year ≤ 9999 }
     ensures month { result.month ≤ 12 }

@@ -1,5 +1,6 @@
-ghost use Rattle.std.specs.Prelude.{◌≡◌, ◌+◌, ◌<◌, ◌≤◌, ◌++◌, length};
-ghost use Rattle.commit_times.specs.TimeText.{date_text, day_text, microseconds_text, time_of_day_text, time_text};
+ghost use Rattle.std.specs.Prelude.{◌≡◌, ◌+◌, ◌*◌, ◌/◌, ◌%◌, ◌<◌, ◌≤◌, ◌++◌, length};
+ghost use Rattle.commit_times.specs.Calendar.{dated_days, days_after, first_day};
+ghost use Rattle.commit_times.specs.TimeText.{date_text, day_length, day_text, microseconds_text, time_of_day_text, time_text};
 ghost use Rattle.commit_times.specs.declared.text.TheConstants.{ROOM};
 
 use crate::calendar::{Day, day_of};
@@ -93,8 +94,9 @@ fn microseconds_text(time: i64) -> TimeText
 
 // The text of a date and a time of day, by the microseconds since 0001-01-01.
 fn date_text(since: u64) -> TimeText
-    requires { since < 315506361600000000 }
-    ensures { result ≡ date_text since }
+    requires { since < dated_days * day_length }
+    ensures { result ≡ date_text (days_after (since / day_length) first_day)
+        (since % day_length) }
 {
     let mut text = TimeText::new();
     text.push(b" at ");
@@ -122,7 +124,7 @@ fn push_day(text: &mut TimeText, day: Day)
 
 // The time of day by the microseconds since midnight.
 fn push_time_of_day(text: &mut TimeText, since: u64)
-    requires within { since < 86400000000 }
+    requires within { since < day_length }
     requires room { length text.old + 15 ≤ ROOM }
     ensures text { text.new ≡ text.old ++ time_of_day_text since }
     ensures length { length text.new ≡ length text.old + 15 }

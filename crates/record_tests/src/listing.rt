@@ -45,19 +45,23 @@ fn a_commit_has_its_line(rt: HostRuntime) -> Result<(), Fail> {
     Ok(())
 }
 
-// The disk fails at its first read. No words ask for a limit of 0.
+// The disk fails at its first read; lines and statistics are asked for in turn. No words ask for a
+// limit of 0.
 #[test]
 fn nothing_is_read_for_a_limit_of_none(rt: HostRuntime) -> Result<(), Fail> {
     let alloc = rt.alloc();
-    let mut disk = MemDisk::new(alloc, 1, 1, Vec::new(alloc), vec![in alloc; 1]?)?;
-    let mut out = MemSink::new(alloc, 400, Vec::new(alloc))?;
-    let mut filter = Filter::everything_from(Lsn(0x10_0000));
-    filter.limit = Some(0);
-    let counted = dump(alloc, &mut disk, smallest(), &filter, &mut out);
-    assert_eq!(rt; counted, Ok(0));
-    filter.limit = Some(1);
-    let counted = dump(alloc, &mut disk, smallest(), &filter, &mut out);
-    assert_eq!(rt; counted, Err(DumpErr::Read(ReadErr::Disk { faults: 1 })));
+    for stats in [false, true] {
+        let mut disk = MemDisk::new(alloc, 1, 1, Vec::new(alloc), vec![in alloc; 1]?)?;
+        let mut out = MemSink::new(alloc, 400, Vec::new(alloc))?;
+        let mut filter = Filter::everything_from(Lsn(0x10_0000));
+        filter.stats = stats;
+        filter.limit = Some(0);
+        let counted = dump(alloc, &mut disk, smallest(), &filter, &mut out);
+        assert_eq!(rt; counted, Ok(0));
+        filter.limit = Some(1);
+        let counted = dump(alloc, &mut disk, smallest(), &filter, &mut out);
+        assert_eq!(rt; counted, Err(DumpErr::Read(ReadErr::Disk { faults: 1 })));
+    }
     Ok(())
 }
 

@@ -1,9 +1,8 @@
--- The lines of the blocks that are left.
-use Rattle.std.proofs.Common.{◌≡◌, ◌≤◌, ℕ, List, [], ◌∷◌, ◌++◌, All, Option, Some, Bor, map, refl, sym, ap, subst, ◌∙◌, append_assoc}
+-- The lines of the blocks that are left, and bytes that are counted piece by piece.
+use Rattle.std.proofs.Common.{◌≡◌, ◌+◌, ℕ, Bool, cond, count_by, take, drop, arith, List, [], ◌∷◌, ◌++◌, Option, Some, Bor, map, refl, sym, ap, ◌∙◌, append_assoc}
 use Rattle.std.specs.List.{flat_map}
-use Rattle.std.specs.Map.{keys_of}
 use Rattle.std.specs.Map.Iter.{TakesFirst, deref_pair}
-use Rattle.std.proofs.lemmas.List.Elements.{All-tail}
+use Rattle.std.proofs.lemmas.List.Sums.{sum_by-take-drop}
 use Rattle.std.proofs.lemmas.Map.Iter.{rest_more}
 use Rattle.wal_redo.specs.declared.block_id.BlockId.{BlockId}
 use Rattle.redo_text.specs.RedoText.{block_line}
@@ -27,5 +26,10 @@ module _ {X : Type 0} (page : X → List ℕ) where
         ∙ append_assoc (block_line (block.now, page held.now)) (lines_of next) counts
         ∙ ap (λ (shown : List ℕ). block_line (block.now, shown) ++ (lines_of next ++ counts)) (sym same)
 
-    pub forks_left : All (λ (b : BlockId). b.fork ≤ 3) (keys_of left) → All (λ (b : BlockId). b.fork ≤ 3) (keys_of next)
-    forks_left known = All-tail (λ (b : BlockId). b.fork ≤ 3) block.now (keys_of next) (subst (λ (entries : List (BlockId × X)). All (λ (b : BlockId). b.fork ≤ 3) (keys_of entries)) first_left known)
+-- a count of all before a rest, with one piece of it more
+pub counted_more : (p : ℕ → Bool) (size count more all : ℕ) (rest piece others : List ℕ) → count + count_by p rest ≡ all → piece ≡ take size rest → others ≡ drop size rest → more ≡ count_by p piece → count + more + count_by p others ≡ all
+counted_more p size count more all rest piece others counted front back is =
+    let parts = sum_by-take-drop (λ (x : ℕ). cond (p x) 1 0) rest size in
+    let counted_front = is ∙ ap (count_by p) front in
+    let counted_back = ap (count_by p) back in
+    omega (arith, parts, counted, counted_front, counted_back)

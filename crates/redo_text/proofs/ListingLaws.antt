@@ -8,20 +8,17 @@ use Rattle.waldump_text.specs.Put.{Puts}
 use Rattle.waldump_text.specs.declared.dumping.DumpErr.TheVariants.{Sink}
 use Rattle.waldump_text.specs.declared.putting.SinkFault.{SinkFault}
 use Rattle.wal_redo.specs.declared.block_id.BlockId.{BlockId}
-use Rattle.wal_redo.specs.BlockMap.{BlockMap, PagePut, last_put, or_else, told_behind}
+use Rattle.wal_redo.specs.BlockMap.{BlockMap, PagePut, last_put, told_behind}
 use Rattle.wal_redo.specs.BlockOrder.{block_order, is_block}
 use Rattle.wal_redo.specs.Images.{puts_in}
 use Rattle.wal_redo.specs.Redo.{IsRedo}
+use Rattle.wal_redo.proofs.BlockMapLaws.{or_else-none}
 use Rattle.redo_text.specs.RedoText.{redo_text}
 use Rattle.redo_text.specs.RedoListing.{IsRedoListing, IsRedoText, ListsBlocks}
 
 -- what a store tells that has these entries
 abbrev pub told_of : List (BlockId × List ℕ) → Option BlockMap
 told_of entries = Some (λ block. lookup (is_block block) entries)
-
-or_else-none : (page : Option (List ℕ)) → or_else page None ≡ page
-or_else-none None = refl
-or_else-none (Some page) = refl
 
 same_map : (one two : BlockMap) → Some one ≡ Some two → one ≡ two
 same_map one two same = cc

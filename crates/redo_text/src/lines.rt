@@ -1,4 +1,5 @@
-ghost use Rattle.std.specs.Prelude.{◌≡◌, ◌≤◌, ◌==◌, not, count_by};
+ghost use Rattle.std.specs.Prelude.{◌≡◌, ◌==◌, [], not, count_by, slice_index_or};
+ghost use Rattle.listing_filter.specs.Names.{fork_names};
 ghost use Rattle.std.specs.List.Sorted.{IsStrictlySortedBy};
 ghost use Rattle.std.specs.Map.{keys_of};
 ghost use Rattle.waldump_text.specs.Put.{Puts, joined};
@@ -12,20 +13,40 @@ use segment_disk::Sink;
 use wal_redo::{BlockId, MemBlocks};
 use waldump_text::{SinkFault, put_all};
 
-// How many bytes of a page are not 0. The count has 16 bits, so that it is made of many at once.
-fn nonzero(page: &[u8; 8192]) -> u16
-    ensures { result ≡ count_by (λ byte. not (byte == 0)) page.now }
+// How many bytes of a piece are not 0. The count fits a byte, so sixteen bytes are counted at once.
+fn nonzero_in_piece(piece: &[u8; 128]) -> u8
+    ensures { result ≡ count_by (λ byte. not (byte == 0)) piece.now }
 {
     let mut count = 0;
-    for byte in page {
-        count += u16::from(*byte != 0);
+    for byte in piece {
+        count += u8::from(*byte != 0);
     }
     count
 }
 
+// How many bytes of a page are not 0.
+fn nonzero(page: &[u8; 8192]) -> u16
+    ensures { result ≡ count_by (λ byte. not (byte == 0)) page.now }
+{
+    let mut count = 0;
+    let mut rest = page.as_slice();
+    // A page has whole pieces: nothing is left over.
+    while let Some((piece, others)) = rest.split_first_chunk::<128>() {
+        count += u16::from(nonzero_in_piece(piece));
+        rest = others;
+    }
+    count
+}
+
+// A fork's name, and none of a number that forks do not have.
+fn name_of_fork(fork: u8) -> &'static str
+    ensures { result.now ≡ slice_index_or fork_names fork [] }
+{
+    if fork <= 3 { fork_name(fork) } else { "" }
+}
+
 // Puts the line of a block and its page.
 fn put_block<O: Sink>(out: &mut O, block: &BlockId, page: &[u8; 8192]) -> Result<(), SinkFault>
-    requires { block.now.fork ≤ 3 }
     ensures { Puts (O.taken out.old) (O.taken out.new) (O.faults out.old) (O.faults out.new)
         (block_line (block.now, page.now)) result }
 {
@@ -44,7 +65,7 @@ fn put_block<O: Sink>(out: &mut O, block: &BlockId, page: &[u8; 8192]) -> Result
             b"/",
             relation.format(block.rel.rel).as_bytes(),
             b" fork ",
-            fork_name(block.fork).as_bytes(),
+            name_of_fork(block.fork).as_bytes(),
             b" blk ",
             number.format(block.blk).as_bytes(),
             b" nonzero ",

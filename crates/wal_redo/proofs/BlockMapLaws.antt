@@ -5,7 +5,7 @@ use Rattle.wal_redo.specs.BlockMap.{BlockMap, PagePut, put_gives, last_put, or_e
 
 -- ---- the first page that there is
 
-or_else-none : (page : Option (List ℕ)) → or_else page None ≡ page
+pub or_else-none : (page : Option (List ℕ)) → or_else page None ≡ page
 or_else-none None = refl
 or_else-none (Some page) = refl
 

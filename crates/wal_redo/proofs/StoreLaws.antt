@@ -1,14 +1,13 @@
 -- The map of a store in memory, as the pages that it tells.
-use Rattle.std.proofs.Common.{◌≡◌, ℕ, ◌≤◌, Bool, true, false, cond, List, [], ◌∷◌, All, Option, Some, None, Result, Ok, Err, refl, sym, ap, subst, ◌∙◌, rules}
-use Rattle.std.specs.Prelude.{OnOk, OnErr, map, option_map, if◌then◌else◌}
-use Rattle.std.specs.BTreeMap.{BTreeMap, IsUnchanged, Updates, get, insert_entry, is_at, keys}
+use Rattle.std.proofs.Common.{◌≡◌, ℕ, Bool, true, false, cond, List, [], ◌∷◌, Option, Some, None, refl, sym, ap, subst, ◌∙◌, rules}
+use Rattle.std.specs.Prelude.{map, option_map, if◌then◌else◌}
+use Rattle.std.specs.BTreeMap.{BTreeMap, Updates, get, is_at}
 use Rattle.std.specs.Cmp.Rules.{comparing}
 use Rattle.std.specs.List.{slice_get}
 use Rattle.std.specs.List.Sorted.{IsStrictlySortedBy}
 use Rattle.std.specs.Map.{keys_of, lookup}
 use Rattle.std.specs.Ordering.{eq_by_cmp}
 use Rattle.std.proofs.lemmas.Option.{slice_get-map}
-use Rattle.std.proofs.lemmas.Map.Views.{All-keys-insert_entry}
 use Rattle.wal_redo.specs.declared.block_id.BlockId.{BlockId}
 use Rattle.wal_redo.specs.BlockMap.{or_else}
 use Rattle.wal_redo.specs.BlockOrder.{block_order, is_block}
@@ -69,11 +68,3 @@ module _ {X : Type 0} (page : X → List ℕ) where
       ∙ ap (option_map page) (updates.0 other)
       ∙ by_either (is_at (block_order block) other) (is_block block other) (is_block-order block other) x (get block_order old other) _ (looked_up other old.entries)
       ∙ ap (λ (bytes : List ℕ). or_else (if is_block block other then Some bytes else None) (lookup (is_block other) (map (λ e. (e.0, page e.1)) old.entries))) is
-
-  -- the forks of a map's blocks, once an entry was put or refused
-  pub forks_after : {A E : Type 0} (result : Result A E) (old new : BTreeMap BlockId X) (block : BlockId) (x : X) → OnOk result (new.entries ≡ insert_entry block_order old.entries block x) → OnErr result (IsUnchanged old new)
-      → All (λ (b : BlockId). b.fork ≤ 3) (keys old) → block.fork ≤ 3 → All (λ (b : BlockId). b.fork ≤ 3) (keys new)
-  forks_after (Ok done) old new block x put same known fork =
-      subst (λ (entries : List (BlockId × X)). All (λ (b : BlockId). b.fork ≤ 3) (keys_of entries)) (sym put) (All-keys-insert_entry block_order block x (λ (b : BlockId). b.fork ≤ 3) old.entries known fork)
-  forks_after (Err error) old new block x put same known fork =
-      subst (λ (entries : List (BlockId × X)). All (λ (b : BlockId). b.fork ≤ 3) (keys_of entries)) (sym same) known

@@ -37,7 +37,6 @@ pub record MakesPage (image : Image) : Type 0 where
   pub whole : length image.bytes + image.hole_len ≡ 8192
   pub within : image.hole_offset + image.hole_len ≤ 8192
 
--- a block's fork is one that relations have, and its image is a page's
+-- a block's image, where it has one, is a page's
 pub record IsRedoable (b : Block) : Type 0 where
-  pub fork : b.fork ≤ 3
   pub image : IfSome b.image MakesPage

@@ -69,10 +69,10 @@ impl Ord for BlockId {
         self.rel
             .spc
             .cmp(&other.rel.spc)
-            .then(self.rel.db.cmp(&other.rel.db))
-            .then(self.rel.rel.cmp(&other.rel.rel))
-            .then(self.fork.cmp(&other.fork))
-            .then(self.blk.cmp(&other.blk))
+            .then_with(|| self.rel.db.cmp(&other.rel.db))
+            .then_with(|| self.rel.rel.cmp(&other.rel.rel))
+            .then_with(|| self.fork.cmp(&other.fork))
+            .then_with(|| self.blk.cmp(&other.blk))
     }
 }
 

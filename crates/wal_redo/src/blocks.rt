@@ -30,9 +30,8 @@ pub trait Blocks {
     /// Whether it is settled that no put will fail.
     ghost never_fails: { Self → Bool };
 
-    /// Puts a page in a block's place. The caller keeps the fork to those that relations have.
+    /// Puts a page in a block's place.
     fn put(&mut self, alloc: Global, block: BlockId, page: &[u8; 8192]) -> Result<(), PutErr>
-        requires { block.fork ≤ 3 }
         ensures put { OnOk result (pages self.new ≡ told_with (pages self.old) block page.now) }
         ensures refused { OnErr result (pages self.new ≡ pages self.old) }
         ensures cause { HasPutCause (faults self.old) (faults self.new) result }

@@ -20,7 +20,6 @@ pub struct MemBlocks {
     /// How many puts were asked for.
     called: u64,
     faults: u64,
-    ghost forks: { All (λ block. block.fork ≤ 3) (keys pages) },
 }
 
 impl MemBlocks {
@@ -69,7 +68,6 @@ impl MemBlocks {
     pub fn iter(&self) -> Iter<'_, BlockId, Box<[u8; 8192]>>
         ensures pages { map (λ e. (e.0, e.1.value)) result ≡ stored_pages self.now }
         ensures ordered { IsStrictlySortedBy block_order (keys_of (stored_pages self.now)) }
-        ensures forks { All (λ block. block.fork ≤ 3) (keys_of result) }
     {
         self.pages.iter()
     }
@@ -87,7 +85,6 @@ impl Blocks for MemBlocks {
     ghost never_fails = { lists_none };
 
     fn put(&mut self, alloc: Global, block: BlockId, page: &[u8; 8192]) -> Result<(), PutErr>
-        requires { block.fork ≤ 3 }
         ensures put { OnOk result
             (pages_told self.new ≡ told_with (pages_told self.old) block page.now) }
         ensures refused { OnErr result (pages_told self.new ≡ pages_told self.old) }

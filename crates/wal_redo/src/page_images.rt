@@ -1,5 +1,6 @@
-// The pages of images, and their way into a store.
-ghost use Rattle.std.specs.Prelude.{◌≡◌, ◌≤◌, length, All, IfOk, IfSome, IsTrue};
+// The pages of images, and their way into a store. An image without a hole has all of a page's
+// bytes, which are put as they lie in the record. If there is a hole, the page is made first.
+ghost use Rattle.std.specs.Prelude.{◌≡◌, ◌↔◌, ◌≤◌, [], ◌∷◌, length, All, IfOk, IfSome, IsSome, IsTrue};
 ghost use Rattle.wal_redo.specs.Images.{IsRedoable, MakesPage, block_named, page_of, put_of, puts_of};
 ghost use Rattle.wal_redo.specs.Redo.{HasStoreCause, NoPutFailed, EndsPuts};
 
@@ -9,8 +10,17 @@ use crate::redoing::RedoErr;
 use std::alloc::Global;
 use wal_types::{Block, Image};
 
-/// Makes an image's page: its bytes, with zeros in the hole.
-pub(crate) fn restore_image(image: &Image, page: &mut [u8])
+// The page of an image without a hole, which is its bytes.
+fn whole_page(image: &Image) -> Option<&[u8; 8192]>
+    requires { MakesPage image.now }
+    ensures page { IfSome result (λ page. page.now ≡ page_of image.now) }
+    ensures without_hole { IsSome result ↔ (image.now.hole_len ≡ 0) }
+{
+    image.bytes.as_slice().as_array()
+}
+
+// Makes an image's page: its bytes, with zeros in the hole.
+fn restore_image(image: &Image, page: &mut [u8])
     requires makes { MakesPage image.now }
     requires room { length page.old ≡ 8192 }
     ensures { page.new ≡ page_of image.now }
@@ -23,16 +33,37 @@ pub(crate) fn restore_image(image: &Image, page: &mut [u8])
     behind.copy_from_slice(back);
 }
 
+// Puts a page in a block's place; it counts as one.
+fn put_page<B: Blocks>(
+    alloc: Global,
+    block: BlockId,
+    page: &[u8; 8192],
+    blocks: &mut B,
+) -> Result<u64, RedoErr>
+    ensures puts { EndsPuts (B.pages blocks.old) (B.pages blocks.new)
+        (record { block = block; page = page.now } ∷ []) result }
+    ensures cause { HasStoreCause (B.faults blocks.old) (B.faults blocks.new) result }
+    ensures never { IsTrue (B.never_fails blocks.old)
+        → NoPutFailed result × IsTrue (B.never_fails blocks.new) }
+{
+    match blocks.put(alloc, block, page) {
+        Ok(()) => Ok(1),
+        Err(PutErr::Memory) => Err(RedoErr::Memory),
+        Err(PutErr::Failed) => Err(RedoErr::Store {
+            faults: blocks.faults(),
+        }),
+    }
+}
+
 // Puts a block's page, where the reference has an image that is to be applied, and answers how many
-// were put.
+// were put. `room` is for the page of an image with a hole.
 fn put_image<B: Blocks>(
     alloc: Global,
     block: BlockId,
     image: &Option<Image>,
-    page: &mut [u8; 8192],
+    room: &mut [u8; 8192],
     blocks: &mut B,
 ) -> Result<u64, RedoErr>
-    requires fork { block.fork ≤ 3 }
     requires makes { IfSome image.now MakesPage }
     ensures puts { EndsPuts (B.pages blocks.old) (B.pages blocks.new) (put_of block image.now)
         result }
@@ -42,26 +73,23 @@ fn put_image<B: Blocks>(
         → NoPutFailed result × IsTrue (B.never_fails blocks.new) }
 {
     match image {
-        Some(image) if image.apply => {
-            restore_image(image, page);
-            match blocks.put(alloc, block, page) {
-                Ok(()) => Ok(1),
-                Err(PutErr::Memory) => Err(RedoErr::Memory),
-                Err(PutErr::Failed) => Err(RedoErr::Store {
-                    faults: blocks.faults(),
-                }),
+        Some(image) if image.apply => match whole_page(image) {
+            Some(page) => put_page(alloc, block, page, blocks),
+            None => {
+                restore_image(image, room);
+                put_page(alloc, block, room, blocks)
             }
-        }
+        },
         Some(_) | None => Ok(0),
     }
 }
 
-/// Puts the pages of a record's images, one behind another, and answers how many. `page` is room to
-/// make them in.
+/// Puts the pages of a record's images, one behind another, and answers how many. `room` is for
+/// the pages of images with a hole.
 pub(crate) fn put_images<B: Blocks>(
     alloc: Global,
     references: &[Block],
-    page: &mut [u8; 8192],
+    room: &mut [u8; 8192],
     blocks: &mut B,
 ) -> Result<u64, RedoErr>
     requires { All IsRedoable references.now }
@@ -78,7 +106,7 @@ pub(crate) fn put_images<B: Blocks>(
             alloc,
             BlockId::of(reference),
             &reference.image,
-            page,
+            room,
             blocks,
         )?;
     }

@@ -63,7 +63,7 @@ pub fn redo<D: Disk, B: Blocks>(
     // That a log decodes to something rests on a valid size.
     let _size = geometry.segment_size();
     let mut reader = Reader::new(geometry, start, None);
-    let mut page = [0; 8192];
+    let mut room = [0; 8192];
     let mut count = 0;
     'records: loop {
         match reader.next(alloc, disk)? {
@@ -73,7 +73,7 @@ pub fn redo<D: Disk, B: Blocks>(
                 prev: _,
                 total: _,
                 value,
-            } => count += put_images(alloc, value.blocks.as_slice(), &mut page, blocks)?,
+            } => count += put_images(alloc, value.blocks.as_slice(), &mut room, blocks)?,
             Step::End { .. } => return Ok(count),
         }
     }

@@ -1,5 +1,5 @@
 -- What a reader of a disk's log gives is what the log decodes to.
-use Rattle.std.proofs.Common.{◌≡◌, ℕ, ◌+◌, true, false, List, [], ◌∷◌, ◌++◌, length, take, Option, Some, None, Result, Ok, Err, inl, inr, sym, ap, subst, ◌∙◌}
+use Rattle.std.proofs.Common.{◌≡◌, ℕ, ◌+◌, Bool, true, false, IsTrue, List, [], ◌∷◌, ◌++◌, length, take, Option, Some, None, Result, Ok, Err, inl, inr, sym, ap, subst, ◌∙◌}
 use Rattle.std.specs.Prelude.{IfSome, option_map}
 use Rattle.byte_position.specs.Geometry.{IsSegmentSize}
 use Rattle.segment_disk.specs.DiskImage.{image_as_read}
@@ -25,7 +25,7 @@ use Rattle.wal_reader.specs.Standings.{given_as}
 use Rattle.wal_reader.proofs.SettledLaws.{decoding_is_settled, gives_something}
 use Rattle.listing_filter.specs.declared.Filter.{Filter}
 use Rattle.listing_filter.specs.Keeping.{is_reached}
-use Rattle.waldump_text.specs.Dump.{DecodesOnDisk, IsDump, ListsFrontInReading, PutsFront}
+use Rattle.waldump_text.specs.Dump.{DecodesOnDisk, IsAllRead, IsDump, ListsFrontInReading, PutsFront}
 use Rattle.waldump_text.specs.Listing.{kept_by, listing, listing_in_reading}
 use Rattle.waldump_text.specs.declared.dumping.DumpErr.TheVariants as errors
 use Rattle.waldump_text.specs.declared.putting.SinkFault.{SinkFault}
@@ -55,9 +55,20 @@ module _ (size : ℕ) (by : Filter) (valid : IsSegmentSize size) (old : Option (
       let same : found ≡ others = (settled.3 found answer decodes).0 ∙ sym (settled.3 others other on_disk).0 in
       (front.0, front.1 ∙ ap (λ (fs : List FoundRecord). with_behind old (take front.0 (text fs))) same))
 
+  -- so all is read whatever it is found to decode to
+  pub all_read_of : (t : Tape) (found : List FoundRecord) (answer : Answer) → DecodesOnDisk size by t found answer → IsAllRead by found answer → (others : List FoundRecord) (other : Answer) → DecodesOnDisk size by t others other → IsAllRead by others other
+  all_read_of t found answer decodes ends others other on_disk =
+      let settled = decoding_of_disk_is_settled size t by.start.0 (option_map (λ (end : Lsn). end.0) by.end) valid in
+      let same : found ≡ others = (settled.3 found answer decodes).0 ∙ sym (settled.3 others other on_disk).0 in
+      let so : answer ≡ other = (settled.3 found answer decodes).1 ∙ sym (settled.3 others other on_disk).1 in
+      subst (λ (fs : List FoundRecord). IsAllRead by fs other) same (subst (λ (a : Answer). IsAllRead by found a) so ends)
+
 -- a front of a text is one of the same text
 front_same : (old new : Option (List ℕ)) (text same : List ℕ) → same ≡ text → (n : ℕ) × (new ≡ with_behind old (take n text)) → (n : ℕ) × (new ≡ with_behind old (take n same))
 front_same old new text same is front = (front.0, front.1 ∙ ap (λ (x : List ℕ). with_behind old (take front.0 x)) (sym is))
+
+false_is_not : (stats : Bool) → stats ≡ false → IsTrue stats → ⊥
+false_is_not stats plain asked = cc
 
 module _ (size : ℕ) (by : Filter) (valid : IsSegmentSize size) (plain : by.stats ≡ false) (old : Option (List ℕ)) where
   pub ListsLog-none : (tape : Option Tape) (reader : Reader) → reader_state reader ≡ unread size by → ((pages : Pages) → Knows reader pages) → ListsLog tape size by reader old old 0
@@ -129,4 +140,7 @@ module _ (size : ℕ) (by : Filter) (valid : IsSegmentSize size) (plain : by.sta
       let is = (step_of reader sized mid count t next (Ok (given_as f)) steps lists.0).next in
       let left = still next next_sized new count t in
       let decodes = underway.whole (f ∷ left.0) left.1 (is left.0 left.1 left.2) in
-      front_of size by valid old (listing by) t new (underway.given ++ f ∷ left.0) left.1 decodes (front_same old new _ _ (listing-lines by plain (underway.given ++ f ∷ left.0)) (listed_front_of_next by (log_of t size) (unread size by) old (reader_state reader) mid count underway (reader_state next) f is kept kept_is new within left.0 front))
+      record {
+        front = front_of size by valid old (listing by) t new (underway.given ++ f ∷ left.0) left.1 decodes (front_same old new _ _ (listing-lines by plain (underway.given ++ f ∷ left.0)) (listed_front_of_next by (log_of t size) (unread size by) old (reader_state reader) mid count underway (reader_state next) f is kept kept_is new within left.0 front));
+        ends = λ asked. absurd (false_is_not by.stats plain asked);
+      }

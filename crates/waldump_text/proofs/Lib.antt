@@ -3,6 +3,7 @@ pub mod SinkLaws
 pub mod HexadecimalLaws
 pub mod JoinedLaws
 pub mod SpelledLaws
+pub mod StepLaws
 pub mod ListingLaws
 pub mod DumpLaws
 pub mod EverythingLaws

@@ -17,7 +17,7 @@ use Rattle.waldump_text.specs.declared.dumping.DumpErr.TheVariants as errors
 use Rattle.waldump_text.specs.declared.putting.SinkFault.{SinkFault}
 use Rattle.waldump_text.specs.declared.sums.Sums.{Sums}
 use Rattle.waldump_text.specs.declared.sums.Tally.{Tally}
-use Rattle.waldump_text.proofs.DumpLaws.{front_of}
+use Rattle.waldump_text.proofs.DumpLaws.{all_read_of, front_of}
 use Rattle.waldump_text.proofs.SinkLaws.{with_behind-nil}
 use Rattle.waldump_text.proofs.StatisticsLaws.{tally_text-is_stats}
 
@@ -59,5 +59,7 @@ module _ (size : ℕ) (by : Filter) (valid : IsSegmentSize size) (is : by.stats 
     pub statistics_cut : (tape : Option Tape) (fault : SinkFault) → IfSome tape (IsTally size by (Ok tally)) → (n : ℕ) × (new ≡ with_behind old (take n (if by.quiet then [] else tally_text tally))) → IfSome tape (IsDump size by old new (Err (errors.Sink fault)))
     statistics_cut None fault tells front = tt
     statistics_cut (Some t) fault tells front =
-        front_of size by valid old (listing by) t new tells.found tells.answer tells.decodes
-        (front.0, front.1 ∙ ap (λ (text : List ℕ). with_behind old (take front.0 text)) (tally-listing tally tells.found tells.tallies))
+        record {
+          front = front_of size by valid old (listing by) t new tells.found tells.answer tells.decodes (front.0, front.1 ∙ ap (λ (text : List ℕ). with_behind old (take front.0 text)) (tally-listing tally tells.found tells.tallies));
+          ends = λ asked. all_read_of size by valid old t tells.found tells.answer tells.decodes tells.ends;
+        }

@@ -1,5 +1,5 @@
 -- A tally of what the disk's log decodes to.
-use Rattle.std.specs.Prelude.{◌≡◌, ℕ, ◌⊎◌, List, map, Result, Ok, Err}
+use Rattle.std.specs.Prelude.{◌≡◌, ℕ, List, map, Result, Ok, Err}
 use Rattle.segment_disk.specs.Tape.{Tape}
 use Rattle.wal_reader.specs.declared.found.Answer.{Answer}
 use Rattle.wal_reader.specs.declared.found.Answer.TheVariants as answers
@@ -9,17 +9,17 @@ use Rattle.wal_reader.specs.declared.standing.ReadErr.{ReadErr}
 use Rattle.wal_reader.specs.declared.standing.ReadErr.TheVariants as reading
 use Rattle.wal_reader.specs.Standings.{HasReadCause}
 use Rattle.listing_filter.specs.declared.Filter.{Filter}
-use Rattle.waldump_text.specs.Dump.{DecodesOnDisk, IsEnd}
+use Rattle.waldump_text.specs.Dump.{DecodesOnDisk, IsAllRead}
 use Rattle.waldump_text.specs.Listing.{IsLimitListed, listed_by, listed_of}
 use Rattle.waldump_text.specs.Tally.{Tallies}
 use Rattle.waldump_text.specs.declared.sums.Tally.{Tally}
 
--- all that a filter lists is tallied: the log comes to a clean end, or the limit is listed
+-- all that a filter lists is tallied
 pub record TalliesAll (size : ℕ) (by : Filter) (t : Tape) (tally : Tally) : Type 0 where
   pub found : List FoundRecord
   pub answer : Answer
   pub decodes : DecodesOnDisk size by t found answer
-  pub ends : IsEnd answer ⊎ IsLimitListed by found
+  pub ends : IsAllRead by found answer
   pub tallies : Tallies tally (map listed_of (listed_by by found))
 
 -- the log stops before the limit is listed

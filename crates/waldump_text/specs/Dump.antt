@@ -1,5 +1,5 @@
 -- What a listing of the disk's log puts, and how it ends.
-use Rattle.std.specs.Prelude.{◌≡◌, ℕ, ◌⊎◌, List, length, take, Option, option_map, Result, Ok, Err}
+use Rattle.std.specs.Prelude.{◌≡◌, ℕ, ◌⊎◌, IsTrue, List, length, take, Option, option_map, Result, Ok, Err}
 use Rattle.segment_disk.specs.Cause.{RoseByOne}
 use Rattle.segment_disk.specs.Stream.{with_behind}
 use Rattle.segment_disk.specs.Tape.{Tape}
@@ -26,19 +26,23 @@ abbrev pub DecodesOnDisk : ℕ → Filter → Tape → List FoundRecord → Answ
 DecodesOnDisk size by t found answer =
     Decodes size (log_of t size) by.start.0 (option_map (λ end. end.0) by.end) found answer
 
+-- all that a filter lists is read: the log comes to a clean end, or the limit is listed
+abbrev pub IsAllRead : Filter → List FoundRecord → Answer → Type 0
+IsAllRead by found answer = IsEnd answer ⊎ IsLimitListed by found
+
 -- a sink took a text of what the disk's log decodes to: these records, and this behind them
 pub record PutsText (size : ℕ) (by : Filter) (t : Tape) (old new : Option (List ℕ))
     (found : List FoundRecord) (answer : Answer) (text : List ℕ) : Type 0 where
   pub decodes : DecodesOnDisk size by t found answer
   pub put : new ≡ with_behind old text
 
--- all is listed, so many records: the log comes to a clean end, or the limit is listed
+-- all is listed, so many records
 pub record ListsAll (size : ℕ) (by : Filter) (t : Tape) (old new : Option (List ℕ)) (count : ℕ)
     : Type 0 where
   pub found : List FoundRecord
   pub answer : Answer
   pub puts : PutsText size by t old new found answer (listing by found)
-  pub ends : IsEnd answer ⊎ IsLimitListed by found
+  pub ends : IsAllRead by found answer
   pub count_is : count ≡ length (listed_by by found)
 
 -- all before a stop is listed, but for statistics; the stop comes before the limit is listed
@@ -56,10 +60,14 @@ PutsFront text size by t old new =
     (found : List FoundRecord) (answer : Answer) → DecodesOnDisk size by t found answer → (n : ℕ)
     × (new ≡ with_behind old (take n (text found)))
 
--- a front of the listing; where the reading failed there are no statistics in it
-abbrev pub ListsFront : ℕ → Filter → Tape → Option (List ℕ) → Option (List ℕ) → Type 0
-ListsFront size by = PutsFront (listing by) size by
+-- a front of the listing, where the sink failed: at statistics only once all is read
+pub record ListsFront (size : ℕ) (by : Filter) (t : Tape) (old new : Option (List ℕ)) : Type 0 where
+  pub front : PutsFront (listing by) size by t old new
+  pub ends :
+      IsTrue by.stats → (found : List FoundRecord) (answer : Answer)
+      → DecodesOnDisk size by t found answer → IsAllRead by found answer
 
+-- a front of the listing where the reading failed, with no statistics in it
 abbrev pub ListsFrontInReading : ℕ → Filter → Tape → Option (List ℕ) → Option (List ℕ) → Type 0
 ListsFrontInReading size by = PutsFront (listing_in_reading by) size by
 

@@ -1,5 +1,6 @@
 -- The names that the listing has for managers and records (PostgreSQL's rmgrlist.h and xactdesc.c).
 use Rattle.std.specs.Prelude.{ℕ, ◌+◌, ◌/◌, ◌%◌, List, [], ◌∷◌, ◌++◌, codes, length, slice_index_or, ◌==◌, nat_lt, if◌then◌else◌}
+use Rattle.commit_times.specs.Digits.{digit_at}
 use Rattle.listing_filter.specs.Names.{manager_names}
 use Rattle.waldump_text.specs.declared.names.ManagerName.{ManagerName}
 use Rattle.waldump_text.specs.declared.names.ManagerName.TheVariants.{Own, Custom}
@@ -8,7 +9,7 @@ use Rattle.waldump_text.specs.declared.names.RecordWord.TheVariants.{Known, Unkn
 
 -- a number below 1000 in three digits
 abbrev pub three_digits : ℕ → List ℕ
-three_digits n = (48 + n / 100 % 10) ∷ (48 + n / 10 % 10) ∷ (48 + n % 10) ∷ []
+three_digits n = digit_at 100 n ∷ digit_at 10 n ∷ digit_at 1 n ∷ []
 
 -- a manager's name; those from 128 on are custom ones
 abbrev pub manager_name : ℕ → List ℕ

@@ -30,7 +30,7 @@ abbrev pub PutsBut : Option (List ℕ) → Option (List ℕ) → ℕ → ℕ →
 PutsBut old new before after text held (Ok done) = HasPut old new before after text held
 PutsBut old new before after text held (Err fault) = Puts old new before after text (Err fault)
 
--- a text behind as many blanks as make it n bytes long, and before as many
+-- blanks and a text behind them, up to n bytes
 abbrev pub padded_left : ℕ → List ℕ → List ℕ
 padded_left n text = replicate (n - length text) 32 ++ text
 

@@ -3,12 +3,13 @@ ghost use Rattle.segment_disk.specs.Tape.{IsUncalled};
 ghost use Rattle.waldump_text.specs.Counting.{HasTallyCause, IsTally};
 ghost use Rattle.waldump_text.specs.Tally.{TallyFits};
 
+use crate::steps::listed_in;
 use crate::sums::Tally;
 use byte_position::Geometry;
-use listing_filter::{Filter, Listed};
+use listing_filter::Filter;
 use segment_disk::Disk;
 use std::alloc::Global;
-use wal_reader::{ReadErr, Reader, Step};
+use wal_reader::{ReadErr, Reader};
 
 /// Tallies the records that a filter lists. No record is kept, so the memory that it needs does not
 /// grow with the log.
@@ -28,25 +29,12 @@ pub(crate) fn tally_log<D: Disk>(
     let mut reader = Reader::new(geometry, filter.start, filter.end);
     let mut tally = Tally::new();
     'records: while !filter.is_full(tally.all.records) {
-        match reader.next(alloc, disk)? {
-            Step::Record {
-                start,
-                end: _,
-                prev,
-                total,
-                value,
-            } => {
-                let listed = Listed {
-                    start,
-                    prev,
-                    total,
-                    value,
-                };
-                if filter.keeps(&listed) {
-                    tally.add(&listed);
-                }
-            }
-            Step::End { .. } => return Ok(tally),
+        let step = reader.next(alloc, disk)?;
+        let Some(listed) = listed_in(step) else {
+            return Ok(tally);
+        };
+        if filter.keeps(&listed) {
+            tally.add(&listed);
         }
     }
     Ok(tally)

@@ -10,18 +10,20 @@ use crate::line_buffer::LineBuffer;
 use crate::lines::put_line;
 use crate::putting::SinkFault;
 use crate::statistics::put_tally;
+use crate::steps::listed_in;
 use crate::sums::Tally;
 use byte_position::Geometry;
 use listing_filter::{Filter, Listed};
 use segment_disk::{Disk, Sink};
 use std::alloc::Global;
 use thiserror::Error;
-use wal_reader::{ReadErr, Reader, Step};
+use wal_reader::{ReadErr, Reader};
 
 /// Why a log was not listed to a clean end.
 #[derive(Clone, Copy, Debug, PartialEq, Eq, Error)]
 pub enum DumpErr {
-    /// The log was not read on; where it stops, all records before are listed.
+    /// The log was not read on. Where it stops, the lines of all records before are put, and no
+    /// statistics.
     #[error("{0}")]
     Read(ReadErr),
     #[error("the listing cannot be written")]
@@ -95,26 +97,13 @@ fn dump_lines<D: Disk, O: Sink>(
     let mut buffer = LineBuffer::new();
     let mut count = 0;
     'records: while !filter.is_full(count) {
-        match reader.next(alloc, disk)? {
-            Step::Record {
-                start,
-                end: _,
-                prev,
-                total,
-                value,
-            } => {
-                let listed = Listed {
-                    start,
-                    prev,
-                    total,
-                    value,
-                };
-                if filter.keeps(&listed) {
-                    print(&mut buffer, filter, &listed, out)?;
-                    count += 1;
-                }
-            }
-            Step::End { .. } => return Ok(count),
+        let step = reader.next(alloc, disk)?;
+        let Some(listed) = listed_in(step) else {
+            return Ok(count);
+        };
+        if filter.keeps(&listed) {
+            print(&mut buffer, filter, &listed, out)?;
+            count += 1;
         }
     }
     Ok(count)

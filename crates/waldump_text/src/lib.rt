@@ -11,6 +11,7 @@ mod lines;
 mod names;
 mod putting;
 mod statistics;
+mod steps;
 mod sums;
 
 pub use commit_times::{TimeText, time_text};

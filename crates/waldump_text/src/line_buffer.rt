@@ -132,7 +132,8 @@ impl LineBuffer {
         Ok(())
     }
 
-    /// A text that may have to wait for room. Where it is called its length is known.
+    /// A text that may have to wait for room. Inlined, since most callers give a text of a length
+    /// that is known, which is then copied without a call.
     #[inline(always)]
     pub(crate) fn append<O: Sink>(&mut self, text: &[u8], out: &mut O) -> Result<(), SinkFault>
         requires { length text.now ≤ ROOM }

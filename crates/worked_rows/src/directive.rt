@@ -18,12 +18,23 @@ pub enum Directive<'a> {
     Failing { stream: Stream, calls: Vec<u64> },
     /// How many bytes the next command's sink takes.
     OutRoom(u32),
-    /// A command, of whose output only the size is told where it is long.
-    Command { words: &'a str, is_long: bool },
+    /// A command, and how much is told of it.
+    Command { words: &'a str, telling: Telling },
     /// So many bytes at an address of the disk.
     Peek { at: u64, count: u32 },
     /// A change of the disk.
     Change(Change),
+}
+
+/// How much is told of a command.
+#[derive(Clone, Copy)]
+pub enum Telling {
+    /// What it printed, its status and the disk's calls.
+    All,
+    /// The same, but of what it printed only the size.
+    Size,
+    /// All but the disk's calls.
+    NoCalls,
 }
 
 /// A stream of a command.
@@ -115,10 +126,9 @@ fn asked_of_script<'a>(alloc: Global, kind: &str, rest: &'a str) -> Result<Direc
 // What a row asks for by its first word.
 fn asked_by_word<'a>(alloc: Global, word: &str, rest: &'a str) -> Result<Directive<'a>, Halt> {
     match word {
-        "$" | "%" => Ok(Directive::Command {
-            words: rest,
-            is_long: word == "%",
-        }),
+        "$" => Ok(command(rest, Telling::All)),
+        "%" => Ok(command(rest, Telling::Size)),
+        "&" => Ok(command(rest, Telling::NoCalls)),
         "source-fails" => failing(alloc, Stream::Source, rest),
         "out-fails" => failing(alloc, Stream::Out, rest),
         "err-fails" => failing(alloc, Stream::Err, rest),
@@ -132,6 +142,10 @@ fn asked_by_word<'a>(alloc: Global, word: &str, rest: &'a str) -> Result<Directi
         }
         _ => Ok(Directive::Change(change_by(alloc, word, rest)?)),
     }
+}
+
+fn command<'a>(words: &'a str, telling: Telling) -> Directive<'a> {
+    Directive::Command { words, telling }
 }
 
 fn failing<'a>(alloc: Global, stream: Stream, rest: &str) -> Result<Directive<'a>, Halt> {

@@ -1,6 +1,6 @@
 //! Rows played one after another.
 
-use crate::directive::{Change, Directive, NewDisk, Stream};
+use crate::directive::{Change, Directive, NewDisk, Stream, Telling};
 use crate::halt::Halt;
 use crate::pages::{CALLS, copy_of, peek, poke, seal, without};
 use crate::words::digits_of;
@@ -102,7 +102,7 @@ impl RowPlayer {
                 Ok(())
             }
             Directive::Peek { at, count } => self.print_bytes(at, count),
-            Directive::Command { words, is_long } => self.play_command(rt, words, is_long),
+            Directive::Command { words, telling } => self.play_command(rt, words, telling),
             Directive::Change(change) => self.change(change),
         }
     }
@@ -161,7 +161,7 @@ impl RowPlayer {
         &mut self,
         rt: &R,
         words: &str,
-        is_long: bool,
+        telling: Telling,
     ) -> Result<(), Halt> {
         let words = words_of(self.alloc, words)?;
         let streams = mem::replace(&mut self.streams, Streams::sound(self.alloc));
@@ -179,25 +179,29 @@ impl RowPlayer {
             &mut err,
             &OpenGate,
         );
-        self.print_out(out.taken(), is_long)?;
+        self.print_out(out.taken(), telling)?;
         self.print_err(err.taken())?;
-        self.end(ended)
+        self.end(ended, telling)
     }
 
     // Tells how a command ended, and goes on with its disk.
-    fn end(&mut self, ended: Ended<MemDisk>) -> Result<(), Halt> {
+    fn end(&mut self, ended: Ended<MemDisk>, telling: Telling) -> Result<(), Halt> {
         let status = ended.status;
         let calls = ended.disk.moment();
-        self.print_line(format!(in self.alloc; "status {status} calls {calls}")?.as_str())?;
+        let line = match telling {
+            Telling::NoCalls => format!(in self.alloc; "status {status}")?,
+            _ => format!(in self.alloc; "status {status} calls {calls}")?,
+        };
+        self.print_line(line.as_str())?;
         self.disk = Some(ended.disk);
         Ok(())
     }
 
     // Prints what a command printed, or its size.
-    fn print_out(&mut self, out: &[u8], is_long: bool) -> Result<(), Halt> {
-        if !is_long {
+    fn print_out(&mut self, out: &[u8], telling: Telling) -> Result<(), Halt> {
+        let Telling::Size = telling else {
             return Ok(self.print_text(out)?);
-        }
+        };
         let lines = out.iter().filter(|byte| **byte == b'\n').count();
         let bytes = out.len();
         let mut crc = Crc::new();

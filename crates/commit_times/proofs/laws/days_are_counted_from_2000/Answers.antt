@@ -1,7 +1,13 @@
 use Rattle.std.proofs.Common.{refl}
-use Rattle.commit_times.proofs.DayCounts.{days_to_2000_are}
-use Rattle.commit_times.specs.Calendar.{days_to_2000}
+use Rattle.commit_times.proofs.DayCounts.{days_before-after, days_to_9999, first_days_before}
+use Rattle.commit_times.specs.Calendar.{days_from_2000, days_to_2000}
 use Rattle.commit_times.proofs.laws.days_are_counted_from_2000.Goals as goal
 
-pub returns : goal.returns
-returns c = days_to_2000_are days_to_2000 refl
+pub returns-clause-first : goal.returns-clause-first
+returns-clause-first c = first_days_before days_to_2000 refl
+
+pub returns-clause-end : goal.returns-clause-end
+returns-clause-end c = days_to_9999 days_from_2000 refl
+
+pub returns-clause-undone : goal.returns-clause-undone
+returns-clause-undone c = days_before-after

@@ -1,6 +1,12 @@
-use Rattle.std.proofs.Common.{◌≡◌, ◌==◌, not, count_by, take}
+use Rattle.std.proofs.Common.{◌≡◌, ◌+◌, ◌*◌, ◌==◌, ℕ, length, not, count_by}
 use Rattle.redo_text.proofs.lines.nonzero.Given as goal
 
--- the bytes so far are counted
-abbrev pub invariant-loop-byte : goal.invariant-loop-byte
-invariant-loop-byte l = l.count ≡ count_by (λ byte. not (byte == 0)) (take l.byte-index l.page)
+-- the bytes before the rest are counted, and the rest has whole pieces
+abbrev pub invariant-loop-piece : goal.invariant-loop-piece
+invariant-loop-piece l = record {
+  counted : l.count + count_by (λ byte. not (byte == 0)) l.rest ≡ count_by (λ byte. not (byte == 0)) l.page;
+  pieces : (n : ℕ) × (length l.rest ≡ 128 * n);
+}
+
+abbrev pub decreases-loop-piece : goal.decreases-loop-piece
+decreases-loop-piece l = length l.rest

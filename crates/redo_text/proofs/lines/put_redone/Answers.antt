@@ -1,14 +1,12 @@
-use Rattle.std.proofs.Common.{◌≤◌, ℕ, List, ◌++◌, length, ap, sym, subst, ◌∙◌, All}
+use Rattle.std.proofs.Common.{ℕ, List, ◌++◌, length, ap, sym, ◌∙◌}
 use Rattle.std.proofs.lemmas.Result.{err_from_is_err_and}
 use Rattle.std.proofs.lemmas.Map.Iter.{rest_all}
 use Rattle.std.specs.List.{flat_map}
-use Rattle.std.specs.Map.{keys_of}
 use Rattle.std.specs.Map.Iter.{deref_pair}
 use Rattle.wal_redo.specs.MemBlocks.{stored_pages}
-use Rattle.wal_redo.specs.declared.block_id.BlockId.{BlockId}
 use Rattle.waldump_text.proofs.SinkLaws.{HasPut-more, HasPut-none, HasPut-same, Puts-failed, Puts-last}
 use Rattle.redo_text.specs.RedoText.{block_line, counts_line}
-use Rattle.redo_text.proofs.LineLaws.{forks_left, lines_of, lines_of-next, lines_of-told}
+use Rattle.redo_text.proofs.LineLaws.{lines_of, lines_of-next, lines_of-told}
 use Rattle.redo_text.proofs.lines.put_redone.Goals as goal
 
 pub loop-block-init : goal.loop-block-init
@@ -18,7 +16,6 @@ loop-block-init g c =
     let shown = ap (λ (text : List ℕ). text ++ counts) (ap (flat_map block_line) (sym c.iter-block-items.ensures.pages) ∙ lines_of-told (λ page. page.value) c.iter-block-items.result) in
     record {
       put = HasPut-same (HasPut-none _ _ _) (shown ∙ ap (λ entries. lines_of (λ page. page.value) entries ++ counts) (sym start));
-      forks = subst (λ entries. All (λ (b : BlockId). b.fork ≤ 3) (keys_of entries)) (sym start) c.iter-block-items.ensures.forks;
     }
 
 pub loop-block-preserved : goal.loop-block-preserved
@@ -28,7 +25,6 @@ loop-block-preserved g c =
     let split = lines_of-next (λ page. page.value) c.loop-block.block-iterator c.next.new.self c.next.result c.in-Some.block c.in-Some.page c.in-Some.is c.next.ensures.steps c.deref.result.now c.deref.ensures counts in
     record {
       put = HasPut-more _ _ before.put split c.in_ok-put_block.ensures.0 c.in_ok-put_block.ensures.1;
-      forks = forks_left (λ page. page.value) c.loop-block.block-iterator c.next.new.self c.next.result c.in-Some.block c.in-Some.page c.in-Some.is c.next.ensures.steps before.forks;
     }
 
 pub returns-in_err-put_block-clause-put : goal.returns-in_err-put_block-clause-put

@@ -1,48 +1,54 @@
-use Rattle.std.proofs.Common.{◌≡◌, true, false, Option, Ok, ap, subst, sym, ◌∙◌, arith}
+use Rattle.std.proofs.Common.{◌≡◌, true, false, [], ◌∷◌, ◌++◌, Option, Ok, ap, subst, sym, ◌∙◌, arith}
 use Rattle.segment_disk.specs.Tape.{Tape}
 use Rattle.listing_filter.specs.Keeping.{is_reached}
 use Rattle.wal_reader.specs.LogReader.{LeavesReader, ReaderState, reader_state}
 use Rattle.wal_reader.specs.Spelled.{GivesSpelled}
-use Rattle.wal_reader.specs.Standings.{found_as, given_as}
-use Rattle.wal_reader.specs.declared.found.FoundRecord.{FoundRecord}
+use Rattle.wal_reader.specs.Standings.{given_as}
+use Rattle.listing_filter.specs.declared.listed.Listed.{Listed}
+use Rattle.waldump_text.specs.Listing.{IsListable}
+use Rattle.waldump_text.specs.Tally.{Tallies}
 use Rattle.wal_reader.specs.declared.standing.Step.{Step}
 use Rattle.wal_reader.specs.declared.standing.Step.TheVariants.{End}
 use Rattle.waldump_text.proofs.CountingLaws.{Adds, Adds-kept, Adds-passed_over, TalliesLog-more, tally_ended, tally_reached}
 use Rattle.waldump_text.proofs.DumpLaws.{Steps}
 use Rattle.waldump_text.proofs.SpelledLaws.{IsListable-from_spelled}
+use Rattle.waldump_text.proofs.StepLaws.{GivesListed, gives_end, gives_listed}
 use Rattle.waldump_text.proofs.counting.tally_log.Goals as goal
-use Rattle.waldump_text.proofs.counting.tally_log.Goals.{In-Record, then-keeps, else-keeps}
+use Rattle.waldump_text.proofs.counting.tally_log.Goals.{In-Some, then-keeps, else-keeps}
 
--- the record that is read
-abbrev found : (g : _) → In-Record g → FoundRecord
-found g c = found_as c.in-Record.start c.in-Record.end c.in-Record.prev c.in-Record.total c.in-Record.value
+-- the step to the record that is listed
+gives : (g : _) (c : In-Some g) → GivesListed c.in_ok-step.step c.in-Some.listed
+gives g c = gives_listed c.in_ok-step.step c.in-Some.listed (sym c.listed_in.ensures ∙ c.in-Some.is)
 
--- the step to a record
-steps_on : (g : _) (c : In-Record g) → Steps (g.D.Disk.tape c.args.disk.now) c.records.reader c.next.new.self (Ok (given_as (found g c)))
+steps_on : (g : _) (c : In-Some g) → Steps (g.D.Disk.tape c.args.disk.now) c.records.reader c.next.new.self (Ok (given_as (gives g c).found))
 steps_on g c =
-    let gives = subst (λ (step : Step). Steps (g.D.Disk.tape c.records.disk) c.records.reader c.next.new.self (Ok step)) c.in-Record.is c.in_ok-start.ensures.gives in
-    subst (λ (tape : Option Tape). Steps tape c.records.reader c.next.new.self (Ok (given_as (found g c)))) c.records.invariant.tape gives
+    let on_disk = subst (λ (step : Step). Steps (g.D.Disk.tape c.records.disk) c.records.reader c.next.new.self (Ok step)) (gives g c).step_is c.in_ok-step.ensures.gives in
+    subst (λ (tape : Option Tape). Steps tape c.records.reader c.next.new.self (Ok (given_as (gives g c).found))) c.records.invariant.tape on_disk
 
-leaves_on : (g : _) (c : In-Record g) → LeavesReader (reader_state c.records.reader) (reader_state c.next.new.self) (Ok (given_as (found g c)))
-leaves_on g c = subst (λ (step : Step). LeavesReader (reader_state c.records.reader) (reader_state c.next.new.self) (Ok step)) c.in-Record.is c.in_ok-start.ensures.leaves
+leaves_on : (g : _) (c : In-Some g) → LeavesReader (reader_state c.records.reader) (reader_state c.next.new.self) (Ok (given_as (gives g c).found))
+leaves_on g c = subst (λ (step : Step). LeavesReader (reader_state c.records.reader) (reader_state c.next.new.self) (Ok step)) (gives g c).step_is c.in_ok-step.ensures.leaves
+
+listable : (g : _) (c : In-Some g) → IsListable c.in-Some.listed
+listable g c =
+    let spelled = subst GivesSpelled (gives g c).step_is c.in_ok-step.ensures.spelled in
+    rw (gives g c).listed_is (IsListable-from_spelled (gives g c).found spelled)
 
 pub add-requires-clause-listable : goal.add-requires-clause-listable
-add-requires-clause-listable g c =
-    let spelled = subst GivesSpelled c.in-Record.is c.in_ok-start.ensures.spelled in
-    IsListable-from_spelled (found g ((goal.at.add-requires-clause-listable g c).In-Record)) spelled
+add-requires-clause-listable g c = listable g ((goal.at.add-requires-clause-listable g c).In-Some)
 
 pub records-preserved : goal.records-preserved
 records-preserved g c =
     let valid = rw c.segment_size-size.ensures.value at c.segment_size-size.ensures.valid in
-    let step = (goal.at.records-preserved g c).In-Record in
+    let step = (goal.at.records-preserved g c).In-Some in
     let before = c.records.invariant in
-    let read = c.in_ok-start.ensures in
+    let read = c.in_ok-step.ensures in
     let leaves = leaves_on g step in
     let by = c.args.filter.now in
-    let f = found g step in
+    let listed_is = (gives g step).listed_is in
+    let f = (gives g step).found in
     let unreached : is_reached by.limit c.records.tally.all.records ≡ false = cc in
     let adds : Adds by f c.records.tally c.if-keeps.tally = elim c.if-keeps.branch [
-      | then-keeps w ↦ subst (Adds by f c.records.tally) (sym w.tally-is) (Adds-kept by f c.records.tally w.add.new.self (cc) w.add.ensures.tallies w.add.ensures.counted unreached w.add.ensures.sound)
+      | then-keeps w ↦ subst (Adds by f c.records.tally) (sym w.tally-is) (Adds-kept by f c.records.tally w.add.new.self (cc) (λ records upto. subst (λ (r : Listed). Tallies w.add.new.self (records ++ r ∷ [])) listed_is (w.add.ensures.tallies records upto)) w.add.ensures.counted unreached w.add.ensures.sound)
       | else-keeps w ↦ Adds-passed_over by f c.records.tally c.if-keeps.tally (cc) w.tally-is before.within before.sound
     ] in
     record {
@@ -56,13 +62,14 @@ records-preserved g c =
       disk_faults = read.cause ∙ before.disk_faults;
     }
 
-pub returns-in-End-clause-tallied : goal.returns-in-End-clause-tallied
-returns-in-End-clause-tallied g c =
+pub returns-in_default-clause-tallied : goal.returns-in_default-clause-tallied
+returns-in_default-clause-tallied g c =
     let valid = rw c.segment_size-size.ensures.value at c.segment_size-size.ensures.valid in
     let before = c.records.invariant in
-    let gives = subst (λ (step : Step). Steps (g.D.Disk.tape c.records.disk) c.records.reader c.next.new.self (Ok step)) c.in-End.is c.in_ok-start.ensures.gives in
-    let steps = subst (λ (tape : Option Tape). Steps tape c.records.reader c.next.new.self (Ok (End c.in-End.at))) before.tape gives in
-    tally_ended c.args.geometry c.args.filter.now valid c.records.reader before.sized c.records.tally before.within _ c.next.new.self c.in-End.at before.tallied steps
+    let ends = gives_end c.in_ok-step.step (λ r is. c.in_default.not-Some r (c.listed_in.ensures ∙ is)) in
+    let on_disk = subst (λ (step : Step). Steps (g.D.Disk.tape c.records.disk) c.records.reader c.next.new.self (Ok step)) ends.1 c.in_ok-step.ensures.gives in
+    let steps = subst (λ (tape : Option Tape). Steps tape c.records.reader c.next.new.self (Ok (End ends.0))) before.tape on_disk in
+    tally_ended c.args.geometry c.args.filter.now valid c.records.reader before.sized c.records.tally before.within _ c.next.new.self ends.0 before.tallied steps
 
 pub returns-clause-tallied : goal.returns-clause-tallied
 returns-clause-tallied g c =

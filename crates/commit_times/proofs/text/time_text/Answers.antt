@@ -1,0 +1,12 @@
+use Rattle.std.proofs.Common.{int_le, to_z-of_z, ap, sym, ◌∙◌, arith}
+use Rattle.jiff_core.proofs.SignedLemmas.{signed_casts}
+use Rattle.commit_times.specs.TimeText.{first_time, last_time}
+use Rattle.commit_times.proofs.TimeLaws.{date_since-is_time}
+use Rattle.commit_times.proofs.text.time_text.Goals as goal
+
+pub returns-then-time-le-LAST : goal.returns-then-time-le-LAST
+returns-then-time-le-LAST c =
+    let same = sym (to_z-of_z c.ranges.time) in
+    let low = ap (int_le first_time) same ∙ c.if-time-ge-FIRST.true in
+    let high = ap (λ time. int_le time last_time) same ∙ c.if-time-le-LAST.true in
+    c.date_text.ensures ∙ date_since-is_time c.args.time _ (omega (arith, signed_casts, low, c.ranges.time)) low high
