@@ -1,7 +1,7 @@
 #!/usr/bin/env bash
 # Refuses the built program each of its allocations in turn, one in a call, which `rt ci` cannot: the call
 # ends with status 1 and says why. A run prints nothing then and leaves no folder, a listing or a replay
-# prints a front of its lines, and a log that is there stays as it is.
+# prints a front of its lines, a redo and statistics print nothing, and a log that is there stays as it is.
 #
 #     tests/refused_memory.sh            tries the program that the launcher ./pgwal built
 #     tests/refused_memory.sh PROGRAM    tries another build
@@ -53,6 +53,13 @@ writes() {
   each_refused "$@"
 }
 
+# sums COMMAND WORD..: a call that leaves the log as it is, and prints nothing before it has read all
+sums() {
+  alone "$@"
+  : >front
+  each_refused "$@"
+}
+
 # lists COMMAND WORD..: a call that leaves the log as it is
 lists() {
   alone "$@"
@@ -63,8 +70,10 @@ lists() {
 printf 'C 700 0\nI 1 10 00 9000*5a\nB\nC 701 0\n' >in
 writes run --seg $size
 : >in
-writes gen 2 --seg $size
+writes gen 10 --seg $size
 lists dump --seg $size
+sums dump --stats --seg $size
+sums redo --seg $size
 printf 'C 1 0\nB\nC 2 0\nS\n1*100000 0*100000\n' >in
 lists replay --seg $size --crash old
 tell

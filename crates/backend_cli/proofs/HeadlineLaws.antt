@@ -1,5 +1,5 @@
 -- The headline, of the disk of a run and of the call.
-use Rattle.std.proofs.Common.{◌≡◌, ℕ, suc, ◌+◌, ◌≤◌, All, List, [], ◌∷◌, length, map, Option, Some, Ok, Result, inl, inr, refl, sym, ap, ap₂, subst, ◌∙◌}
+use Rattle.std.proofs.Common.{◌≡◌, ℕ, suc, ◌+◌, All, List, [], ◌∷◌, length, map, Option, Ok, Result, inl, inr, refl, sym, ap, ap₂, subst, ◌∙◌}
 use Rattle.std.specs.Prelude.{IfSome}
 use Rattle.std.specs.List.{zip}
 use Rattle.std.proofs.lemmas.List.{append_cancel_left}
@@ -18,7 +18,6 @@ use Rattle.generated_lines.specs.Generated.{generated_script}
 use Rattle.told_lines.specs.declared.told.Told.{Told}
 use Rattle.told_lines.specs.declared.told.Told.TheVariants.{Wrote, Hard, Flushed, Refused}
 use Rattle.told_lines.specs.Crash.{IsFrontWithTold, SurvivesCrashes}
-use Rattle.told_lines.specs.Rooms.{capacity_of}
 use Rattle.told_lines.specs.Told.{FitsLine, Logged, RiseInLineOrder, TellsAll, TellsFrom, behind_or, entries_from, entry_of, order_from}
 use Rattle.told_lines.proofs.Orders.{sorted_permutes}
 use Rattle.command_words.specs.declared.commands.GenOptions.{GenOptions}
@@ -31,26 +30,26 @@ use Rattle.backend_cli.specs.Headline.{FoundAfterCrash, Headline, NamesOwnPlace}
 use Rattle.backend_cli.specs.Obeying.{Obeys, ObeysInMemory}
 use Rattle.backend_cli.specs.Outside.{Outside, SourceView}
 use Rattle.backend_cli.specs.Reading.{ScriptMeans}
-use Rattle.backend_cli.specs.Run.{GenHolds, HoldsOpened, PlayHolds, RunHolds}
+use Rattle.backend_cli.specs.Run.{PlayHolds, RunHolds}
 use Rattle.backend_cli.specs.declared.outcome.Outcome.{Outcome}
 
 -- ---- receipts
 
 -- what a line may be told names its own record's place, where it is a receipt
-own_place : (logged : Logged) (behind : ℕ) (asked : Asked) (told : Told)
-    → FitsLine logged behind asked told → NamesOwnPlace logged.size asked told
-own_place logged behind (Insert value) (Wrote start end) fits = fits
-own_place logged behind (Insert value) (Hard start end moment) fits = fits
-own_place logged behind (Insert value) (Flushed upto moment) fits = fits
-own_place logged behind (Insert value) (Refused cause reserved) fits = tt
-own_place logged behind (Commit value) (Wrote start end) fits = fits
-own_place logged behind (Commit value) (Hard start end moment) fits = fits
-own_place logged behind (Commit value) (Flushed upto moment) fits = fits
-own_place logged behind (Commit value) (Refused cause reserved) fits = tt
-own_place logged behind Flush (Wrote start end) fits = fits
-own_place logged behind Flush (Hard start end moment) fits = fits
-own_place logged behind Flush (Flushed upto moment) fits = tt
-own_place logged behind Flush (Refused cause reserved) fits = tt
+own_place : (logged : Logged) (pass behind : ℕ) (asked : Asked) (told : Told)
+    → FitsLine logged pass behind asked told → NamesOwnPlace logged.size asked told
+own_place logged pass behind (Insert value) (Wrote start end) fits = fits
+own_place logged pass behind (Insert value) (Hard start end moment) fits = fits
+own_place logged pass behind (Insert value) (Flushed upto moment) fits = fits
+own_place logged pass behind (Insert value) (Refused cause reserved) fits = tt
+own_place logged pass behind (Commit value) (Wrote start end) fits = fits
+own_place logged pass behind (Commit value) (Hard start end moment) fits = fits
+own_place logged pass behind (Commit value) (Flushed upto moment) fits = fits
+own_place logged pass behind (Commit value) (Refused cause reserved) fits = tt
+own_place logged pass behind Flush (Wrote start end) fits = fits
+own_place logged pass behind Flush (Hard start end moment) fits = fits
+own_place logged pass behind Flush (Flushed upto moment) fits = tt
+own_place logged pass behind Flush (Refused cause reserved) fits = tt
 
 -- of a line and what it was told; of a backend's lines
 abbrev OwnsPlace : ℕ → AskedLine × Told → Type 0
@@ -65,7 +64,7 @@ own_places logged pass behind [] told tells = All-nil (OwnsPlace logged.size)
 own_places logged pass behind (line ∷ lines) [] tells = All-nil (OwnsPlace logged.size)
 own_places logged pass behind (line ∷ lines) (told ∷ others) tells =
     All-cons (OwnsPlace logged.size) (line, told) (zip lines others)
-    (own_place logged behind line.asked told tells.0)
+    (own_place logged pass behind line.asked told tells.0)
     (own_places logged pass
     (behind_or logged.size behind (entry_of logged.size pass line.asked told)) lines others
     tells.1)
@@ -166,8 +165,7 @@ module _ (outside : Outside) (outcome : Outcome) where
       Headline size outside.moment_before script told outside.tape_before outside.tape_after
 
   of_run : (options : RunOptions) (told : List (List Told)) → (told ≡ [] → ⊥)
-      → RunHolds outside options.geometry (capacity_of options.geometry options.cap_segments)
-      options.list outcome told
+      → RunHolds outside options outcome told
       → (size : ℕ) (script : List (List AskedLine)) → size ≡ options.geometry
       → ScriptMeans outside.source_before outside.source_after (Ok script)
       → Leaves size script told
@@ -180,9 +178,7 @@ module _ (outside : Outside) (outcome : Outcome) where
       (holds.2).headline)
 
   of_play : (options : GenOptions) (told : List (List Told)) → (told ≡ [] → ⊥)
-      → PlayHolds outside options.run.geometry
-      (capacity_of options.run.geometry options.run.cap_segments) options.run.list outcome
-      (generated_script options.lines) told
+      → PlayHolds outside options.run outcome (generated_script options.lines) told
       → Leaves options.run.geometry (generated_script options.lines) told
   of_play options [] opened holds = absurd (opened refl)
   of_play options (t ∷ ts) opened holds = holds.headline

@@ -1,6 +1,6 @@
 -- The backends of a run: how many there are, and that each line of each was told an answer.
-use Rattle.std.proofs.Common.{◌≡◌, ℕ, suc, ◌<◌, ◌≤◌, All, Bool, List, [], ◌∷◌, length, Vec, Ok, Result, refl, sym, ◌∙◌, ap, subst, arith}
-use Rattle.std.specs.Prelude.{IfOk}
+use Rattle.std.proofs.Common.{◌≡◌, ℕ, suc, ◌<◌, ◌≤◌, All, List, [], ◌∷◌, length, Vec, Ok, Result, refl, sym, ◌∙◌, ap, subst, arith}
+use Rattle.std.specs.Prelude.{IfOk, vec_len}
 use Rattle.std.proofs.lemmas.List.Elements.{All-cons, All-nil}
 use Rattle.std.specs.declared.alloc.Global.{Global}
 use Rattle.wal_script.specs.Asked.{AskedLine}
@@ -9,6 +9,8 @@ use Rattle.wal_script.specs.ReplayReading.{AreBackendsOf}
 use Rattle.wal_script.specs.declared.line.Line.{Line}
 use Rattle.wal_script.specs.declared.line.Refusal.{Refusal}
 use Rattle.wal_script.proofs.RunLaws.{runs_have_some_backends}
+use Rattle.wal_core.specs.declared.setup.Setup.{Setup}
+use Rattle.command_words.specs.declared.commands.RunOptions.{RunOptions}
 use Rattle.backend_lanes.specs.Backends.{HaveToldEach, IsRoomFor, lists_of, scripts_of}
 use Rattle.backend_lanes.specs.declared.backend.AnsweredLines.{AnsweredLines}
 use Rattle.backend_lanes.specs.declared.playing.Room.{Room}
@@ -16,6 +18,7 @@ use Rattle.backend_cli.specs.Outside.{Outside, SourceView}
 use Rattle.backend_cli.specs.Prepared.{IsPreparedFor}
 use Rattle.backend_cli.specs.Printing.{HasAnswers}
 use Rattle.backend_cli.specs.Reading.{ScriptMeans}
+use Rattle.backend_cli.specs.Setups.{run_setup}
 use Rattle.backend_cli.specs.Run.{HoldsOpened, PlayHolds}
 use Rattle.backend_cli.specs.declared.outcome.Outcome.{Outcome}
 use Rattle.backend_cli.proofs.ReplayScripts.{as_many_backends}
@@ -48,6 +51,14 @@ as_many_prepared script room ready =
     as_many_backends script (scripts_of room.backends.items) ready.lines
     ∙ as_many_scripts room.backends.items
 
+-- the setup of the log is that of a pass for each backend of the script
+pub setup_told : (options : RunOptions) (setup : Setup) (script : List (List AskedLine))
+    (room : Room) (count : ℕ) → IsPreparedFor script room → count ≡ vec_len room.backends
+    → setup ≡ run_setup options count → setup ≡ run_setup options (length script)
+setup_told options setup script room count ready as_many is =
+    is ∙ ap (run_setup options)
+    (as_many ∙ room.backends.ok.0 ∙ sym (as_many_prepared script room ready))
+
 -- ---- told an answer to each line
 
 pub as_many_told : (script : List (List AskedLine)) (backends : List AnsweredLines)
@@ -68,13 +79,11 @@ all_answered (asked ∷ script) (backend ∷ backends) told =
     (all_answered script backends told.1)
 
 -- a run of some backends that opened the log holds what it promises
-pub told_holds : (outside : Outside) (size capacity : ℕ) (list : Bool) (outcome : Outcome)
+pub told_holds : (outside : Outside) (options : RunOptions) (outcome : Outcome)
     (script : List (List AskedLine)) (backends : List AnsweredLines) → 0 < length script
     → HaveToldEach script backends
-    → HoldsOpened outside size capacity list outcome script (lists_of backends)
-    → PlayHolds outside size capacity list outcome script (lists_of backends)
-told_holds outside size capacity list outcome [] backends some told holds =
-    absurd (omega (arith, some))
-told_holds outside size capacity list outcome (asked ∷ script) [] some told holds = absurd told
-told_holds outside size capacity list outcome (asked ∷ script) (backend ∷ backends) some told
-    holds = holds
+    → HoldsOpened outside options outcome script (lists_of backends)
+    → PlayHolds outside options outcome script (lists_of backends)
+told_holds outside options outcome [] backends some told holds = absurd (omega (arith, some))
+told_holds outside options outcome (asked ∷ script) [] some told holds = absurd told
+told_holds outside options outcome (asked ∷ script) (backend ∷ backends) some told holds = holds

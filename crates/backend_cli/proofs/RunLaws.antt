@@ -14,7 +14,7 @@ use Rattle.wal_core.specs.declared.setup.Setup.{Setup}
 use Rattle.wal_rule.specs.Closing.{ClosesWith}
 use Rattle.wal_rule.specs.Founded.{empty_log_opening}
 use Rattle.wal_rule.specs.Passes.{view_of_pass}
-use Rattle.wal_rule.specs.Slotted.{as_machine_has, first_on, slot_disk}
+use Rattle.wal_rule.specs.Slotted.{as_machine_has, slot_disk}
 use Rattle.wal_rule.specs.Tables.{began_of_table}
 use Rattle.wal_rule.specs.declared.pass.Pass.{Pass}
 use Rattle.wal_log.specs.Logs.{opening_of_log, table_of}
@@ -22,7 +22,6 @@ use Rattle.wal_log.specs.Opening.{IsOpened}
 use Rattle.wal_log.specs.declared.closing.Closed.{Closed}
 use Rattle.wal_log.specs.declared.wal.Wal.{Wal}
 use Rattle.wal_script.specs.Asked.{AskedLine}
-use Rattle.told_lines.specs.Rooms.{capacity_of}
 use Rattle.told_lines.specs.Whole.{IsWhole}
 use Rattle.run_laws.specs.Counted.{all_reserved_count}
 use Rattle.run_laws.specs.Ended.{HasTakenIn, logged_at_end}
@@ -35,9 +34,9 @@ use Rattle.backend_lanes.specs.declared.backend.AnsweredLines.{AnsweredLines}
 use Rattle.command_words.specs.declared.commands.RunOptions.{RunOptions}
 use Rattle.backend_cli.specs.Concluding.{IsConcluded}
 use Rattle.backend_cli.specs.Outside.{SourceView, Took, outside_of}
-use Rattle.backend_cli.specs.Prepared.{run_setup}
 use Rattle.backend_cli.specs.Printing.{printed_text}
 use Rattle.backend_cli.specs.Run.{HoldsOpened}
+use Rattle.backend_cli.specs.Setups.{run_setup}
 use Rattle.backend_cli.specs.Texts.{run_text}
 use Rattle.backend_cli.specs.declared.outcome.Outcome.{Outcome}
 use Rattle.backend_cli.proofs.HeadlineLaws.{all_answered, all_own_places, headline_of_run}
@@ -51,14 +50,14 @@ entries-le size (e ∷ es) =
     omega (arith, rooms_of_cons size e es, (room_is (assembled e.value)).1, entries-le size es)
 
 module _ {D : Type 0} (tape : D → Option Tape) (moment faults : D → ℕ) (disk : D)
-    (options : RunOptions) (backend_count : ℕ) (setup : Setup)
-    (setup_is : setup ≡ run_setup options backend_count) (wal : Wal D) (first : Pass)
+    (options : RunOptions) (setup : Setup) (wal : Wal D) (first : Pass)
     (opened : IsOpened tape moment faults setup disk wal first)
     (counts : IfSome (tape disk) (λ t. moment disk ≡ length t.calls))
-    (script : List (List AskedLine)) (backends : List AnsweredLines) (closed : Closed D)
+    (script : List (List AskedLine)) (setup_is : setup ≡ run_setup options (length script))
+    (backends : List AnsweredLines) (closed : Closed D)
     (played : HasPlayed tape moment faults wal script backends closed) where
   abbrev opening : Opening
-  opening = empty_log_opening (run_setup options backend_count) (moment disk) (faults disk)
+  opening = empty_log_opening (run_setup options (length script)) (moment disk) (faults disk)
 
   abbrev order : List Entry
   order = order_told opening script (lists_of backends)
@@ -181,15 +180,15 @@ module _ {D : Type 0} (tape : D → Option Tape) (moment faults : D → ℕ) (di
         played.each concluded.summarizes counted
 
     pub opened_holds : HoldsOpened (outside_of before after tape moment faults disk closed.disk
-        sunk sink_faults out out_now)
-        options.geometry (capacity_of options.geometry options.cap_segments) options.list outcome
-        script (lists_of backends)
+        sunk sink_faults out out_now) options outcome script (lists_of backends)
     opened_holds =
         let printed_all = printed_text options.list backends concluded.summary in
         record {
           empty = opened.empty;
+          machine = assured.machine;
           told = assured.told;
           stays_down = assured.stays_down;
+          one_fault = assured.one_fault;
           headline = headline_of_run options.geometry (moment disk) valid script
               (lists_of backends) (tape disk) (tape closed.disk)
               (all_answered (logged_at_end opening order (faults closed.disk)) 1 script

@@ -1,5 +1,5 @@
 -- What a run has to show whose log was not opened.
-use Rattle.std.proofs.Common.{◌≡◌, ℕ, Bool, List, [], ◌∷◌, Option, Ok, refl, ap}
+use Rattle.std.proofs.Common.{◌≡◌, ℕ, List, [], ◌∷◌, Option, Ok, refl, ap}
 use Rattle.segment_disk.specs.Tape.{IsUncalled, Tape}
 use Rattle.wal_core.specs.Sound.{IsSetup}
 use Rattle.wal_core.specs.declared.setup.Setup.{Setup}
@@ -7,6 +7,7 @@ use Rattle.wal_log.specs.Opening.{TellsOpenFault}
 use Rattle.wal_log.specs.declared.opening.OpenFaultKind.{OpenFaultKind}
 use Rattle.wal_log.specs.declared.opening.OpenFaultKind.TheVariants as kinds
 use Rattle.wal_script.specs.Asked.{AskedLine}
+use Rattle.command_words.specs.declared.commands.RunOptions.{RunOptions}
 use Rattle.backend_cli.specs.Outcome.{outcome_unopened}
 use Rattle.backend_cli.specs.Outside.{IsUntouched, Outside, SourceView, outside_of}
 use Rattle.backend_cli.specs.Reading.{ScriptMeans}
@@ -27,8 +28,7 @@ module _ {D : Type 0} (tape : D → Option Tape) (moment faults : D → ℕ) (se
   same_without_memory kinds.NotEmpty tells is = cc
 
   module _ {O : Type 0} (sunk : O → Option (List ℕ)) (sink_faults : O → ℕ) (out : O)
-      (before after : SourceView) (script : List (List AskedLine)) (size capacity : ℕ)
-      (list : Bool) where
+      (before after : SourceView) (script : List (List AskedLine)) (options : RunOptions) where
     -- the outside of a run that played nothing
     abbrev unplayed : Outside
     unplayed = outside_of before after tape moment faults disk now sunk sink_faults out out
@@ -43,7 +43,7 @@ module _ {D : Type 0} (tape : D → Option Tape) (moment faults : D → ℕ) (se
 
     pub unopened_holds : (kind : OpenFaultKind)
         → TellsOpenFault tape moment faults setup disk now kind
-        → PlayHolds unplayed size capacity list (outcome_unopened kind) script []
+        → PlayHolds unplayed options (outcome_unopened kind) script []
     unopened_holds kinds.BadSetup tells = absurd (tells.0 can_be)
     unopened_holds kinds.Memory tells =
         let same = tells.1 in (
@@ -59,24 +59,24 @@ module _ {D : Type 0} (tape : D → Option Tape) (moment faults : D → ℕ) (se
     unopened_holds kinds.NotEmpty tells = ((tells.3, tells.2), untouched tells.1)
 
 -- the run of a script that the source handed out
-pub run_of_play : (outside : Outside) (size capacity : ℕ) (list : Bool) (outcome : Outcome)
+pub run_of_play : (outside : Outside) (options : RunOptions) (outcome : Outcome)
     (script : List (List AskedLine)) (lists : List (List Told))
     → ScriptMeans outside.source_before outside.source_after (Ok script)
-    → PlayHolds outside size capacity list outcome script lists
-    → RunHolds outside size capacity list outcome lists
-run_of_play outside size capacity list outcome script (told ∷ others) means holds =
+    → PlayHolds outside options outcome script lists
+    → RunHolds outside options outcome lists
+run_of_play outside options outcome script (told ∷ others) means holds =
     (script, means, holds)
-run_of_play outside size capacity list Done script [] means holds = absurd holds.0
-run_of_play outside size capacity list OutOfMemory script [] means holds =
+run_of_play outside options Done script [] means holds = absurd holds.0
+run_of_play outside options OutOfMemory script [] means holds =
     (((means.1).faults_same, holds.0), holds.1)
-run_of_play outside size capacity list Usage script [] means holds = absurd holds.0
-run_of_play outside size capacity list SourceFault script [] means holds = absurd holds.0
-run_of_play outside size capacity list (ScriptRefused refusal) script [] means holds =
+run_of_play outside options Usage script [] means holds = absurd holds.0
+run_of_play outside options SourceFault script [] means holds = absurd holds.0
+run_of_play outside options (ScriptRefused refusal) script [] means holds =
     absurd holds.0
-run_of_play outside size capacity list NotEmpty script [] means holds =
+run_of_play outside options NotEmpty script [] means holds =
     (((script, means), (holds.0).0, (holds.0).1), holds.1)
-run_of_play outside size capacity list DiskFault script [] means holds =
+run_of_play outside options DiskFault script [] means holds =
     (((script, means), holds.0), holds.1)
-run_of_play outside size capacity list (Stopped stop) script [] means holds = absurd holds.0
-run_of_play outside size capacity list LogFull script [] means holds = absurd holds.0
-run_of_play outside size capacity list SinkFault script [] means holds = absurd holds.0
+run_of_play outside options (Stopped stop) script [] means holds = absurd holds.0
+run_of_play outside options LogFull script [] means holds = absurd holds.0
+run_of_play outside options SinkFault script [] means holds = absurd holds.0

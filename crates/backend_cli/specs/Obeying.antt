@@ -1,6 +1,5 @@
 -- What a command line promises.
 use Rattle.std.specs.Prelude.{◌≡◌, ◌⊎◌, ℕ, List, []}
-use Rattle.told_lines.specs.Rooms.{capacity_of}
 use Rattle.backend_cli.specs.declared.outcome.Outcome.{Outcome}
 use Rattle.backend_cli.specs.declared.outcome.Outcome.TheVariants.{OutOfMemory, Usage}
 use Rattle.told_lines.specs.declared.told.Told.{Told}
@@ -51,9 +50,7 @@ abbrev pub Obeys : Request → Outside → Outcome → List (List Told) → Type
 Obeys Nothing outside outcome lists = IsUsage outside outcome lists
 Obeys Help outside outcome lists = IsExplained help outside outcome lists
 Obeys Version outside outcome lists = IsExplained version outside outcome lists
-Obeys (Command (Run options)) outside outcome lists =
-    RunHolds outside options.geometry (capacity_of options.geometry options.cap_segments)
-    options.list outcome lists
+Obeys (Command (Run options)) outside outcome lists = RunHolds outside options outcome lists
 Obeys (Command (Gen options)) outside outcome lists = GenHolds outside options outcome lists
 Obeys (Command (Replay options)) outside outcome lists =
     ReplayHolds outside options outcome lists

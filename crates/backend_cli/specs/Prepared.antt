@@ -7,15 +7,12 @@ use Rattle.wal_script.specs.declared.line.Refusal.{Refusal}
 use Rattle.wal_script.specs.Replay.{most_backends}
 use Rattle.wal_script.specs.ReplayReading.{AreBackendsOf}
 use Rattle.wal_script.specs.Run.{backends_meaning}
-use Rattle.wal_core.specs.declared.setup.Setup.{Setup}
-use Rattle.command_words.specs.declared.commands.RunOptions.{RunOptions}
 use Rattle.backend_lanes.specs.Backends.{IsRoomFor, scripts_of}
 use Rattle.backend_lanes.specs.declared.playing.Room.{Room}
 use Rattle.backend_cli.specs.declared.outcome.Outcome.{Outcome}
 use Rattle.backend_cli.specs.declared.outcome.Outcome.TheVariants.{OutOfMemory, SourceFault, ScriptRefused}
 use Rattle.backend_cli.specs.Outside.{SourceView}
 use Rattle.backend_cli.specs.Reading.{ScriptMeans, ScriptMeansBy}
-use Rattle.backend_cli.specs.Setups.{setup_asked}
 use Rattle.segment_disk.specs.Cause.{RoseByOne}
 
 -- backends whose lines ask for this, some but no more than there may be, with all room that they
@@ -25,11 +22,6 @@ pub record IsPreparedFor (script : List (List AskedLine)) (room : Room) : Type 0
   pub enough : IsRoomFor (scripts_of room.backends.items) room
   pub some : 0 < length script
   pub few : length script ≤ most_backends
-
--- the setup of a run's log
-abbrev pub run_setup : RunOptions → ℕ → Setup
-run_setup options backends =
-    setup_asked options.geometry options.ring_pages options.cap_segments backends
 
 -- why nothing was made ready: memory, the source, or the script, which means what `by` says, and
 -- nothing else

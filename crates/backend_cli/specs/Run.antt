@@ -1,5 +1,5 @@
 -- What a run promises.
-use Rattle.std.specs.Prelude.{◌≡◌, ℕ, ◌-◌, ◌^◌, ◌<◌, Bool, List, [], ◌∷◌, None, Ok, Err, IfSome, IsSome}
+use Rattle.std.specs.Prelude.{◌≡◌, ◌-◌, ◌^◌, ◌<◌, List, [], ◌∷◌, length, None, Ok, Err, IfSome, IsSome}
 use Rattle.segment_disk.specs.Tape.{state_now, page_of_segment}
 use Rattle.flush_core.specs.Pages.{HoldsNothing}
 use Rattle.wal_script.specs.Asked.{AskedLine}
@@ -7,15 +7,18 @@ use Rattle.backend_cli.specs.declared.outcome.Outcome.{Outcome}
 use Rattle.backend_cli.specs.declared.outcome.Outcome.TheVariants.{Done, OutOfMemory, SourceFault, ScriptRefused, NotEmpty, DiskFault, LogFull, SinkFault}
 use Rattle.told_lines.specs.declared.told.Told.{Told}
 use Rattle.told_lines.specs.Told.{TellsAll, EachStaysDown, order_from, IsFullAnswer, IsRefused, SomeTold}
+use Rattle.told_lines.specs.Counts.{TellsOneFault}
 use Rattle.told_lines.specs.Moments.{EachRises}
 use Rattle.told_lines.specs.Crash.{EachIsTimely}
 use Rattle.told_lines.specs.Rooms.{all_rooms_asked, capacity_of}
 use Rattle.command_words.specs.declared.commands.GenOptions.{GenOptions}
+use Rattle.command_words.specs.declared.commands.RunOptions.{RunOptions}
 use Rattle.generated_lines.specs.Generated.{generated_script}
 use Rattle.told_lines.specs.Whole.{IsWhole}
-use Rattle.run_laws.specs.Assured.{LeavesLogWords, TapeGoesOn}
+use Rattle.wal_rule.specs.Founded.{empty_log_opening}
+use Rattle.run_laws.specs.Assured.{IsMachineRun, LeavesLogWords, TapeGoesOn}
 use Rattle.backend_cli.specs.Headline.{Headline}
-use Rattle.backend_cli.specs.Setups.{system_id}
+use Rattle.backend_cli.specs.Setups.{run_setup, system_id}
 use Rattle.backend_cli.specs.Texts.{run_text}
 use Rattle.backend_cli.specs.Reading.{ScriptMeans}
 use Rattle.segment_disk.specs.Cause.{Rose, RoseByOne}
@@ -70,55 +73,59 @@ EndsOpened outside told SinkFault =
 EndsOpened outside told others = ⊥
 
 -- a run that opened the log, of the script with these lines: what it told and made of them
-pub record HoldsOpened (outside : Outside) (size capacity : ℕ) (list : Bool) (outcome : Outcome)
+pub record HoldsOpened (outside : Outside) (options : RunOptions) (outcome : Outcome)
     (script : List (List AskedLine)) (lists : List (List Told)) : Type 0 where
   pub empty : IfSome outside.tape_before (λ t. page_of_segment (state_now t 1) 0 ≡ None)
+  pub machine : IsMachineRun (empty_log_opening (run_setup options (length script))
+      outside.moment_before outside.disk_before) outside.tape_after outside.moment_after script
+      lists
   pub told : TellsAll (record {
-    size = size;
-    capacity = capacity;
-    order = order_from size 1 script lists;
+    size = options.geometry;
+    capacity = capacity_of options.geometry options.cap_segments;
+    order = order_from options.geometry 1 script lists;
     faults_at_open = outside.disk_before;
     last = outside.disk_after;
   }) 1 script lists
   pub stays_down : EachStaysDown lists
-  pub headline : Headline size outside.moment_before script lists outside.tape_before
+  pub one_fault : TellsOneFault lists
+  pub headline : Headline options.geometry outside.moment_before script lists outside.tape_before
       outside.tape_after
   pub goes_on : TapeGoesOn outside.tape_before outside.tape_after
-  pub words : HoldsNothing outside.tape_before → IfSome outside.tape_after (LeavesLogWords size
-      system_id (order_from size 1 script lists) outside.moment_before)
+  pub words : HoldsNothing outside.tape_before → IfSome outside.tape_after (LeavesLogWords
+      options.geometry system_id (order_from options.geometry 1 script lists)
+      outside.moment_before)
   pub moments : EachRises outside.moment_before lists outside.moment_after
   pub no_late_receipt : HoldsNothing outside.tape_before → IfSome outside.tape_after
-      (λ t. EachIsTimely size outside.moment_before (order_from size 1 script lists) t 1 script
-      lists)
+      (λ t. EachIsTimely options.geometry outside.moment_before
+      (order_from options.geometry 1 script lists) t 1 script lists)
   pub whole : outside.disk_after ≡ outside.disk_before → outside.disk_before < 2 ^ 64 - 1
-      → HoldsNothing outside.tape_before
-      → IsWhole size outside.tape_after (order_from size 1 script lists)
+      → HoldsNothing outside.tape_before → IsWhole options.geometry outside.tape_after
+      (order_from options.geometry 1 script lists)
   pub printed : Took outside.taken_before outside.taken_after outside.sink_before outside.sink_after
-      (run_text size list script lists (order_from size 1 script lists))
+      (run_text options.geometry options.list script lists
+      (order_from options.geometry 1 script lists))
   pub ends : EndsOpened outside lists outcome
-  pub full : SomeTold IsFullAnswer lists → capacity < all_rooms_asked script
+  pub full : SomeTold IsFullAnswer lists
+      → capacity_of options.geometry options.cap_segments < all_rooms_asked script
 
 -- the run of a script that is known: without told lists the log was not opened, and nothing was
 -- touched
-abbrev pub PlayHolds : Outside → ℕ → ℕ → Bool → Outcome → List (List AskedLine)
-    → List (List Told) → Type 0
-PlayHolds outside size capacity list outcome script [] =
-    EndsUnplayed outside outcome × IsUntouched outside
-PlayHolds outside size capacity list outcome script (told ∷ others) =
-    HoldsOpened outside size capacity list outcome script (told ∷ others)
+abbrev pub PlayHolds : Outside → RunOptions → Outcome → List (List AskedLine) → List (List Told)
+    → Type 0
+PlayHolds outside options outcome script [] = EndsUnplayed outside outcome × IsUntouched outside
+PlayHolds outside options outcome script (told ∷ others) =
+    HoldsOpened outside options outcome script (told ∷ others)
 
 -- the same of the script that the source handed out
-abbrev pub RunHolds : Outside → ℕ → ℕ → Bool → Outcome → List (List Told) → Type 0
-RunHolds outside size capacity list outcome [] = EndsUnopened outside outcome × IsUntouched outside
-RunHolds outside size capacity list outcome (told ∷ others) =
+abbrev pub RunHolds : Outside → RunOptions → Outcome → List (List Told) → Type 0
+RunHolds outside options outcome [] = EndsUnopened outside outcome × IsUntouched outside
+RunHolds outside options outcome (told ∷ others) =
     (script : List (List AskedLine))
     × ScriptMeans outside.source_before outside.source_after (Ok script)
-    × HoldsOpened outside size capacity list outcome script (told ∷ others)
+    × HoldsOpened outside options outcome script (told ∷ others)
 
 -- the run of lines that are made: no script is read
 pub record GenHolds (outside : Outside) (options : GenOptions) (outcome : Outcome)
     (lists : List (List Told)) : Type 0 where
   pub unread : outside.source_after ≡ outside.source_before
-  pub plays : PlayHolds outside options.run.geometry
-      (capacity_of options.run.geometry options.run.cap_segments) options.run.list outcome
-      (generated_script options.lines) lists
+  pub plays : PlayHolds outside options.run outcome (generated_script options.lines) lists

@@ -1,6 +1,7 @@
 -- The setup of a log that a command opens.
 use Rattle.std.specs.Prelude.{ℕ, ◌+◌}
 use Rattle.wal_core.specs.declared.setup.Setup.{Setup}
+use Rattle.command_words.specs.declared.commands.RunOptions.{RunOptions}
 
 -- the system id of each log that this program writes
 abbrev pub system_id : ℕ
@@ -15,3 +16,8 @@ setup_asked segment_size ring_pages cap_segments backends = record {
   sysid = system_id;
   passes = backends + 1;
 }
+
+-- the setup of a run's log
+abbrev pub run_setup : RunOptions → ℕ → Setup
+run_setup options backends =
+    setup_asked options.geometry options.ring_pages options.cap_segments backends

@@ -5,7 +5,6 @@ ghost use Rattle.wal_script.specs.Asked.{AskedLine};
 ghost use Rattle.wal_script.specs.Replay.{most_backends};
 ghost use Rattle.waldump_text.specs.Put.{Puts};
 ghost use Rattle.wal_log.specs.declared.opening.OpenFaultKind.TheVariants.{BadSetup};
-ghost use Rattle.told_lines.specs.Rooms.{capacity_of};
 ghost use Rattle.told_lines.specs.Told.{SomeTold, SomeAnswer, IsFullAnswer};
 ghost use Rattle.told_lines.specs.Counts.{all_commits_of, commits_of, reserved_count};
 ghost use Rattle.run_laws.specs.Counted.{all_reserved_count};
@@ -219,8 +218,7 @@ pub(crate) fn run_prepared<R: Threads + Wait + Sync, O: Sink, D: Disk + Send, G:
     ensures holds { (before after : SourceView) (script : List (List AskedLine))
         → IsPreparedFor script room → PlayHolds (outside_of before after
         D.tape D.moment D.faults disk result.disk O.taken O.faults out.old out.new)
-        options.now.geometry (capacity_of options.now.geometry options.now.cap_segments)
-        options.now.list result.outcome script result.told }
+        options.now result.outcome script result.told }
     ensures as_handed_in { result.outcome ≡ Outcome.OutOfMemory → result.disk ≡ disk }
 {
     calls_are_counted(&disk);
@@ -289,8 +287,7 @@ pub(crate) fn run<R: Threads + Wait + Sync, S: Source, O: Sink, D: Disk + Send, 
         (source_view S.left S.handed S.ends_told S.faults source.old)
         (source_view S.left S.handed S.ends_told S.faults source.new)
         D.tape D.moment D.faults disk result.disk O.taken O.faults out.old out.new)
-        options.now.geometry (capacity_of options.now.geometry options.now.cap_segments)
-        options.now.list result.outcome result.told }
+        options.now result.outcome result.told }
     ensures as_handed_in { result.outcome ≡ Outcome.OutOfMemory → result.disk ≡ disk }
 {
     match prepare(alloc, source) {

@@ -286,14 +286,14 @@ module _ (knows_record : KnowsRecords) (setup : Setup) (body : Assembled)
 
   insert_caused : (answer : Result Receipt InsertErr) → AnswersInsert setup body old answer new
       → TellsCause (told_of_inserted answer) (pass_state_of old) (pass_state_of new)
-  insert_caused (Ok receipt) told = tt
+  insert_caused (Ok receipt) told = (told.up.met, told.up.set)
   insert_caused (Err e) why = caused (refused_of_insert e).cause (refused_of_insert e).reserved
       (refused_as_commit setup body old new e why)
 
   commit_caused : (answer : Result Sealed refused.Refused)
       → AnswersCommit setup body old answer new
       → TellsCause (told_of_commit answer) (pass_state_of old) (pass_state_of new)
-  commit_caused (Ok sealed) told = tt
+  commit_caused (Ok sealed) told = (told.up.met, told.up.set)
   commit_caused (Err e) why = caused e.cause e.reserved why
 
   inserted : (answer : Result Receipt InsertErr) → AnswersInsert setup body old answer new
@@ -395,7 +395,7 @@ module _ (setup : Setup) (valid : IsSegmentSize setup.segment_size) (old new : V
 
     flush_caused : (answer : Result hard.Hard FlushErr) → AnswersFlush end old answer new
         → TellsCause (told_of_flushed answer) (pass_state_of old) (pass_state_of new)
-    flush_caused (Ok done) told = tt
+    flush_caused (Ok done) told = (told.0.up.met, told.0.up.set)
     flush_caused (Err (flushes.Disk faults)) why = why.1.down.set
     flush_caused (Err (flushes.Down faults)) why = (why.1.met, why.1.set_none)
     flush_caused (Err (flushes.Unreserved found)) why =

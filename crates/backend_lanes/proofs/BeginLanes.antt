@@ -169,6 +169,7 @@ module _ {D : Type 0} (wal : Wal D) where
           number = ap (λ (v : View). (v.reserving).number) pass.1 ∙ was.number;
           none = ap (λ (v : View). (v.reserving).entries) pass.1 ∙ was.none;
           joined = ap (λ (v : View). (v.reserving).joined) pass.1 ∙ was.joined;
+          set_none = ap (λ (v : View). (v.writing).down_set) pass.1 ∙ was.set_none;
         };
       }
 

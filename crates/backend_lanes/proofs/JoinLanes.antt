@@ -124,7 +124,7 @@ module _ {D : Type 0} (wal : Wal D) where
   none_behind pass (asked ∷ script) played = absurd played
 
   -- of a script that the lanes played, the first pass, which had the view `begun`, has taken in
-  -- those that played its front
+  -- those that played its front, and set no fault
   pub record HasTakenFront (script : List (List AskedLine)) (begun v : View)
       (rest : List Lane) (backends : List AnsweredLines) : Type 0 where
     pub front : List (List AskedLine)
@@ -134,6 +134,7 @@ module _ {D : Type 0} (wal : Wal D) where
     pub each : HaveToldEach front backends
     pub taken : IsIdle begun
         → HasTakenIn (opening_of_log wal) v front (lists_of backends)
+        × ((v.writing).down_set ≡ 0)
 
   no_front : (script : List (List AskedLine)) (v : View) (lanes : List Lane)
       → PlayedLanes wal 1 script lanes → HasTakenFront script v v lanes []
@@ -143,8 +144,10 @@ module _ {D : Type 0} (wal : Wal D) where
     script_is = refl;
     left = played;
     each = tt;
-    taken = λ idle. none_taken_in (opening_of_log wal) v idle.number idle.none
-        idle.joined;
+    taken = λ idle. (
+      none_taken_in (opening_of_log wal) v idle.number idle.none idle.joined,
+      idle.set_none,
+    );
   }
 
   whole_front : (script : List (List AskedLine)) (begun v : View) (backends : List AnsweredLines)
@@ -161,7 +164,8 @@ module _ {D : Type 0} (wal : Wal D) where
         → PlayedLanes wal (1 + length front) behind (lane ∷ rest)
         → HaveToldEach front backends
         → (IsIdle begun
-        → HasTakenIn (opening_of_log wal) v front (lists_of backends))
+        → HasTakenIn (opening_of_log wal) v front (lists_of backends)
+        × ((v.writing).down_set ≡ 0))
         → HasTakenFront script begun both rest (backends ++ lane.backend ∷ [])
     further_front front [] is left each taken = absurd left
     further_front front (asked ∷ behind) is left each taken =
@@ -176,15 +180,17 @@ module _ {D : Type 0} (wal : Wal D) where
           taken = λ idle.
               let opening = opening_of_log wal in
               let w = view_of_lane lane in
-              subst (λ (lists : List (List Told)). HasTakenIn opening both
+              let was = taken idle in
+              let now = subst (λ (lists : List (List Told)). HasTakenIn opening both
               (front ++ asked ∷ []) lists)
               (sym (map_push (λ (b : AnsweredLines). b.told.items) backends lane.backend))
               (subst (λ (x : View). HasTakenIn opening x (front ++ asked ∷ [])
               (lists_of backends ++ lane.backend.told.items ∷ []))
               (sym both_is)
               (one_more_taken_in opening v w front
-              (lists_of backends) asked lane.backend.told.items (taken idle) left.1
-              (left.0).session.joined left.3 (rose_since (lane.session).pass pass)));
+              (lists_of backends) asked lane.backend.told.items was.0 left.1
+              (left.0).session.joined left.3 (rose_since (lane.session).pass pass) was.1)) in
+              (now, ap (λ (x : View). (x.writing).down_set) both_is ∙ was.1);
         }
 
   -- the lanes in front were taken in by the first pass, which had the view `begun`; what their
@@ -296,10 +302,11 @@ module _ {D : Type 0} (wal : Wal D) where
 
       pub all_taken_in : IsIdle begun
           → HasTakenIn (opening_of_log wal) (view_of_pass first) script
-          (lists_of backends.items)
+          (lists_of backends.items) × (((view_of_pass first).writing).down_set ≡ 0)
       all_taken_in idle = subst (λ (s : List (List AskedLine)).
           HasTakenIn (opening_of_log wal) (view_of_pass first) s
-          (lists_of backends.items)) front_is ((last.taken script played).taken idle)
+          (lists_of backends.items) × (((view_of_pass first).writing).down_set ≡ 0)) front_is
+          ((last.taken script played).taken idle)
 
       pub all_told : HaveToldEach script backends.items
       all_told = subst (λ (s : List (List AskedLine)). HaveToldEach s backends.items) front_is

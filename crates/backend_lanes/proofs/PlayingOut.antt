@@ -9,10 +9,11 @@ use Rattle.wal_core.specs.Views.{FlushPromise, View}
 use Rattle.wal_core.specs.Words.{Opening}
 use Rattle.wal_core.specs.declared.setup.Setup.{Setup}
 use Rattle.wal_rule.specs.Closing.{KeepsNumbers}
+use Rattle.wal_rule.specs.Downs.{KnowsDown}
 use Rattle.wal_rule.specs.Passes.{view_of_pass}
 use Rattle.wal_core.specs.Opened.{first_view}
 use Rattle.wal_rule.specs.declared.pass.Pass.{Pass}
-use Rattle.wal_log.specs.Flushing.{AnswersFlush}
+use Rattle.wal_log.specs.Flushing.{AnswersFlush, flush_err_known_down}
 use Rattle.wal_log.specs.Logs.{IsPassOfLog, opening_of_log, setup_of_log}
 use Rattle.wal_log.specs.PassLogs.{PassLog}
 use Rattle.wal_log.specs.Standing.{KeepsPass}
@@ -132,6 +133,7 @@ first_is_idle opening v is = subst IsIdle (sym is) (record {
   number = refl;
   none = refl;
   joined = refl;
+  set_none = refl;
 })
 
 pub first_gives_from_one : {D : Type 0} (wal : Wal D) (first : Pass) → IsPassOfLog wal first
@@ -146,15 +148,27 @@ same_entries : (asked : ℕ) (v w : View) (answer : Result Hard FlushErr)
 same_entries asked v w (Ok hard) told = ap (λ (l : PassLog). l.entries) (told.0).log_is
 same_entries asked v w (Err e) told = ap (λ (l : PassLog). l.entries) told.0
 
+-- where the pass knew a fault, the flush sets none
+sets_none : (asked : ℕ) (v w : View) (answer : Result Hard FlushErr)
+    → AnswersFlush asked v answer w
+    → ((faults : ℕ) → KnowsDown faults v → answer ≡ flush_err_known_down faults)
+    → (faults : ℕ) → KnowsDown faults v → (w.writing).down_set ≡ (v.writing).down_set
+sets_none asked v w answer told again faults knows =
+    let met = subst (λ (a : Result Hard FlushErr). AnswersFlush asked v a w) (again faults knows)
+    told in
+    (met.1).set_none
+
 -- the passes that were taken in are so still
 pub taken_behind_flush : (opening : Opening) (asked : ℕ) (v w : View)
-    (answer : Result Hard FlushErr) → AnswersFlush asked v answer w → KeepsPass v w
-    → (script : List (List AskedLine)) (lists : List (List Told))
+    (answer : Result Hard FlushErr) → AnswersFlush asked v answer w
+    → ((faults : ℕ) → KnowsDown faults v → answer ≡ flush_err_known_down faults)
+    → KeepsPass v w → (script : List (List AskedLine)) (lists : List (List Told))
     → HasTakenIn opening v script lists
     → HasTakenIn opening w script lists
-taken_behind_flush opening asked v w answer told keeps script lists taken =
+taken_behind_flush opening asked v w answer told again keeps script lists taken =
     still_taken_in opening v w script lists taken keeps.number
     (same_entries asked v w answer told) keeps.joined (λ faults knows. keeps.down faults knows)
+    (sets_none asked v w answer told again)
 
 module _ (setup : Setup) (valid : IsSegmentSize setup.segment_size) (asked : ℕ) (v w : View)
     (setup_is : (v.opening).setup ≡ setup) where

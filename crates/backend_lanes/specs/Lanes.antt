@@ -16,11 +16,13 @@ use Rattle.backend_lanes.specs.Sessions.{IsSessionOf, state_of_session, view_of_
 abbrev pub view_of_lane : Lane → View
 view_of_lane lane = view_of_session lane.session
 
--- the first pass beside the lanes: it has number 0, reserved nothing and took nobody in
+-- the first pass beside the lanes: it has number 0, reserved nothing, took nobody in and set no
+-- fault
 pub record IsIdle (v : View) : Type 0 where
   pub number : (v.reserving).number ≡ 0
   pub none : (v.reserving).entries ≡ []
   pub joined : (v.reserving).joined ≡ []
+  pub set_none : (v.writing).down_set ≡ 0
 
 -- a lane's session, which took nobody in and has no number to give away
 pub record HasLaneSession {D : Type 0} (wal : Wal D) (lane : Lane) : Type 0 where

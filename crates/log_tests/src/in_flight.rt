@@ -2,7 +2,7 @@
 
 ghost use Rattle.std.specs.Prelude.{◌≡◌, [], ◌∷◌, IfOk};
 ghost use Rattle.wal_rule.specs.Passes.{view_of_pass};
-ghost use Rattle.wal_log.specs.Flights.{IsInflightOf, view_of_flight};
+ghost use Rattle.wal_log.specs.Flights.{IsInFlightOf, view_of_flight};
 ghost use Rattle.wal_log.specs.Logs.{IsPassOfLog, setup_of_log};
 ghost use Rattle.wal_log.specs.Sharing.{ShareNumbers};
 ghost use Rattle.wal_log.specs.Standing.{KeepsPass};
@@ -13,7 +13,7 @@ use crate::records::record;
 use insert_locks::AllHeld;
 use log_workers::transaction;
 use record_spelling::Body;
-use segment_disk::MemDisk;
+use segment_disk::{Disk, MemDisk, Pick};
 use std::alloc::Global;
 use std::process::Abort;
 use std::test::Fail;
@@ -28,6 +28,60 @@ use wal_types::Lsn;
 
 type Log = Wal<MemDisk>;
 
+// The order in which two passes insert a record each, and the calls between.
+#[derive(Clone, Copy)]
+enum Order {
+    OtherWayRound,
+    SecondInPart,
+    RingFull,
+}
+
+// Two records with so much main data, and what is left of their log: the disk's moment, and what
+// is read of whatever a crash leaves, from a moment on.
+struct Row {
+    order: Order,
+    lens: [usize; 2],
+    moment: u64,
+    since: u64,
+    found: &'static [Found],
+}
+
+const ROWS: &[Row] = &[
+    Row {
+        order: Order::OtherWayRound,
+        lens: [8, 8],
+        moment: 3,
+        since: 3,
+        found: &[
+            Found {
+                start: FIRST.start.0,
+                xid: 1,
+            },
+            Found {
+                start: SECOND.start.0,
+                xid: 2,
+            },
+        ],
+    },
+    Row {
+        order: Order::SecondInPart,
+        lens: [8, 8],
+        moment: 5,
+        since: 3,
+        found: &[Found {
+            start: FIRST.start.0,
+            xid: 1,
+        }],
+    },
+    Row {
+        order: Order::RingFull,
+        lens: [59_971, 8],
+        moment: 6,
+        since: 0,
+        found: &[],
+    },
+];
+
 const START: Lsn = Lsn(0x10_0000);
 
 // Two records that take up 40 bytes each. The first one's words are those of the page's header too.
@@ -41,15 +95,44 @@ const SECOND: Receipt = Receipt {
     end: Lsn(0x10_0078),
 };
 
-const FIRST_WORDS: Copied = Copied {
-    k: 10,
-    stop: CopyStop::Whole,
+const NONE: Hard = Hard {
+    upto: START,
+    moment: 0,
 };
 
-const SECOND_WORDS: Copied = Copied {
-    k: 5,
-    stop: CopyStop::Whole,
+// Two words of the second record lie below, and three.
+const TWO_WORDS: Lsn = Lsn(0x10_0060);
+
+const THREE_WORDS: Lsn = Lsn(0x10_0068);
+
+// The last one of the ring's four pages of segment 1 is not written, and holds the record itself.
+const NO_PAGE: CopyStop = CopyStop::Absent(Absent {
+    page: 132,
+    end: 1_056_768,
+    turn: 0,
+    written: 1_048_576,
+});
+
+// Four pages of it are written.
+const FOUR_PAGES: Lsn = Lsn(0x10_8000);
+
+const LONG: Receipt = Receipt {
+    start: Lsn(0x10_0028),
+    end: Lsn(0x10_eb30),
 };
+
+// What calls are told.
+fn copied(k: u32, stop: CopyStop) -> Copied {
+    Copied { k, stop }
+}
+
+fn hard(upto: Lsn, moment: u64) -> Result<Hard, TryFlushErr> {
+    Ok(Hard { upto, moment })
+}
+
+fn behind(lock: u32, word: u64) -> Result<Hard, TryFlushErr> {
+    Err(TryFlushErr::Behind { lock, word })
+}
 
 // A log with its first pass, and one that is split off it.
 fn shared(alloc: Global, setup: Setup) -> Result<(Log, Pass, Pass), Fail>
@@ -72,7 +155,7 @@ fn shared(alloc: Global, setup: Setup) -> Result<(Log, Pass, Pass), Fail>
 // A record's place is reserved.
 fn begun<'a, R: Abort>(rt: &R, log: &Log, pass: Pass, body: &'a Body) -> Inflight<'a>
     requires pass { IsPassOfLog log.now pass }
-    ensures flight { IsInflightOf log.now result }
+    ensures flight { IsInFlightOf log.now result }
     ensures keeps { KeepsPass (view_of_pass pass) (view_of_flight result) }
 {
     match log.try_begin(pass, body) {
@@ -81,40 +164,79 @@ fn begun<'a, R: Abort>(rt: &R, log: &Log, pass: Pass, body: &'a Body) -> Infligh
     }
 }
 
-// Its words are copied that are left, and its lock is given back.
+// So many of its words are copied.
+fn copies<'a, R: Abort>(rt: &R, log: &Log, flight: &mut Inflight<'a>, n: u32, told: Copied)
+    requires flight { IsInFlightOf log.now flight.old }
+    ensures flight { IsInFlightOf log.now flight.new }
+    ensures keeps { KeepsPass (view_of_flight flight.old) (view_of_flight flight.new) }
+{
+    let copied = flight.copy(log, n);
+    assert!(rt; copied == told);
+}
+
+// A try of a flush is told this.
+fn flushes<R: Abort>(rt: &R, log: &Log, pass: &mut Pass, upto: Lsn, told: Result<Hard, TryFlushErr>)
+    requires pass { IsPassOfLog log.now pass.old }
+    ensures pass { IsPassOfLog log.now pass.new }
+    ensures keeps { KeepsPass (view_of_pass pass.old) (view_of_pass pass.new) }
+{
+    let answer = log.try_flush(pass, upto);
+    assert!(rt; answer == told);
+}
+
+// So far the log is told to be durable.
+fn is_hard<R: Abort>(rt: &R, log: &Log, pass: &mut Pass, told: Hard)
+    requires pass { IsPassOfLog log.now pass.old }
+    ensures pass { IsPassOfLog log.now pass.new }
+    ensures keeps { KeepsPass (view_of_pass pass.old) (view_of_pass pass.new) }
+{
+    let answer = log.hard(pass);
+    assert!(rt; answer == told);
+}
+
+// Its words are copied that are left, so many, and its lock is given back.
 fn finished<'a, R: Abort>(
     rt: &R,
     log: &Log,
     mut flight: Inflight<'a>,
-    words: Copied,
+    left: u32,
     receipt: Receipt,
 ) -> Pass
-    requires flight { IsInflightOf log.now flight }
+    requires flight { IsInFlightOf log.now flight }
     ensures pass { IsPassOfLog log.now result }
     ensures keeps { KeepsPass (view_of_flight flight.entry) (view_of_pass result) }
 {
-    assert_eq!(rt; flight.copy(log, 5000), words);
+    copies(rt, log, &mut flight, 5000, copied(left, CopyStop::Whole));
     match flight.finish(log) {
         Ok((told, pass)) => {
-            assert_eq!(rt; told, receipt);
+            assert!(rt; told == receipt);
             pass
         }
         Err(_back) => panic!(rt; "no word is left"),
     }
 }
 
-// Words are left and the disk has not failed: so it is not finished, and not given up.
-fn handed_back<'a, R: Abort>(rt: &R, log: &Log, flight: Inflight<'a>) -> Inflight<'a>
-    requires flight { IsInflightOf log.now flight }
-    ensures flight { IsInflightOf log.now result }
-    ensures keeps { KeepsPass (view_of_flight flight.entry) (view_of_flight result) }
+// Words are left: so it is not finished.
+fn not_finished<'a, R: Abort>(rt: &R, log: &Log, flight: Inflight<'a>) -> Inflight<'a>
+    requires flight { IsInFlightOf log.now flight }
+    ensures { result ≡ flight.entry }
 {
     match flight.finish(log) {
         Ok(_) => panic!(rt; "words are left"),
-        Err(back) => match back.give_up(log) {
-            Ok(_) => panic!(rt; "no disk has failed"),
-            Err(again) => again,
-        },
+        Err(back) => back,
+    }
+}
+
+// The disk has not failed: so it is not given up.
+fn handed_back<'a, R: Abort>(rt: &R, log: &Log, flight: Inflight<'a>) -> Inflight<'a>
+    requires flight { IsInFlightOf log.now flight }
+    ensures flight { IsInFlightOf log.now result }
+    ensures keeps { KeepsPass (view_of_flight flight.entry) (view_of_flight result) }
+{
+    let back = not_finished(rt, log, flight);
+    match back.give_up(log) {
+        Ok(_) => panic!(rt; "no disk has failed"),
+        Err(again) => again,
     }
 }
 
@@ -132,120 +254,138 @@ fn closed(log: Log, mut first: Pass, second: Pass) -> Closed<MemDisk>
 }
 
 // The record begun first is copied last: until then nothing behind its start is durable.
-#[test]
-fn records_are_copied_in_any_order(rt: HostRuntime) -> Result<(), Fail> {
-    let alloc = rt.alloc();
-    let (one, two) = (transaction(alloc, 1)?, transaction(alloc, 2)?);
-    let (log, first, second) = shared(alloc, SETUP)?;
-    calls_keep_numbers();
-    passes_share_numbers();
-    let earlier = begun(&rt, &log, first, &one);
-    let later = begun(&rt, &log, second, &two);
-    let mut second = finished(&rt, &log, later, SECOND_WORDS, SECOND);
-    let behind = TryFlushErr::Behind { lock: 0, word: 1 };
-    assert_eq!(rt; log.try_flush(&mut second, SECOND.end), Err(behind));
-    let none = Hard {
-        upto: START,
-        moment: 0,
-    };
-    assert_eq!(rt; log.hard(&mut second), none);
-    let first = finished(&rt, &log, earlier, FIRST_WORDS, FIRST);
-    let both = Hard {
-        upto: SECOND.end,
-        moment: 3,
-    };
-    assert_eq!(rt; log.try_flush(&mut second, SECOND.end), Ok(both));
-    let closed = closed(log, first, second);
-    let mut disk = closed.disk;
-    let found = [
-        Found {
-            start: FIRST.start.0,
-            xid: 1,
-        },
-        Found {
-            start: SECOND.start.0,
-            xid: 2,
-        },
-    ];
-    assert_eq!(rt; records_on(alloc, &mut disk)?.as_slice(), found.as_slice());
-    Ok(())
+fn other_way_round<R: Abort>(
+    rt: &R,
+    log: &Log,
+    first: Pass,
+    second: Pass,
+    one: &Body,
+    two: &Body,
+) -> (Pass, Pass)
+    requires first { IsPassOfLog log.now first }
+    requires second { IsPassOfLog log.now second }
+    ensures passes { IsPassOfLog log.now result.0 × IsPassOfLog log.now result.1 }
+    ensures first { KeepsPass (view_of_pass first) (view_of_pass result.0) }
+    ensures second { KeepsPass (view_of_pass second) (view_of_pass result.1) }
+{
+    let earlier = begun(rt, log, first, one);
+    let later = begun(rt, log, second, two);
+    let mut second = finished(rt, log, later, 5, SECOND);
+    flushes(rt, log, &mut second, SECOND.end, behind(0, 1));
+    is_hard(rt, log, &mut second, NONE);
+    let first = finished(rt, log, earlier, 10, FIRST);
+    flushes(rt, log, &mut second, SECOND.end, hard(SECOND.end, 3));
+    (first, second)
 }
 
-// Two words of the record are copied, and told: a flush writes them, and promises what lies before
-// them. A watch for more than that ends at the record's lock.
-#[test]
-fn a_flush_ends_where_a_copy_does(rt: HostRuntime) -> Result<(), Fail> {
-    let alloc = rt.alloc();
-    let (one, two) = (transaction(alloc, 1)?, transaction(alloc, 2)?);
-    let (log, first, second) = shared(alloc, SETUP)?;
-    let whole = begun(&rt, &log, first, &one);
-    let mut first = finished(&rt, &log, whole, FIRST_WORDS, FIRST);
+// Words of the second record are copied, and told: a flush writes them, and promises what lies
+// before them, and the next one of the same address makes no call. A watch for more than that ends
+// at the record's lock.
+fn second_in_part<R: Abort>(
+    rt: &R,
+    log: &Log,
+    first: Pass,
+    second: Pass,
+    one: &Body,
+    two: &Body,
+) -> (Pass, Pass)
+    requires first { IsPassOfLog log.now first }
+    requires second { IsPassOfLog log.now second }
+    ensures passes { IsPassOfLog log.now result.0 × IsPassOfLog log.now result.1 }
+    ensures first { KeepsPass (view_of_pass first) (view_of_pass result.0) }
+    ensures second { KeepsPass (view_of_pass second) (view_of_pass result.1) }
+{
+    let whole = begun(rt, log, first, one);
+    let mut first = finished(rt, log, whole, 10, FIRST);
     let unreserved = TryFlushErr::Unreserved { end: FIRST.end };
-    assert_eq!(rt; log.try_flush(&mut first, Lsn(0x20_0000)), Err(unreserved));
-    let mut partly = begun(&rt, &log, second, &two);
-    let asked = Copied {
-        k: 2,
-        stop: CopyStop::Asked,
-    };
-    assert_eq!(rt; partly.copy(&log, 2), asked);
-    let written = Hard {
-        upto: Lsn(0x10_0060),
-        moment: 3,
-    };
-    assert_eq!(rt; log.try_flush(&mut first, FIRST.end), Ok(written));
-    let behind = TryFlushErr::Behind {
-        lock: 1,
-        word: 0x10_0061,
-    };
-    assert_eq!(rt; log.try_flush(&mut first, SECOND.end), Err(behind));
-    let partly = handed_back(&rt, &log, partly);
-    let left = Copied {
-        k: 3,
-        stop: CopyStop::Whole,
-    };
-    drop(finished(&rt, &log, partly, left, SECOND));
-    Ok(())
+    flushes(rt, log, &mut first, Lsn(0x20_0000), Err(unreserved));
+    let mut partly = begun(rt, log, second, two);
+    copies(rt, log, &mut partly, 2, copied(2, CopyStop::Asked));
+    flushes(rt, log, &mut first, FIRST.end, hard(TWO_WORDS, 3));
+    flushes(rt, log, &mut first, FIRST.end, hard(TWO_WORDS, 3));
+    flushes(rt, log, &mut first, SECOND.end, behind(1, TWO_WORDS.0 + 1));
+    copies(rt, log, &mut partly, 1, copied(1, CopyStop::Asked));
+    flushes(rt, log, &mut first, THREE_WORDS, hard(THREE_WORDS, 5));
+    let partly = handed_back(rt, log, partly);
+    (first, finished(rt, log, partly, 2, SECOND))
 }
 
 // All four buffers hold pages of the record itself, none of which is written. A flush up to where
 // the log begins makes no device call, one up to where the copy has come makes room.
+fn ring_full<R: Abort>(rt: &R, log: &Log, first: Pass, second: Pass, one: &Body) -> (Pass, Pass)
+    requires first { IsPassOfLog log.now first }
+    requires second { IsPassOfLog log.now second }
+    ensures passes { IsPassOfLog log.now result.0 × IsPassOfLog log.now result.1 }
+    ensures first { KeepsPass (view_of_pass first) (view_of_pass result.0) }
+    ensures second { KeepsPass (view_of_pass second) (view_of_pass result.1) }
+{
+    let mut second = second;
+    let mut long = begun(rt, log, first, one);
+    copies(rt, log, &mut long, 100_000, copied(4096, NO_PAGE));
+    flushes(rt, log, &mut second, START, Ok(NONE));
+    copies(rt, log, &mut long, 100_000, copied(0, NO_PAGE));
+    flushes(rt, log, &mut second, FOUR_PAGES, hard(FOUR_PAGES, 6));
+    (finished(rt, log, long, 3430, LONG), second)
+}
+
+fn played<R: Abort>(
+    rt: &R,
+    log: &Log,
+    order: Order,
+    first: Pass,
+    second: Pass,
+    one: &Body,
+    two: &Body,
+) -> (Pass, Pass)
+    requires first { IsPassOfLog log.now first }
+    requires second { IsPassOfLog log.now second }
+    ensures passes { IsPassOfLog log.now result.0 × IsPassOfLog log.now result.1 }
+    ensures first { KeepsPass (view_of_pass first) (view_of_pass result.0) }
+    ensures second { KeepsPass (view_of_pass second) (view_of_pass result.1) }
+{
+    match order {
+        Order::OtherWayRound => other_way_round(rt, log, first, second, one, two),
+        Order::SecondInPart => second_in_part(rt, log, first, second, one, two),
+        Order::RingFull => ring_full(rt, log, first, second, one),
+    }
+}
+
+// The log in which a row was played, closed.
+fn ended<R: Abort>(rt: &R, alloc: Global, row: &Row) -> Result<Closed<MemDisk>, Fail> {
+    let one = record(alloc, 1, row.lens[0])?;
+    let two = record(alloc, 2, row.lens[1])?;
+    let (log, first, second) = shared(alloc, SETUP)?;
+    calls_keep_numbers();
+    passes_share_numbers();
+    let (first, second) = played(rt, &log, row.order, first, second, &one, &two);
+    Ok(closed(log, first, second))
+}
+
+// Whatever words a crash leaves, at each moment from this one on, just these records are read.
+fn leaves<R: Abort>(
+    rt: &R,
+    alloc: Global,
+    disk: &MemDisk,
+    since: u64,
+    found: &[Found],
+) -> Result<(), Fail> {
+    for moment in since..=disk.moment() {
+        for pick in [Pick::Old, Pick::New, Pick::Odd] {
+            let mut left = disk.crash(alloc, moment, pick)?;
+            assert!(rt; records_on(alloc, &mut left)?.as_slice() == found);
+        }
+    }
+    Ok(())
+}
+
 #[test]
-fn a_copy_ends_where_no_page_is_free(rt: HostRuntime) -> Result<(), Fail> {
+fn records_are_copied_in_any_order(rt: HostRuntime) -> Result<(), Fail> {
     let alloc = rt.alloc();
-    let body = record(alloc, 1, 59_971)?;
-    let (log, first, mut second) = shared(alloc, SETUP)?;
-    let mut long = begun(&rt, &log, first, &body);
-    let absent = CopyStop::Absent(Absent {
-        page: 132,
-        end: 1_056_768,
-        turn: 0,
-        written: 1_048_576,
-    });
-    let all_pages = Copied {
-        k: 4096,
-        stop: absent,
-    };
-    assert_eq!(rt; long.copy(&log, 100_000), all_pages);
-    let none = Hard {
-        upto: START,
-        moment: 0,
-    };
-    assert_eq!(rt; log.try_flush(&mut second, START), Ok(none));
-    assert_eq!(rt; long.copy(&log, 100_000), Copied { k: 0, stop: absent });
-    let copied = Lsn(0x10_8000);
-    assert_eq!(rt;
-        log.try_flush(&mut second, copied).map(|hard| hard.upto),
-        Ok(copied)
-    );
-    let rest = Copied {
-        k: 3430,
-        stop: CopyStop::Whole,
-    };
-    let whole = Receipt {
-        start: FIRST.start,
-        end: Lsn(0x10_eb30),
-    };
-    drop(finished(&rt, &log, long, rest, whole));
+    for row in ROWS {
+        let Closed { disk, .. } = ended(&rt, alloc, row)?;
+        assert!(rt; disk.moment() == row.moment);
+        leaves(&rt, alloc, &disk, row.since, row.found)?;
+    }
     Ok(())
 }
 
@@ -280,7 +420,7 @@ fn told_behind<R: Abort>(
 
 // A record of which no word is copied is handed back, and then finished.
 fn spent<'a, R: Abort>(rt: &R, log: &Log, flight: Inflight<'a>) -> Pass
-    requires flight { IsInflightOf log.now flight }
+    requires flight { IsInFlightOf log.now flight }
     ensures pass { IsPassOfLog log.now result }
 {
     let mut back = handed_back(rt, log, flight);

@@ -7,6 +7,8 @@ mod answers;
 #[cfg(test)]
 mod filled;
 #[cfg(test)]
+mod held_sync;
+#[cfg(test)]
 mod in_flight;
 #[cfg(test)]
 mod opening;
@@ -18,6 +20,8 @@ mod records;
 mod rows;
 #[cfg(test)]
 mod side_by_side;
+#[cfg(test)]
+mod silent;
 #[cfg(test)]
 mod steps;
 #[cfg(test)]

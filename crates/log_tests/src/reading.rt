@@ -21,16 +21,24 @@ pub fn records_on(alloc: Global, disk: &mut MemDisk) -> Result<Vec<Found>, Fail>
     let mut reader = Reader::new(geometry, Lsn(1 << 20), None);
     let mut found = Vec::new(alloc);
     for _ in 0..1000 {
-        match reader.next(alloc, disk) {
-            Ok(Step::Record { start, value, .. }) => found.push(Found {
-                start: start.0,
-                xid: value.xid.0,
-            })?,
-            Ok(Step::End { .. }) | Err(ReadErr::Stopped(_)) => return Ok(found),
-            Err(_) => return Err(Fail::from("a disk that reads")),
+        match found_at(reader.next(alloc, disk)) {
+            Some(record) => found.push(record)?,
+            None => return Ok(found),
         }
     }
-    Err(Fail::from("at most a thousand records"))
+    Err(Fail::from("at most a thousand records on a disk that reads"))
+}
+
+// The record that a step of a reader gives. Where it gives none the log ends, or is torn, or the
+// disk did not read: then a record that lies behind is missed.
+fn found_at(step: Result<Step, ReadErr>) -> Option<Found> {
+    match step {
+        Ok(Step::Record { start, value, .. }) => Some(Found {
+            start: start.0,
+            xid: value.xid.0,
+        }),
+        _ => None,
+    }
 }
 
 /// Where a log ends whose records take up so many bytes.

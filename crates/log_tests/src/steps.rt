@@ -1,7 +1,8 @@
 //! Calls with what they have to be told.
 
 use crate::records::record;
-use log_workers::{Job, LogAnswer, LogCall, transaction};
+use log_workers::{Job, LogAnswer, LogCall};
+use record_spelling::Body;
 use std::alloc::Global;
 use std::test::Fail;
 use wal_log::{CommitErr, FlushErr, Hard, InsertErr, Receipt, Sealed};
@@ -17,13 +18,26 @@ pub enum Step {
 }
 
 impl Step {
-    fn job(&self, alloc: Global) -> Result<Job, Fail> {
-        let call = match self {
-            Step::Insert(len, _) => LogCall::Insert(record(alloc, 1, *len)?),
-            Step::Commit(_) => LogCall::Commit(transaction(alloc, 1)?),
+    // How many bytes of main data its record has.
+    fn len(&self) -> usize {
+        match self {
+            Step::Insert(len, _) => *len,
+            _ => 8,
+        }
+    }
+
+    // The call with its record, which a flush does not need.
+    fn call(&self, body: Body) -> LogCall {
+        match self {
+            Step::Insert(..) => LogCall::Insert(body),
+            Step::Commit(_) => LogCall::Commit(body),
             Step::Flush(upto, _) => LogCall::Flush(*upto),
-        };
-        Ok(Job::of(call))
+        }
+    }
+
+    fn job(&self, alloc: Global) -> Result<Job, Fail> {
+        let body = record(alloc, 1, self.len())?;
+        Ok(Job::of(self.call(body)))
     }
 
     /// What its call has to be told.

@@ -205,7 +205,7 @@ module _ (setup : Setup) (is : IsSetup setup) (words : WordsState) (w : WriterSt
 
     may : MayBeginRunning opening words.words w.plain asks
     may = record {
-      openable = nothing_opens opening is refl;
+      openable = nothing_opens opening is refl (omega arith);
       first_words = first_words;
       first_writer = writer_first;
       passes = omega (arith, few, same_length asks scripts are);

@@ -1,11 +1,11 @@
 -- At the places of a flush that take the writer out, load a page and store what was done a turn on
 -- plain data follows the machine's.
-use Rattle.std.proofs.Common.{◌≡◌, ℕ, ◌+◌, Bool, cond, eqb, List, Option, set, slice_index, refl, sym, ap, ◌∙◌, subst}
+use Rattle.std.proofs.Common.{◌≡◌, ℕ, ◌+◌, Bool, cond, eqb, List, Option, set, slice_index, refl, sym, ap, ◌∙◌, subst, max}
 use Rattle.std.proofs.Math.Dec.{ltb}
 use mathlib.Core.Option.{none, some}
 use Rattle.wal_core.specs.Views.{Turned as HasTurned, Out, Lent, Plain, View}
-use Rattle.wal_core.specs.Moves.{after_store_flushed, is_done, lent, with_hold}
-use Rattle.wal_core.specs.Steps.{fault_number, slot_out, view_behind}
+use Rattle.wal_core.specs.Moves.{after_load_down, after_store_flushed, fault_number, is_done, lent, with_hold}
+use Rattle.wal_core.specs.Steps.{slot_out, view_behind}
 use Rattle.wal_core.proofs.WordLists.{word_again}
 use Rattle.wal_turns.specs.Doing.{Ask, Machine, ForLine, ForPage, Creates, LoadsPage, StoresWritten, SyncsLast, Writes}
 use Rattle.wal_turns.specs.Turned.{goes_on, is_some_segment, outcome, page_or_end as machine_page_or_end}
@@ -56,10 +56,9 @@ page_or_end_alike (purposes.Page lock end) w l u v ask met done = bool_cases
     ≡ cond b (LoadsPage (ForPage lock end) 0) (StoresWritten (ForPage lock end)))
     (ltb (w.plain).written l.known) (λ left. refl) (λ all. refl)
 
-fault_alike : (v : View) (fault : mathlib.Core.Option.Option ℕ)
-    → number_or_0 fault ≡ fault_number v fault
-fault_alike v none = refl
-fault_alike v (some faults) = refl
+fault_alike : (fault : mathlib.Core.Option.Option ℕ) → number_or_0 fault ≡ fault_number fault
+fault_alike none = refl
+fault_alike (some faults) = refl
 
 module _ (m : Machine) (number : ℕ) (v : View) (ask : Ask) (line : PlainLine) (copied : Option PlainLine)
     (w : WriterState) where
@@ -110,7 +109,7 @@ module _ (m : Machine) (number : ℕ) (v : View) (ask : Ask) (line : PlainLine) 
         next_of_plain (nexts.GoesOn (page_or_end purpose (lent w.plain v).known w))
         ≡ goes_on (machine_page_or_end v (view_behind v slot_out met home) ask met
         (is_done (outcome m v ask)) (purpose_of purpose))) (sym (writer_at_home purpose s))
-        (ap (λ d. goes_on d) (page_or_end_alike purpose w (lent w.plain v) v v ask met
+        (ap (λ d. goes_on d) (page_or_end_alike purpose w (lent w.plain v) v knows ask met
         (is_done (outcome m v ask))));
     words = sym (word_again words 11);
     view = subst (λ (home : mathlib.Core.Option.Option Plain).
@@ -120,6 +119,9 @@ module _ (m : Machine) (number : ℕ) (v : View) (ask : Ask) (line : PlainLine) 
     where
       met : ℕ
       met = slice_index words 11
+
+      knows : View
+      knows = after_load_down (max (v.writing).down_met (fault_number (w.plain).fault)) v
 
   -- ---- with the writer in hand
 
@@ -191,6 +193,6 @@ module _ (m : Machine) (number : ℕ) (v : View) (ask : Ask) (line : PlainLine) 
       (hold_of (purpose_of purpose) ask (Out l) v (s.stands).1) (record {
         event = refl;
         next = refl;
-        words = ap (set words 16) (fault_alike v (w.plain).fault);
+        words = ap (set words 16) (fault_alike (w.plain).fault);
         view = refl;
       })

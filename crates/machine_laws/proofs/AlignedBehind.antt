@@ -17,7 +17,7 @@ use Rattle.wal_core.specs.Words.{lock_word, written_word, flushed_word, position
 use Rattle.wal_core.specs.Views.{HasAt, Place, Locked, Taken, Plain, Lent, Hold, Idle, Turned, Out, Watching, View, reserving_of, writer_of}
 use Rattle.wal_core.specs.Ordered.{AtPlace}
 use Rattle.wal_core.specs.Aligned.{AlignmentHolds, IsKnownAligned, LearnsAligned, TellsAligned}
-use Rattle.wal_core.specs.Moves.{CallOutcome, Done, Failed, is_done, after_join, after_store_position, begun, copied_below, hardened, is_own, lent, split_off, unlocked, visited_on, with_hold, with_lent, with_outcome, with_place, with_seen, with_stage, with_working}
+use Rattle.wal_core.specs.Moves.{CallOutcome, Done, Failed, is_done, after_join, after_store_position, begun, copied_below, hardened, is_own, split_off, unlocked, visited_on, with_hold, with_lent, with_outcome, with_place, with_seen, with_stage, with_working}
 use Rattle.wal_core.specs.Steps.{StepKind, MayStep, number_lent, word_of_step, view_behind, with_slot, with_call_on, load_position, take_write_turn, slot_out, slot_in, release_write_turn, lock_position, load_prev, store_prev, store_position, give_position_back, stay, load_lock, take_lock, advance, release, load_buffer_end, store_ring_word, load_ring_word, load_written, load_flushed, load_moment, load_down, store_written, store_moment, store_flushed, set_down, load_async, raise_async, take_mapping_turn, load_initialised_end, clear_end, zero_ring_word, publish_end, publish_initialised_end, release_mapping_turn, create, write, sync}
 use Rattle.wal_core.specs.Sound.{IsSound}
 use Rattle.wal_core.proofs.Lists.{one_set, part_at}
@@ -100,7 +100,14 @@ module _ (v : View) (l : LearnsAligned v) where
 
   slot_taken : (home : Option Plain) → LearnsAligned (with_slot v home)
   slot_taken none = l
-  slot_taken (some writer) = holds_now (Out (lent writer v)) copied_aligned
+  slot_taken (some writer) = record {
+    seen = l.seen;
+    end = l.end;
+    bound = l.bound;
+    written = l.written;
+    flushed = l.flushed;
+    known = copied_aligned;
+  }
 
 -- ---- a watch
 

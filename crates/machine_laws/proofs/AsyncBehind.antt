@@ -1,17 +1,16 @@
 -- Up to where commits are answered, behind a step of any kind and where passes come and go: the
 -- async word is only raised, to what is reserved at most, and no pass counts on more.
-use Rattle.std.proofs.Common.{◌≡◌, ◌≢◌, ℕ, ◌+◌, ◌*◌, ◌/◌, ◌%◌, ◌<◌, ◌≤◌, cond, eqb, true, max, List, [], ◌∷◌, ◌++◌, map, set, slice_index, refl, sym, ap, ◌∙◌, subst, arith}
+use Rattle.std.proofs.Common.{◌≡◌, ◌≢◌, ℕ, ◌+◌, ◌/◌, ◌%◌, ◌<◌, ◌≤◌, cond, eqb, true, max, List, [], ◌∷◌, ◌++◌, map, slice_index, refl, ap, ◌∙◌, subst, arith}
 use Rattle.std.proofs.Math.Nat.{mod-lt}
 use mathlib.Core.Option.{Option, none, some}
 use Rattle.segment_disk.specs.Tape.{DiskState}
-use Rattle.byte_position.specs.Geometry.{IsSegmentSize}
 use Rattle.byte_position.proofs.EndAddresses.{end_address_of-mono}
 use Rattle.wal_page.specs.Order.{Entry, end_position}
 use Rattle.wal_page.proofs.OrderLaws.{rooms_of_push}
 use Rattle.wal_core.specs.declared.setup.Setup.{Setup}
-use Rattle.wal_core.specs.Words.{async_number, async_word, end_form, word_count}
-use Rattle.wal_core.specs.Views.{HasAt, Taken, Plain, Hold, Idle, Turned, Out, Place, Locked, View, reserving_of, answered_of}
-use Rattle.wal_core.specs.Answered.{AsyncHolds}
+use Rattle.wal_core.specs.Words.{async_number, async_word, end_form}
+use Rattle.wal_core.specs.Views.{HasAt, Taken, Plain, Hold, Idle, Turned, Out, Locked, View, reserving_of, async_met_of}
+use Rattle.wal_core.specs.Async.{AsyncHolds}
 use Rattle.wal_core.specs.Moves.{entry_reserved, with_hold, with_place, with_stage, with_working}
 use Rattle.wal_core.specs.Steps.{StepKind, MayStep, place_at, ring_place, page_mapped, words_zeroed, word_of_step, view_behind, with_slot, with_call_on, load_position, take_write_turn, slot_out, slot_in, release_write_turn, lock_position, load_prev, store_prev, store_position, give_position_back, stay, load_lock, take_lock, advance, release, load_buffer_end, store_ring_word, load_ring_word, load_written, load_flushed, load_moment, load_down, store_written, store_moment, store_flushed, set_down, load_async, raise_async, take_mapping_turn, load_initialised_end, clear_end, zero_ring_word, publish_end, publish_initialised_end, release_mapping_turn, create, write, sync}
 use Rattle.wal_core.specs.Sound.{IsSound}
@@ -23,21 +22,21 @@ use Rattle.machine_laws.proofs.LocksKept.{met_cases}
 use Rattle.machine_laws.proofs.PositionsBehind.{lock_low}
 
 -- what is said of one view
-abbrev pub IsAnswered : ℕ → View → Type 0
-IsAnswered async v = (v.answered ≤ async) × (v.answered % 8 ≡ 0)
+abbrev pub CountsOn : ℕ → View → Type 0
+CountsOn async v = (v.async_met ≤ async) × (v.async_met % 8 ≡ 0)
 
 -- and so of all
-pub each_is_answered : (async : ℕ) (views : List View)
-    → ((j : ℕ) (u : View) → HasAt views j u → IsAnswered async u)
-    → (id n : ℕ) → HasAt (map answered_of views) id n → (n ≤ async) × (n % 8 ≡ 0)
-each_is_answered async views each id n at =
-    let found = view_from answered_of views id n at in
+pub each_counts_on : (async : ℕ) (views : List View)
+    → ((j : ℕ) (u : View) → HasAt views j u → CountsOn async u)
+    → (id n : ℕ) → HasAt (map async_met_of views) id n → (n ≤ async) × (n % 8 ≡ 0)
+each_counts_on async views each id n at =
+    let found = view_from async_met_of views id n at in
     let is = each id found.0 found.1 in
     subst (λ (m : ℕ). (m ≤ async) × (m % 8 ≡ 0)) found.2 is
 
-pub joins_answered : (async : ℕ) (v w : View) → IsAnswered async v → IsAnswered async w
-    → (max v.answered w.answered ≤ async) × (max v.answered w.answered % 8 ≡ 0)
-joins_answered async v w one other = (omega (arith, one.0, other.0), omega (arith, one.1, other.1))
+pub joins_async : (async : ℕ) (v w : View) → CountsOn async v → CountsOn async w
+    → (max v.async_met w.async_met ≤ async) × (max v.async_met w.async_met % 8 ≡ 0)
+joins_async async v w one other = (omega (arith, one.0, other.0), omega (arith, one.1, other.1))
 
 module _ {first : DiskState} (words : List ℕ) (home : Option Plain) (views : List View) (id : ℕ) (v : View)
     (k : IsSound first v.opening words home views) (here : HasAt views id v) where
@@ -56,8 +55,8 @@ module _ {first : DiskState} (words : List ℕ) (home : Option Plain) (views : L
   abbrev behind : StepKind → View
   behind e = view_behind v e (slice_index words (word_of_step v e)) home
 
-  pub mine_answered : (j : ℕ) (u : View) → HasAt views j u → IsAnswered async u
-  mine_answered j u at = (k.answered).met j u.answered (part_at answered_of views j u at)
+  pub counts_on : (j : ℕ) (u : View) → HasAt views j u → CountsOn async u
+  counts_on j u at = (k.async).met j u.async_met (part_at async_met_of views j u at)
 
   module _ (live : (v.reserving).live ≡ true) (e : StepKind) where
     abbrev s : Moved
@@ -65,43 +64,43 @@ module _ {first : DiskState} (words : List ℕ) (home : Option Plain) (views : L
 
     abbrev pub HasAsync : List Entry → Type 0
     HasAsync es = AsyncHolds (async_word setup (later s)) (end_form setup (end_position size es))
-        (map answered_of (views_later s))
+        (map async_met_of (views_later s))
 
     -- the word is this now, which is no less, and the view counts on no more
     raised : (es : List Entry) (n : ℕ) → async_word setup (later s) ≡ n → async ≤ n
-        → n ≤ end_form setup (end_position size es) → n % 8 ≡ 0 → IsAnswered n (behind e)
+        → n ≤ end_form setup (end_position size es) → n % 8 ≡ 0 → CountsOn n (behind e)
         → HasAsync es
     raised es n is up within aligned own = record {
       reserved = omega (arith, is, within);
       aligned = ap (λ m. m % 8) is ∙ aligned;
-      met = each_is_answered (async_word setup (later s)) (views_later s)
-          (one_set (λ j u. IsAnswered (async_word setup (later s)) u) views id (behind e)
-          (λ j u apart at. let was = mine_answered j u at in (omega (arith, is, was.0), was.1))
+      met = each_counts_on (async_word setup (later s)) (views_later s)
+          (one_set (λ j u. CountsOn (async_word setup (later s)) u) views id (behind e)
+          (λ j u apart at. let was = counts_on j u at in (omega (arith, is, was.0), was.1))
           (omega (arith, is, own.0), own.1));
     }
 
     -- another word is stored
     elsewhere : (es : List Entry) → end ≤ end_form setup (end_position size es)
-        → async_number setup ≢ s.i → (behind e).answered ≡ v.answered → HasAsync es
+        → async_number setup ≢ s.i → (behind e).async_met ≡ v.async_met → HasAsync es
     elsewhere es up apart same =
-        let reserved = (k.answered).reserved in
-        let own = mine_answered id v here in
+        let reserved = (k.async).reserved in
+        let own = counts_on id v here in
         raised es async (word_else words s.i s.n (async_number setup) apart) (omega arith)
-        (omega arith) (k.answered).aligned
+        (omega arith) (k.async).aligned
         (omega (arith, same, own.0), ap (λ m. m % 8) same ∙ own.1)
 
     -- no word is
-    by_load : later s ≡ words → (behind e).answered ≡ v.answered → HasAsync k.order
+    by_load : later s ≡ words → (behind e).async_met ≡ v.async_met → HasAsync k.order
     by_load is same =
-        let reserved = (k.answered).reserved in
-        let own = mine_answered id v here in
+        let reserved = (k.async).reserved in
+        let own = counts_on id v here in
         raised k.order async (ap (async_word setup) is) (omega arith)
-        (omega arith) (k.answered).aligned
+        (omega arith) (k.async).aligned
         (omega (arith, same, own.0), ap (λ m. m % 8) same ∙ own.1)
 
   module _ (live : (v.reserving).live ≡ true) where
     stays : (e : StepKind) → async_number setup ≢ word_of_step v e
-        → (behind e).answered ≡ v.answered → HasAsync live e k.order
+        → (behind e).async_met ≡ v.async_met → HasAsync live e k.order
     stays e apart same = elsewhere live e k.order (omega arith) apart same
 
     some_page : 0 < setup.ring_pages
@@ -128,11 +127,11 @@ module _ {first : DiskState} (words : List ℕ) (home : Option Plain) (views : L
         let below = may.3 in
         omega arith
 
-    slot_same : (home : Option Plain) → (with_slot v home).answered ≡ v.answered
+    slot_same : (home : Option Plain) → (with_slot v home).async_met ≡ v.async_met
     slot_same none = refl
     slot_same (some writer) = refl
 
-    call_same : (f : Plain → Plain) (hold : Hold) → (with_call_on v f hold).answered ≡ v.answered
+    call_same : (f : Plain → Plain) (hold : Hold) → (with_call_on v f hold).async_met ≡ v.async_met
     call_same f Idle = refl
     call_same f Turned = refl
     call_same f (Out l) = refl
@@ -152,19 +151,19 @@ module _ {first : DiskState} (words : List ℕ) (home : Option Plain) (views : L
 
     loaded : HasAsync live load_async k.order
     loaded =
-        let own = mine_answered id v here in
-        let aligned = (k.answered).aligned in
+        let own = counts_on id v here in
+        let aligned = (k.async).aligned in
         raised live load_async k.order async (ap (async_word setup)
         (word_again words (async_number setup)))
-        (omega arith) (k.answered).reserved aligned
+        (omega arith) (k.async).reserved aligned
         (omega (arith, own.0), omega (arith, own.1, aligned))
 
     exchanged_to : (expected upto : ℕ) → MayStep v (raise_async expected upto)
         → HasAsync live (raise_async expected upto) k.order
     exchanged_to expected upto may =
-        let own = mine_answered id v here in
-        let aligned = (k.answered).aligned in
-        let reserved = (k.answered).reserved in
+        let own = counts_on id v here in
+        let aligned = (k.async).aligned in
+        let reserved = (k.async).reserved in
         let seen = seen_reserved in
         let stored : async_word setup (later (s live (raise_async expected upto)))
         ≡ cond (eqb async expected) upto async
@@ -172,7 +171,7 @@ module _ {first : DiskState} (words : List ℕ) (home : Option Plain) (views : L
         (omega (arith, k.wide)) in
         met_cases (λ b. (n : ℕ) → n ≡ cond b upto async
         → async_word setup (later (s live (raise_async expected upto))) ≡ n
-        → max v.answered n ≡ (behind (raise_async expected upto)).answered
+        → max v.async_met n ≡ (behind (raise_async expected upto)).async_met
         → HasAsync live (raise_async expected upto) k.order) async expected
         (λ hit n is now view. raised live (raise_async expected upto) k.order n now
         (omega (arith, is, hit, may.0)) (omega (arith, is, may.1, seen))
@@ -187,12 +186,12 @@ module _ {first : DiskState} (words : List ℕ) (home : Option Plain) (views : L
     pub async_behind : (e : StepKind) → MayStep v e → HasAsync live e (order_behind v e k.order)
     async_behind load_position may = stays load_position (λ e. omega arith) refl
     async_behind take_write_turn may = stays take_write_turn (λ e. omega arith)
-        (same_either answered_of (eqb (slice_index words 11) 0) (with_hold Turned v) v refl)
+        (same_either async_met_of (eqb (slice_index words 11) 0) (with_hold Turned v) v refl)
     async_behind slot_out may = stays slot_out (λ e. omega arith) (slot_same home)
     async_behind slot_in may = stays slot_in (λ e. omega arith) refl
     async_behind release_write_turn may = stays release_write_turn (λ e. omega arith) refl
     async_behind (lock_position expected) may = stays (lock_position expected) (λ e. omega arith)
-        (same_either answered_of (eqb (slice_index words 0) expected)
+        (same_either async_met_of (eqb (slice_index words 0) expected)
         (with_place (Locked expected) v) v refl)
     async_behind load_prev may = stays load_prev (λ e. omega arith) (rw may.1 refl)
     async_behind store_prev may = stays store_prev (λ e. omega arith) (rw may.2 refl)
@@ -208,7 +207,7 @@ module _ {first : DiskState} (words : List ℕ) (home : Option Plain) (views : L
     async_behind (load_lock lock limit) may = by_load live (load_lock lock limit)
         (word_again words (2 + lock)) refl
     async_behind (take_lock lock) may = stays (take_lock lock) (λ e. omega (arith, may))
-        (same_either answered_of (eqb (slice_index words (2 + lock)) 0)
+        (same_either async_met_of (eqb (slice_index words (2 + lock)) 0)
         (with_working ((v.working).locks ++ lock ∷ []) (v.working).flight v) v refl)
     async_behind (advance lock upto) may = stays (advance lock upto)
         (λ e. omega (arith, lock_low words home views id v k here live lock may.0)) refl
@@ -230,7 +229,7 @@ module _ {first : DiskState} (words : List ℕ) (home : Option Plain) (views : L
     async_behind load_async may = loaded
     async_behind (raise_async expected upto) may = exchanged_to expected upto may
     async_behind take_mapping_turn may = stays take_mapping_turn (λ e. omega arith)
-        (same_either answered_of (eqb (slice_index words 10) 0) (with_stage Taken v) v refl)
+        (same_either async_met_of (eqb (slice_index words 10) 0) (with_stage Taken v) v refl)
     async_behind load_initialised_end may = stays load_initialised_end (λ e. omega arith) refl
     async_behind clear_end may = stays clear_end (end_apart _) refl
     async_behind zero_ring_word may = stays zero_ring_word (zeroed_apart may) refl

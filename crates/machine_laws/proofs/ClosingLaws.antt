@@ -1,32 +1,30 @@
 -- A pass that has all numbers and is about nothing closes its log.
-use Rattle.std.proofs.Common.{◌≡◌, ◌≢◌, ◌⊎◌, inl, inr, ⊎_elim, ℕ, zero, suc, ◌*◌, ◌/◌, ◌%◌, ◌<◌, true, false, Bool, Contains, List, [], ◌∷◌, map, refl, sym, ap, ◌∙◌, subst, arith}
+use Rattle.std.proofs.Common.{◌≡◌, ◌≢◌, ◌⊎◌, inl, inr, ⊎_elim, ℕ, zero, suc, ◌*◌, ◌/◌, ◌%◌, ◌<◌, true, false, Contains, List, [], ◌∷◌, map, refl, sym, ap, ◌∙◌, subst, arith}
 use mathlib.Core.Logic.{dite}
 use mathlib.Core.Option.{Option, some, some-injective, some-ne-none}
 use native.Mathlib.Decide.{ℕ_discrete, dec_le}
 use Rattle.wal_core.specs.Words.{Opening, position_word, lock_word, mapping_turn, write_turn, initialised_word, written_word, flushed_word, moment_word, down_word, word_of_ring}
-use Rattle.wal_core.specs.Views.{HasAt, Flight, Landed, Copying, Stage, Away, Published, Hold, Idle, Plain, Reserving, Working, View, reserving_of, working_of, flight_of, mapper_of, writer_of, receipts_of}
+use Rattle.wal_core.specs.Views.{HasAt, Flight, Landed, Copying, Away, Published, Plain, Receipts, Reserving, Working, View, reserving_of, working_of, flight_of, receipts_of}
 use Rattle.wal_core.specs.Ordered.{entries_under, Role, active, spare, ended, unborn, IsUnused, TookIn}
-use Rattle.wal_core.specs.Locked.{HasTurn, HasWriteTurn}
+use Rattle.wal_core.specs.Locked.{HasTurn}
 use Rattle.wal_core.specs.Ringed.{IsAwaited}
 use Rattle.wal_core.specs.Paged.{AtStage}
 use Rattle.wal_core.specs.Shown.{IsPublished}
-use Rattle.wal_core.specs.Durable.{DurabilityHolds, IsToldRightly}
+use Rattle.wal_core.specs.Durable.{DurabilityHolds, IsToldRightly, one_if_some, setters_among, setters_of}
 use Rattle.wal_core.specs.Sound.{IsSound}
-use Rattle.wal_core.proofs.Lists.{at_same, part_at, view_from}
+use Rattle.wal_core.proofs.Lists.{part_at, view_from}
 use Rattle.machine_laws.specs.SharedOrders.{OrderIsShared}
+use Rattle.machine_laws.specs.LonePasses.{HasAllThatIsHeld, IsLone}
+use Rattle.machine_laws.proofs.LoneLaws as lone
+use Rattle.machine_laws.proofs.LoneLaws.{away_no_turn, idle_no_turn, live_or_not}
 use Rattle.machine_laws.proofs.OrderSharing.{shared}
+use Rattle.machine_laws.proofs.Setters.{setters_alone}
 use Rattle.machine_laws.proofs.ShownLaws.{pages_are_present, words_are_logs}
 use Rattle.machine_laws.proofs.CrashLaws.{crashes_leave_the_log, down_tells}
 use Rattle.machine_laws.specs.ClosedLogs.{AllIsCopied, IsClosed, IsLastPass, LogIsDurable, OrderIsAccounted, PositionsAreLast, WordsAreFree}
 use Rattle.segment_disk.specs.Tape.{DiskState}
 
 -- ---- what stands for nothing
-
-away_no_turn : (s : Stage) → s ≡ Away → HasTurn s → ⊥
-away_no_turn s is has = subst HasTurn is has
-
-idle_no_turn : (h : Hold) → h ≡ Idle → HasWriteTurn h → ⊥
-idle_no_turn h is has = subst HasWriteTurn is has
 
 away_not_published : (at : ℕ) → Away ≡ Published at → ⊥
 away_not_published at e = absurd (cc)
@@ -42,10 +40,6 @@ landed_or_not : (f : Flight) → (f ≡ Landed) ⊎ (f ≢ Landed)
 landed_or_not Landed = inl refl
 landed_or_not (Copying c) = inr (λ e. absurd (cc))
 
-live_or_not : (b : Bool) → (b ≡ true) ⊎ (b ≡ false)
-live_or_not true = inl refl
-live_or_not false = inr refl
-
 only_one : {A : Type 0} → (x : A) (j : ℕ) (y : A) → HasAt (x ∷ []) j y → (j ≡ 0) × (x ≡ y)
 only_one x zero y e = (refl, some-injective x y e)
 only_one x (suc j) y e = absurd (some-ne-none y (sym e))
@@ -59,17 +53,19 @@ module _ {first : DiskState} (opening : Opening) (words : List ℕ) (home : Opti
   abbrev order_is : OrderIsShared opening k.order words views
   order_is = shared opening words home views k
 
+  is_lone : IsLone opening v
+  is_lone = record { live = last.live; numbers = last.numbers }
+
+  held : HasAllThatIsHeld words v
+  held = lone.has_all opening words home views k id v here is_lone
+
   -- ---- no other pass is live
 
   alone : (other : ℕ) (w : View) → HasAt views other w → (w.reserving).live ≡ true → other ≡ id
-  alone other w there live =
-      let below = (order_is.each other w there live).below (w.reserving).number (inl refl) in
-      order_is.one_owner other id w v (w.reserving).number there live here last.live (inl refl)
-      (last.numbers (w.reserving).number below)
+  alone = lone.alone opening words home views k id v here is_lone
 
   same : (other : ℕ) (w : View) → HasAt views other w → (w.reserving).live ≡ true → w ≡ v
-  same other w there live = at_same views w v id
-      (subst (λ (n : ℕ). HasAt views n w) (alone other w there live) there) here
+  same = lone.same opening words home views k id v here is_lone
 
   -- what this pass does not have, and no view that is not live, nobody has
   nobody : (P : View → Type 0) → (P v → ⊥)
@@ -88,27 +84,13 @@ module _ {first : DiskState} (opening : Opening) (words : List ℕ) (home : Opti
       (λ other w there gone. away_no_turn (w.mapping).stage
       ((k.grounded other w there).at_rest gone).0)
 
-  idle : (other : ℕ) (w : View) → HasAt views other w → HasWriteTurn (w.writing).hold → ⊥
-  idle = nobody (λ w. HasWriteTurn (w.writing).hold)
-      (idle_no_turn (v.writing).hold (last.rests).hold)
-      (λ other w there gone. idle_no_turn (w.writing).hold
-      ((k.grounded other w there).at_rest gone).1)
-
   mapping_free : mapping_turn words ≡ 0
   mapping_free = dite (ℕ_discrete (mapping_turn words) 0) (λ free. free)
-      (λ taken.
-      let h = ((k.locks).mapping).held taken in
-      let u = view_from mapper_of views ((k.locks).mapping).holder h.0 h.1 in
-      absurd (away ((k.locks).mapping).holder u.0 u.1
-      (subst (λ (m : ℕ × Stage). HasTurn m.1) (sym u.2) h.2)))
+      (λ taken. absurd (away_no_turn (v.mapping).stage (last.rests).stage (held.mapping taken)))
 
   writing_free : write_turn words ≡ 0
   writing_free = dite (ℕ_discrete (write_turn words) 0) (λ free. free)
-      (λ taken.
-      let h = ((k.locks).writing).held taken in
-      let u = view_from writer_of views ((k.locks).writing).holder h.0 h.1 in
-      absurd (idle ((k.locks).writing).holder u.0 u.1
-      (subst (λ (m : ℕ × Hold). HasWriteTurn m.1) (sym u.2) h.2)))
+      (λ taken. absurd (idle_no_turn (v.writing).hold (last.rests).hold (held.writing taken)))
 
   at_home : home ≡ some k.writer
   at_home = ((k.locks).writing).free writing_free
@@ -116,9 +98,7 @@ module _ {first : DiskState} (opening : Opening) (words : List ℕ) (home : Opti
   words_free : WordsAreFree opening k.order words
   words_free =
       let even : position_word words % 2 ≡ 0 = dite (ℕ_discrete (position_word words % 2) 1)
-      (λ odd. let h = order_is.locked odd in
-      absurd (h.4 (ap (λ (w : View). (w.reserving).place) (same h.0 h.1 h.2 h.3)
-      ∙ (last.rests).place)))
+      (λ odd. absurd (held.position odd (last.rests).place))
       (λ other. omega (arith, other)) in
       record {
         position = let end = order_is.end in omega (arith, end, even);
@@ -227,6 +207,24 @@ module _ {first : DiskState} (opening : Opening) (words : List ℕ) (home : Opti
     reads = (k.positions).reads;
   }
 
+  -- no other view is live, so none of them set the down word or took in one that did
+  others_set_none : (j : ℕ) (x : Receipts) → HasAt (map receipts_of views) j x → j ≢ id
+      → setters_of x ≡ 0
+  others_set_none j x there apart =
+      let found = view_from receipts_of views j x there in
+      let u = found.0 in
+      let dead : (u.reserving).live ≡ false = ⊎_elim
+      (λ (lives : (u.reserving).live ≡ true). absurd (apart (alone j u found.1 lives)))
+      (λ (gone : (u.reserving).live ≡ false). gone) (live_or_not (u.reserving).live) in
+      let none = (k.grounded j u found.1).set_none dead in
+      let own = ap one_if_some none.0 in
+      let taken = ap setters_among none.1 in
+      let same = ap setters_of found.2 in omega (arith, own, taken, same)
+
+  set_once : setters_of (receipts_of v) ≡ one_if_some (down_word words)
+  set_once = sym (setters_alone (map receipts_of views) id (receipts_of v)
+      (part_at receipts_of views id v here) others_set_none) ∙ (k.durable).set_once
+
   -- what durability says of all views, of this one alone
   kept : DurabilityHolds first opening k.order (flushed_word words) (moment_word words)
       (down_word words) (some k.writer) k.writer (receipts_of v ∷ [])
@@ -236,10 +234,13 @@ module _ {first : DiskState} (opening : Opening) (words : List ℕ) (home : Opti
     begun = (k.durable).begun;
     reached = (k.durable).reached;
     lawful = (k.durable).lawful;
+    found_low = (k.durable).found_low;
+    found = (k.durable).found;
     firm = (k.durable).firm;
     on_disk = (k.durable).on_disk;
     down_is = (k.durable).down_is;
     down_at_home = λ there. (k.durable).down_at_home at_home;
+    set_once = (let own = set_once in omega (arith, own));
     fault_rose = (k.durable).fault_rose;
     views = λ j x there. subst
         (IsToldRightly first opening k.order (flushed_word words) (moment_word words) (down_word words)
@@ -254,6 +255,7 @@ module _ {first : DiskState} (opening : Opening) (words : List ℕ) (home : Opti
     since = (k.durable).begun;
     moment_low = (k.durable).moment_low;
     on_disk = (k.durable).on_disk;
+    set_once = set_once;
     crashes = crashes_leave_the_log opening k.order (flushed_word words) (moment_word words)
         (down_word words) (some k.writer) k.writer (receipts_of v ∷ []) kept (k.setup_is).size
         (k.reserved).chained;

@@ -25,8 +25,8 @@ use Rattle.wal_core.specs.declared.setup.Setup.{Setup}
 use Rattle.wal_core.specs.Words.{Opening}
 use Rattle.wal_core.specs.Views.{HasAt, Hold, Out, Joined, Lent, Plain, FlushPromise, Receipts, View, writer_of}
 use Rattle.wal_core.specs.Locked.{IsWriteTurn}
-use Rattle.wal_core.specs.Moves.{CallOutcome, with_outcome}
-use Rattle.wal_core.specs.Steps.{MayStep, create, fault_number, number_lent, set_down, load_async, raise_async, sync, value_behind, write}
+use Rattle.wal_core.specs.Moves.{fault_number, CallOutcome, with_outcome}
+use Rattle.wal_core.specs.Steps.{MayStep, create, number_lent, set_down, sync, value_behind, write}
 use Rattle.wal_core.specs.Durable.{AreKept, DurabilityHolds, IsFirm, IsPromiseKept, IsLawfulAt, IsLogBelow}
 use Rattle.machine_laws.specs.Crashes.{CrashesLeave, DownTells, HoldsPromise, LeavesLawful, PutsOwned}
 use Rattle.machine_laws.proofs.DurableAssured.{stands_out}
@@ -221,8 +221,8 @@ module _ {first : DiskState} (o : Opening) (order : List Entry) (flushed moment 
     pub down_stays : (met : ℕ) → MayStep v set_down → value_behind v set_down met ≡ down
     down_stays met may =
         let l = may.0 in
-        ap (number_lent v (λ l. fault_number v (l.writer).fault)) may.1
-        ∙ ap (fault_number v) (fault_in_hand l may.1)
+        ap (number_lent v (λ l. fault_number (l.writer).fault)) may.1
+        ∙ ap fault_number (fault_in_hand l may.1)
 
     pub no_create : (segment : ℕ) (outcome : CallOutcome) → MayStep v (create segment outcome) → ⊥
     no_create segment outcome may = stuck may.0.0 may.0.1 (may.0.2).up

@@ -1,5 +1,5 @@
 -- What is said of one view, behind a step that changes it.
-use Rattle.std.proofs.Common.{◌≡◌, ◌≢◌, ℕ, ◌≤◌, inl, inr, All, List, [], ◌∷◌, ◌++◌, length, max, set, refl, sym, ap, subst, ◌∙◌, arith}
+use Rattle.std.proofs.Common.{◌≡◌, ◌≢◌, ℕ, ◌+◌, ◌≤◌, inl, inr, All, List, [], ◌∷◌, ◌++◌, length, max, set, refl, sym, ap, subst, ◌∙◌, arith}
 use Rattle.std.proofs.lemmas.Bool.{cases_lt}
 use Rattle.std.proofs.lemmas.List.Elements.{All-append, All-cons, All-nil, All-push, All-weaker}
 use Rattle.std.proofs.lemmas.Option.{none-some, slice_get_past}
@@ -10,7 +10,8 @@ use Rattle.wal_core.specs.Words.{Opening}
 use Rattle.wal_core.specs.Views.{HasAt, Hold, Idle, Turned, Out, Joined, Lent, Plain, FlushPromise, Receipts, Writing}
 use Rattle.wal_core.specs.Moves.{no_writing, with_lent}
 use Rattle.wal_core.specs.Locked.{StandsTo}
-use Rattle.wal_core.specs.Durable.{AreKept, DurabilityHolds, IsToldRightly, IsFirm, IsInHand, IsPromiseKept, IsPromised}
+use Rattle.wal_core.specs.Durable.{AreKept, DurabilityHolds, IsToldRightly, IsFirm, IsInHand, IsPromiseKept, IsPromised, setters, setters_of}
+use Rattle.machine_laws.proofs.Setters.{setters_added, setters_moved, setters_still}
 use Rattle.wal_core.proofs.Lists.{one_added, one_set}
 use Rattle.wal_core.proofs.Tapes.{told_suited, at_suited}
 use Rattle.wal_core.specs.Suited.{IfSuited}
@@ -28,6 +29,12 @@ module _ (turn holder : ℕ) (home : _) (writer : Plain) (id number : ℕ) where
   stands_out Turned l is stands = absurd (cc)
   stands_out (Out m) l is stands = let same : m ≡ l = cc in
       (stands.2, ap (λ (n : Lent). n.writer) (sym same) ∙ stands.3)
+
+  pub out_holds : (hold : Hold) (l : Lent) → hold ≡ Out l
+      → StandsTo turn holder home writer id number hold → holder ≡ id
+  out_holds Idle l is stands = absurd (cc)
+  out_holds Turned l is stands = absurd (cc)
+  out_holds (Out m) l is stands = stands.1
 
   pub stands_turned : (hold : Hold) → hold ≡ Turned
       → StandsTo turn holder home writer id number hold → home ≡ some writer
@@ -52,8 +59,10 @@ module _ (first : DiskState) (opening : Opening) (order : List Entry) (flushed m
   -- with another of what is loaded, and in hand
   pub rebuilt : (es : List Entry) (js : List Joined) (x y : Writing) → y.promises ≡ x.promises
       → y.down_met ≡ x.down_met → y.down_set ≡ x.down_set → Is (told es js x)
-      → ((l : Lent) → y.hold ≡ Out l → IsHeld l) → Is (told es js y)
-  rebuilt es js x y promises met set_to a held = record {
+      → ((l : Lent) → y.hold ≡ Out l → IsHeld l)
+      → ((l : Lent) → y.hold ≡ Out l → x.down_met ≡ 0 → x.down_set ≡ 0 → down ≡ 0)
+      → Is (told es js y)
+  rebuilt es js x y promises met set_to a held up = record {
     own_promised = subst (λ (ps : List FlushPromise). All (IsPromised flushed moment) ps)
         (sym promises) a.own_promised;
     joined_promised = a.joined_promised;
@@ -64,9 +73,10 @@ module _ (first : DiskState) (opening : Opening) (order : List Entry) (flushed m
     in_hand = held;
     down_met = subst (λ (n : ℕ). n ≢ 0 → n ≡ down) (sym met) a.down_met;
     down_set = subst (λ (n : ℕ). n ≢ 0 → n ≡ down) (sym set_to) a.down_set;
+    up_in_hand = λ l is none_met none_set. up l is (sym met ∙ none_met) (sym set_to ∙ none_set);
   }
 
-  -- a down value that was met, or set
+  -- a down value that was met; one that is set, behind which it is another one
   pub met_down : (es : List Entry) (js : List Joined) (x : Writing) → Is (told es js x)
       → Is (told es js (record x { down_met = down }))
   met_down es js x a = record {
@@ -77,18 +87,42 @@ module _ (first : DiskState) (opening : Opening) (order : List Entry) (flushed m
     in_hand = a.in_hand;
     down_met = λ _. refl;
     down_set = a.down_set;
+    up_in_hand = λ l is none_met none_set. none_met;
   }
 
-  pub did_set_down : (es : List Entry) (js : List Joined) (x : Writing) → Is (told es js x)
-      → Is (told es js (record x { down_set = down }))
-  did_set_down es js x a = record {
+  pub did_set_down : (es : List Entry) (js : List Joined) (x : Writing) (faults : ℕ)
+      → x.down_met ≡ 0 → Is (told es js x) → IsToldRightly first opening order flushed moment faults
+      writer (told es js (record x { down_set = faults }))
+  did_set_down es js x faults no_met a = record {
     own_promised = a.own_promised;
     joined_promised = a.joined_promised;
     own = a.own;
     joined = a.joined;
     in_hand = a.in_hand;
-    down_met = a.down_met;
+    down_met = λ some_met. absurd (some_met no_met);
     down_set = λ _. refl;
+    up_in_hand = λ l is none_met none_set. none_set;
+  }
+
+  max_down : (a b : ℕ) → (a ≢ 0 → a ≡ down) → (b ≢ 0 → b ≡ down) → max a b ≢ 0 → max a b ≡ down
+  max_down a b first second some_one = elim (cases_lt a b) [
+    | inl less ↦ omega (arith, second (λ none. omega arith))
+    | inr not_less ↦ omega (arith, first (λ none. some_one (omega arith)))
+  ]
+
+  -- the writer is taken in hand, and with it the knowledge of its fault
+  pub taken_out : (es : List Entry) (js : List Joined) (x : Writing) (l : Lent) (number : ℕ)
+      → number ≡ down → IsHeld l → Is (told es js x)
+      → Is (told es js (record x { down_met = max x.down_met number; hold = Out l }))
+  taken_out es js x l number is held a = record {
+    own_promised = a.own_promised;
+    joined_promised = a.joined_promised;
+    own = a.own;
+    joined = a.joined;
+    in_hand = λ m same. let taken : l ≡ m = cc in subst IsHeld taken held;
+    down_met = max_down x.down_met number a.down_met (λ some. is);
+    down_set = a.down_set;
+    up_in_hand = λ m same none_met none_set. omega (arith, none_met, is);
   }
 
   -- a promise more
@@ -123,6 +157,7 @@ module _ (first : DiskState) (opening : Opening) (order : List Entry) (flushed m
     in_hand = a.in_hand;
     down_met = a.down_met;
     down_set = a.down_set;
+    up_in_hand = a.up_in_hand;
   }
 
   -- a pass that begins, or was taken in
@@ -136,45 +171,60 @@ module _ (first : DiskState) (opening : Opening) (order : List Entry) (flushed m
     in_hand = λ l is. absurd (cc);
     down_met = λ some_met. absurd (some_met refl);
     down_set = λ some_set. absurd (some_set refl);
+    up_in_hand = λ l is. absurd (cc);
   }
 
   -- with another list of views
   pub with_views : (home : _) (parts others : List Receipts)
       → DurabilityHolds first opening order flushed moment down home writer parts
-      → ((id : ℕ) (x : Receipts) → HasAt others id x → Is x)
+      → ((id : ℕ) (x : Receipts) → HasAt others id x → Is x) → setters others ≡ setters parts
       → DurabilityHolds first opening order flushed moment down home writer others
-  with_views home parts others h views = record {
+  with_views home parts others h views as_many = record {
     counted = h.counted;
     moment_low = h.moment_low;
     begun = h.begun;
     reached = h.reached;
     lawful = h.lawful;
+    found_low = h.found_low;
+    found = h.found;
     firm = h.firm;
     on_disk = h.on_disk;
     down_is = h.down_is;
     down_at_home = h.down_at_home;
+    set_once = as_many ∙ h.set_once;
     fault_rose = h.fault_rose;
     views = views;
   }
 
-  pub view_set : (home : _) (parts : List Receipts) (id : ℕ) (x : Receipts)
-      → DurabilityHolds first opening order flushed moment down home writer parts → Is x
+  pub view_set : (home : _) (parts : List Receipts) (id : ℕ) (was x : Receipts)
+      → DurabilityHolds first opening order flushed moment down home writer parts
+      → HasAt parts id was → setters_of x ≡ setters_of was → Is x
       → DurabilityHolds first opening order flushed moment down home writer (set parts id x)
-  view_set home parts id x h is = with_views home parts (set parts id x) h
+  view_set home parts id was x h here as_many is = with_views home parts (set parts id x) h
       (one_set (λ _ y. Is y) parts id x (λ j y other at. h.views j y at) is)
+      (setters_still parts id was x here as_many)
 
   pub view_added : (home : _) (parts : List Receipts) (x : Receipts)
-      → DurabilityHolds first opening order flushed moment down home writer parts → Is x
+      → DurabilityHolds first opening order flushed moment down home writer parts
+      → setters_of x ≡ 0 → Is x
       → DurabilityHolds first opening order flushed moment down home writer (parts ++ x ∷ [])
-  view_added home parts x h is = with_views home parts (parts ++ x ∷ []) h
+  view_added home parts x h sets_none is = with_views home parts (parts ++ x ∷ []) h
       (one_added (λ _ y. Is y) parts x h.views is)
+      (let more = setters_added parts x in omega (arith, more, sets_none))
 
   -- a pass takes another one in
-  max_down : (a b : ℕ) → (a ≢ 0 → a ≡ down) → (b ≢ 0 → b ≡ down) → max a b ≢ 0 → max a b ≡ down
-  max_down a b first second some_one = elim (cases_lt a b) [
-    | inl less ↦ omega (arith, second (λ none. omega arith))
-    | inr not_less ↦ omega (arith, first (λ none. some_one (omega arith)))
-  ]
+  pub is_taken_in : (home : _) (parts : List Receipts) (id other : ℕ) (x y gone both : Receipts)
+      → DurabilityHolds first opening order flushed moment down home writer parts
+      → HasAt parts id x → HasAt parts other y → id ≢ other → setters_of gone ≡ 0
+      → setters_of both ≡ setters_of x + setters_of y → Is gone → Is both
+      → DurabilityHolds first opening order flushed moment down home writer
+      (set (set parts other gone) id both)
+  is_taken_in home parts id other x y gone both h here there apart no_more sum empty is =
+      with_views home parts (set (set parts other gone) id both) h
+      (one_set (λ _ z. Is z) (set parts other gone) id both
+      (λ j z not_this at. one_set (λ _ u. Is u) parts other gone
+      (λ i u not_other found. h.views i u found) empty j z at) is)
+      (setters_moved parts id other x y gone both here there apart no_more sum)
 
   pub is_joined : (es fs : List Entry) (js ks : List Joined) (x y : Writing) (number : ℕ)
       (stops : _) → Is (told es js x) → Is (told fs ks y)
@@ -183,9 +233,9 @@ module _ (first : DiskState) (opening : Opening) (order : List Entry) (flushed m
         entries = fs;
         stops = stops;
         promises = y.promises;
+        down_set = y.down_set;
       } in Is (told es (js ++ j ∷ ks) (record x {
-        down_met = max x.down_met y.down_met;
-        down_set = max x.down_set y.down_set;
+        down_met = max x.down_met (max y.down_met y.down_set);
       })))
   is_joined es fs js ks x y number stops a b =
       let j : Joined = record {
@@ -193,6 +243,7 @@ module _ (first : DiskState) (opening : Opening) (order : List Entry) (flushed m
         entries = fs;
         stops = stops;
         promises = y.promises;
+        down_set = y.down_set;
       } in
       let Promised : Joined → Type 0 = λ j. All (IsPromised flushed moment) j.promises in
       record {
@@ -212,15 +263,18 @@ module _ (first : DiskState) (opening : Opening) (order : List Entry) (flushed m
             All (λ (j : Joined). AreKept opening order t j.entries j.promises) ks)
             t is suited b.joined)));
         in_hand = a.in_hand;
-        down_met = max_down x.down_met y.down_met a.down_met b.down_met;
-        down_set = max_down x.down_set y.down_set a.down_set b.down_set;
+        down_met = max_down x.down_met (max y.down_met y.down_set) a.down_met
+            (max_down y.down_met y.down_set b.down_met b.down_set);
+        down_set = a.down_set;
+        up_in_hand = λ l is none_met none_set. a.up_in_hand l is (omega (arith, none_met)) none_set;
       }
 
   -- ---- with other words
 
-  pub with_down : (other : ℕ) (x : Receipts) → (down ≢ 0 → down ≡ other) → Is x
+  pub with_down : (other : ℕ) (x : Receipts) → (down ≢ 0 → down ≡ other)
+      → ((l : Lent) → (x.writing).hold ≡ Out l → ⊥) → Is x
       → IsToldRightly first opening order flushed moment other writer x
-  with_down other x same a = record {
+  with_down other x same idle a = record {
     own_promised = a.own_promised;
     joined_promised = a.joined_promised;
     own = a.own;
@@ -230,6 +284,7 @@ module _ (first : DiskState) (opening : Opening) (order : List Entry) (flushed m
         is ∙ same (λ zero. some_met (is ∙ zero));
     down_set = λ some_set. let is = a.down_set some_set in
         is ∙ same (λ zero. some_set (is ∙ zero));
+    up_in_hand = λ l is. absurd (idle l is);
   }
 
   promised_later : (higher later : ℕ) → flushed ≤ higher → moment ≤ later → (ps : List FlushPromise)
@@ -259,4 +314,5 @@ module _ (first : DiskState) (opening : Opening) (order : List Entry) (flushed m
     };
     down_met = a.down_met;
     down_set = a.down_set;
+    up_in_hand = a.up_in_hand;
   }

@@ -7,7 +7,7 @@ use Rattle.segment_disk.specs.Tape.{DiskState, Tape, state_now}
 use Rattle.segment_disk.specs.Assured.{IsMadeUpto, IsNowhere, TapeAssures}
 use Rattle.wal_types.specs.declared.record.Record.{Record}
 use Rattle.wal_page.specs.Order.{Entry, IsChained, end_position}
-use Rattle.wal_core.specs.Words.{Opening, end_form}
+use Rattle.wal_core.specs.Words.{Opening, end_form, found_end}
 use Rattle.wal_core.specs.Views.{HasAt, Flight, Out, Joined, Lent, Place, Stored, Plain, FlushPromise, Receipts, View, receipts_of, writing_of}
 use Rattle.wal_core.specs.Ordered.{AtPlace}
 use Rattle.wal_core.specs.Moves.{after_store_position, entry_reserved}
@@ -139,6 +139,7 @@ module _ {first : DiskState} (o : Opening) (order : List Entry) (flushed moment 
       };
       down_met = a.down_met;
       down_set = a.down_set;
+      up_in_hand = a.up_in_hand;
     }
 
     on_disk_longer : (t : Tape) → IsOnDisk o.setup order writer t → IsOnDisk o.setup longer writer t
@@ -162,12 +163,17 @@ module _ {first : DiskState} (o : Opening) (order : List Entry) (flushed moment 
       reached = h.reached;
       lawful = IfSome_then (tape_from first writer.calls) h.lawful (λ t lawful suited.
           lawful_stays o.setup valid order e chained start opened t (lawful suited));
+      found_low = h.found_low;
+      found = IfSome_then (tape_from first writer.calls) h.found (λ t found suited.
+          firm_stays o.setup valid order e chained start (found_end o) o.moment t
+          (omega (arith, h.found_low)) (found suited));
       firm = IfSome_then (tape_from first writer.calls) h.firm (λ t firm suited.
           firm_stays o.setup valid order e chained start flushed moment t (omega arith)
           (firm suited));
       on_disk = IfSome_then (tape_from first writer.calls) h.on_disk (λ t is suited. on_disk_longer t (is suited));
       down_is = h.down_is;
       down_at_home = h.down_at_home;
+      set_once = h.set_once;
       fault_rose = h.fault_rose;
       views = λ j x at. longer_assured x x.entries (known j x at)
           (λ t _ _. kept_longer t x.entries) (h.views j x at);
@@ -176,8 +182,8 @@ module _ {first : DiskState} (o : Opening) (order : List Entry) (flushed moment 
     pub reserve_keeps : (id : ℕ) (x : Receipts) → HasAt parts id x
         → DurabilityHolds first o longer flushed moment down home writer
         (set parts id (told (x.entries ++ e ∷ []) x.joined x.writing))
-    reserve_keeps id x here = view_set first o longer flushed moment down writer home parts id
-        (told (x.entries ++ e ∷ []) x.joined x.writing) all_longer
+    reserve_keeps id x here = view_set first o longer flushed moment down writer home parts id x
+        (told (x.entries ++ e ∷ []) x.joined x.writing) all_longer here refl
         (longer_assured x (x.entries ++ e ∷ []) (known id x here)
         (λ t is suited p. kept_more t x.entries p (at_suited first o writer
         (TapeAssures (o.setup).segment_size IsNowhere (IsLawfulAt o.setup order) opened)

@@ -10,15 +10,23 @@ use Rattle.flush_core.proofs.LeftLaws.{TapeAssures-now}
 use Rattle.wal_page.specs.Order.{Entry}
 use Rattle.wal_core.specs.Words.{Opening}
 use Rattle.wal_core.specs.Views.{HasAt, Hold, Idle, Turned, Out, Joined, Lent, Plain, Receipts, View, receipts_of, writer_of}
-use Rattle.wal_core.specs.Moves.{lent, after_join, after_split, no_writing, orphan_of, split_off, spent, with_hold, with_lent, without_work, after_load_down, after_load_flushed, after_load_moment, after_load_word, after_load_written, after_set_down, after_slot_out, after_store_flushed, after_store_moment, after_store_written, after_take_write_turn, hardened}
+use Rattle.wal_core.specs.Moves.{fault_number, joined_of, lent, after_join, after_split, no_writing, orphan_of, split_off, spent, with_hold, with_lent, without_work, after_load_down, after_load_flushed, after_load_moment, after_load_word, after_load_written, after_set_down, after_slot_out, after_store_flushed, after_store_moment, after_store_written, after_take_write_turn, hardened}
 use Rattle.wal_core.specs.Locked.{IsWriteTurn}
-use Rattle.wal_core.specs.Durable.{DurabilityHolds, IsToldRightly, IsFirm, IsInHand, IsLogBelow, IsOnDisk, IsStaged}
-use Rattle.wal_core.specs.Steps.{MayStep, fault_number, home_behind, number_lent, returned, value_behind, view_behind, with_slot, set_down, slot_in, slot_out, store_flushed, store_moment}
-use Rattle.machine_laws.proofs.DurableAssured.{did_set_down, with_down, with_words, is_joined, is_new, is_promised, lent_cases, met_down, rebuilt, stands_out, stands_turned, told, view_added, view_set}
+use Rattle.wal_core.specs.Durable.{DurabilityHolds, one_if_some, setters_of, IsToldRightly, IsFirm, IsInHand, IsLogBelow, IsOnDisk, IsStaged}
+use Rattle.wal_core.specs.Steps.{MayStep, home_behind, number_lent, returned, value_behind, view_behind, with_slot, set_down, slot_in, slot_out, store_flushed, store_moment}
+use Rattle.machine_laws.proofs.DurableAssured.{did_set_down, with_down, with_words, is_joined, is_new, is_promised, is_taken_in, lent_cases, met_down, rebuilt, stands_out, stands_turned, taken_out, told, view_added, view_set}
+use Rattle.machine_laws.proofs.Setters.{setters_append, setters_low, setters_set}
 use Rattle.machine_laws.proofs.DurableGrowth.{IsFirm-lower}
+use Rattle.wal_core.proofs.Lists.{one_set}
+use Rattle.std.proofs.lemmas.Bool.{cases_eq}
 use Rattle.wal_core.proofs.Tapes.{counted_on, told_suited, at_suited}
 use Rattle.machine_laws.proofs.DurableTapes.{TapeAssures-later}
 use Rattle.wal_core.specs.Suited.{tape_from, IfSuited}
+
+-- no view but this one has the writer in hand
+abbrev pub IsAloneOut : List Receipts → ℕ → Type 0
+IsAloneOut parts id = (j : ℕ) (x : Receipts) (l : Lent) → HasAt parts j x
+    → (x.writing).hold ≡ Out l → j ≡ id
 
 module _ {first : DiskState} (o : Opening) (order : List Entry) (flushed moment down : ℕ) (home : Option Plain)
     (writer : Plain) (parts : List Receipts)
@@ -39,40 +47,42 @@ module _ {first : DiskState} (o : Opening) (order : List Entry) (flushed moment 
     abbrev js : List Joined
     js = v.reserving.joined
 
-    one : (x : Receipts) → Is x → Holds (set parts id x)
-    one x is = view_set first o order flushed moment down writer home parts id x h is
+    one : (x : Receipts) → setters_of x ≡ setters_of (receipts_of v) → Is x
+        → Holds (set parts id x)
+    one x as_many is = view_set first o order flushed moment down writer home parts id
+        (receipts_of v) x h here as_many is
 
     -- nothing in hand
     empty_handed : (hold : Hold) → ((l : Lent) → hold ≡ Out l → ⊥)
         → Holds (set parts id (told es js (record v.writing { hold = hold })))
-    empty_handed hold nothing = one (told es js (record v.writing { hold = hold }))
+    empty_handed hold nothing = one (told es js (record v.writing { hold = hold })) refl
         (rebuilt first o order flushed moment down writer es js v.writing
         (record v.writing { hold = hold }) refl refl refl was
-        (λ l is. absurd (nothing l is)))
+        (λ l is. absurd (nothing l is)) (λ l is. absurd (nothing l is)))
 
     pub same : Holds (set parts id (receipts_of v))
-    same = one (receipts_of v) was
+    same = one (receipts_of v) refl was
 
     pub load_written_keeps : (met : ℕ) → Holds (set parts id (receipts_of (after_load_written met v)))
-    load_written_keeps met = one (told es js (record v.writing { written = met }))
+    load_written_keeps met = one (told es js (record v.writing { written = met })) refl
         (rebuilt first o order flushed moment down writer es js v.writing
-        (record v.writing { written = met }) refl refl refl was was.in_hand)
+        (record v.writing { written = met }) refl refl refl was was.in_hand was.up_in_hand)
 
     pub load_flushed_keeps : (met : ℕ) → Holds (set parts id (receipts_of (after_load_flushed met v)))
-    load_flushed_keeps met = one (told es js (record v.writing { flushed = met }))
+    load_flushed_keeps met = one (told es js (record v.writing { flushed = met })) refl
         (rebuilt first o order flushed moment down writer es js v.writing
-        (record v.writing { flushed = met }) refl refl refl was was.in_hand)
+        (record v.writing { flushed = met }) refl refl refl was was.in_hand was.up_in_hand)
 
     pub load_moment_keeps : v.writing.flushed ≤ flushed
         → Holds (set parts id (receipts_of (after_load_moment moment v)))
-    load_moment_keeps low = one (receipts_of (after_load_moment moment v))
+    load_moment_keeps low = one (receipts_of (after_load_moment moment v)) refl
         (is_promised first o order flushed moment down writer v.writing.flushed moment es js v.writing
         h.begun (omega arith) low
         (IfSome_then (tape_from first writer.calls) h.firm (λ t firm suited.
         IsFirm-lower o.setup order v.writing.flushed flushed moment t low (firm suited))) was)
 
     pub load_down_keeps : Holds (set parts id (receipts_of (after_load_down down v)))
-    load_down_keeps = one (receipts_of (after_load_down down v))
+    load_down_keeps = one (receipts_of (after_load_down down v)) refl
         (met_down first o order flushed moment down writer es js v.writing was)
 
     pub take_turn_keeps : (met : ℕ) → Holds (set parts id (receipts_of (after_take_write_turn met v)))
@@ -86,16 +96,23 @@ module _ {first : DiskState} (o : Opening) (order : List Entry) (flushed moment 
     pub release_turn_keeps : Holds (set parts id (receipts_of (with_hold Idle v)))
     release_turn_keeps = empty_handed Idle (λ l is. absurd (cc))
 
+    -- with the writer in hand, where nothing was met or set
+    still_up : (f : Lent → Lent) (l : Lent) → with_lent f v.writing.hold ≡ Out l
+        → v.writing.down_met ≡ 0 → v.writing.down_set ≡ 0 → down ≡ 0
+    still_up f = lent_cases f (λ _. v.writing.down_met ≡ 0 → v.writing.down_set ≡ 0 → down ≡ 0)
+        v.writing.hold (λ m has. was.up_in_hand m has)
+
     -- with the writer in hand, where what is said of it stays
     in_hand_keeps : (f : Lent → Lent)
         → ((m : Lent) → v.writing.hold ≡ Out m → IsInHand first o order moment writer (f m))
         → Holds (set parts id (told es js
         (record v.writing { hold = with_lent f v.writing.hold })))
     in_hand_keeps f stays =
-        one (told es js (record v.writing { hold = with_lent f v.writing.hold }))
+        one (told es js (record v.writing { hold = with_lent f v.writing.hold })) refl
         (rebuilt first o order flushed moment down writer es js v.writing
         (record v.writing { hold = with_lent f v.writing.hold }) refl refl refl was
-        (lent_cases f (IsInHand first o order moment writer) v.writing.hold stays))
+        (lent_cases f (IsInHand first o order moment writer) v.writing.hold stays)
+        (still_up f))
 
     pub store_written_keeps : Holds (set parts id (receipts_of (after_store_written v)))
     store_written_keeps = in_hand_keeps (λ l. record l { stored = (l.writer).written })
@@ -131,10 +148,13 @@ module _ {first : DiskState} (o : Opening) (order : List Entry) (flushed moment 
       begun = g.begun;
       reached = g.reached;
       lawful = g.lawful;
+      found_low = g.found_low;
+      found = g.found;
       firm = g.firm;
       on_disk = g.on_disk;
       down_is = g.down_is;
       down_at_home = at_home;
+      set_once = g.set_once;
       fault_rose = g.fault_rose;
       views = g.views;
     }
@@ -146,18 +166,24 @@ module _ {first : DiskState} (o : Opening) (order : List Entry) (flushed moment 
       held l is = stands_out turn has.holder home writer id v.reserving.number v.writing.hold l is
           (has.each id (writer_of v) at)
 
-      nothing_loaded : Holds (set parts id (receipts_of (after_slot_out writer v)))
-      nothing_loaded = one (receipts_of (after_slot_out writer v))
-          (rebuilt first o order flushed moment down writer es js v.writing
-          ((after_slot_out writer v).writing) refl refl refl was
-          (λ l is. let taken : lent writer v ≡ l = cc in
-          subst (IsInHand first o order moment writer) taken (record {
+      -- a writer at home has failed with what down tells
+      home_fault : home ≡ some writer → fault_number writer.fault ≡ down
+      home_fault there = elim (cases_eq down 0) [
+        | inl zeros ↦ ap fault_number (h.down_at_home there zeros) ∙ sym zeros
+        | inr is_down ↦ ap fault_number (h.down_is is_down)
+      ]
+
+      nothing_loaded : home ≡ some writer
+          → Holds (set parts id (receipts_of (after_slot_out writer v)))
+      nothing_loaded there = one (receipts_of (after_slot_out writer v)) refl
+          (taken_out first o order flushed moment down writer es js v.writing (lent writer v)
+          (fault_number writer.fault) (home_fault there) (record {
             staged = All-nil (IsStaged o.setup order (lent writer v).known);
             hard_low = omega arith;
             moment_low = omega arith;
             since = λ some_hard. absurd (some_hard refl);
             firm = λ some_hard. absurd (some_hard refl);
-          })))
+          }) was)
 
       pub slot_out_keeps : (met : ℕ) → MayStep v slot_out
           → DurabilityHolds first o order flushed moment down (home_behind v slot_out home) writer
@@ -168,7 +194,7 @@ module _ {first : DiskState} (o : Opening) (order : List Entry) (flushed moment 
           subst (λ (p : Option Plain). DurabilityHolds first o order flushed moment down none writer
           (set parts id (receipts_of (with_slot v p)))) (sym there)
           (rehomed none (set parts id (receipts_of (after_slot_out writer v)))
-          (λ is. absurd (cc)) nothing_loaded)
+          (λ is. absurd (cc)) (nothing_loaded there))
 
       pub slot_in_keeps : (met : ℕ) → MayStep v slot_in
           → DurabilityHolds first o order flushed moment down (home_behind v slot_in home) writer
@@ -183,44 +209,53 @@ module _ {first : DiskState} (o : Opening) (order : List Entry) (flushed moment 
           (rehomed (some writer) (set parts id (receipts_of (with_hold Turned v)))
           (λ _ up. elim may.2 [
             | inl done ↦ ap (λ (p : Plain). p.fault) (sym own) ∙ done.0
-            | inr told_down ↦ absurd (told_down (was.down_set told_down ∙ up))
+            | inr (inl met) ↦ absurd (met (was.down_met met ∙ up))
+            | inr (inr set) ↦ absurd (set (was.down_set set ∙ up))
           ])
           (empty_handed Turned (λ m is. absurd (cc))))
 
-      pub set_down_keeps : (met : ℕ) → MayStep v set_down
+      pub set_down_keeps : IsAloneOut parts id → (met : ℕ) → MayStep v set_down
           → DurabilityHolds first o order flushed moment (value_behind v set_down met) home writer
           (set parts id (receipts_of (view_behind v set_down met home)))
-      set_down_keeps met may =
+      set_down_keeps alone met may =
           let l = may.0 in
           let faults = may.2.0 in
           let holds = held l may.1 in
           let fault : writer.fault ≡ some faults =
           ap (λ (p : Plain). p.fault) (sym holds.1) ∙ may.2.1 in
           let number : value_behind v set_down met ≡ faults =
-          ap (number_lent v (λ l. fault_number v (l.writer).fault)) may.1
-          ∙ ap (fault_number v) may.2.1 in
+          ap (number_lent v (λ l. fault_number (l.writer).fault)) may.1
+          ∙ ap fault_number may.2.1 in
+          let none : down ≡ 0 = was.up_in_hand l may.1 may.2.2 may.2.3 in
+          let y : Receipts = receipts_of (after_set_down faults v) in
+          let sum = setters_set parts id (receipts_of v) y here in
+          let few = setters_low parts id (receipts_of v) here in
+          let before = h.set_once ∙ ap one_if_some none in
+          let own = ap one_if_some may.2.3 in
           let told_before : down ≢ 0 → down ≡ faults = λ some_down.
           some-injective down faults (sym (h.down_is some_down) ∙ fault) in
-          let behind : DurabilityHolds first o order flushed moment faults home writer parts = record {
+          subst (λ (n : ℕ). DurabilityHolds first o order flushed moment n home writer
+          (set parts id (receipts_of (after_set_down n v)))) (sym number) (record {
             counted = h.counted;
             moment_low = h.moment_low;
             begun = h.begun;
             reached = h.reached;
             lawful = h.lawful;
+            found_low = h.found_low;
+            found = h.found;
             firm = h.firm;
             on_disk = h.on_disk;
             down_is = λ _. fault;
             down_at_home = λ home_is. absurd (some-ne-none writer (sym home_is ∙ holds.0));
+            set_once = omega (arith, sum, few, before, own);
             fault_rose = h.fault_rose;
-            views = λ j x there. with_down first o order flushed moment down writer faults x told_before
-                (h.views j x there);
-          } in
-          subst (λ (n : ℕ). DurabilityHolds first o order flushed moment n home writer
-          (set parts id (receipts_of (after_set_down n v)))) (sym number)
-          (view_set first o order flushed moment faults writer home parts id
-          (receipts_of (after_set_down faults v)) behind
-          (did_set_down first o order flushed moment faults writer es js v.writing
-          (behind.views id (receipts_of v) here)))
+            views = one_set
+                (λ _ x. IsToldRightly first o order flushed moment faults writer x) parts id y
+                (λ j x other there. with_down first o order flushed moment down writer faults x
+                told_before (λ m is. other (alone j x m there is)) (h.views j x there))
+                (did_set_down first o order flushed moment down writer es js v.writing faults
+                may.2.2 was);
+          })
 
       -- nothing waits: all that is written is durable
       all_firm : writer.waiting ≡ none
@@ -253,6 +288,8 @@ module _ {first : DiskState} (o : Opening) (order : List Entry) (flushed moment 
             begun = omega (arith, h.begun, h.moment_low);
             reached = h.reached;
             lawful = h.lawful;
+            found_low = h.found_low;
+            found = h.found;
             firm = IfSome_then (tape_from first writer.calls) h.firm (λ t firm suited.
                 TapeAssures-later size (IsMadeUpto size flushed)
                 (IsLogBelow o.setup order flushed) moment writer.moment t h.moment_low
@@ -260,6 +297,7 @@ module _ {first : DiskState} (o : Opening) (order : List Entry) (flushed moment 
             on_disk = h.on_disk;
             down_is = h.down_is;
             down_at_home = h.down_at_home;
+            set_once = h.set_once;
             fault_rose = h.fault_rose;
             views = λ j x there. with_words first o order flushed moment down writer flushed
                 writer.moment x (omega arith) h.moment_low (h.views j x there);
@@ -267,8 +305,8 @@ module _ {first : DiskState} (o : Opening) (order : List Entry) (flushed moment 
           let now = behind.views id (receipts_of v) here in
           subst (λ (n : ℕ). DurabilityHolds first o order flushed n down home writer
           (set parts id (receipts_of (after_store_moment v)))) (sym number)
-          (view_set first o order flushed writer.moment down writer home parts id
-          (receipts_of (after_store_moment v)) behind
+          (view_set first o order flushed writer.moment down writer home parts id (receipts_of v)
+          (receipts_of (after_store_moment v)) behind here refl
           (rebuilt first o order flushed writer.moment down writer es js v.writing
           ((after_store_moment v).writing) refl refl refl now
           (lent_cases hardened (IsInHand first o order writer.moment writer) v.writing.hold
@@ -283,7 +321,7 @@ module _ {first : DiskState} (o : Opening) (order : List Entry) (flushed moment 
             firm = λ _. subst (λ (p : Plain).
                 IfSuited first o writer (IsFirm o.setup order p.written p.moment)) (sym own)
                 (all_firm nothing);
-          }))))
+          })) (still_up hardened)))
 
       pub store_flushed_keeps : (met : ℕ) → 1 ≤ flushed → flushed ≤ writer.written
           → MayStep v store_flushed
@@ -306,6 +344,8 @@ module _ {first : DiskState} (o : Opening) (order : List Entry) (flushed moment 
             begun = h.begun;
             reached = h.reached;
             lawful = h.lawful;
+            found_low = omega (arith, h.found_low, up);
+            found = h.found;
             firm = IfSome_then (tape_from first writer.calls) (hand.firm some_hard) (λ t firm suited.
                 TapeAssures-later o.setup.segment_size (IsMadeUpto o.setup.segment_size l.hard)
                 (IsLogBelow o.setup order l.hard) l.hard_moment moment t hand.moment_low
@@ -313,6 +353,7 @@ module _ {first : DiskState} (o : Opening) (order : List Entry) (flushed moment 
             on_disk = h.on_disk;
             down_is = h.down_is;
             down_at_home = h.down_at_home;
+            set_once = h.set_once;
             fault_rose = h.fault_rose;
             views = λ j x there. with_words first o order flushed moment down writer l.hard moment x up
                 (omega arith) (h.views j x there);
@@ -320,8 +361,8 @@ module _ {first : DiskState} (o : Opening) (order : List Entry) (flushed moment 
           subst (λ (n : ℕ × ℕ). DurabilityHolds first o order n.0 moment down home writer
           (set parts id (receipts_of (after_store_flushed n.0 n.1 v))))
           (λ j. (sym number j, sym from j))
-          (view_set first o order l.hard moment down writer home parts id
-          (receipts_of (after_store_flushed l.hard l.hard_moment v)) behind
+          (view_set first o order l.hard moment down writer home parts id (receipts_of v)
+          (receipts_of (after_store_flushed l.hard l.hard_moment v)) behind here refl
           (is_promised first o order l.hard moment down writer l.hard l.hard_moment es js v.writing
           (hand.since some_hard) hand.moment_low (omega arith) (hand.firm some_hard)
           (behind.views id (receipts_of v) here)))
@@ -330,23 +371,23 @@ module _ {first : DiskState} (o : Opening) (order : List Entry) (flushed moment 
 
     pub split_keeps : Holds (set parts id (receipts_of (after_split v)) ++ receipts_of (split_off v) ∷ [])
     split_keeps = view_added first o order flushed moment down writer home
-        (set parts id (receipts_of v)) (told [] [] no_writing) same
+        (set parts id (receipts_of v)) (told [] [] no_writing) same refl
         (is_new first o order flushed moment down writer)
 
     pub give_up_keeps :
         Holds (set parts id (receipts_of (without_work v)) ++ receipts_of (orphan_of v) ∷ [])
     give_up_keeps = view_added first o order flushed moment down writer home
-        (set parts id (receipts_of v)) (told [] [] no_writing) same
+        (set parts id (receipts_of v)) (told [] [] no_writing) same refl
         (is_new first o order flushed moment down writer)
 
-    pub join_keeps : (other : ℕ) (w : View) → HasAt parts other (receipts_of w)
+    pub join_keeps : (other : ℕ) (w : View) → HasAt parts other (receipts_of w) → id ≢ other
         → Holds (set (set parts other (receipts_of (spent w))) id (receipts_of (after_join v w)))
-    join_keeps other w there =
-        let began = is_new first o order flushed moment down writer in
-        view_set first o order flushed moment down writer home
-        (set parts other (told [] [] no_writing)) id (receipts_of (after_join v w))
-        (view_set first o order flushed moment down writer home parts other (told [] [] no_writing) h
-        began)
+    join_keeps other w there apart =
+        let ks = w.reserving.joined in
+        let sum = setters_append js (joined_of w ∷ ks) in
+        is_taken_in first o order flushed moment down writer home parts id other (receipts_of v)
+        (receipts_of w) (told [] [] no_writing) (receipts_of (after_join v w)) h here there apart
+        refl (omega (arith, sum)) (is_new first o order flushed moment down writer)
         (is_joined first o order flushed moment down writer es w.reserving.entries js
-        w.reserving.joined v.writing w.writing w.reserving.number w.reserving.stops was
+        ks v.writing w.writing w.reserving.number w.reserving.stops was
         (h.views other (receipts_of w) there))

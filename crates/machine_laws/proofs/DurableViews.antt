@@ -6,7 +6,7 @@ use Rattle.segment_disk.specs.Cause.{Rose}
 use Rattle.segment_disk.specs.Tape.{DiskState, Tape}
 use Rattle.segment_disk.specs.Assured.{CallFits, IsMadeUpto, IsNowhere, TapeAssures}
 use Rattle.wal_page.specs.Order.{Entry}
-use Rattle.wal_core.specs.Words.{Opening}
+use Rattle.wal_core.specs.Words.{Opening, found_end}
 use Rattle.wal_core.specs.Views.{HasAt, Hold, Out, Joined, Lent, Plain, FlushPromise, Receipts, View, receipts_of}
 use Rattle.wal_core.specs.Moves.{CallOutcome, Done, Failed, with_lent, with_outcome}
 use Rattle.wal_core.specs.Durable.{AreKept, DurabilityHolds, IsToldRightly, IsFirm, IsInHand, IsPromiseKept, IsLawfulAt, IsLogBelow, IsOnDisk, IsPromised}
@@ -121,6 +121,7 @@ module _ {first : DiskState} (o : Opening) (order : List Entry) (flushed moment 
     in_hand = λ l out. in_hand_behind l (a.in_hand l out);
     down_met = a.down_met;
     down_set = a.down_set;
+    up_in_hand = a.up_in_hand;
   }
 
   module _ (reached : n.written ≤ n.made * (o.setup).segment_size + (o.setup).segment_size)
@@ -141,11 +142,14 @@ module _ {first : DiskState} (o : Opening) (order : List Entry) (flushed moment 
           o.moment t lawful
           (at_suited first o w (TapeAssures size IsNowhere (IsLawfulAt o.setup order) o.moment) t there
           suited h.lawful));
+      found_low = h.found_low;
+      found = firm_behind (found_end o) o.moment (omega (arith, h.found_low, low)) h.found;
       firm = firm_behind flushed moment low h.firm;
       on_disk = suited_behind (IsOnDisk o.setup order n) (λ t there suited. disk t there suited
           (at_suited first o w (IsOnDisk o.setup order w) t there suited h.on_disk));
       down_is = λ is_down. absurd (some-ne-none down (sym (h.down_is is_down) ∙ up));
       down_at_home = λ at_home. absurd (some-ne-none n (sym at_home ∙ away));
+      set_once = h.set_once;
       fault_rose = rose;
       views = λ j x at. assured_behind x (h.views j x at);
     }
@@ -161,8 +165,8 @@ module _ {first : DiskState} (o : Opening) (order : List Entry) (flushed moment 
         let now = assured_behind (receipts_of v) (h.views id (receipts_of v) here) in
         subst (λ (hold : Hold). DurabilityHolds first o order flushed moment down home n
         (set parts id (receipts_of (with_call_on v f hold)))) (sym out)
-        (view_set first o order flushed moment down n home parts id
-        (told v.reserving.entries v.reserving.joined x) all_behind
+        (view_set first o order flushed moment down n home parts id (receipts_of v)
+        (told v.reserving.entries v.reserving.joined x) all_behind here refl
         (rebuilt first o order flushed moment down n v.reserving.entries v.reserving.joined v.writing x
         refl refl refl now
         (lent_cases g (IsInHand first o order moment n) v.writing.hold (λ m has.
@@ -172,4 +176,6 @@ module _ {first : DiskState} (o : Opening) (order : List Entry) (flushed moment 
           moment_low = i.moment_low;
           since = i.since;
           firm = i.firm;
-        }))))
+        }))
+        (lent_cases g (λ _. v.writing.down_met ≡ 0 → v.writing.down_set ≡ 0 → down ≡ 0)
+        v.writing.hold (λ m has. now.up_in_hand m has))))

@@ -1,14 +1,15 @@
 -- Passes: where one is split off, where one takes another in, and where one gives up its copy, the
 -- invariant is kept.
-use Rattle.std.proofs.Common.{◌≡◌, ◌≢◌, ℕ, ◌<◌, ◌≤◌, true, List, [], ◌∷◌, ◌++◌, map, max, set, refl, sym, ◌∙◌, subst, ⊎_elim, arith}
+use Rattle.std.proofs.Common.{◌≡◌, ◌≢◌, ℕ, ◌<◌, ◌≤◌, true, List, [], ◌∷◌, ◌++◌, map, max, set, refl, sym, subst, ⊎_elim, arith}
 use mathlib.Core.Option.{Option}
 use Rattle.wal_core.specs.Words.{Opening, position_word, prev_word, written_word, flushed_word, down_word, async_word, end_form}
-use Rattle.wal_core.specs.Views.{HasAt, Flight, Plain, Reserving, View, Writing, reserving_of, flight_of, writing_of, receipts_of}
+use Rattle.wal_core.specs.Views.{HasAt, Flight, Plain, Reserving, View, Writing, reserving_of, flight_of, writing_of}
 use Rattle.wal_core.specs.Ordered.{OrderHolds}
 use Rattle.wal_core.specs.Positioned.{PositionsHold}
 use Rattle.wal_core.specs.Moves.{after_split, split_off, after_join, spent, without_work, orphan_of}
 use Rattle.wal_core.specs.Steps.{State, Splits, IsResting, Joins, IsStranded, GivesUp}
 use Rattle.wal_core.specs.Aligned.{LearnsAligned}
+use Rattle.wal_core.specs.Failed.{FaultIsKnown}
 use Rattle.wal_core.specs.Sound.{IsGrounded, IsSound}
 use Rattle.wal_core.proofs.Lists.{one_set, one_added, part_at}
 use Rattle.machine_laws.specs.OrderParts.{TakesPart}
@@ -23,10 +24,12 @@ use Rattle.machine_laws.proofs.PositionKept as positions
 use Rattle.machine_laws.specs.DurableBehind.{HasDurableWith}
 use Rattle.machine_laws.proofs.SoundDurableSteps.{durable-split, durable-taken_in, durable-given_up}
 use Rattle.machine_laws.proofs.Frames.{grounded_live, watches_still}
-use Rattle.machine_laws.proofs.KnownViews.{now, has_now, told_here}
+use Rattle.machine_laws.proofs.KnownViews.{now, has_now}
+use Rattle.machine_laws.proofs.PositionsBehind.{down_known}
 use Rattle.machine_laws.proofs.OrderBehind.{takes_part}
-use Rattle.machine_laws.proofs.AsyncBehind.{IsAnswered, each_is_answered, joins_answered, mine_answered}
+use Rattle.machine_laws.proofs.AsyncBehind.{CountsOn, each_counts_on, joins_async, counts_on}
 use Rattle.machine_laws.proofs.AlignedBehind.{fresh_aligned, joins_aligned, learns_same}
+use Rattle.machine_laws.proofs.FaultBehind.{give_up_failed, join_failed, split_failed}
 use Rattle.segment_disk.specs.Tape.{DiskState}
 
 -- a view that is not live, and has neither turn: with nothing in hand, and behind a fault
@@ -35,6 +38,7 @@ grounded_spent opening down v = record {
   opening_is = λ alive. absurd (cc);
   watches = λ alive. absurd (cc);
   at_rest = λ dead. (refl, refl);
+  set_none = λ dead. (refl, refl);
   left = λ dead has. absurd (⊎_elim (λ some_lock. some_lock refl) (λ flies. flies refl) has);
 }
 
@@ -44,6 +48,7 @@ grounded_orphan opening down v failed = record {
   opening_is = λ alive. absurd (cc);
   watches = λ alive. absurd (cc);
   at_rest = λ dead. (refl, refl);
+  set_none = λ dead. (refl, refl);
   left = λ dead has. failed;
 }
 
@@ -71,11 +76,12 @@ module _ {first : DiskState} (words : List ℕ) (home : Option Plain) (views : L
         → (ws : List Writing) → map writing_of changed ≡ ws → HasPositionsWith fs ws
         → HasDurableWith v.opening words home views k changed
         → ((j : ℕ) (u : View) → HasAt changed j u
-        → IsAnswered (async_word (v.opening).setup words) u)
+        → CountsOn (async_word (v.opening).setup words) u)
         → ((j : ℕ) (u : View) → HasAt changed j u → LearnsAligned u)
+        → FaultIsKnown (down_word words) changed
         → IsSound first v.opening words home changed
     changed_sound grounded rs are_reserving reserved works turns ring pages fs are_flights ws
-        are_writing positions durable answers learn = record {
+        are_writing positions durable counts learn failed = record {
           order = k.order;
           memory = k.memory;
           reach = k.reach;
@@ -97,10 +103,10 @@ module _ {first : DiskState} (words : List ℕ) (home : Option Plain) (views : L
               (λ j. (sym are_flights j, sym are_writing j)) positions;
           durable = durable;
           watching = works.watched;
-          answered = record {
-            reserved = (k.answered).reserved;
-            aligned = (k.answered).aligned;
-            met = each_is_answered (async_word (v.opening).setup words) changed answers;
+          async = record {
+            reserved = (k.async).reserved;
+            aligned = (k.async).aligned;
+            met = each_counts_on (async_word (v.opening).setup words) changed counts;
           };
           aligned = record {
             locks = (k.aligned).locks;
@@ -109,6 +115,7 @@ module _ {first : DiskState} (words : List ℕ) (home : Option Plain) (views : L
             writer_at = (k.aligned).writer_at;
             views = learn;
           };
+          failed = failed;
         }
 
   abbrev all : Positions
@@ -141,18 +148,18 @@ module _ {first : DiskState} (words : List ℕ) (home : Option Plain) (views : L
       (one_set (λ j u. LearnsAligned u) views id w
       (λ j u apart at. (k.aligned).views j u at) changed) new
 
-  -- up to where it counts on answers
-  abbrev Answers : View → Type 0
-  Answers u = IsAnswered (async_word (v.opening).setup words) u
+  -- up to where it counts on commits told ahead
+  abbrev Counts : View → Type 0
+  Counts u = CountsOn (async_word (v.opening).setup words) u
 
-  answers : (j : ℕ) (u : View) → HasAt views j u → Answers u
-  answers = mine_answered words home views id v k here
+  counts : (j : ℕ) (u : View) → HasAt views j u → Counts u
+  counts = counts_on words home views id v k here
 
-  answers_added : (w x : View) → Answers w → Answers x
-      → (j : ℕ) (u : View) → HasAt (set views id w ++ x ∷ []) j u → Answers u
-  answers_added w x changed new =
-      one_added (λ j u. Answers u) (set views id w) x
-      (one_set (λ j u. Answers u) views id w (λ j u apart at. answers j u at) changed) new
+  counts_added : (w x : View) → Counts w → Counts x
+      → (j : ℕ) (u : View) → HasAt (set views id w ++ x ∷ []) j u → Counts u
+  counts_added w x changed new =
+      one_added (λ j u. Counts u) (set views id w) x
+      (one_set (λ j u. Counts u) views id w (λ j u apart at. counts j u at) changed) new
 
   -- the view watches for no more than it has seen
   low : (v.watching).end ≤ end_form (v.opening).setup (v.reserving).seen
@@ -177,23 +184,17 @@ module _ {first : DiskState} (words : List ℕ) (home : Option Plain) (views : L
       _ (one_changes writing_of views id v here (after_split v) (split_off v))
       (positions.split_keeps all id v has_all)
       (durable-split words home views id v k here)
-      (answers_added (after_split v) (split_off v) (answers id v here) (omega arith, refl))
+      (counts_added (after_split v) (split_off v) (counts id v here) (omega arith, refl))
       (learns_added (after_split v) (split_off v) (learns_same v (after_split v) refl learns)
       (fresh_aligned v (split_off v) learns refl))
-
-  -- a down value that the view met or set is the down word
-  failed : IsStranded v → down_word words ≢ 0
-  failed may none =
-      let told = (k.durable).views id (receipts_of v) (told_here words home views id v k here) in
-      ⊎_elim (λ met. met (told.down_met met ∙ none)) (λ set. set (told.down_set set ∙ none))
-      may.down
+      (split_failed words home views id v k here)
 
   pub give_up_sound : IsStranded v → IsSound first v.opening words home
       (set views id (without_work v) ++ orphan_of v ∷ [])
   give_up_sound may = changed_sound (set views id (without_work v) ++ orphan_of v ∷ [])
       (grounded_added (without_work v) (orphan_of v)
       (grounded_live v.opening (down_word words) (without_work v) refl live low)
-      (grounded_orphan v.opening (down_word words) v (failed may)))
+      (grounded_orphan v.opening (down_word words) v (down_known words home views id v k here live may.down)))
       _ (one_changes reserving_of views id v here (without_work v) (orphan_of v))
       (order.give_up_keeps k.order (position_word words) (prev_word words)
       (map reserving_of views) id v part)
@@ -207,9 +208,10 @@ module _ {first : DiskState} (words : List ℕ) (home : Option Plain) (views : L
       _ (one_changes writing_of views id v here (without_work v) (orphan_of v))
       (positions.give_up_keeps all id v has_all)
       (durable-given_up words home views id v k here)
-      (answers_added (without_work v) (orphan_of v) (answers id v here) (omega arith, refl))
+      (counts_added (without_work v) (orphan_of v) (counts id v here) (omega arith, refl))
       (learns_added (without_work v) (orphan_of v) (learns_same v (without_work v) refl learns)
       (fresh_aligned v (orphan_of v) learns refl))
+      (give_up_failed words home views id v k here)
 
   pub join_sound : (other : ℕ) (w : View) → HasAt views other w → (w.reserving).live ≡ true
       → id ≢ other → IsResting w
@@ -235,17 +237,18 @@ module _ {first : DiskState} (words : List ℕ) (home : Option Plain) (views : L
       _ (two_change flight_of views id v here other (after_join v w) (spent w))
       _ (two_change writing_of views id v here other (after_join v w) (spent w))
       (positions.join_keeps all id v has_all other w)
-      (durable-taken_in words home views id v k here other w there)
-      (one_set (λ j u. Answers u) (set views other (spent w)) id (after_join v w)
-      (λ j u not_this at. one_set (λ i x. Answers x) views other (spent w)
-      (λ i x not_other found. answers i x found) (omega arith, refl) j u at)
-      (joins_answered (async_word (v.opening).setup words) v w (answers id v here)
-      (answers other w there)))
+      (durable-taken_in words home views id v k here other w there apart)
+      (one_set (λ j u. Counts u) (set views other (spent w)) id (after_join v w)
+      (λ j u not_this at. one_set (λ i x. Counts x) views other (spent w)
+      (λ i x not_other found. counts i x found) (omega arith, refl) j u at)
+      (joins_async (async_word (v.opening).setup words) v w (counts id v here)
+      (counts other w there)))
       (one_set (λ j u. LearnsAligned u) (set views other (spent w)) id (after_join v w)
       (λ j u not_this at. one_set (λ i x. LearnsAligned x) views other (spent w)
       (λ i x not_other found. (k.aligned).views i x found)
       (fresh_aligned w (spent w) ((k.aligned).views other w there) refl) j u at)
       (joins_aligned v w learns ((k.aligned).views other w there)))
+      (join_failed words home views id v k here live other w there apart)
 
 -- ---- of whole states
 

@@ -69,6 +69,7 @@ grounded_live opening down w is live low = record {
   opening_is = λ alive. is;
   watches = λ alive. low;
   at_rest = λ dead. absurd (cc);
+  set_none = λ dead. absurd (cc);
   left = λ dead. absurd (cc);
 }
 
@@ -79,6 +80,7 @@ grounded_later opening down later w stays g = record {
   opening_is = g.opening_is;
   watches = g.watches;
   at_rest = g.at_rest;
+  set_none = g.set_none;
   left = λ dead has. stays (g.left dead has);
 }
 

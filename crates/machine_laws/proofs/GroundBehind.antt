@@ -7,8 +7,8 @@ use Rattle.wal_page.specs.Order.{Entry, end_position, position_behind, prev_of}
 use Rattle.wal_core.specs.Words.{Opening, down_word, end_form, write_turn}
 use Rattle.wal_core.specs.Views.{HasAt, Place, Locked, Stored, Plain, Hold, Idle, Turned, Out, Taken, Watching, View, reserving_of, writer_of}
 use Rattle.wal_core.specs.Ordered.{AtPlace}
-use Rattle.wal_core.specs.Moves.{after_store_position, begun, entry_reserved, is_own, visited_on, with_hold, with_place, with_stage, with_working}
-use Rattle.wal_core.specs.Steps.{StepKind, MayStep, fault_number, number_lent, value_behind, word_of_step, view_behind, load_position, take_write_turn, slot_out, slot_in, release_write_turn, lock_position, load_prev, store_prev, store_position, give_position_back, stay, load_lock, take_lock, advance, release, load_buffer_end, store_ring_word, load_ring_word, load_written, load_flushed, load_moment, load_down, store_written, store_moment, store_flushed, set_down, load_async, raise_async, take_mapping_turn, load_initialised_end, clear_end, zero_ring_word, publish_end, publish_initialised_end, release_mapping_turn, create, write, sync, with_slot, with_call_on}
+use Rattle.wal_core.specs.Moves.{fault_number, after_store_position, begun, entry_reserved, is_own, visited_on, with_hold, with_place, with_stage, with_working}
+use Rattle.wal_core.specs.Steps.{StepKind, MayStep, number_lent, value_behind, word_of_step, view_behind, load_position, take_write_turn, slot_out, slot_in, release_write_turn, lock_position, load_prev, store_prev, store_position, give_position_back, stay, load_lock, take_lock, advance, release, load_buffer_end, store_ring_word, load_ring_word, load_written, load_flushed, load_moment, load_down, store_written, store_moment, store_flushed, set_down, load_async, raise_async, take_mapping_turn, load_initialised_end, clear_end, zero_ring_word, publish_end, publish_initialised_end, release_mapping_turn, create, write, sync, with_slot, with_call_on}
 use Rattle.wal_core.specs.Sound.{IsGrounded, IsSound}
 use Rattle.wal_core.proofs.Lists.{part_at}
 use Rattle.wal_core.proofs.WordLists.{single_set, word_again, word_else}
@@ -168,8 +168,8 @@ module _ {first : DiskState} (words : List ℕ) (home : Option Plain) (views : L
       (v.reserving).number (v.writing).hold may.0 may.1
       (turn.each id (writer_of v) (part_at writer_of views id v here))).1 in
       let value : value_behind v set_down (slice_index words 16) ≡ (may.2).0 =
-      ap (number_lent v (λ l. fault_number v (l.writer).fault)) may.1
-      ∙ ap (fault_number v) (may.2).1 in
+      ap (number_lent v (λ l. fault_number (l.writer).fault)) may.1
+      ∙ ap fault_number (may.2).1 in
       ⊎_elim (λ up. omega arith) (λ top. omega arith)
       ((k.durable).fault_rose (may.2).0 (ap (λ (w : Plain). w.fault) (sym writer) ∙ (may.2).1))
 

@@ -36,6 +36,7 @@ pub mod PositionCalls
 pub mod WholeMachine
 pub mod DurableTapes
 pub mod DurableGrowth
+pub mod Setters
 pub mod DurableAssured
 pub mod DurableViewSteps
 pub mod SegmentStates
@@ -52,6 +53,7 @@ mod OrderBehind
 mod PositionsBehind
 mod AlignedBehind
 mod AsyncBehind
+mod FaultBehind
 pub mod WholeInvariant
 pub mod EveryPassStep
 pub mod EveryStep
@@ -61,6 +63,7 @@ mod MomentParts
 mod MomentsBehind
 mod PassMoments
 pub mod EveryMoment
+pub mod LoneLaws
 pub mod ClosingLaws
 pub mod ClosingNumbers
 pub mod HolderLaws

@@ -1,6 +1,6 @@
 -- A log begins, or goes on behind what was found, in a state that keeps the invariant: each part by
 -- itself.
-use Rattle.std.proofs.Common.{◌≡◌, ◌≢◌, ℕ, zero, suc, ◌+◌, ◌-◌, ◌*◌, ◌/◌, ◌%◌, ◌<◌, ◌≤◌, All, Bool, true, false, List, [], ◌∷◌, ◌++◌, length, take, Option, Some, None, IfSome, nat_lt, if◌then◌else◌, append-nil, refl, sym, ap, ◌∙◌, subst, inl, inr, arith}
+use Rattle.std.proofs.Common.{◌≡◌, ◌≢◌, ℕ, zero, suc, ◌+◌, ◌-◌, ◌*◌, ◌/◌, ◌%◌, ◌<◌, ◌≤◌, All, Bool, true, false, List, [], ◌∷◌, length, take, Option, Some, None, IfSome, nat_lt, if◌then◌else◌, append-nil, refl, sym, ap, ◌∙◌, subst, inl, inr, arith}
 use Rattle.std.specs.Int.{w64, to_le_bytes}
 use Rattle.std.proofs.lemmas.Bool.{cases_eq, le-ltb, lt-ltb}
 use Rattle.std.specs.List.{Contains}
@@ -8,21 +8,21 @@ use Rattle.std.specs.Option.{IsSomeAnd}
 use Rattle.std.proofs.lemmas.List.Elements.{All-head, All-nil, All-tail}
 use Rattle.std.proofs.Math.Nat.{mod-lt}
 use mathlib.Core.Option.{some, some-injective, some-ne-none}
-use Rattle.byte_position.specs.Position.{end_address_of, first_position}
+use Rattle.byte_position.specs.Position.{first_position}
 use Rattle.byte_position.specs.Geometry.{pages_of}
 use Rattle.byte_position.proofs.SegmentSizes.{segment_size_in_pages}
 use Rattle.wal_page.specs.Log.{log_word_bytes}
 use Rattle.wal_page.specs.EntryWords.{address_of_word}
-use Rattle.wal_page.specs.Order.{Entry, end_position}
+use Rattle.wal_page.specs.Order.{Entry}
 use Rattle.wal_page.proofs.WordPositions.{end_address_of-first_position, first_position-whole}
 use Rattle.wal_page.proofs.LogWordLaws.{log_word-behind, log_word-unowned}
 use Rattle.wal_page.proofs.OwnerLaws.{owner_at-none_before, rooms_of-whole}
 use Rattle.byte_position.proofs.EndAddresses.{end_address_of-mono}
 use Rattle.byte_position.proofs.Words.{end_address_of-mod_word}
 use Rattle.wal_core.specs.declared.setup.Setup.{Setup}
-use Rattle.wal_core.specs.Words.{Opening, position_word, prev_word, lock_word, mapping_turn, write_turn, initialised_word, written_word, flushed_word, moment_word, down_word, end_word, end_form, word_of_ring, async_word}
+use Rattle.wal_core.specs.Words.{Opening, position_word, prev_word, lock_word, mapping_turn, write_turn, initialised_word, written_word, flushed_word, moment_word, down_word, end_word, word_of_ring, async_word, found_end, found_position}
 use Rattle.wal_core.specs.Views.{HasAt, Plain, Away, Landed, Copying, AreSomeOf, View, mapper_of, receipts_of, writer_of}
-use Rattle.wal_core.specs.Opened.{AreFirstWords, IsFirstWriter, IsOpenable, first_view, found_end, found_position}
+use Rattle.wal_core.specs.Opened.{AreFirstWords, IsFirstWriter, IsOpenable, first_view}
 use Rattle.wal_core.specs.Ordered.{HasLive, IsUnused, entries_under, is_pass, OrderHolds, Role, active, spare, ended, unborn}
 use Rattle.wal_core.specs.Locked.{LocksHold, ProgressHolds, most_told}
 use Rattle.wal_core.specs.Ringed.{RingHolds, IsOfOrder, log_word_of}
@@ -30,7 +30,7 @@ use Rattle.wal_core.specs.Paged.{PagesHold}
 use Rattle.wal_core.specs.Watched.{IsCopiedToBound, WatchHolds}
 use Rattle.wal_core.specs.Positioned.{PositionsHold}
 use Rattle.machine_laws.proofs.Buffers.{one_page}
-use Rattle.wal_core.specs.Durable.{DurabilityHolds, IsToldRightly, IsLawfulAt, IsLogBelow}
+use Rattle.wal_core.specs.Durable.{DurabilityHolds, one_if_some, IsToldRightly, IsLawfulAt, IsLogBelow}
 use Rattle.segment_disk.specs.DiskImage.{image_as_read, word_of}
 use Rattle.segment_disk.specs.declared.disk.Call.{Call}
 use Rattle.segment_disk.specs.Tape.{DiskState, Segment, Tape, after_calls, page_as_read, state_now}
@@ -45,7 +45,7 @@ use Rattle.flush_core.proofs.LeftLaws.{TapeAssures-now}
 use Rattle.std.proofs.lemmas.Option.{IfSome_then}
 use Rattle.std.proofs.Math.Nat.{div-lt_iff_lt-mul}
 use Rattle.std.proofs.lemmas.Nat.{div-add-mod'}
-use Rattle.wal_core.specs.Answered.{AsyncHolds}
+use Rattle.wal_core.specs.Async.{AsyncHolds}
 use Rattle.wal_core.specs.Aligned.{AlignmentHolds, LearnsAligned}
 use Rattle.wal_core.specs.Sound.{IsSetup, IsSound}
 use Rattle.wal_core.proofs.Tapes.{counted_tape}
@@ -301,10 +301,10 @@ module _ (opening : Opening) (words : List ℕ) (writer : Plain) (log : IsOpenab
         });
       }
 
-  answered_begins : AsyncHolds (async_word setup words) end (0 ∷ [])
-  answered_begins =
+  async_begins : AsyncHolds (async_word setup words) end (0 ∷ [])
+  async_begins =
       let aligned = end_aligned in
-      let answered = zeroed.async in record {
+      let begins_at = zeroed.async in record {
         reserved = omega arith;
         aligned = omega arith;
         met = only_one 0 (λ id n. (n ≤ async_word setup words) × (n % 8 ≡ 0)) (omega arith, refl);
@@ -328,7 +328,7 @@ module _ (opening : Opening) (words : List ℕ) (writer : Plain) (log : IsOpenab
   made_below : (n upto : ℕ) → upto ≡ end → IsMadeUpto setup.segment_size upto n → WasMade n
   made_below n upto is made =
       let high = end_high in
-      let within = log.made in
+      let within = log.reaches in
       let some_size : 0 < setup.segment_size
       = (let pages = segment_size_in_pages setup.segment_size valid.size in
       omega (arith, pages.0, pages.1)) in
@@ -363,7 +363,7 @@ module _ (opening : Opening) (words : List ℕ) (writer : Plain) (log : IsOpenab
       ≡ log_word_bytes setup.segment_size setup.sysid found (8 * k)
   reads_now k below None holds =
       let size = setup.segment_size in
-      let high = log.made in
+      let high = log.reaches in
       let some_size : 0 < size = (let pages = segment_size_in_pages size valid.size in
       omega (arith, pages.0, pages.1)) in
       let quotient : 8 * k / size < opening.made + 1
@@ -440,6 +440,7 @@ module _ (opening : Opening) (words : List ℕ) (writer : Plain) (log : IsOpenab
       in_hand = λ l is. absurd (cc);
       down_met = λ some. absurd (some refl);
       down_set = λ some. absurd (some refl);
+      up_in_hand = λ l is. absurd (cc);
     }
 
     durable_begins : DurabilityHolds first opening found (flushed_word words) (moment_word words)
@@ -448,13 +449,18 @@ module _ (opening : Opening) (words : List ℕ) (writer : Plain) (log : IsOpenab
       counted = begins.counted;
       moment_low = (let moment = zeroed.moment in let same = begins.moment_is in omega arith);
       begun = (let moment = zeroed.moment in omega arith);
-      reached = (let written = begins.written in let made = begins.made in let high = log.made in
+      reached = (let written = begins.written in let made = begins.made in let high = log.reaches in
           let same : writer.made * setup.segment_size ≡ opening.made * setup.segment_size
           = ap (λ (n : ℕ). n * setup.segment_size) made in omega arith);
       lawful = IfSome_then (tape_from first writer.calls) counted (λ t count suited.
           TapeAssures-now setup.segment_size IsNowhere (IsLawfulAt setup found) opening.moment t
           (sym begins.moment_is ∙ count)
           (lawful_now t (suited_now t count suited)));
+      found_low = omega (arith, zeroed.flushed);
+      found = IfSome_then (tape_from first writer.calls) counted (λ t count suited.
+          TapeAssures-now setup.segment_size (IsMadeUpto setup.segment_size end)
+          (IsLogBelow setup found end) opening.moment t (sym begins.moment_is ∙ count)
+          (firm_now end refl t (suited_now t count suited)));
       firm = IfSome_then (tape_from first writer.calls) counted (λ t count suited.
           TapeAssures-now setup.segment_size
           (IsMadeUpto setup.segment_size (flushed_word words))
@@ -468,6 +474,7 @@ module _ (opening : Opening) (words : List ℕ) (writer : Plain) (log : IsOpenab
       });
       down_is = λ down. absurd (down zeroed.down);
       down_at_home = λ home up. begins.fault;
+      set_once = sym (ap one_if_some zeroed.down);
       fault_rose = λ f is. absurd (some-ne-none f (sym is ∙ begins.fault));
       views = only_one (receipts_of view) _ told_begins;
     }
@@ -513,6 +520,7 @@ logs_begin first opening words writer log zeroed begins = record {
     opening_is = λ live. refl;
     watches = λ live. omega arith;
     at_rest = λ dead. absurd (cc);
+    set_none = λ dead. absurd (cc);
     left = λ dead. absurd (cc);
   });
   reserved = order_begins opening words writer log zeroed begins;
@@ -523,6 +531,7 @@ logs_begin first opening words writer log zeroed begins = record {
   positions = positions_begin opening words writer log zeroed begins first;
   durable = durable_begins opening words writer log zeroed begins first;
   watching = watching_begins opening words writer log zeroed begins;
-  answered = answered_begins opening words writer log zeroed begins;
+  async = async_begins opening words writer log zeroed begins;
   aligned = aligned_begins opening words writer log zeroed begins;
+  failed = λ down. absurd (down zeroed.down);
 }

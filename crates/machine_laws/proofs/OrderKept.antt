@@ -78,7 +78,7 @@ module _ (order : List Entry) (position prev : ℕ) (parts : List Reserving) (id
       (λ (w : View). view_behind w (give_position_back value) position home))
       (sym may.1)
       (gives_back setup found order position prev parts t.holds id v.reserving t.here t.live
-      LogFull may.0 may.1)
+      LogFull may.0 may.1 (λ is. absurd (cc)))
 
   pub stay_keeps : (home : Option Plain) → TakesPart order position prev parts id v
       → MayStep v stay
@@ -89,7 +89,7 @@ module _ (order : List Entry) (position prev : ℕ) (parts : List Reserving) (id
       (λ (w : View). view_behind w stay position home))
       (sym may.1)
       (gives_back setup found order position prev parts t.holds id v.reserving t.here t.live
-      AtSegmentStart may.0 may.1)
+      AtSegmentStart may.0 may.1 (λ is. may.2))
 
   -- ---- what is seen
 
@@ -150,7 +150,7 @@ module _ (order : List Entry) (position prev : ℕ) (parts : List Reserving) (id
       (set (set parts other (spent w).reserving) id (after_join v w).reserving)
   join_keeps other w t there alive apart rests = joins setup found order position prev parts
       t.holds id v.reserving t.here t.live other w.reserving there alive apart rests
-      (w.writing).promises (spent w).reserving refl
+      (w.writing).promises (w.writing).down_set (spent w).reserving refl
 
   pub give_up_keeps : TakesPart order position prev parts id v
       → OrderHolds setup found order position prev

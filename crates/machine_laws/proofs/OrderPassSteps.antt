@@ -274,7 +274,7 @@ module _ (setup : Setup) (found order : List Entry) (position prev : ℕ) (parts
   -- ---- another pass is taken in, which has no place
 
   module _ (other : ℕ) (s : Reserving) (there_s : HasAt parts other s) (alive_s : s.live ≡ true)
-      (apart_s : id ≢ other) (rests : s.place ≡ Free) (promises : List FlushPromise)
+      (apart_s : id ≢ other) (rests : s.place ≡ Free) (promises : List FlushPromise) (down_set : ℕ)
       (gone : Reserving) (dead : gone.live ≡ false) where
     abbrev log : Joined
     log = record {
@@ -282,6 +282,7 @@ module _ (setup : Setup) (found order : List Entry) (position prev : ℕ) (parts
       entries = s.entries;
       stops = s.stops;
       promises = promises;
+      down_set = down_set;
     }
 
     abbrev both : Reserving

@@ -3,7 +3,7 @@ use Rattle.std.proofs.Common.{◌≡◌, ◌≢◌, ℕ, ◌+◌, ◌-◌, ◌%�
 use Rattle.std.proofs.lemmas.List.{take_all, length-append}
 use Rattle.std.proofs.lemmas.List.Elements.{All-push, All-weaker}
 use Rattle.byte_position.specs.Geometry.{IsSegmentSize}
-use Rattle.byte_position.specs.Position.{address_of}
+use Rattle.byte_position.specs.Position.{address_of, end_address_of}
 use Rattle.wal_types.specs.declared.record.Record.{Record}
 use Rattle.record_spelling.specs.Spelling.{IsWritable}
 use Rattle.wal_page.specs.Order.{Entry, end_position, position_behind, prev_of, room_at}
@@ -12,7 +12,7 @@ use Rattle.wal_page.proofs.OwnerLaws.{rooms_of-whole}
 use Rattle.wal_page.proofs.WordPositions.{first_position-whole}
 use Rattle.wal_core.specs.declared.setup.Setup.{Setup}
 use Rattle.wal_core.specs.Words.{log_limit}
-use Rattle.wal_core.specs.Views.{HasAt, Place, Free, Locked, Loaded, Stored, Stop, StopCause, Joined, Reserving}
+use Rattle.wal_core.specs.Views.{HasAt, Place, Free, Locked, Loaded, Stored, AtSegmentStart, Stop, StopCause, Joined, Reserving}
 use Rattle.wal_core.specs.Ordered.{is_pass, Role, active, ended, IsUnused, FrontEndsAt, IsEnded, IsPartOf, HasLive, TookIn, AtPlace, OrderHolds}
 use Rattle.wal_core.specs.Moves.{entry_reserved}
 use Rattle.wal_core.proofs.Lists.{one_set, one_added, at_place}
@@ -313,6 +313,8 @@ module _ (setup : Setup) (found order : List Entry) (position prev : ℕ) (parts
 
     -- the log is full, or stands at a segment's start: the position is as it was
     pub gives_back : (cause : StopCause) (expected : ℕ) → r.place ≡ Locked expected
+        → (cause ≡ AtSegmentStart
+        → end_address_of setup.segment_size expected % setup.segment_size ≡ 0)
         → OrderHolds setup found order expected prev (set parts id (record r {
           stops = r.stops ++ (record {
             cause = cause;
@@ -321,7 +323,7 @@ module _ (setup : Setup) (found order : List Entry) (position prev : ℕ) (parts
           }) ∷ [];
           place = Free;
         }))
-    gives_back cause expected is =
+    gives_back cause expected is starts =
         let pl = at (Locked expected) is in
         let stop : Stop = record {
           cause = cause;
@@ -339,6 +341,7 @@ module _ (setup : Setup) (found order : List Entry) (position prev : ℕ) (parts
           within = omega arith;
           found_within = let f = k.found_first in
               omega (arith, ap length f.1, length-append found f.0);
+          at_start = starts;
         } in
         let each = one_set (λ (j : ℕ) (u : Reserving). u.live ≡ true
         → IsPlaced setup.segment_size found order prev k.role 0 k.holder k.keeper j u)

@@ -46,6 +46,7 @@ FrontEndsAt-longer size number found order back entries full h = record {
   own = h.own;
   within = h.within;
   found_within = h.found_within;
+  at_start = h.at_start;
 }
 
 pub FrontEndsAt-more : (size number : ℕ) (found order entries more : List Entry) (full : Stop)
@@ -59,4 +60,5 @@ FrontEndsAt-more size number found order entries more full h = record {
   own = h.own ∙ sym (take-append-le full.entries entries more h.within);
   within = omega (arith, h.within, length-append entries more);
   found_within = h.found_within;
+  at_start = h.at_start;
 }

@@ -157,13 +157,13 @@ module _ (opening : Opening) (p : Positions) (k : PositionsHold p.first opening 
 
     -- ---- the writer goes out, and home
 
-    pub goes_out : (f : Flight) → HasAt flights id f → (l : Lent) → l.known ≤ end
+    pub goes_out : (f : Flight) → HasAt flights id f → (met : ℕ) (l : Lent) → l.known ≤ end
         → IsCopiedBelow setup.segment_size flights l.known → l.stored ≤ written
         → PositionsHold p.first opening order written flushed down none writer (set flights id f)
-        (set parts id (record x { hold = Out l }))
-    goes_out f at l low copied stored =
+        (set parts id (record x { down_met = met; hold = Out l }))
+    goes_out f at met l low copied stored =
         let still = same_still setup.segment_size flights id f at in
-        let y : Writing = record x { hold = Out l } in
+        let y : Writing = record x { down_met = met; hold = Out l } in
         record {
           begun = k.begun;
           flushed_low = k.flushed_low;

@@ -6,16 +6,17 @@ use Rattle.segment_disk.specs.Tape.{DiskState, create_call, sync_call, write_cal
 use Rattle.wal_types.specs.declared.record.Record.{Record}
 use Rattle.wal_page.specs.Order.{Entry}
 use Rattle.wal_core.specs.Words.{Opening, flushed_word, moment_word, down_word, written_word, write_turn}
-use Rattle.wal_core.specs.Views.{HasAt, Plain, Receipts, View, reserving_of, receipts_of, working_of, writer_of, writing_of, flight_of, Taken, Locked}
+use Rattle.wal_core.specs.Views.{HasAt, Lent, Out, Plain, Receipts, View, reserving_of, receipts_of, working_of, writer_of, writing_of, flight_of, Taken, Locked}
 use Rattle.wal_core.specs.Moves.{CallOutcome, after_create, after_sync, after_write, after_join, entry_reserved, after_split, orphan_of, split_off, spent, without_work, with_place, with_stage, with_working}
 use Rattle.wal_core.specs.Durable.{DurabilityHolds}
 use Rattle.wal_core.specs.Sound.{IsSound}
 use Rattle.wal_core.specs.Steps.{StepKind, MayStep, home_behind, place_at, value_behind, view_behind, word_of_step, load_position, take_write_turn, slot_out, slot_in, release_write_turn, lock_position, load_prev, store_prev, store_position, give_position_back, stay, load_lock, take_lock, advance, release, load_buffer_end, store_ring_word, load_ring_word, load_written, load_flushed, load_moment, load_down, store_written, store_moment, store_flushed, set_down, load_async, raise_async, take_mapping_turn, load_initialised_end, clear_end, zero_ring_word, publish_end, publish_initialised_end, release_mapping_turn, create, write, sync}
-use Rattle.wal_core.proofs.Lists.{part_added, part_at, part_set}
+use Rattle.wal_core.proofs.Lists.{part_added, part_at, part_set, view_from}
 use Rattle.wal_core.proofs.WordLists.{single_set, word_again, word_else}
 use Rattle.machine_laws.specs.DurableBehind.{HasDurable, HasDurableWith, IsInside, LoadsStaged}
 use Rattle.machine_laws.proofs.DurableCallSteps.{create_keeps, sync_keeps, write_keeps}
 use Rattle.machine_laws.proofs.DurableReserving.{store_position_keeps}
+use Rattle.machine_laws.proofs.DurableAssured.{out_holds}
 use Rattle.machine_laws.proofs.DurableViewSteps as one
 
 -- one of two views, of which the part is the same
@@ -119,16 +120,16 @@ module _ {first : DiskState} (words : List ℕ) (home : Option Plain) (views : L
       (one.give_up_keeps o k.order (flushed_word words) (moment_word words) (down_word words) home
       k.writer (map receipts_of views) k.durable id v mine)
 
-  pub durable-taken_in : (other : ℕ) (u : View) → HasAt views other u
+  pub durable-taken_in : (other : ℕ) (u : View) → HasAt views other u → id ≢ other
       → HasDurableWith o words home views k (set (set views other (spent u)) id (after_join v u))
-  durable-taken_in other u there = subst (λ (parts : List Receipts). DurabilityHolds first o k.order
+  durable-taken_in other u there apart = subst (λ (parts : List Receipts). DurabilityHolds first o k.order
       (flushed_word words) (moment_word words) (down_word words) home k.writer parts)
       (sym (part_set receipts_of (set views other (spent u)) id (after_join v u)
       ∙ ap (λ (xs : List Receipts). set xs id (receipts_of (after_join v u)))
       (part_set receipts_of views other (spent u))))
       (one.join_keeps o k.order (flushed_word words) (moment_word words) (down_word words) home
       k.writer (map receipts_of views) k.durable id v mine other u
-      (part_at receipts_of views other u there))
+      (part_at receipts_of views other u there) apart)
 
   -- ---- an entry, and calls of the device
 
@@ -205,6 +206,19 @@ module _ {first : DiskState} (words : List ℕ) (home : Option Plain) (views : L
 
   away : (i n j : ℕ) → j ≢ i → slice_index words j ≡ slice_index (set words i n) j
   away i n j apart = sym (word_else words i n j apart)
+
+  -- of two views that have the writer in hand each is the holder of the turn
+  alone_out : (l : Lent) → (v.writing).hold ≡ Out l → one.IsAloneOut (map receipts_of views) id
+  alone_out l out j x m there is =
+      let turn = (k.locks).writing in
+      let found = view_from receipts_of views j x there in
+      let u = found.0 in
+      let other = ap (λ (y : Receipts). (y.writing).hold) found.2 ∙ is in
+      sym (out_holds (write_turn words) turn.holder home k.writer j (u.reserving).number
+      (u.writing).hold m other
+      (turn.each j (writer_of u) (part_at writer_of views j u found.1)))
+      ∙ out_holds (write_turn words) turn.holder home k.writer id (v.reserving).number
+      (v.writing).hold l out (turn.each id (writer_of v) turn_at)
 
   pub durable-inside : (e : StepKind) → MayStep v e → IsInside e
       → LoadsStaged v k.order e (slice_index words (word_of_step v e))
@@ -314,7 +328,8 @@ module _ {first : DiskState} (words : List ℕ) (home : Option Plain) (views : L
       (stored 16 n (omega arith))
       (one.set_down_keeps o k.order (flushed_word words) (moment_word words)
       (down_word words) home k.writer (map receipts_of views) k.durable id v mine (write_turn words)
-      (map writer_of views) (k.locks).writing turn_at (slice_index words 16) may)
+      (map writer_of views) (k.locks).writing turn_at (alone_out may.0 may.1)
+      (slice_index words 16) may)
   durable-inside load_async may inside staged =
       untouched _ _ _ refl (λ e. omega arith) (λ e. omega arith) (λ e. omega arith)
   durable-inside (raise_async expected upto) may inside staged =

@@ -24,6 +24,7 @@ use Rattle.machine_laws.proofs.OrderBehind.{order_holds}
 use Rattle.machine_laws.proofs.PositionsBehind.{positions_hold}
 use Rattle.machine_laws.proofs.AlignedBehind.{aligned_behind}
 use Rattle.machine_laws.proofs.AsyncBehind.{async_behind}
+use Rattle.machine_laws.proofs.FaultBehind.{failed_behind}
 use Rattle.segment_disk.specs.Tape.{DiskState}
 
 -- how many pages are mapped behind a step, and the log's words in memory
@@ -242,6 +243,7 @@ module _ {first : DiskState} (words : List ℕ) (home : Option Plain) (views : L
         positions = positions_hold words home views id v k here live e may;
         durable = durable_holds e may;
         watching = (behind.0).watched;
-        answered = async_behind words home views id v k here live e may;
+        async = async_behind words home views id v k here live e may;
         aligned = aligned_behind words home views id v k here live e may;
+        failed = failed_behind words home views id v k here live e may;
       }

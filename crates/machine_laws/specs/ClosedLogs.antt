@@ -9,7 +9,7 @@ use Rattle.wal_core.specs.Views.{HasAt, Landed, Plain, Reserving, View, receipts
 use Rattle.wal_core.specs.Ordered.{entries_under, BeginsWith, TookIn}
 use Rattle.wal_core.specs.Ringed.{log_word_of}
 use Rattle.wal_core.specs.Positioned.{ReadsBelow}
-use Rattle.wal_core.specs.Durable.{IsOnDisk}
+use Rattle.wal_core.specs.Durable.{IsOnDisk, one_if_some, setters_of}
 use Rattle.wal_core.specs.Steps.{IsResting, ring_place}
 use Rattle.wal_core.specs.Shown.{IsPresent}
 use Rattle.machine_laws.specs.SharedOrders.{HasItsPart, HasNumber}
@@ -74,7 +74,8 @@ module _ (first : DiskState) (opening : Opening) (order : List Entry) (words : L
         (λ t. ReadsBelow opening.setup order writer.written (state_now t))
 
   -- what a crash leaves, whenever it comes, with the promises made to this pass and to those that
-  -- it took in; and what the down value tells of the disk
+  -- it took in; what the down value tells of the disk; and that one of these passes set it, where
+  -- it is set, and no other
   pub record LogIsDurable (writer : Plain) (v : View) : Type 0 where
     pub counted : IfSome writer.calls (λ calls. writer.moment ≡ length calls)
     pub since : opening.moment ≤ moment_word words
@@ -84,6 +85,7 @@ module _ (first : DiskState) (opening : Opening) (order : List Entry) (words : L
         (flushed_word words)
         (moment_word words) t (receipts_of v ∷ []))
     pub down : DownTells opening (down_word words) (some writer) writer (receipts_of v ∷ [])
+    pub set_once : setters_of (receipts_of v) ≡ one_if_some (down_word words)
 
   -- the log is at rest in the hand of one pass, with its writer at home
   pub record IsClosed (home : Option Plain) (writer : Plain) (views : List View) (id : ℕ)

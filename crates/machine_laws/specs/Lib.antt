@@ -15,3 +15,4 @@ pub mod ClosedLogs
 pub mod SoundLocks
 pub mod SoundPositions
 pub mod SoundWatches
+pub mod LonePasses

@@ -2,7 +2,7 @@
 //! functions that do nothing. The laws of `durable_steps`, `new_entries` and `device_calls`, with
 //! what the other parts of the invariant give them set in.
 
-ghost use Rattle.std.specs.Prelude.{◌≡◌, ℕ, true, List, [], ◌∷◌, ◌++◌, map, set, slice_index};
+ghost use Rattle.std.specs.Prelude.{◌≡◌, ◌≢◌, ℕ, true, List, [], ◌∷◌, ◌++◌, map, set, slice_index};
 ghost use mathlib.Core.Option.{Option};
 ghost use Rattle.segment_disk.specs.Tape.{DiskState, create_call, sync_call, write_call};
 ghost use Rattle.wal_types.specs.declared.record.Record.{Record};
@@ -69,7 +69,7 @@ pub fn passes_leave_a_sound_log_durable()
     ensures join { (first : DiskState) (words : List ℕ) (home : Option Plain) (views : List View)
         (id : ℕ) (v : View)
         (s : IsSound first v.opening words home views) → HasAt views id v
-        → (other : ℕ) (u : View) → HasAt views other u
+        → (other : ℕ) (u : View) → HasAt views other u → id ≢ other
         → HasDurableWith v.opening words home views s
         (set (set views other (spent u)) id (after_join v u)) }
     ensures give_up { (first : DiskState) (words : List ℕ) (home : Option Plain) (views : List View)

@@ -4,7 +4,7 @@
 //! is promised what it met, and one that stores both what it stored: whatever is stored meanwhile,
 //! the moment is not below the one from which on all below the address is durable.
 
-ghost use Rattle.std.specs.Prelude.{◌≡◌, ℕ, ◌≤◌, List, [], ◌∷◌, ◌++◌, set};
+ghost use Rattle.std.specs.Prelude.{◌≡◌, ◌≢◌, ℕ, ◌≤◌, List, [], ◌∷◌, ◌++◌, set};
 ghost use mathlib.Core.Option.{Option};
 ghost use Rattle.wal_page.specs.Order.{Entry};
 ghost use Rattle.segment_disk.specs.Tape.{DiskState};
@@ -114,7 +114,7 @@ pub fn turns_keep_durability()
 
 /// What the writer's holder stores: how far it has written, the moment from which all of that is
 /// durable, how far it is durable, of which it is promised that it is so from that moment on, that
-/// the disk has failed.
+/// the disk has failed. No other view has the writer in hand then.
 pub fn stores_keep_durability()
     ensures written { (first : DiskState) (o : Opening) (order : List Entry)
         (flushed moment down : ℕ)
@@ -152,6 +152,7 @@ pub fn stores_keep_durability()
         → DurabilityHolds first o order flushed moment down home writer parts
         → HasAt parts id (receipts_of v)
         → IsWriteTurn turn home writer writers → HasAt writers id (writer_of v)
+        → ((j : ℕ) (x : Receipts) (l : Lent) → HasAt parts j x → (x.writing).hold ≡ Out l → j ≡ id)
         → MayStep v set_down
         → DurabilityHolds first o order flushed moment (value_behind v set_down met) home writer
         (set parts id (receipts_of (view_behind v set_down met home))) }
@@ -171,7 +172,7 @@ pub fn passes_keep_durability()
         (id other : ℕ) (v w : View)
         → DurabilityHolds first o order flushed moment down home writer parts
         → HasAt parts id (receipts_of v)
-        → HasAt parts other (receipts_of w)
+        → HasAt parts other (receipts_of w) → id ≢ other
         → DurabilityHolds first o order flushed moment down home writer
         (set (set parts other (receipts_of (spent w))) id (receipts_of (after_join v w))) }
     ensures give_up { (first : DiskState) (o : Opening) (order : List Entry)

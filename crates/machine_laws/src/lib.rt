@@ -15,6 +15,7 @@ pub mod every_step;
 pub mod lock_steps;
 pub mod locks_held;
 pub mod locks_told;
+pub mod lone;
 pub mod moments;
 pub mod new_entries;
 pub mod opening;

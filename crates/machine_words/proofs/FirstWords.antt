@@ -5,8 +5,8 @@ use Rattle.std.proofs.Math.Nat.{mod-lt}
 use Rattle.byte_position.proofs.SegmentSizes.{segment_size_in_pages}
 use Rattle.wal_page.specs.Order.{Entry, prev_of}
 use Rattle.wal_core.specs.declared.setup.Setup.{Setup}
-use Rattle.wal_core.specs.Words.{Opening}
-use Rattle.wal_core.specs.Opened.{AreFirstWords, found_end}
+use Rattle.wal_core.specs.Words.{Opening, found_end}
+use Rattle.wal_core.specs.Opened.{AreFirstWords}
 use Rattle.wal_core.specs.Paged.{HoldsPage}
 use Rattle.wal_core.specs.Sound.{IsSetup}
 use Rattle.wal_core.proofs.NothingFound.{nothing_ends, nothing_has_no_words, nothing_stands}
@@ -40,7 +40,7 @@ module _ (opening : Opening) (valid : IsSetup opening.setup) (none : opening.fou
         flushed = empty.flushed ∙ sym end;
         moment = empty.moment_is;
         down = empty.down;
-        async = empty.answered ∙ sym end;
+        async = empty.async_is ∙ sym end;
         ends = λ b below. subst (λ (n : ℕ). HoldsPage setup.ring_pages n
             (n + setup.ring_pages) b (slice_index words (17 + b))) (sym page)
             (empty.ends b below);

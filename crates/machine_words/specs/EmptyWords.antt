@@ -20,4 +20,4 @@ pub record AreEmptyWords (setup : Setup) (moment : ℕ) (words : List ℕ) : Typ
       (setup.segment_size / 8192 + setup.ring_pages) b (slice_index words (17 + b))
   pub ring : (k : ℕ) → k < setup.ring_pages * 1024
       → slice_index words (17 + setup.ring_pages + k) ≡ 0
-  pub answered : slice_index words (async_number setup) ≡ setup.segment_size
+  pub async_is : slice_index words (async_number setup) ≡ setup.segment_size

@@ -29,7 +29,7 @@ pub(crate) fn set_first_words(words: &mut [u64], ring_pages: u32, segment_size: 
         (segment_size / 8192 + ring_pages) b (slice_index words.new (17 + b)) }
     ensures ring { (k : ℕ) → k < ring_pages * 1024
         → slice_index words.new (17 + ring_pages + k) ≡ 0 }
-    ensures answered { slice_index words.new (17 + ring_pages + ring_pages * 1024) ≡ segment_size }
+    ensures async_is { slice_index words.new (17 + ring_pages + ring_pages * 1024) ≡ segment_size }
 {
     let pages = ring_pages as usize;
     hold_pages(words, pages, segment_size / PAGE_SIZE);

@@ -32,6 +32,6 @@ pub fn names_are_the_machines()
         → word_named n words (BufferEnd buffer) ≡ end_word words buffer }
     ensures ring { (setup : Setup) (place : ℕ) (words : List ℕ)
         → word_named setup.ring_pages words (Ring place) ≡ word_of_ring setup words place }
-    ensures answered { (setup : Setup) (words : List ℕ)
+    ensures async_is { (setup : Setup) (words : List ℕ)
         → word_named setup.ring_pages words Async ≡ async_word setup words }
 {}

@@ -56,17 +56,20 @@ module _ (opening : Opening) (order : List Entry) (v : View)
       rose_by opening.faults (down_word c.words) faults (c.writer).fault is (down.at_home refl).0
       down.is_met
 
-  -- where it met none, the last pass knows of none
+  -- where the last pass knows of one, the down word is set
+  pub down_is_set : (faults : ℕ) → KnowsFault faults (pass_state_of v) → down_word c.words ≢ 0
+  down_is_set faults knows = λ down_is. elim knows.1 [
+    | inl met ↦
+        knows.0 (sym met ∙ right.down_met (λ none. knows.0 (sym met ∙ none)) ∙ down_is)
+    | inr set ↦
+        knows.0 (sym set ∙ right.down_set (λ none. knows.0 (sym set ∙ none)) ∙ down_is)
+  ]
+
+  -- where the writer met none, the last pass knows of none
   pub knows_no_fault : (c.writer).fault ≡ none → (faults : ℕ)
       → KnowsFault faults (pass_state_of v) → ⊥
   knows_no_fault up faults knows =
-      let down_is = ((((c.closed).durable).down).at_home refl).1 up in
-      elim knows.1 [
-        | inl met ↦
-            knows.0 (sym met ∙ right.down_met (λ none. knows.0 (sym met ∙ none)) ∙ down_is)
-        | inr set ↦
-            knows.0 (sym set ∙ right.down_set (λ none. knows.0 (sym set ∙ none)) ∙ down_is)
-      ]
+      down_is_set faults knows (((((c.closed).durable).down).at_home refl).1 up)
 
   -- a log has at most 4,096 segments of at most 2 ^ 30 bytes
   pub rooms_are_low : rooms_of (opening.setup).segment_size order ≤ 2 ^ 42

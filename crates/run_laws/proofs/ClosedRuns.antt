@@ -31,11 +31,12 @@ use Rattle.run_laws.proofs.FullScripts.{too_much_asked}
 use Rattle.run_laws.proofs.LastFlush.{left_whole}
 use Rattle.run_laws.proofs.LineFaults.{run_stays_down}
 use Rattle.run_laws.proofs.MomentsTold.{run_rises}
+use Rattle.run_laws.proofs.OneFault.{told_once}
 use Rattle.run_laws.proofs.RefusedLines.{refused_for_want_of_room}
 use Rattle.run_laws.proofs.RunCrashes.{told_survive, told_timely}
 use Rattle.run_laws.proofs.RunOrder.{told_order, told_rise}
 use Rattle.run_laws.proofs.RunTells.{run_tells}
-use Rattle.run_laws.specs.Assured.{LeavesLogWords, RunAssures, TapeGoesOn, order_told}
+use Rattle.run_laws.specs.Assured.{IsMachineRun, LeavesLogWords, RunAssures, TapeGoesOn, order_told}
 use Rattle.run_laws.specs.ClosedRuns.{HasFlushedAll, IsRunClosed}
 use Rattle.run_laws.proofs.ClosedLogs.{closed_on, fault_rose, knows_no_fault, none_is_later, rooms_are_low}
 
@@ -125,12 +126,30 @@ module _ {D : Type 0} (tape : D → Option Tape) (moment faults : D → ℕ) (be
 
   -- ---- what is assured
 
+  machine : IsMachineRun opening (tape (slot_disk w)) (moment (slot_disk w)) script lists
+  machine = record {
+    first = first_on began;
+    words = (r.closes).words;
+    writer = slot_plain tape moment w;
+    views = (r.closes).views;
+    id = (r.closes).id;
+    view = v;
+    sound = (r.closes).sound;
+    order_is = order_is;
+    tape_is = own;
+    moment_is = refl;
+    here = (r.closes).here;
+    taken = r.taken;
+  }
+
   pub run_assures : RunAssures opening began (tape (slot_disk w)) (moment (slot_disk w))
       (faults (slot_disk w)) script lists
   run_assures = record {
+    machine = machine;
     told = subst (λ (es : List Entry).
         TellsAll (logged_at_end opening es (faults (slot_disk w))) 1 script lists) order_is tells;
     stays_down = run_stays_down opening last_view script lists r.taken;
+    one_fault = told_once opening order last_view closed script lists r.taken;
     gapless = subst (IsChained size) order_is (((r.closes).closed).accounted).chained;
     in_line_order = told_rise opening order last_view closed script lists r.taken;
     moments = run_rises opening last_view script lists r.taken (r.closes).in_order

@@ -89,9 +89,10 @@ all_take size pass (lines ∷ script) (told ∷ lists) = omega (
 
 module _ (logged : Logged) where
   -- a front of the order and the record together have no room
-  record_exceeds : (behind : ℕ) (value : Record) (free : ℕ) → MayBeFull logged behind value free
+  record_exceeds : (pass behind : ℕ) (value : Record) (free : ℕ)
+      → MayBeFull logged pass behind value free
       → logged.capacity < rooms_of logged.size logged.order + room_asked (Insert value)
-  record_exceeds behind value free full =
+  record_exceeds pass behind value free full =
       let front = take full.front logged.order in
       let fewer : rooms_of logged.size front ≤ rooms_of logged.size logged.order =
       sum_by-take-le (λ (e : Entry). room_at logged.size e.start e.value) logged.order full.front in
@@ -100,7 +101,7 @@ module _ (logged : Logged) where
 
   -- a line that found the log full asks for more than is left, and takes none
   line_exceeds : (pass behind : ℕ) (asked : Asked) (told : Told)
-      → FitsLine logged behind asked told → IsFullAnswer told
+      → FitsLine logged pass behind asked told → IsFullAnswer told
       → logged.capacity
       + rooms_of logged.size (option_to_list (entry_of logged.size pass asked told))
       < rooms_of logged.size logged.order + room_asked asked
@@ -110,11 +111,11 @@ module _ (logged : Logged) where
   line_exceeds pass behind asked (Refused (Disk faults) reserved) fits full = absurd full
   line_exceeds pass behind asked (Refused (Down faults) reserved) fits full = absurd full
   line_exceeds pass behind (Insert value) (Refused (Full free) None) fits full =
-      omega (arith, record_exceeds behind value free fits)
+      omega (arith, record_exceeds pass behind value free fits)
   line_exceeds pass behind (Insert value) (Refused (Full free) (Some start)) fits full =
       absurd fits
   line_exceeds pass behind (Commit value) (Refused (Full free) None) fits full =
-      omega (arith, record_exceeds behind value free fits)
+      omega (arith, record_exceeds pass behind value free fits)
   line_exceeds pass behind (Commit value) (Refused (Full free) (Some start)) fits full =
       absurd fits
   line_exceeds pass behind Flush (Refused (Full free) reserved) fits full = absurd fits

@@ -64,7 +64,7 @@ module _ (logged : Logged) (up : logged.last ≡ 0) (address : ℕ) where
   Ends e = finish_of logged.size e ≤ address
 
   line_ends : (pass behind : ℕ) (asked : Asked) (told : Told)
-      → FitsLine logged behind asked told → EndsBy address told
+      → FitsLine logged pass behind asked told → EndsBy address told
       → All Ends (option_to_list (entry_of logged.size pass asked told))
   line_ends pass behind (Insert value) (Wrote start end) fits by =
       All-cons Ends _ [] (omega (arith, by, fits.ends)) (All-nil Ends)

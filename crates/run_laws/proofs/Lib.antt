@@ -19,4 +19,5 @@ pub mod LastFlush
 pub mod LineGrowth
 pub mod MomentsTold
 pub mod ClosedLogs
+pub mod OneFault
 pub mod ClosedRuns

@@ -26,29 +26,29 @@ module _ (logged : Logged) (up : logged.last ≡ 0) where
     | inr last ↦ omega (arith, last, f.upto, up)
   ]
 
-  full_line : (behind : ℕ) (asked : Asked) (told : Told) → FitsLine logged behind asked told
-      → IsRefused told → IsFullAnswer told
-  full_line behind asked (Wrote start end) fits refused = absurd refused
-  full_line behind asked (Hard start end moment) fits refused = absurd refused
-  full_line behind asked (Flushed upto moment) fits refused = absurd refused
-  full_line behind asked (Refused (Full free) reserved) fits refused = tt
-  full_line behind (Insert value) (Refused (Disk faults) None) fits refused = absurd fits
-  full_line behind (Insert value) (Refused (Disk faults) (Some start)) fits refused =
+  full_line : (pass behind : ℕ) (asked : Asked) (told : Told)
+      → FitsLine logged pass behind asked told → IsRefused told → IsFullAnswer told
+  full_line pass behind asked (Wrote start end) fits refused = absurd refused
+  full_line pass behind asked (Hard start end moment) fits refused = absurd refused
+  full_line pass behind asked (Flushed upto moment) fits refused = absurd refused
+  full_line pass behind asked (Refused (Full free) reserved) fits refused = tt
+  full_line pass behind (Insert value) (Refused (Disk faults) None) fits refused = absurd fits
+  full_line pass behind (Insert value) (Refused (Disk faults) (Some start)) fits refused =
       absurd (no_fault faults fits.0)
-  full_line behind (Insert value) (Refused (Down faults) None) fits refused =
+  full_line pass behind (Insert value) (Refused (Down faults) None) fits refused =
       absurd (no_fault faults fits)
-  full_line behind (Insert value) (Refused (Down faults) (Some start)) fits refused =
+  full_line pass behind (Insert value) (Refused (Down faults) (Some start)) fits refused =
       absurd (no_fault faults fits.0)
-  full_line behind (Commit value) (Refused (Disk faults) None) fits refused = absurd fits
-  full_line behind (Commit value) (Refused (Disk faults) (Some start)) fits refused =
+  full_line pass behind (Commit value) (Refused (Disk faults) None) fits refused = absurd fits
+  full_line pass behind (Commit value) (Refused (Disk faults) (Some start)) fits refused =
       absurd (no_fault faults fits.0)
-  full_line behind (Commit value) (Refused (Down faults) None) fits refused =
+  full_line pass behind (Commit value) (Refused (Down faults) None) fits refused =
       absurd (no_fault faults fits)
-  full_line behind (Commit value) (Refused (Down faults) (Some start)) fits refused =
+  full_line pass behind (Commit value) (Refused (Down faults) (Some start)) fits refused =
       absurd (no_fault faults fits.0)
-  full_line behind Flush (Refused (Disk faults) reserved) fits refused =
+  full_line pass behind Flush (Refused (Disk faults) reserved) fits refused =
       absurd (no_fault faults fits.0)
-  full_line behind Flush (Refused (Down faults) reserved) fits refused =
+  full_line pass behind Flush (Refused (Down faults) reserved) fits refused =
       absurd (no_fault faults fits.0)
 
   full_lines : (pass behind : ℕ) (lines : List AskedLine) (told : List Told)
@@ -58,7 +58,7 @@ module _ (logged : Logged) (up : logged.last ≡ 0) where
   full_lines pass behind [] (answer ∷ told) tells refused = absurd tells
   full_lines pass behind (line ∷ lines) [] tells refused = absurd tells
   full_lines pass behind (line ∷ lines) (answer ∷ told) tells (inl here) =
-      inl (full_line behind line.asked answer tells.0 here)
+      inl (full_line pass behind line.asked answer tells.0 here)
   full_lines pass behind (line ∷ lines) (answer ∷ told) tells (inr later) =
       inr (full_lines pass
       (behind_or logged.size behind (entry_of logged.size pass line.asked answer)) lines told

@@ -65,8 +65,10 @@ pub still_taken_in : (opening : Opening) (v new : View) (script : List (List Ask
     → (new.reserving).entries ≡ (v.reserving).entries
     → (new.reserving).joined ≡ (v.reserving).joined
     → ((faults : ℕ) → KnowsFault faults (pass_state_of v) → KnowsFault faults (pass_state_of new))
+    → ((faults : ℕ) → KnowsFault faults (pass_state_of v)
+    → (new.writing).down_set ≡ (v.writing).down_set)
     → HasTakenIn opening new script lists
-still_taken_in opening v new script lists taken number entries joined knows = record {
+still_taken_in opening v new script lists taken number entries joined knows sets_none = record {
   others = taken.others;
   number = number ∙ taken.number;
   none = entries ∙ taken.none;
@@ -74,6 +76,9 @@ still_taken_in opening v new script lists taken number entries joined knows = re
   known = All-weaker (IsKnownTo opening v) (IsKnownTo opening new) (λ w known. record {
     rose = known.rose;
     kept = λ faults k. let more = known.kept faults k in (more.0, more.1, knows more.0 more.2);
+    first_set_none = λ faults k.
+        let more = known.kept faults k in
+        sets_none more.0 more.2 ∙ known.first_set_none faults k;
   }) taken.others taken.known;
   played = taken.played;
 }
@@ -81,29 +86,28 @@ still_taken_in opening v new script lists taken number entries joined knows = re
 -- the pass that takes in another one knows what both knew
 first_joins : (v w : View) (faults more : ℕ) → faults ≤ more → KnowsFault more (pass_state_of v)
     → KnowsAtLeast faults (pass_state_of (after_join v w))
-first_joins v w faults more low (not_none, inl met) = (
-  max (v.writing).down_met (w.writing).down_met,
-  omega (arith, low, met),
-  ((λ none. not_none (omega (arith, met, none))), inl refl),
-)
-first_joins v w faults more low (not_none, inr set) = (
-  max (v.writing).down_set (w.writing).down_set,
-  omega (arith, low, set),
-  ((λ none. not_none (omega (arith, set, none))), inr refl),
-)
+first_joins v w faults more low (not_none, inl met) =
+    let both = max (v.writing).down_met (max (w.writing).down_met (w.writing).down_set) in (
+      both,
+      omega (arith, low, met),
+      ((λ none. not_none (omega (arith, met, none))), inl refl),
+    )
+first_joins v w faults more low (not_none, inr set) = (more, low, (not_none, inr set))
 
 other_joins : (v w : View) (faults : ℕ) → KnowsFault faults (pass_state_of w)
     → KnowsAtLeast faults (pass_state_of (after_join v w))
-other_joins v w faults (not_none, inl met) = (
-  max (v.writing).down_met (w.writing).down_met,
-  omega (arith, met),
-  ((λ none. not_none (omega (arith, met, none))), inl refl),
-)
-other_joins v w faults (not_none, inr set) = (
-  max (v.writing).down_set (w.writing).down_set,
-  omega (arith, set),
-  ((λ none. not_none (omega (arith, set, none))), inr refl),
-)
+other_joins v w faults (not_none, inl met) =
+    let both = max (v.writing).down_met (max (w.writing).down_met (w.writing).down_set) in (
+      both,
+      omega (arith, met),
+      ((λ none. not_none (omega (arith, met, none))), inl refl),
+    )
+other_joins v w faults (not_none, inr set) =
+    let both = max (v.writing).down_met (max (w.writing).down_met (w.writing).down_set) in (
+      both,
+      omega (arith, set),
+      ((λ none. not_none (omega (arith, set, none))), inl refl),
+    )
 
 pub one_more_taken_in : (opening : Opening) (v w : View) (script : List (List AskedLine))
     (lists : List (List Told)) (lines : List AskedLine) (told : List Told)
@@ -112,8 +116,9 @@ pub one_more_taken_in : (opening : Opening) (v w : View) (script : List (List As
     → PlaysLines (opening.setup).segment_size (log_limit opening.setup) (1 + length script)
     state_at_first lines told (pass_state_of w)
     → ((faults : ℕ) → KnowsFault faults (pass_state_of w) → Rose opening.faults faults)
+    → (v.writing).down_set ≡ 0
     → HasTakenIn opening (after_join v w) (script ++ lines ∷ []) (lists ++ told ∷ [])
-one_more_taken_in opening v w script lists lines told taken number alone plays rose =
+one_more_taken_in opening v w script lists lines told taken number alone plays rose none =
     let new = after_join v w in
     record {
       others = taken.others ++ w ∷ [];
@@ -128,8 +133,9 @@ one_more_taken_in opening v w script lists lines told taken number alone plays r
             kept = λ faults k.
                 let more = known.kept faults k in
                 first_joins v w faults more.0 more.1 more.2;
+            first_set_none = known.first_set_none;
           }) taken.others taken.known)
-          (record { rose = rose; kept = other_joins v w });
+          (record { rose = rose; kept = other_joins v w; first_set_none = λ faults k. none });
       played = played_push (opening.setup).segment_size (log_limit opening.setup) 1 script lists
           taken.others lines told w taken.played number plays;
     }

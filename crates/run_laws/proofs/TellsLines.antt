@@ -91,7 +91,7 @@ module _ (logged : Logged) (limit pass : ℕ) (valid : IsSegmentSize logged.size
 
     refuses : (value : Record) (cause : Cause) (reserved : Option Lsn)
         → RefusesRecordLine logged.size limit pass value cause reserved before after
-        → MayRefuseRecord logged behind value cause reserved
+        → MayRefuseRecord logged pass behind value cause reserved
     refuses value (Full free) None l =
         full_cause logged limit pass chained limited found all value free before.log after.log l
         held.0 own
@@ -113,7 +113,7 @@ module _ (logged : Logged) (limit pass : ℕ) (valid : IsSegmentSize logged.size
     refuses_flush (Down faults) (Some start) l = absurd l
 
     fits : (asked : Asked) (told : Told) → Leaves logged.size limit pass asked told before after
-        → FitsLine logged behind asked told
+        → FitsLine logged pass behind asked told
     fits (Insert value) (Wrote start end) l = placed value start end before.log after.log l
     fits (Insert value) (Hard start end moment) l = absurd l
     fits (Insert value) (Flushed upto moment) l = absurd l

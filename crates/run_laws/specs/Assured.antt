@@ -1,20 +1,25 @@
 -- What is assured of a run, by what its lines were told.
 use Rattle.std.specs.Prelude.{◌≡◌, ℕ, ◌*◌, ◌<◌, ◌≤◌, List, ◌++◌, IfSome, Option, None, Some}
+use mathlib.Core.Option.{some}
 use Rattle.segment_disk.specs.declared.disk.Call.{Call}
 use Rattle.segment_disk.specs.DiskImage.{DiskImage, LeftAt}
 use Rattle.segment_disk.specs.ImageWords.{image_word}
-use Rattle.segment_disk.specs.Tape.{Tape}
+use Rattle.segment_disk.specs.Tape.{DiskState, Tape}
 use Rattle.flush_core.specs.Pages.{HoldsNothing}
 use Rattle.wal_page.specs.Log.{IsLawfulWord}
 use Rattle.wal_page.specs.Order.{Entry, IsChained}
+use Rattle.wal_core.specs.Sound.{IsSound}
+use Rattle.wal_core.specs.Suited.{tape_from}
+use Rattle.wal_core.specs.Views.{HasAt, Plain, View}
 use Rattle.wal_core.specs.Words.{Opening}
 use Rattle.wal_script.specs.Asked.{AskedLine}
 use Rattle.told_lines.specs.declared.told.Told.{Told}
 use Rattle.told_lines.specs.Told.{EachStaysDown, IsFullAnswer, RiseInLineOrder, SomeTold, TellsAll, order_from}
+use Rattle.told_lines.specs.Counts.{TellsOneFault}
 use Rattle.told_lines.specs.Moments.{EachRises}
 use Rattle.told_lines.specs.Crash.{EachIsTimely, SurvivesCrashes}
 use Rattle.told_lines.specs.Rooms.{all_rooms_asked, capacity_of}
-use Rattle.run_laws.specs.Ended.{logged_at_end}
+use Rattle.run_laws.specs.Ended.{HasTakenIn, logged_at_end}
 
 -- the order that the lines were told; backend b has pass b + 1
 abbrev pub order_told : Opening → List (List AskedLine) → List (List Told) → List Entry
@@ -34,13 +39,33 @@ LeavesLogWords size sysid order from t =
     (moment : ℕ) (image : DiskImage) → from ≤ moment → LeftAt t moment image
     → (k : ℕ) → IsLawfulWord size sysid order (8 * k) (image_word size image (8 * k))
 
+-- the run was one of the machine, with a log that was opened so: in a state that the machine's
+-- invariant allows, the order is the one told, the writer at home made the disk's calls, and a pass
+-- took in those of all backends, each of which played its lines and was told these answers
+pub record IsMachineRun (opening : Opening) (now : Option Tape) (moment : ℕ)
+    (script : List (List AskedLine)) (lists : List (List Told)) : Type 0 where
+  pub first : DiskState
+  pub words : List ℕ
+  pub writer : Plain
+  pub views : List View
+  pub id : ℕ
+  pub view : View
+  pub sound : IsSound first opening words (some writer) views
+  pub order_is : sound.order ≡ order_told opening script lists
+  pub tape_is : tape_from first writer.calls ≡ now
+  pub moment_is : writer.moment ≡ moment
+  pub here : HasAt views id view
+  pub taken : HasTakenIn opening view script lists
+
 -- the disk had the tape `began` at the opening, and has the tape `now`, this moment and this count
 -- of faults in the end
 pub record RunAssures (opening : Opening) (began now : Option Tape) (moment faults : ℕ)
     (script : List (List AskedLine)) (lists : List (List Told)) : Type 0 where
+  pub machine : IsMachineRun opening now moment script lists
   pub told : TellsAll (logged_at_end opening (order_told opening script lists) faults) 1 script
       lists
   pub stays_down : EachStaysDown lists
+  pub one_fault : TellsOneFault lists
   pub gapless : IsChained (opening.setup).segment_size (order_told opening script lists)
   pub in_line_order : RiseInLineOrder (opening.setup).segment_size 1 script lists
   pub moments : EachRises opening.moment lists moment

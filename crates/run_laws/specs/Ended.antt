@@ -46,11 +46,14 @@ PlayedAll size limit pass (lines ∷ script) (told ∷ lists) (w ∷ views) =
 abbrev pub KnowsAtLeast : ℕ → PassState → Type 0
 KnowsAtLeast faults s = (more : ℕ) × (faults ≤ more) × KnowsFault more s
 
--- what a pass knows of faults came since the opening, and the pass that took it in knows no less
+-- what a pass knows of faults came since the opening; the pass that took it in knows no less, and
+-- set no fault itself then
 pub record IsKnownTo (opening : Opening) (v w : View) : Type 0 where
   pub rose : (faults : ℕ) → KnowsFault faults (pass_state_of w) → Rose opening.faults faults
   pub kept : (faults : ℕ) → KnowsFault faults (pass_state_of w)
       → KnowsAtLeast faults (pass_state_of v)
+  pub first_set_none : (faults : ℕ) → KnowsFault faults (pass_state_of w)
+      → (v.writing).down_set ≡ 0
 
 -- the first pass reserved nothing, and took in these, which played the script, numbered from 1
 pub record HasTakenIn (opening : Opening) (v : View) (script : List (List AskedLine))

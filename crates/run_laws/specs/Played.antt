@@ -48,12 +48,13 @@ behind_last_own size behind (e ∷ es) = behind_last_own size (position_behind s
 abbrev pub end_of_own : ℕ → List Entry → ℕ
 end_of_own size es = end_address_of size (behind_last_own size (first_position size) es)
 
--- by what a refused line learned of a failed disk its cause is told: a full log, no fault; a fault
--- of its own, one that it set as the down value; any other, one that it met there, and it set none
+-- by what a line learned of a failed disk its answer is told: where it was done, or found the log
+-- full, it knows no fault; a fault of its own is one that it set as the down value; any other, one
+-- that it met there, and it set none
 abbrev pub TellsCause : Told → PassState → PassState → Type 0
-TellsCause (Wrote start end) before after = Unit {0}
-TellsCause (Hard start end moment) before after = Unit {0}
-TellsCause (Flushed upto moment) before after = Unit {0}
+TellsCause (Wrote start end) before after = (after.met ≡ 0) × (after.set ≡ 0)
+TellsCause (Hard start end moment) before after = (after.met ≡ 0) × (after.set ≡ 0)
+TellsCause (Flushed upto moment) before after = (after.met ≡ 0) × (after.set ≡ 0)
 TellsCause (Refused (Full free) reserved) before after = (after.met ≡ 0) × (after.set ≡ 0)
 TellsCause (Refused (Disk faults) reserved) before after = after.set ≡ faults
 TellsCause (Refused (Down faults) reserved) before after =

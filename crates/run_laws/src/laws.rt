@@ -10,11 +10,12 @@ ghost use Rattle.wal_types.specs.declared.record.Record.{Record};
 ghost use Rattle.wal_page.specs.Order.{Entry, IsChained, end_position};
 ghost use Rattle.wal_script.specs.Asked.{AskedLine};
 ghost use Rattle.told_lines.specs.declared.told.Told.{Told};
-ghost use Rattle.told_lines.specs.Counts.{reserved_count};
+ghost use Rattle.told_lines.specs.Counts.{TellsOneFault, own_faults_of, reserved_count};
 ghost use Rattle.told_lines.specs.Told.{entries_of, order_from, AllDown, EachStaysDown, Logged, MayBeFull, RiseInLineOrder, StaysDown, TellsAll};
 ghost use Rattle.segment_disk.specs.Tape.{DiskState};
 ghost use Rattle.wal_core.specs.Words.{Opening, log_limit};
 ghost use Rattle.wal_core.specs.Views.{HasAt, Plain, View};
+ghost use Rattle.wal_core.specs.Durable.{one_if_some};
 ghost use Rattle.wal_core.specs.Moves.{after_join};
 ghost use Rattle.wal_core.specs.Sound.{IsSound};
 ghost use Rattle.wal_core.specs.Ordered.{entries_under, FrontEndsAt};
@@ -33,8 +34,9 @@ pub fn lines_are_played_one_by_one()
         → PlaysLines size limit pass before (lines ++ line ∷ []) (told ++ answer ∷ []) after }
 {}
 
-/// The first pass has taken in nobody at first; it may take in one pass more, behind the others,
-/// that played its lines; and it may go on without reserving.
+/// The first pass has taken in nobody at first; while it has set no fault, it may take in one pass
+/// more, behind the others, that played its lines; and it may go on without reserving, and without
+/// setting a fault where it knows one.
 pub fn passes_are_taken_in()
     ensures none { (opening : Opening) (v : View) → (v.reserving).number ≡ 0
         → (v.reserving).entries ≡ [] → (v.reserving).joined ≡ [] → HasTakenIn opening v [] [] }
@@ -45,6 +47,7 @@ pub fn passes_are_taken_in()
         → PlaysLines (opening.setup).segment_size (log_limit opening.setup) (1 + length script)
         state_at_first lines told (pass_state_of w)
         → ((faults : ℕ) → KnowsFault faults (pass_state_of w) → Rose opening.faults faults)
+        → (v.writing).down_set ≡ 0
         → HasTakenIn opening (after_join v w) (script ++ lines ∷ []) (lists ++ told ∷ []) }
     ensures still { (opening : Opening) (v new : View) (script : List (List AskedLine))
         (lists : List (List Told)) → HasTakenIn opening v script lists
@@ -53,6 +56,8 @@ pub fn passes_are_taken_in()
         → (new.reserving).joined ≡ (v.reserving).joined
         → ((faults : ℕ) → KnowsFault faults (pass_state_of v)
         → KnowsFault faults (pass_state_of new))
+        → ((faults : ℕ) → KnowsFault faults (pass_state_of v)
+        → (new.writing).down_set ≡ (v.writing).down_set)
         → HasTakenIn opening new script lists }
 {}
 
@@ -120,8 +125,19 @@ pub fn records_are_counted()
         → length (entries_of size pass lines told) ≡ reserved_count told }
 {}
 
+/// No more than one line of all backends is told that its own device call failed; and one is, where
+/// a line is told that the disk had failed before.
+pub fn faults_are_told_once()
+    ensures once { (opening : Opening) (order : List Entry) (v : View)
+        → IsClosedLog opening order v → (script : List (List AskedLine))
+        (lists : List (List Told)) → HasTakenIn opening v script lists → TellsOneFault lists }
+    ensures own { (size limit pass : ℕ) (lines : List AskedLine) (told : List Told)
+        (before after : PassState) → PlaysLines size limit pass before lines told after
+        → before.set ≡ 0 → own_faults_of told ≡ one_if_some after.set }
+{}
+
 /// A line that is told that the log is full had too few bytes left behind a front of the order,
-/// which has what the line's pass had reserved.
+/// which has what the line's pass had reserved, and nothing that it reserved later.
 pub fn full_has_its_cause()
     ensures cause { (logged : Logged) (limit pass : ℕ) → IsChained logged.size logged.order
         → limit ≡ first_position logged.size + logged.capacity → (found all : List Entry)
@@ -129,7 +145,7 @@ pub fn full_has_its_cause()
         → AddsFull logged.size limit pass value free before after
         → All (FrontEndsAt logged.size pass found logged.order all) after.stops
         → take (length before.entries) all ≡ before.entries
-        → MayBeFull logged
+        → MayBeFull logged pass
         (behind_last_own logged.size (first_position logged.size) before.entries) value free }
 {}
 

@@ -5,4 +5,3 @@ pub mod Capacities
 pub mod AnswerCounts
 pub mod AnswerLoops
 pub mod MomentLaws
-pub mod LineCauses

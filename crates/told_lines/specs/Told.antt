@@ -1,5 +1,5 @@
 -- What lines are told, and the order that it makes.
-use Rattle.std.specs.Prelude.{◌≡◌, ℕ, ◌+◌, ◌<◌, ◌≤◌, ◌⊎◌, List, [], ◌∷◌, ◌++◌, length, take, Option, Some, None, option_to_list, nat_le, if◌then◌else◌}
+use Rattle.std.specs.Prelude.{◌≡◌, ℕ, ◌+◌, ◌<◌, ◌≤◌, ◌⊎◌, All, List, [], ◌∷◌, ◌++◌, length, take, Option, Some, None, option_to_list, nat_le, if◌then◌else◌}
 use Rattle.segment_disk.specs.Cause.{Rose}
 use Rattle.wal_types.specs.declared.lsn.Lsn.{Lsn}
 use Rattle.wal_types.specs.declared.record.Record.{Record}
@@ -86,24 +86,27 @@ pub record IsFault (logged : Logged) (faults : ℕ) : Type 0 where
   pub upto : faults ≤ logged.last
 
 -- too few bytes were left for the record behind some front of the order, which has the backend's
--- earlier entries (they end at byte position `behind`)
-pub record MayBeFull (logged : Logged) (behind : ℕ) (value : Record) (free : ℕ) : Type 0 where
+-- earlier entries (they end at byte position `behind`) and none of its later ones
+pub record MayBeFull (logged : Logged) (pass behind : ℕ) (value : Record) (free : ℕ)
+    : Type 0 where
   pub front : ℕ
   pub within : front ≤ length logged.order
   pub earlier : behind ≤ end_position logged.size (take front logged.order)
+  pub no_later : All (λ e. e.pass ≡ Some pass → e.start < behind) (take front logged.order)
   pub left : free + rooms_of logged.size (take front logged.order) ≡ logged.capacity
   pub short : free < room_behind logged.size (take front logged.order) value
 
 -- why an insert or a commit may be refused: a fault in its own device calls comes once its record
 -- is reserved
-abbrev pub MayRefuseRecord : Logged → ℕ → Record → Cause → Option Lsn → Type 0
-MayRefuseRecord logged behind value (Full free) None = MayBeFull logged behind value free
-MayRefuseRecord logged behind value (Full free) (Some start) = ⊥
-MayRefuseRecord logged behind value (Disk faults) None = ⊥
-MayRefuseRecord logged behind value (Disk faults) (Some start) =
+abbrev pub MayRefuseRecord : Logged → (pass behind : ℕ) → Record → Cause → Option Lsn → Type 0
+MayRefuseRecord logged pass behind value (Full free) None =
+    MayBeFull logged pass behind value free
+MayRefuseRecord logged pass behind value (Full free) (Some start) = ⊥
+MayRefuseRecord logged pass behind value (Disk faults) None = ⊥
+MayRefuseRecord logged pass behind value (Disk faults) (Some start) =
     IsFault logged faults × (start.0 ≡ address_of logged.size (position_of logged.size start.0))
-MayRefuseRecord logged behind value (Down faults) None = IsFault logged faults
-MayRefuseRecord logged behind value (Down faults) (Some start) =
+MayRefuseRecord logged pass behind value (Down faults) None = IsFault logged faults
+MayRefuseRecord logged pass behind value (Down faults) (Some start) =
     IsFault logged faults × (start.0 ≡ address_of logged.size (position_of logged.size start.0))
 
 -- why a flush may be refused: it reserves nothing, and needs no room
@@ -112,27 +115,28 @@ MayRefuseFlush logged (Full free) reserved = ⊥
 MayRefuseFlush logged (Disk faults) reserved = IsFault logged faults × (reserved ≡ None)
 MayRefuseFlush logged (Down faults) reserved = IsFault logged faults × (reserved ≡ None)
 
--- what a line may be told, where its backend's earlier entries end at byte position `behind`: an
--- insert that its record is written, a commit that it is durable, a flush that all is up to there
--- at least and no further than the log goes
-abbrev pub FitsLine : Logged → ℕ → Asked → Told → Type 0
-FitsLine logged behind (Insert value) (Wrote start end) = IsPlaced logged.size value start.0 end.0
-FitsLine logged behind (Insert value) (Hard start end moment) = ⊥
-FitsLine logged behind (Insert value) (Flushed upto moment) = ⊥
-FitsLine logged behind (Insert value) (Refused cause reserved) =
-    MayRefuseRecord logged behind value cause reserved
-FitsLine logged behind (Commit value) (Wrote start end) = ⊥
-FitsLine logged behind (Commit value) (Hard start end moment) =
+-- what a line of a pass may be told, where its backend's earlier entries end at byte position
+-- `behind`: an insert that its record is written, a commit that it is durable, a flush that all is
+-- up to there at least and no further than the log goes
+abbrev pub FitsLine : Logged → (pass behind : ℕ) → Asked → Told → Type 0
+FitsLine logged pass behind (Insert value) (Wrote start end) =
     IsPlaced logged.size value start.0 end.0
-FitsLine logged behind (Commit value) (Flushed upto moment) = ⊥
-FitsLine logged behind (Commit value) (Refused cause reserved) =
-    MayRefuseRecord logged behind value cause reserved
-FitsLine logged behind Flush (Wrote start end) = ⊥
-FitsLine logged behind Flush (Hard start end moment) = ⊥
-FitsLine logged behind Flush (Flushed upto moment) =
+FitsLine logged pass behind (Insert value) (Hard start end moment) = ⊥
+FitsLine logged pass behind (Insert value) (Flushed upto moment) = ⊥
+FitsLine logged pass behind (Insert value) (Refused cause reserved) =
+    MayRefuseRecord logged pass behind value cause reserved
+FitsLine logged pass behind (Commit value) (Wrote start end) = ⊥
+FitsLine logged pass behind (Commit value) (Hard start end moment) =
+    IsPlaced logged.size value start.0 end.0
+FitsLine logged pass behind (Commit value) (Flushed upto moment) = ⊥
+FitsLine logged pass behind (Commit value) (Refused cause reserved) =
+    MayRefuseRecord logged pass behind value cause reserved
+FitsLine logged pass behind Flush (Wrote start end) = ⊥
+FitsLine logged pass behind Flush (Hard start end moment) = ⊥
+FitsLine logged pass behind Flush (Flushed upto moment) =
     (end_address_of logged.size behind ≤ upto.0)
     × (upto.0 ≤ end_address_of logged.size (end_position logged.size logged.order))
-FitsLine logged behind Flush (Refused cause reserved) = MayRefuseFlush logged cause reserved
+FitsLine logged pass behind Flush (Refused cause reserved) = MayRefuseFlush logged cause reserved
 
 -- the byte position at which a backend's entries end after one more line
 abbrev pub behind_or : ℕ → ℕ → Option Entry → ℕ
@@ -145,7 +149,7 @@ TellsFrom logged pass behind [] [] = Unit {0}
 TellsFrom logged pass behind [] (told ∷ others) = ⊥
 TellsFrom logged pass behind (line ∷ lines) [] = ⊥
 TellsFrom logged pass behind (line ∷ lines) (told ∷ others) =
-    FitsLine logged behind line.asked told
+    FitsLine logged pass behind line.asked told
     × TellsFrom logged pass
     (behind_or logged.size behind (entry_of logged.size pass line.asked told)) lines others
 
@@ -165,7 +169,8 @@ RiseInLineOrder size pass (lines ∷ script) [] = Unit {0}
 RiseInLineOrder size pass (lines ∷ script) (told ∷ others) =
     IsRising (entries_of size pass lines told) × RiseInLineOrder size (pass + 1) script others
 
--- whether an answer says that the log is full, that a record is durable, that the line was refused
+-- whether an answer says that the log is full, that the disk had failed before, that the line was
+-- refused
 abbrev pub IsFullAnswer : Told → Type 0
 IsFullAnswer (Wrote start end) = ⊥
 IsFullAnswer (Hard start end moment) = ⊥
@@ -173,6 +178,14 @@ IsFullAnswer (Flushed upto moment) = ⊥
 IsFullAnswer (Refused (Full free) reserved) = Unit {0}
 IsFullAnswer (Refused (Disk faults) reserved) = ⊥
 IsFullAnswer (Refused (Down faults) reserved) = ⊥
+
+abbrev pub IsDownAnswer : Told → Type 0
+IsDownAnswer (Wrote start end) = ⊥
+IsDownAnswer (Hard start end moment) = ⊥
+IsDownAnswer (Flushed upto moment) = ⊥
+IsDownAnswer (Refused (Full free) reserved) = ⊥
+IsDownAnswer (Refused (Disk faults) reserved) = ⊥
+IsDownAnswer (Refused (Down faults) reserved) = Unit {0}
 
 abbrev pub IsRefused : Told → Type 0
 IsRefused (Wrote start end) = ⊥

@@ -6,8 +6,8 @@ use Rattle.byte_position.specs.Position.{end_address_of, first_position}
 use Rattle.wal_page.specs.Order.{Entry, IsChained, end_position}
 use Rattle.wal_page.proofs.WordPositions.{end_address_of-first_position}
 use Rattle.wal_page.proofs.LogWordLaws.{log_word-unowned}
-use Rattle.wal_core.specs.Words.{Opening, log_limit}
-use Rattle.wal_core.specs.Opened.{IsOpenable, found_end, found_position}
+use Rattle.wal_core.specs.Words.{Opening, found_end, found_position, log_limit}
+use Rattle.wal_core.specs.Opened.{IsOpenable}
 use Rattle.wal_core.specs.Ringed.{log_word_of}
 use Rattle.wal_core.specs.Sound.{IsSetup}
 
@@ -30,12 +30,13 @@ module _ (opening : Opening) (sized : IsSegmentSize (opening.setup).segment_size
       (omega arith) refl
 
 pub nothing_opens : (opening : Opening) → IsSetup opening.setup → opening.found ≡ []
-    → IsOpenable opening
-nothing_opens opening valid none = record {
+    → opening.made ≤ (opening.setup).cap_segments → IsOpenable opening
+nothing_opens opening valid none few = record {
   setup_is = valid;
   chained = subst (λ (es : List Entry). IsChained (opening.setup).segment_size es) (sym none) tt;
   nobodys = subst (λ (es : List Entry). All (λ (e : Entry). e.pass ≡ None) es) (sym none)
       (All-nil _);
   within = omega (arith, nothing_stands opening valid.size none);
-  made = omega (arith, nothing_ends opening valid.size none);
+  made_within = few;
+  reaches = omega (arith, nothing_ends opening valid.size none);
 }

@@ -5,8 +5,9 @@
 -- (14): from that moment on all below that address is there, and a later write of the same page
 -- leaves it so. Who loads 14 and then 15 meets that moment or a later one: so a promise is kept,
 -- whoever else stores meanwhile. No call follows a fault, and no promise that was made is taken
--- back by one.
-use Rattle.std.specs.Prelude.{◌≡◌, ◌≢◌, ◌⊎◌, ℕ, ◌+◌, ◌*◌, ◌<◌, ◌≤◌, All, List, drop, length, slice_get, take, IfSome, IsSomeAnd, Some}
+-- back by one. What was found at the opening is durable from the opening on, promised or not. The
+-- down word (16) is set once, by one pass: its number stays with the view that took the pass in.
+use Rattle.std.specs.Prelude.{◌≡◌, ◌≢◌, ◌⊎◌, ℕ, ◌+◌, ◌*◌, ◌<◌, ◌≤◌, All, List, [], ◌∷◌, drop, length, slice_get, take, IfSome, IsSomeAnd, Some, ◌==◌, if◌then◌else◌}
 use mathlib.Core.Option.{Option, none, some}
 use Rattle.segment_disk.specs.declared.disk.Call.{Call}
 use Rattle.segment_disk.specs.declared.disk.CallKind.{CallKind}
@@ -21,7 +22,7 @@ use Rattle.wal_page.specs.EntryWords.{address_of_word}
 use Rattle.segment_disk.specs.ImageWords.{zero_word}
 use Rattle.wal_page.specs.Log.{IsLawfulWord, log_word_bytes}
 use Rattle.wal_core.specs.declared.setup.Setup.{Setup}
-use Rattle.wal_core.specs.Words.{Opening}
+use Rattle.wal_core.specs.Words.{Opening, found_end}
 use Rattle.wal_core.specs.Suited.{IfSuited}
 use Rattle.wal_core.specs.Ringed.{log_word_of}
 use Rattle.wal_core.specs.Views.{HasAt, Joined, FlushPromise, Plain, Lent, Out, Receipts}
@@ -108,6 +109,26 @@ pub record IsToldRightly (first : DiskState) (opening : Opening) (order : List E
       → IsInHand first opening order moment writer l
   pub down_met : (x.writing).down_met ≢ 0 → (x.writing).down_met ≡ down
   pub down_set : (x.writing).down_set ≢ 0 → (x.writing).down_set ≡ down
+  pub up_in_hand : (l : Lent) → (x.writing).hold ≡ Out l → (x.writing).down_met ≡ 0
+      → (x.writing).down_set ≡ 0 → down ≡ 0
+
+-- ---- how many passes set the down word
+
+-- 1 for a number that is not 0
+abbrev pub one_if_some : ℕ → ℕ
+one_if_some number = if number == 0 then 0 else 1
+
+-- of passes that were taken in; of a view's own pass and those that it took in; of all views
+abbrev pub setters_among : List Joined → ℕ
+setters_among [] = 0
+setters_among (j ∷ js) = one_if_some j.down_set + setters_among js
+
+abbrev pub setters_of : Receipts → ℕ
+setters_of x = one_if_some (x.writing).down_set + setters_among x.joined
+
+abbrev pub setters : List Receipts → ℕ
+setters [] = 0
+setters (x ∷ xs) = setters_of x + setters xs
 
 -- the segments up to the last one made are there, and in each but the one that waits for a sync the
 -- log is durable below what is written
@@ -129,10 +150,14 @@ pub record DurabilityHolds (first : DiskState) (opening : Opening) (order : List
       + opening.setup.segment_size
   pub lawful : IfSuited first opening writer (TapeAssures opening.setup.segment_size IsNowhere
       (IsLawfulAt opening.setup order) opening.moment)
+  pub found_low : found_end opening ≤ flushed
+  pub found : IfSuited first opening writer
+      (IsFirm opening.setup order (found_end opening) opening.moment)
   pub firm : IfSuited first opening writer (IsFirm opening.setup order flushed moment)
   pub on_disk : IfSuited first opening writer (IsOnDisk opening.setup order writer)
   pub down_is : down ≢ 0 → writer.fault ≡ some down
   pub down_at_home : home ≡ some writer → down ≡ 0 → writer.fault ≡ none
+  pub set_once : setters parts ≡ one_if_some down
   pub fault_rose : (f : ℕ) → writer.fault ≡ some f → Rose opening.faults f
   pub views : (id : ℕ) (x : Receipts) → HasAt parts id x
       → IsToldRightly first opening order flushed moment down writer x

@@ -8,8 +8,9 @@ pub mod Watched
 pub mod Suited
 pub mod Positioned
 pub mod Durable
-pub mod Answered
+pub mod Async
 pub mod Aligned
+pub mod Failed
 pub mod Sound
 pub mod Moves
 pub mod Steps

@@ -67,8 +67,17 @@ lent writer v = record {
   stored = 0;
 }
 
+-- the count of faults with which the disk failed, 0 where it did not
+abbrev pub fault_number : Option ℕ → ℕ
+fault_number none = 0
+fault_number (some faults) = faults
+
+-- with the writer in hand; who takes one that has failed knows it then
 abbrev pub after_slot_out : Plain → View → View
-after_slot_out writer v = with_hold (Out (lent writer v)) v
+after_slot_out writer v = with_writing (record v.writing {
+  down_met = max (v.writing).down_met (fault_number writer.fault);
+  hold = Out (lent writer v);
+}) v
 
 -- the pass keeps its number, and gives the least of its spare ones away
 abbrev pub after_split : View → View
@@ -105,7 +114,7 @@ fresh_view opening number spare spare_end seen = record {
   mapping = record { confirmed = 0; stage = Away };
   writing = no_writing;
   told = 0;
-  answered = 0;
+  async_met = 0;
 }
 
 abbrev pub split_off : View → View
@@ -118,13 +127,14 @@ joined_of v = record {
   entries = (v.reserving).entries;
   stops = (v.reserving).stops;
   promises = (v.writing).promises;
+  down_set = (v.writing).down_set;
 }
 
 abbrev pub has_spares : Reserving → Bool
 has_spares r = nat_lt r.spare r.spare_end
 
 -- one pass takes another in: its log, what it took in, what it has seen, its spare numbers, the
--- down values that it knows, and up to where commits are answered
+-- highest async address that it met, and the down values that it met or set, which count as met
 abbrev pub after_join : View → View → View
 after_join v w =
     let r = v.reserving in
@@ -137,10 +147,10 @@ after_join v w =
         joined = r.joined ++ joined_of w ∷ s.joined;
       };
       writing = record v.writing {
-        down_met = max (v.writing).down_met (w.writing).down_met;
-        down_set = max (v.writing).down_set (w.writing).down_set;
+        down_met = max (v.writing).down_met
+            (max (w.writing).down_met (w.writing).down_set);
       };
-      answered = max v.answered w.answered;
+      async_met = max v.async_met w.async_met;
     }
 
 -- what is left of a pass that was taken in
@@ -363,15 +373,15 @@ after_store_flushed upto moment v =
     with_seen (position_of ((v.opening).setup).segment_size upto) (with_flush_promise upto moment v)
 
 -- commits may be answered up to an address, though they are not durable yet
-abbrev pub with_answered : ℕ → View → View
-with_answered async v = record v { answered = max v.answered async }
+abbrev pub with_async : ℕ → View → View
+with_async async v = record v { async_met = max v.async_met async }
 
 abbrev pub after_load_async : ℕ → View → View
-after_load_async met v = with_answered met v
+after_load_async met v = with_async met v
 
 -- the exchange stores the address where it meets what it expects; else the pass learns what it met
 abbrev pub after_raise_async : (expected upto met : ℕ) → View → View
-after_raise_async expected upto met v = with_answered (if met == expected then upto else met) v
+after_raise_async expected upto met v = with_async (if met == expected then upto else met) v
 
 abbrev pub after_set_down : ℕ → View → View
 after_set_down faults v = with_writing (record v.writing { down_set = faults }) v

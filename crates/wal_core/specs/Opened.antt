@@ -5,29 +5,24 @@
 -- entries and no segments.
 use Rattle.std.specs.Prelude.{◌≡◌, ℕ, ◌+◌, ◌*◌, ◌/◌, ◌%◌, ◌<◌, ◌≤◌, All, List, length, slice_index, IfSome, None}
 use mathlib.Core.Option.{none}
-use Rattle.wal_page.specs.Order.{IsChained, end_position, prev_of}
-use Rattle.wal_core.specs.Words.{Opening, position_word, prev_word, initialised_word, written_word, flushed_word, moment_word, down_word, async_word, end_word, word_of_ring, word_count, end_form, log_limit}
+use Rattle.wal_page.specs.Order.{IsChained, prev_of}
+use Rattle.wal_core.specs.Words.{Opening, position_word, prev_word, initialised_word, written_word, flushed_word, moment_word, down_word, async_word, end_word, word_of_ring, word_count, log_limit, found_position, found_end}
 use Rattle.wal_core.specs.Views.{Plain, View}
 use Rattle.wal_core.specs.Moves.{fresh_view}
 use Rattle.wal_core.specs.Paged.{HoldsPage}
 use Rattle.wal_core.specs.Ringed.{log_word_of}
 use Rattle.wal_core.specs.Sound.{IsSetup}
 
--- the byte position and the address at which the log that was found ends
-abbrev pub found_position : Opening → ℕ
-found_position opening = end_position (opening.setup).segment_size opening.found
-
-abbrev pub found_end : Opening → ℕ
-found_end opening = end_form opening.setup (found_position opening)
-
 -- a log that may be opened, of a setup that a log can have: what was found stands without a gap, is
--- no pass's, and lies within the log and in the segments that are there
+-- no pass's, and lies within the log and in the segments that are there, of which the log may fill
+-- as many at least
 pub record IsOpenable (opening : Opening) : Type 0 where
   pub setup_is : IsSetup opening.setup
   pub chained : IsChained (opening.setup).segment_size opening.found
   pub nobodys : All (λ e. e.pass ≡ None) opening.found
   pub within : found_position opening ≤ log_limit opening.setup
-  pub made : found_end opening
+  pub made_within : opening.made ≤ (opening.setup).cap_segments
+  pub reaches : found_end opening
       ≤ opening.made * (opening.setup).segment_size + (opening.setup).segment_size
 
 -- The words: records go on where the log that was found ends, behind its last start, and all of it

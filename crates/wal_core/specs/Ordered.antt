@@ -4,12 +4,12 @@
 -- has its place for good, whatever fails later, and nobody else stores into either word meanwhile.
 -- While the position is locked the word of the last start may be the next entry's already. Whose an
 -- entry is, its pass's number says, which no other pass has, also once its pass was taken in.
-use Rattle.std.specs.Prelude.{◌≡◌, ◌≢◌, ℕ, ◌+◌, ◌<◌, ◌≤◌, Bool, true, false, All, AllPairs, Contains, List, [], ◌∷◌, ◌++◌, take, length, Option, Some, None, IsSome, ◌==◌, if◌then◌else◌}
-use Rattle.byte_position.specs.Position.{address_of}
+use Rattle.std.specs.Prelude.{◌≡◌, ◌≢◌, ℕ, ◌+◌, ◌%◌, ◌<◌, ◌≤◌, Bool, true, false, All, AllPairs, Contains, List, [], ◌∷◌, ◌++◌, take, length, Option, Some, None, IsSome, ◌==◌, if◌then◌else◌}
+use Rattle.byte_position.specs.Position.{address_of, end_address_of}
 use Rattle.wal_page.specs.Order.{Entry, IsChained, end_position, prev_of}
 use Rattle.wal_core.specs.declared.setup.Setup.{Setup}
 use Rattle.wal_core.specs.Words.{log_limit}
-use Rattle.wal_core.specs.Views.{HasAt, Place, Free, Locked, Loaded, Stored, Stop, Joined, Reserving}
+use Rattle.wal_core.specs.Views.{HasAt, Place, Free, Locked, Loaded, Stored, AtSegmentStart, Stop, Joined, Reserving}
 
 -- whether an entry is of the pass with this number; one that a restart found has no pass
 abbrev pub is_pass : ℕ → Option ℕ → Bool
@@ -38,7 +38,7 @@ IsUnused (ended id) = ⊥
 IsUnused unborn = Unit {0}
 
 -- a pass stopped where an order's front ends that holds all that the pass had reserved by then, and
--- all that was found
+-- all that was found; and at a segment's start, where it tells that the log stood there
 pub record FrontEndsAt (size number : ℕ) (found order entries : List Entry) (stop : Stop)
     : Type 0 where
   pub front : List Entry
@@ -48,6 +48,7 @@ pub record FrontEndsAt (size number : ℕ) (found order entries : List Entry) (s
   pub own : entries_under number front ≡ take stop.entries entries
   pub within : stop.entries ≤ length entries
   pub found_within : length found ≤ length front
+  pub at_start : stop.cause ≡ AtSegmentStart → end_address_of size stop.position % size ≡ 0
 
 -- a pass that this view took in reserves no more, and its log is all that it reserved
 pub record IsEnded (size : ℕ) (found order : List Entry) (role : ℕ → Role) (id : ℕ) (j : Joined)

@@ -9,7 +9,7 @@ use Rattle.byte_position.specs.Geometry.{IsSegmentSize}
 use Rattle.wal_page.specs.Order.{Entry, end_position}
 use Rattle.wal_core.specs.declared.setup.Setup.{Setup}
 use Rattle.wal_core.specs.Words.{Opening, position_word, prev_word, lock_word, mapping_turn, write_turn, initialised_word, written_word, flushed_word, moment_word, down_word, end_word, word_of_ring, word_count, async_word, end_form}
-use Rattle.wal_core.specs.Views.{HasAt, Landed, Away, Idle, Plain, View, Stage, reserving_of, working_of, flight_of, watching_of, mapper_of, confirmed_of, writer_of, writing_of, receipts_of, answered_of}
+use Rattle.wal_core.specs.Views.{HasAt, Landed, Away, Idle, Plain, View, Stage, reserving_of, working_of, flight_of, watching_of, mapper_of, confirmed_of, writer_of, writing_of, receipts_of, async_met_of}
 use Rattle.wal_core.specs.Ordered.{OrderHolds}
 use Rattle.wal_core.specs.Locked.{LocksHold, ProgressHolds}
 use Rattle.wal_core.specs.Ringed.{RingHolds}
@@ -17,8 +17,9 @@ use Rattle.wal_core.specs.Paged.{PagesHold}
 use Rattle.wal_core.specs.Watched.{WatchHolds}
 use Rattle.wal_core.specs.Positioned.{PositionsHold}
 use Rattle.wal_core.specs.Durable.{DurabilityHolds}
-use Rattle.wal_core.specs.Answered.{AsyncHolds}
+use Rattle.wal_core.specs.Async.{AsyncHolds}
 use Rattle.wal_core.specs.Aligned.{AlignmentHolds}
+use Rattle.wal_core.specs.Failed.{FaultIsKnown}
 
 -- the setup is one that a log can have: 4 to 64 pages of ring, 1 to 4,096 segments, 1 to 65,536
 -- passes
@@ -33,13 +34,16 @@ pub record IsSetup (setup : Setup) : Type 0 where
   pub passes_high : setup.passes ≤ 65536
 
 -- a view that is live knows what is fixed, and watches for no more than it has seen reserved; one
--- that is not has no turn, and has locks or an entry in flight only where the disk has failed
+-- that is not has no turn, took in no pass and set nothing, and has locks or an entry in flight
+-- only where the disk has failed
 pub record IsGrounded (opening : Opening) (down : ℕ) (v : View) : Type 0 where
   pub opening_is : (v.reserving).live ≡ true → v.opening ≡ opening
   pub watches : (v.reserving).live ≡ true
       → (v.watching).end ≤ end_form opening.setup (v.reserving).seen
   pub at_rest : (v.reserving).live ≡ false
       → ((v.mapping).stage ≡ Away) × ((v.writing).hold ≡ Idle)
+  pub set_none : (v.reserving).live ≡ false
+      → ((v.writing).down_set ≡ 0) × ((v.reserving).joined ≡ [])
   pub left : (v.reserving).live ≡ false
       → ((v.working).locks ≢ []) ⊎ ((v.working).flight ≢ Landed) → down ≢ 0
 
@@ -84,10 +88,12 @@ pub record IsSound (first : DiskState) (opening : Opening) (words : List ℕ) (h
   pub watching : WatchHolds opening.setup.segment_size
       (end_form opening.setup (end_position opening.setup.segment_size order))
       (map working_of views) (map watching_of views)
-  -- what is answered is reserved, and no pass counts on more
-  pub answered : AsyncHolds (async_word opening.setup words)
+  -- up to where commits are told ahead is reserved, and no pass counts on more
+  pub async : AsyncHolds (async_word opening.setup words)
       (end_form opening.setup (end_position opening.setup.segment_size order))
-      (map answered_of views)
+      (map async_met_of views)
   -- addresses that passes learn are multiples of 8
   pub aligned : AlignmentHolds (lock_word words) (written_word words) (flushed_word words) writer
       views
+  -- where the disk is told to have failed, a live pass knows it
+  pub failed : FaultIsKnown (down_word words) views

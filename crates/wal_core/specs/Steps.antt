@@ -21,7 +21,7 @@ use Rattle.wal_core.specs.Words.{async_number, end_form, log_limit}
 use Rattle.wal_core.specs.Views.{HasAt, Place, Free, Locked, Loaded, Stored, StopCause, LogFull, AtSegmentStart, Copy, Flight, Landed, Copying, AreSomeOf, Stage, Taken, Looked, Ready, Zeroing, Published, Plain, Lent, Hold, Idle, Turned, Out, Away, View}
 use Rattle.wal_core.specs.Locked.{most_told}
 use Rattle.wal_core.specs.Paged.{IsOpen}
-use Rattle.wal_core.specs.Moves.{CallOutcome, Done, Failed, after_split, split_off, after_join, spent, without_work, orphan_of, with_stage, with_hold, with_confirmed, with_writer, after_load_position, after_take_write_turn, after_slot_out, after_lock_position, after_load_prev, after_store_prev, after_store_position, after_stop, after_load_lock, after_take_lock, after_advance, after_release, after_store_word, after_load_word, after_load_written, after_load_flushed, after_load_moment, after_load_down, after_store_written, after_store_moment, after_store_flushed, after_set_down, after_load_async, after_raise_async, after_take_mapping_turn, after_load_initialised, after_create, after_write, after_sync}
+use Rattle.wal_core.specs.Moves.{CallOutcome, Done, Failed, fault_number, after_split, split_off, after_join, spent, without_work, orphan_of, with_stage, with_hold, with_confirmed, with_writer, after_load_position, after_take_write_turn, after_slot_out, after_lock_position, after_load_prev, after_store_prev, after_store_position, after_stop, after_load_lock, after_take_lock, after_advance, after_release, after_store_word, after_load_word, after_load_written, after_load_flushed, after_load_moment, after_load_down, after_store_written, after_store_moment, after_store_flushed, after_set_down, after_load_async, after_raise_async, after_take_mapping_turn, after_load_initialised, after_create, after_write, after_sync}
 
 -- ---- what a step may rest on
 
@@ -240,10 +240,6 @@ module _ (v : View) where
   number_lent f Turned = 0
   number_lent f (Out l) = f l
 
-  abbrev pub fault_number : Option ℕ → ℕ
-  fault_number none = 0
-  fault_number (some faults) = faults
-
   abbrev pub value_behind : StepKind → ℕ → ℕ
   value_behind load_position met = met
   value_behind take_write_turn met = exchanged 0 ((v.reserving).number + 1) met
@@ -293,19 +289,24 @@ module _ (v : View) where
   -- that it has seen reserved; and it releases what is copied whole. Addresses that are told, asked
   -- for, answered or written up to are multiples of 8 (Aligned). Words of the ring: a copy's next
   -- one, below an end that was met; for a write, those of a page that is not written whole and
-  -- begins where all is copied. The async address is only raised, and to what was seen reserved at
-  -- most. With the writer in hand alone: the calls of the device,
-  -- and the stores of what it did. The moment is stored where no fault was met and nothing waits
-  -- for a sync; the flushed address where that moment is stored, and written too; down behind a
-  -- fault. The writer goes back with what it has written stored, or with down set. Mapping: stage
-  -- by stage; a page is given up that is written, and from then on the turn is kept until the new
-  -- one is there.
+  -- begins where all is copied. The async address is only raised, to what was seen reserved at
+  -- most, and while no entry is in flight: one that is still being copied may not be answered. With
+  -- the writer in hand alone: the calls of the device, and the stores of what it did. The moment is
+  -- stored where no fault was met and nothing waits for a sync; the flushed address where that
+  -- moment is stored, and written too; down behind a fault, by a pass that knows of no value of it,
+  -- so that it is set once. The writer goes back with what it has written stored, or with down
+  -- known. Mapping: stage by stage; a page is given up that is written, and from then on the turn
+  -- is kept until the new one is there.
 
   abbrev pub HasOut : (Lent → Type 0) → Type 0
   HasOut P = (l : Lent) × ((v.writing).hold ≡ Out l) × P l
 
   abbrev pub IsCopying : (Copy → Type 0) → Type 0
   IsCopying P = (c : Copy) × ((v.working).flight ≡ Copying c) × P c
+
+  -- it met a down value, or set it
+  abbrev pub KnowsDown : Type 0
+  KnowsDown = ((v.writing).down_met ≢ 0) ⊎ ((v.writing).down_set ≢ 0)
 
   -- a fault that a call tells is above the count at the opening
   abbrev pub IsCallFault : CallOutcome → Type 0
@@ -317,8 +318,7 @@ module _ (v : View) where
   MayStep take_write_turn = (v.writing).hold ≡ Idle
   MayStep slot_out = (v.writing).hold ≡ Turned
   MayStep slot_in = HasOut (λ l.
-      (((l.writer).fault ≡ none) × (l.stored ≡ (l.writer).written))
-      ⊎ ((v.writing).down_set ≢ 0))
+      (((l.writer).fault ≡ none) × (l.stored ≡ (l.writer).written)) ⊎ KnowsDown)
   MayStep release_write_turn = (v.writing).hold ≡ Turned
   MayStep (lock_position expected) = ((v.reserving).place ≡ Free) × (expected % 2 ≡ 0)
   MayStep load_prev = (at : ℕ) × ((v.reserving).place ≡ Locked at)
@@ -349,10 +349,12 @@ module _ (v : View) where
   MayStep store_moment = HasOut (λ l. ((l.writer).fault ≡ none) × ((l.writer).waiting ≡ none))
   MayStep store_flushed =
       HasOut (λ l. (l.hard ≡ (l.writer).written) × (l.stored ≡ (l.writer).written))
-  MayStep set_down = HasOut (λ l. (faults : ℕ) × ((l.writer).fault ≡ some faults))
+  MayStep set_down = HasOut (λ l. (faults : ℕ) × ((l.writer).fault ≡ some faults)
+      × ((v.writing).down_met ≡ 0) × ((v.writing).down_set ≡ 0))
   MayStep load_async = Unit {0}
   MayStep (raise_async expected upto) = (expected < upto)
       × (upto ≤ end_form setup_of (v.reserving).seen) × (upto % 8 ≡ 0)
+      × ((v.working).flight ≡ Landed)
   MayStep take_mapping_turn = (v.mapping).stage ≡ Away
   MayStep load_initialised_end = Unit {0}
   MayStep clear_end = (at written : ℕ) × ((v.mapping).stage ≡ Ready at written)
@@ -492,7 +494,7 @@ pub record Joins (id other : ℕ) (s t : State) : Type 0 where
 
 -- a pass that met or set a down value, and is about nothing but a copy that it does not end
 pub record IsStranded (v : View) : Type 0 where
-  pub down : ((v.writing).down_met ≢ 0) ⊎ ((v.writing).down_set ≢ 0)
+  pub down : KnowsDown v
   pub flight : (v.working).flight ≢ Landed
   pub place : (v.reserving).place ≡ Free
   pub stage : (v.mapping).stage ≡ Away

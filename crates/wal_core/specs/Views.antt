@@ -43,12 +43,13 @@ pub record FlushPromise : Type 0 where
   pub moment : ℕ
   pub entries : ℕ
 
--- a pass that was taken in: its number, and its log
+-- a pass that was taken in: its number, its log, and what it set the down word to (0 for nothing)
 pub record Joined : Type 0 where
   pub number : ℕ
   pub entries : List Entry
   pub stops : List Stop
   pub promises : List FlushPromise
+  pub down_set : ℕ
 
 -- the pass's number, the numbers from `spare` up to `spare_end` that it may give to others, the
 -- entries that it reserved in order, where it stopped and reserved nothing, a reserved end that it
@@ -149,8 +150,9 @@ pub data Hold : Type 0 where
   Turned : Hold
   Out : Lent → Hold
 
--- the written and flushed addresses that a pass loaded, the down values that it met and set (0 for
--- none), what it was told of flushes, and what it has of the write turn
+-- the written and flushed addresses that a pass loaded, the down values that it met and set itself
+-- (0 for none), what it was told of flushes, and what it has of the write turn. It met also what a
+-- pass set that it took in, and the fault of a writer that had failed when it took it in hand
 pub record Writing : Type 0 where
   pub written : ℕ
   pub flushed : ℕ
@@ -162,8 +164,9 @@ pub record Writing : Type 0 where
 -- ---- the whole
 
 -- beside the parts, what the pass told last of a lock that it holds (no other step changes it), and
--- the highest async address that it met or stored, up to which its own entries count as answered:
--- those of plain inserts too, since they then lie before a commit that was answered
+-- the highest async address that it met or stored: up to there its own entries count as those of
+-- commits that were told ahead of the disk, those of plain inserts too, since they then lie before
+-- such a commit
 pub record View : Type 0 where
   pub opening : Opening
   pub reserving : Reserving
@@ -172,7 +175,7 @@ pub record View : Type 0 where
   pub mapping : Mapping
   pub writing : Writing
   pub told : ℕ
-  pub answered : ℕ
+  pub async_met : ℕ
 
 abbrev pub reserving_of : View → Reserving
 reserving_of v = v.reserving
@@ -200,8 +203,8 @@ writer_of v = (v.reserving.number, v.writing.hold)
 abbrev pub writing_of : View → Writing
 writing_of v = v.writing
 
-abbrev pub answered_of : View → ℕ
-answered_of v = v.answered
+abbrev pub async_met_of : View → ℕ
+async_met_of v = v.async_met
 
 -- a pass's entries and those that it took in, with what was promised to it and to them
 pub record Receipts : Type 0 where

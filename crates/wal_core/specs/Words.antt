@@ -7,7 +7,7 @@
 -- anybody, who only raises it; else a word of the ring the copy whose word it is.
 use Rattle.std.specs.Prelude.{ℕ, ◌+◌, ◌*◌, List, slice_index}
 use Rattle.byte_position.specs.Position.{end_address_of, first_position, usable_bytes_in_segment}
-use Rattle.wal_page.specs.Order.{Entry}
+use Rattle.wal_page.specs.Order.{Entry, end_position}
 use Rattle.wal_core.specs.declared.setup.Setup.{Setup}
 
 -- the byte position up to which records are reserved; it is even, and one more while it is locked
@@ -90,3 +90,10 @@ pub record Opening : Type 0 where
 -- the end form of a byte position: the address behind the last byte before it
 abbrev pub end_form : Setup → ℕ → ℕ
 end_form setup position = end_address_of setup.segment_size position
+
+-- the byte position and the address at which the log that was found ends
+abbrev pub found_position : Opening → ℕ
+found_position opening = end_position (opening.setup).segment_size opening.found
+
+abbrev pub found_end : Opening → ℕ
+found_end opening = end_form opening.setup (found_position opening)

@@ -1,7 +1,7 @@
 -- Steps with the turn to write, which keep a pass's work and add nothing to its log.
 use Rattle.std.proofs.Common.{◌≡◌, ℕ, sym, ap, ◌∙◌, subst}
-use Rattle.wal_core.specs.Moves.{with_hold}
-use Rattle.wal_core.specs.Views.{Hold, View}
+use Rattle.wal_core.specs.Moves.{after_slot_out, with_hold}
+use Rattle.wal_core.specs.Views.{Hold, Plain, View}
 use Rattle.wal_rule.specs.declared.seated.SeatedPass.{SeatedPass}
 use Rattle.wal_rule.specs.SeatedPasses.{view_of}
 use Rattle.page_writing.specs.InHand.{ChangesHand}
@@ -9,7 +9,7 @@ use Rattle.wal_log.specs.Downs.{KnowsNoFault}
 use Rattle.wal_log.specs.Hands.{SetsDownAndRests}
 use Rattle.wal_log.specs.PassLogs.{log_of_pass}
 use Rattle.wal_log.specs.Standing.{AddsNothing, KeepsWork, WorksOn}
-use Rattle.wal_log.proofs.Keeping.{down_set_keeps, further_work, hold_keeps, same_work}
+use Rattle.wal_log.proofs.Keeping.{down_set_keeps, further_work, hold_keeps, same_work, taken_keeps}
 
 pub works_on : {D : Type 0} → (a b c : SeatedPass D) → WorksOn a b → WorksOn b c → WorksOn a c
 works_on a b c x y = record {
@@ -30,6 +30,15 @@ pub held_else : {D : Type 0} → (old new : SeatedPass D) (hold : Hold) → new.
     → view_of new ≡ with_hold hold (view_of old) → AddsNothing old new
 held_else old new hold same is = record {
   works = record { same_table = same; work = hold_keeps (view_of old) hold (view_of new) is };
+  log = ap (λ (v : View). log_of_pass v) is;
+  flushed = ap (λ (v : View). v.writing.flushed) is;
+}
+
+-- the writer is taken in hand
+pub taken_out : {D : Type 0} → (old new : SeatedPass D) (p : Plain) → KnowsNoFault (view_of old)
+    → new.table ≡ old.table → view_of new ≡ after_slot_out p (view_of old) → AddsNothing old new
+taken_out old new p up same is = record {
+  works = record { same_table = same; work = taken_keeps (view_of old) (view_of new) p up is };
   log = ap (λ (v : View). log_of_pass v) is;
   flushed = ap (λ (v : View). v.writing.flushed) is;
 }

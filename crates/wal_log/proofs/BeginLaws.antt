@@ -17,16 +17,17 @@ use Rattle.wal_rule.specs.SeatedPasses.{HasView, StandsAtRest, Steps, view_of}
 use Rattle.reserve_lock.specs.declared.reserving.ReserveErr.{ReserveErr}
 use Rattle.reserve_lock.specs.declared.reserving.ReserveErr.TheVariants.{Busy, Full}
 use Rattle.insert_locks.specs.Taking.{with_lock}
-use Rattle.reserve_lock.specs.Reserved.{IsPlaceReserved, TellsWhy, full_view, placed_first, reserved_view, seen_view}
+use Rattle.insert_locks.specs.Watching.{with_sight}
+use Rattle.reserve_lock.specs.Reserved.{IsPlaceReserved, IsPositionBusy, TellsWhy, full_view, placed_first, reserved_view, seen_view}
 use Rattle.word_ring.specs.Copied.{rest_of}
 use Rattle.wal_log.specs.declared.beginning.Begun.{Begun}
 use Rattle.wal_log.specs.declared.beginning.TryErr.{TryErr}
 use Rattle.wal_log.specs.declared.beginning.TryErr.TheVariants as tries
-use Rattle.wal_log.specs.Beginning.{AnswersBeginTry, IsPlaceBegun, TellsBeginTry, TriesInVain, try_err_of_reserve}
+use Rattle.wal_log.specs.Beginning.{AnswersBeginTry, IsFoundBusy, IsPlaceBegun, TellsBeginTry, TriesInVain, try_err_of_reserve}
 use Rattle.wal_log.specs.Downs.{KnowsNoFault}
 use Rattle.wal_log.specs.Inserting.{FindsLogFull, HasReserved}
 use Rattle.wal_log.specs.PassLogs.{log_of_pass, log_with_entry, log_with_full}
-use Rattle.wal_log.specs.Standing.{CopiesUnderOneLock, HasOneLock, HoldsOneLock, KeepsPass}
+use Rattle.wal_log.specs.Standing.{CopiesUnderOneLock, HasOneLock, HoldsOneLock, KeepsPass, entry_in_flight}
 use Rattle.wal_log.proofs.Keeping.{down_met_keeps, meets_since, none_loaded}
 use Rattle.wal_log.proofs.Plain.{down_loaded}
 use Rattle.wal_log.proofs.Seated.{hand_is, view_is}
@@ -89,6 +90,7 @@ begun_is setup body old new lock start end placed r end_is low one up = record {
     stage = one.stage;
     hold = one.hold;
   });
+  in_flight = ap (λ (v : View). entry_in_flight v) is;
   prev = r.prev;
   placed_is = r.placed_is;
   start_is = r.start_is;
@@ -179,17 +181,34 @@ module _ (setup : Setup) (body : Assembled) (old between : View) where
   seen_in_vain at is = subst (λ (v : View). at ≤ (v.reserving).seen) (sym is)
       (le-max_right (old.reserving).seen at)
 
-  tells_in_vain : KnowsNoFault old → (e : ReserveErr) → TellsWhy setup body old between e
+  -- the position was met by the pass as it is behind the lock's release, but for the lock and for
+  -- what it has seen
+  found_busy : (lock seen : ℕ) → HasOneLock lock old → IsPositionBusy seen old between
+      → IsFoundBusy seen old (rested between)
+  found_busy lock seen holds busy =
+      let holding = ap (λ (w : Working). record between { working = w })
+      (holds_in_vain lock holds (Busy seen) busy).working in
+      let before = ap (λ (v : View). with_sight (old.reserving).seen v) busy.new_is in
+      record {
+        lock = lock;
+        sight = (old.reserving).seen;
+        since = omega arith;
+        busy = subst (λ (v : View). IsPositionBusy seen (with_sight (old.reserving).seen v) v)
+            holding (subst (λ (v : View). IsPositionBusy seen v between) (sym before) busy);
+      }
+
+  tells_in_vain : (lock : ℕ) → HasOneLock lock old → KnowsNoFault old → (e : ReserveErr)
+      → TellsWhy setup body old between e
       → TellsBeginTry setup body old (rested between) (try_err_of_reserve e)
-  tells_in_vain up (Busy seen) why =
+  tells_in_vain lock holds up (Busy seen) why =
       let still = up_in_vain up (Busy seen) why in (
-        (old, between, why),
+        found_busy lock seen holds why,
         record {
           up = record { met = still.met; set = still.set };
           log_is = ap (λ (v : View). log_of_pass v) why.new_is;
         },
       )
-  tells_in_vain up (Full free) why =
+  tells_in_vain lock holds up (Full free) why =
       let still = up_in_vain up (Full free) why in (
         record {
           at = why.at;
@@ -219,7 +238,8 @@ module _ (setup : Setup) (body : Assembled) (old between : View) where
           → TellsBeginTry setup body old new (try_err_of_reserve e) × IsResting new
       tried_in_vain up = subst
           (λ (v : View). TellsBeginTry setup body old v (try_err_of_reserve e) × IsResting v)
-          (sym new_rested) (tells_in_vain up e why, unlocked_rests lock between between_holds)
+          (sym new_rested)
+          (tells_in_vain lock holds up e why, unlocked_rests lock between between_holds)
 
       pub vain_keeps : KeepsPass old new
       vain_keeps = subst (KeepsPass old) (sym new_rested)
@@ -254,6 +274,7 @@ module _ (setup : Setup) (body : Assembled) (old between new : View)
     up = b.up;
     lock_low = b.lock_low;
     copies = b.copies;
+    in_flight = b.in_flight;
     prev = b.prev;
     placed_is = b.placed_is;
     start_is = b.start_is;
@@ -272,12 +293,20 @@ module _ (setup : Setup) (body : Assembled) (old between new : View)
     log_is = f.log_is ∙ ap (log_with_full f.at) same;
   }
 
+  busy_since : (seen : ℕ) → IsFoundBusy seen between new → IsFoundBusy seen old new
+  busy_since seen b = record {
+    lock = b.lock;
+    sight = b.sight;
+    since = omega (arith, keeps.rises, b.since);
+    busy = b.busy;
+  }
+
   vain_since : TriesInVain between new → TriesInVain old new
   vain_since vain = record { up = vain.up; log_is = vain.log_is ∙ same }
 
   pub try_since : between.writing.down_set ≡ old.writing.down_set → (e : TryErr)
       → TellsBeginTry setup body between new e → TellsBeginTry setup body old new e
-  try_since set_none (tries.Busy seen) told = (told.0, vain_since told.1)
+  try_since set_none (tries.Busy seen) told = (busy_since seen told.0, vain_since told.1)
   try_since set_none (tries.AllHeld held) told = (told.0, vain_since told.1)
   try_since set_none (tries.Full free) told = (full_since free told.0, told.1)
   try_since set_none (tries.Down faults) told =

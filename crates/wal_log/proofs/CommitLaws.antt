@@ -21,6 +21,8 @@ use Rattle.wal_log.specs.Inserting.{IsReceipt, IsStarted}
 use Rattle.wal_log.specs.PassLogs.{PassLog, log_of_pass, log_with_promise}
 use Rattle.wal_log.specs.Standing.{KeepsPass}
 use Rattle.wal_log.proofs.Keeping.{both_up, up_before}
+use Rattle.wal_log.proofs.FlushLaws.{moment_behind}
+use Rattle.wal_log.proofs.WholeLaws.{copied_behind}
 
 pub never_both : {A E : Type 0} (r : Result A E) (a : A) (e : E) → r ≡ Ok a → r ≡ Err e → ⊥
 never_both {A} {E} r a e ok err =
@@ -54,16 +56,20 @@ module _ (setup : Setup) (body : Assembled) (old mid new : View) (receipt : Rece
   }
 
   -- and is told to be durable behind the flush
-  pub sealed_is : KeepsPass old mid → (mid.opening).setup ≡ setup → (sealed : Sealed) (upto : ℕ)
+  pub sealed_is : KeepsPass old mid → KeepsPass mid new → (mid.opening).setup ≡ setup
+      → (sealed : Sealed) (upto : ℕ)
       → sealed.start ≡ receipt.start → sealed.end ≡ receipt.end
       → IsToldHard receipt.end.0 upto sealed.moment mid new → IsSealed setup body old new sealed
-  sealed_is keeps own sealed upto start end hard = record {
+  sealed_is keeps behind own sealed upto start end hard = record {
     entry = told.entry;
     upto = upto;
     own = (told.reserved).own;
+    copied = copied_behind old mid new told.entry behind told.copied;
     log_is = hard.log_is ∙ ap (log_with_promise upto sealed.moment) (told.reserved).log_is;
     reached = (let is = told.end_is in let far = hard.reached in omega (arith, is, far));
     since = subst (λ (o : Opening). o.moment ≤ sealed.moment) keeps.opening hard.since;
+    of_word = moment_behind old mid sealed.moment keeps hard.of_word;
+    held = hard.held;
     latest = record {
       moments = subst (λ (ps : List FlushPromise).
           All (λ (p : FlushPromise). p.moment ≤ sealed.moment) ps) same_promises

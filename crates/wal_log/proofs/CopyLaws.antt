@@ -17,7 +17,7 @@ use Rattle.wal_core.specs.Moves.{after_advance}
 use Rattle.wal_core.specs.declared.setup.Setup.{Setup}
 use Rattle.wal_core.specs.Ringed.{IsOfOrder}
 use Rattle.wal_core.specs.Sound.{IsSound}
-use Rattle.wal_core.specs.Views.{Copy, Copying, Flight, HasAt, Working, flight_of, View}
+use Rattle.wal_core.specs.Views.{Copy, Copying, Flight, HasAt, Landed, Working, flight_of, View}
 use Rattle.machine_laws.proofs.RingLaws.{copy-whole, last_word-ends}
 use Rattle.wal_rule.specs.Stepping.{Stands}
 use Rattle.word_ring.specs.Copied.{CopiesPage, IsRestOf, copied_view, further, rest_of}
@@ -28,7 +28,7 @@ use Rattle.wal_rule.specs.SeatedPasses.{HasView, StaysSeated, setup_of, view_of}
 use Rattle.wal_log.specs.Copying.{CopyGoesOn, IsSamePlace, MapsPage, mapped_view}
 use Rattle.wal_log.specs.Downs.{KnowsNoFault}
 use Rattle.wal_log.specs.PassLogs.{log_of_pass}
-use Rattle.wal_log.specs.Standing.{CopiesAlone, CopiesUnderOneLock, GoesOnSeated, HasNoTurn, KeepsPass, KeepsWork}
+use Rattle.wal_log.specs.Standing.{CopiesAlone, CopiesUnderOneLock, GoesOnSeated, HasNoTurn, KeepsPass, KeepsWork, entry_in_flight, entry_of_flight}
 use Rattle.wal_log.proofs.Keeping.{copies_stay, further_pass, same_pass, told_pass}
 use Rattle.wal_log.proofs.Seated.{further_seated, own_setup, same_setup, seat_stays, view_is}
 
@@ -122,13 +122,19 @@ module _ (setup : Setup) (lock : ℕ) (placed : PlacedState) (v : View)
 
 -- ---- steps of a copy
 
--- what steps of a copy keep: the lock, the words that are left, the pass and its log
+-- the entry in flight is the same so many words further on
+further_same : (count : ℕ) (f : Flight) → entry_of_flight (further count f) ≡ entry_of_flight f
+further_same count Landed = refl
+further_same count (Copying c) = refl
+
+-- what steps of a copy keep: the lock, the words that are left, the entry, the pass and its log
 pub record StaysCopying (setup : Setup) (before after : PlacedState) (old new : View) : Type 0
   where
     pub copies : (lock : ℕ) → CopiesUnderOneLock setup lock before old
         → CopiesUnderOneLock setup lock after new
     pub keeps : KeepsPass old new
     pub up : KnowsNoFault old → KnowsNoFault new
+    pub entry_is : entry_in_flight new ≡ entry_in_flight old
     pub log_is : log_of_pass new ≡ log_of_pass old
 
 module _ (setup : Setup) (p : PlacedState) (v : View) where
@@ -137,6 +143,7 @@ module _ (setup : Setup) (p : PlacedState) (v : View) where
     copies = λ lock c. c;
     keeps = same_pass v;
     up = λ up. up;
+    entry_is = refl;
     log_is = refl;
   }
 
@@ -163,6 +170,7 @@ module _ (setup : Setup) (p : PlacedState) (v : View) where
       down = λ faults knows. knows;
     };
     up = λ up. record { met = up.met; set = up.set };
+    entry_is = refl;
     log_is = refl;
   }
 
@@ -196,6 +204,7 @@ module _ (setup : Setup) (p : PlacedState) (v : View) where
       down = λ faults knows. knows;
     };
     up = λ up. record { met = up.met; set = up.set };
+    entry_is = further_same count (v.working).flight;
     log_is = refl;
   }
 
@@ -206,6 +215,7 @@ module _ (setup : Setup) (p q r : PlacedState) (u v w : View) where
     copies = λ lock c. y.copies lock (x.copies lock c);
     keeps = further_pass u v w x.keeps y.keeps;
     up = λ up. y.up (x.up up);
+    entry_is = y.entry_is ∙ x.entry_is;
     log_is = y.log_is ∙ x.log_is;
   }
 
@@ -234,6 +244,7 @@ module _ {D : Type 0} (old new : SeatedPass D) (seats : StaysSeated old new) whe
     pub went_on : IsSamePlace p q → CopyGoesOn p q old new
     went_on place = record {
       place = place;
+      entry = s.entry_is;
       goes_on = record { stays = seats; keeps = s.keeps };
       log = s.log_is;
     }
@@ -270,6 +281,7 @@ pub copied_on : {D : Type 0} → (p q r : PlacedState) (a b c : SeatedPass D) �
     → CopyGoesOn q r b c → CopyGoesOn p r a c
 copied_on p q r a b c x y = record {
   place = same_place p q r x.place y.place;
+  entry = y.entry ∙ x.entry;
   goes_on = record {
     stays = further_seated a b c (x.goes_on).stays (y.goes_on).stays;
     keeps = further_pass (view_of a) (view_of b) (view_of c) (x.goes_on).keeps (y.goes_on).keeps;
@@ -277,10 +289,16 @@ copied_on p q r a b c x y = record {
   log = y.log ∙ x.log;
 }
 
--- steps that copy nothing, and add nothing to the log
+-- steps that copy nothing, leave what is in flight, and add nothing to the log
 pub stood_still : {D : Type 0} → (p : PlacedState) (a b : SeatedPass D) → GoesOnSeated a b
-    → log_of_pass (view_of b) ≡ log_of_pass (view_of a) → CopyGoesOn p p a b
-stood_still p a b goes_on same = record { place = refl; goes_on = goes_on; log = same }
+    → log_of_pass (view_of b) ≡ log_of_pass (view_of a)
+    → (view_of b).working ≡ (view_of a).working → CopyGoesOn p p a b
+stood_still p a b goes_on same work = record {
+  place = refl;
+  entry = ap (λ (w : Working). entry_of_flight w.flight) work;
+  goes_on = goes_on;
+  log = same;
+}
 
 -- ---- a page is reached, and its words are copied
 

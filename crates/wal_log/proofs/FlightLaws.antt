@@ -1,16 +1,15 @@
 -- A record in flight, with its pass seated at the log's table and put back from there.
 use Rattle.std.proofs.Common.{◌≡◌, ◌≢◌, ◌≤◌, inl, ℕ, List, [], refl, sym, ap, ◌∙◌, subst, arith}
-use Rattle.std.proofs.Math.Logic.{∥∥₁_map}
 use Rattle.byte_position.specs.Position.{address_of}
 use Rattle.record_spelling.specs.Spelling.{Assembled}
 use Rattle.wal_types.specs.declared.answers.Receipt.{Receipt}
+use mathlib.Core.Option.{some}
 use Rattle.wal_page.specs.EntryWords.{words_owned}
+use Rattle.wal_page.specs.Order.{Entry}
 use Rattle.wal_page.specs.Placed.{PlacedState, placed_end}
 use Rattle.wal_core.specs.Steps.{load_down, IsResting, IsStranded, release, MayStep}
-use Rattle.wal_core.specs.Views.{Copy, Copying, Flight, Landed, View, Working}
+use Rattle.wal_core.specs.Views.{Copy, View, Working}
 use Rattle.wal_core.specs.declared.setup.Setup.{Setup}
-use Rattle.machine_laws.proofs.EntryLaws.{entries_are_whole_or_in_flight}
-use Rattle.machine_laws.proofs.ShownLaws.{entries_are_copied}
 use Rattle.wal_rule.specs.declared.pass.Pass.{Pass}
 use Rattle.wal_rule.specs.declared.seated.SeatedPass.{SeatedPass}
 use Rattle.wal_rule.specs.declared.table.LogTable.{LogTable}
@@ -18,7 +17,7 @@ use Rattle.wal_rule.specs.declared.writer.LogWriter.{LogWriter}
 use Rattle.wal_rule.specs.Downs.{KnowsDown}
 use Rattle.wal_rule.specs.Passes.{view_of_pass}
 use Rattle.wal_rule.specs.SeatedPasses.{HasView, Steps, setup_of, view_of}
-use Rattle.wal_rule.specs.Stepping.{Meets, Stands}
+use Rattle.wal_rule.specs.Stepping.{Meets}
 use Rattle.wal_rule.specs.Tables.{IsPassOn, setup_of_table}
 use Rattle.word_ring.proofs.CopyLaws.{words-left}
 use Rattle.wal_log.specs.declared.beginning.Begun.{Begun}
@@ -27,14 +26,16 @@ use Rattle.wal_log.specs.declared.wal.Wal.{Wal}
 use Rattle.wal_log.specs.Beginning.{IsPlaceBegun}
 use Rattle.wal_log.specs.Copying.{CopyGoesOn}
 use Rattle.wal_log.specs.Downs.{KnowsNoFault, MeetsDown}
-use Rattle.wal_log.specs.Flights.{Finishes, GivesUpCopy, HasWhole, IsHandedBack, IsInflightOf, KeepsLog, StandsWhole, view_of_flight}
+use Rattle.wal_log.specs.Flights.{Finishes, GivesUpCopy, IsHandedBack, IsInFlightOf, KeepsLog, view_of_flight}
 use Rattle.wal_log.specs.Logs.{setup_of_log, table_of}
 use Rattle.wal_log.specs.PassLogs.{log_of_pass}
-use Rattle.wal_log.specs.Standing.{CopiesAlone, CopiesUnderOneLock, GoesOnSeated, KeepsPass}
+use Rattle.wal_log.specs.Standing.{CopiesAlone, CopiesUnderOneLock, GoesOnSeated, KeepsPass, entry_in_flight, entry_of_flight}
+use Rattle.wal_log.specs.Whole.{CopiesWhole}
 use Rattle.wal_log.proofs.CopyLaws.{alone_rest, alone_whole}
 use Rattle.wal_log.proofs.Keeping.{copies_stay, down_met_keeps, none_loaded, same_pass}
 use Rattle.wal_log.proofs.Passing.{back_on, seen_is}
 use Rattle.wal_log.proofs.Seated.{view_is}
+use Rattle.wal_log.proofs.WholeLaws.{copies_whole}
 use Rattle.wal_log.proofs.Unlocking.{landed_rests, landed_view, may_land, rested, rested_keeps, strands}
 
 -- with the same start, another entry starts at the same address
@@ -43,18 +44,6 @@ same_start : (setup : Setup) (c : Copy) (placed : PlacedState) (start at : ℕ)
     → (c.entry).start ≡ placed.start → start ≡ address_of setup.segment_size (c.entry).start
 same_start setup c placed start at is there same =
     is ∙ ap (address_of setup.segment_size) (sym (same ∙ there))
-
--- in the state in which all words of its entry are copied, each is the log's
-stands_whole : (v : View) → ∥ Stands v ∥₁ → (c : Copy) → (v.working).flight ≡ Copying c
-    → c.copied ≡ words_owned ((v.opening).setup).segment_size c.entry
-    → ∥ StandsWhole v c.entry ∥₁
-stands_whole v stood c is all = ∥∥₁_map stood (λ (s : Stands v). record {
-  stands = s;
-  in_order = ((entries_are_whole_or_in_flight v.opening s.words s.home s.views s.sound).reserved
-      s.id v c s.here is).0;
-  words = λ n owned. (entries_are_copied v.opening s.words s.home s.views s.sound).copied s.id v c
-      n s.here is (omega (arith, owned, all));
-})
 
 module _ {D : Type 0} (wal : Wal D) (pass : Pass) (seated : SeatedPass D)
     (view : (seated.seat).me ≡ (view_of_pass pass, [])) (table : (seated.table).now ≡ table_of wal)
@@ -81,7 +70,7 @@ module _ {D : Type 0} (wal : Wal D) (pass : Pass) (seated : SeatedPass D)
       begun_so = moved (λ setup old w. IsPlaceBegun setup body old w begun) (view_of new) after
           back place
 
-      flight_so : IsInflightOf wal (record { pass = after; begun = begun })
+      flight_so : IsInFlightOf wal (record { pass = after; begun = begun })
       flight_so =
           let b = begun_so in record {
             of_log = back_on wal pass seated view new (goes_on.stays).same_table table after put;
@@ -93,7 +82,7 @@ module _ {D : Type 0} (wal : Wal D) (pass : Pass) (seated : SeatedPass D)
             end_is = b.end_is;
           }
 
-      pub flight_begins : IsInflightOf wal (record { pass = after; begun = begun })
+      pub flight_begins : IsInFlightOf wal (record { pass = after; begun = begun })
           × IsPlaceBegun (setup_of_log wal) body (view_of_pass pass) (view_of_pass after) begun
           × KeepsPass (view_of_pass pass) (view_of_pass after)
       flight_begins = (
@@ -102,7 +91,7 @@ module _ {D : Type 0} (wal : Wal D) (pass : Pass) (seated : SeatedPass D)
         moved (λ setup old w. KeepsPass old w) (view_of new) after back goes_on.keeps,
       )
 
-module _ {D : Type 0} (wal : Wal D) (flight : Inflight) (is : IsInflightOf wal flight)
+module _ {D : Type 0} (wal : Wal D) (flight : Inflight) (is : IsInFlightOf wal flight)
     (seated : SeatedPass D) (view : (seated.seat).me ≡ (view_of_pass flight.pass, []))
     (table : (seated.table).now ≡ table_of wal) where
   abbrev lock : ℕ
@@ -135,7 +124,7 @@ module _ {D : Type 0} (wal : Wal D) (flight : Inflight) (is : IsInflightOf wal f
         (ap (λ t. setup_of_table t.now) ((on.goes_on).stays).same_table
         ∙ own wal flight.pass seated view table) alone.under)
 
-    pub flight_goes_on : IsInflightOf wal (record {
+    pub flight_goes_on : IsInFlightOf wal (record {
       pass = after;
       begun = record flight.begun { placed = further };
     })
@@ -176,20 +165,11 @@ module _ {D : Type 0} (wal : Wal D) (flight : Inflight) (is : IsInflightOf wal f
     may_finish = may_land (setup_of seated) lock placed (view_of seated) flight_copies.under
         all_copied
 
-    abbrev IsWhole : ℕ → Flight → Type 0
-    IsWhole size Landed = Unit {0}
-    IsWhole size (Copying c) = c.copied ≡ words_owned size c.entry
+    abbrev entry : Entry
+    entry = ((flight_copies.under).copy).entry
 
-    flight_whole : HasWhole (view_of_flight flight)
-    flight_whole c flies =
-        let same : (view_of seated).working.flight ≡ Copying c =
-        ap (λ (v : View). v.working.flight) (seen_is wal flight.pass seated view) ∙ flies in
-        let here : (view_of seated).working.flight ≡ Copying (flight_copies.under).copy =
-        ap (λ (w : Working). w.flight) (flight_copies.under).working in
-        subst (λ (v : View). ∥ StandsWhole v c.entry ∥₁) (seen_is wal flight.pass seated view)
-        (stands_whole (view_of seated) (seated.seated).stands c same
-        (subst (IsWhole (((view_of seated).opening).setup).segment_size) (sym here ∙ same)
-        all_copied))
+    flies : entry_in_flight (view_of seated) ≡ some entry
+    flies = ap (λ (w : Working). entry_of_flight w.flight) (flight_copies.under).working
 
     pub flight_finishes : (new : SeatedPass D) → Steps (release lock) 0 seated new → (after : Pass)
         → view_of_pass after ≡ view_of new → IsPassOn (new.table).now after → (receipt : Receipt)
@@ -197,19 +177,27 @@ module _ {D : Type 0} (wal : Wal D) (flight : Inflight) (is : IsInflightOf wal f
         → Finishes wal flight receipt after
     flight_finishes new steps after back put receipt from to =
         let landed : view_of new ≡ rested (view_of seated) = view_is steps
-        ∙ landed_view (setup_of seated) lock placed (view_of seated) flight_copies.under in record {
+        ∙ landed_view (setup_of seated) lock placed (view_of seated) flight_copies.under in
+        let keeps : KeepsPass (view_of seated) (view_of new) =
+        subst (KeepsPass (view_of seated)) (sym landed)
+        (rested_keeps (view_of seated) (view_of seated) (same_pass (view_of seated))) in record {
           pass_is = record {
             of_log = back_on wal flight.pass seated view new steps.same_table table after put;
             rests = subst IsResting (sym (back ∙ landed))
                 (landed_rests (setup_of seated) lock placed (view_of seated) flight_copies.under);
           };
           none_left = ended;
-          whole = flight_whole;
+          entry = entry;
+          in_flight = subst (λ (v : View). entry_in_flight v ≡ some entry)
+              (seen_is wal flight.pass seated view) flies;
+          whole = moved wal flight.pass seated view table (λ setup old w. CopiesWhole old w entry)
+              (view_of new) after back
+              (copies_whole (setup_of seated) lock placed (view_of seated) (view_of seated)
+              (view_of new) flight_copies.under (seated.seated).stands all_copied entry flies
+              (same_pass (view_of seated)) keeps);
           start_is = from;
           end_is = to;
-          keeps = log_kept (view_of new) after back
-              (subst (KeepsPass (view_of seated)) (sym landed)
-              (rested_keeps (view_of seated) (view_of seated) (same_pass (view_of seated))))
+          keeps = log_kept (view_of new) after back keeps
               (ap (λ (v : View). log_of_pass v) landed);
         }
 
@@ -258,6 +246,9 @@ module _ {D : Type 0} (wal : Wal D) (flight : Inflight) (is : IsInflightOf wal f
         end_is = is.end_is;
       };
       begun = refl;
+      entry = moved wal flight.pass seated view table
+          (λ setup old w. entry_in_flight w ≡ entry_in_flight old) (view_of loaded) after back
+          (ap (λ (v : View). entry_in_flight v) (view_is load));
       met = subst (λ (n : ℕ). Meets (view_of_flight flight) load_down n) none met_so;
       up = subst KnowsNoFault (sym back)
           (none_loaded (view_of seated) faults (view_of loaded) (view_is load) known none);
@@ -266,14 +257,14 @@ module _ {D : Type 0} (wal : Wal D) (flight : Inflight) (is : IsInflightOf wal f
 
     -- one was: the copy may be given up
     pub flight_strands : faults ≢ 0 → IsStranded (view_of loaded)
-    flight_strands some = strands (setup_of seated) lock placed (view_of loaded) loaded_under
-        (inl (λ zero. some (sym (ap (λ (v : View). v.writing.down_met) (view_is load)) ∙ zero)))
+    flight_strands nonzero = strands (setup_of seated) lock placed (view_of loaded) loaded_under
+        (inl (λ zero. nonzero (sym (ap (λ (v : View). v.writing.down_met) (view_is load)) ∙ zero)))
 
     pub flight_given_up : faults ≢ 0 → (new : SeatedPass D)
         → HasView (rested (view_of loaded)) loaded new → (after : Pass)
         → view_of_pass after ≡ view_of new → IsPassOn (new.table).now after
         → GivesUpCopy wal flight after
-    flight_given_up some new gives after back put =
+    flight_given_up nonzero new gives after back put =
         let is_rested : view_of new ≡ rested (view_of loaded) = view_is gives in record {
           pass_is = record {
             of_log = back_on wal flight.pass seated view new
@@ -288,7 +279,7 @@ module _ {D : Type 0} (wal : Wal D) (flight : Inflight) (is : IsInflightOf wal f
               (subst (λ (v : View). MeetsDown faults (view_of seated) v) (sym (back ∙ is_rested))
               (record {
                 met = ap (λ (v : View). v.writing.down_met) (view_is load);
-                some = some;
+                some = nonzero;
                 set_none = ap (λ (v : View). v.writing.down_set) (view_is load);
               }));
           keeps = log_kept (view_of new) after back

@@ -1,7 +1,7 @@
 -- What is told to be durable: by what steps, and that no promise told before names more.
 use Rattle.std.specs.Prelude.{Result, Ok, Err}
-use Rattle.std.proofs.Common.{◌≡◌, ℕ, ◌<◌, ◌≤◌, All, List, [], ◌∷◌, ◌++◌, length, max, refl, sym, ap, subst, ◌∙◌, arith}
-use Rattle.std.proofs.lemmas.List.Elements.{All-weaker}
+use Rattle.std.proofs.Common.{◌≡◌, ℕ, ◌<◌, ◌≤◌, All, List, [], ◌∷◌, ◌++◌, length, max, refl, sym, ap, subst, inl, inr, ◌∙◌, arith}
+use Rattle.std.proofs.lemmas.List.Elements.{All-contains, All-weaker, Contains-push}
 use Rattle.std.proofs.Math.Logic.{∥∥₁_elim}
 use Rattle.std.specs.Coded.{le_prop}
 use mathlib.Core.Option.{none}
@@ -12,7 +12,7 @@ use Rattle.byte_position.proofs.EndAddresses.{end_address_of-mono}
 use Rattle.wal_types.specs.declared.answers.Hard.{Hard}
 use Rattle.wal_core.specs.Durable.{IsPromised, IsToldRightly}
 use Rattle.wal_core.specs.Moves.{with_hold}
-use Rattle.wal_core.specs.Steps.{load_flushed, load_moment, store_flushed, store_moment, view_behind, MayStep}
+use Rattle.wal_core.specs.Steps.{load_flushed, load_moment, store_flushed, store_moment, value_behind, view_behind, MayStep}
 use Rattle.wal_core.specs.Views.{FlushPromise, Plain, receipts_of, Out, Hold, Lent, View}
 use Rattle.wal_core.specs.Words.{Opening, down_word, end_form, flushed_word, moment_word}
 use Rattle.wal_rule.specs.Stepping.{Meets, Stands}
@@ -28,11 +28,12 @@ use Rattle.wal_log.specs.declared.fault.Fault.TheVariants.{Disk, Down}
 use Rattle.wal_log.specs.declared.turns.TurnErr.{TurnErr}
 use Rattle.wal_log.specs.declared.turns.TurnErr.TheVariants as turns
 use Rattle.wal_log.specs.Downs.{KnowsNoFault, SetsDownItself}
-use Rattle.wal_log.specs.Flushing.{AnswersFlushTry, FailsItsFlush, IsToldHard, IsUnreserved, TellsFlushErr, TellsFlushTry, flush_err_known_down, flush_err_of_fault, try_flush_err_known_down, try_flush_err_of_turn}
+use Rattle.wal_log.specs.Flushing.{AnswersFlushTry, FailsItsFlush, HasPassedLocks, IsToBeFlushed, IsToldHard, IsUnreserved, TellsFlushErr, TellsFlushTry, flush_err_known_down, flush_err_of_fault, try_flush_err_known_down, try_flush_err_of_turn}
 use Rattle.wal_log.specs.Hands.{IsLatestPromise, TellsTurnErr}
 use Rattle.wal_log.specs.PassLogs.{PassLog, log_of_pass, log_with_promise}
 use Rattle.wal_log.specs.Standing.{KeepsPass, KeepsWork}
-use Rattle.wal_log.proofs.Keeping.{meets_since}
+use Rattle.wal_log.specs.Moments.{HasMoment, HaveReached}
+use Rattle.wal_log.proofs.Keeping.{further_pass, meets_since, same_pass}
 use Rattle.wal_log.proofs.Plain.{flushed_loaded, moment_loaded}
 
 -- ---- no promise is above what the writer in hand has done
@@ -121,6 +122,23 @@ flushed_work flushed old new is = subst (λ (w : View). KeepsWork old w) (sym is
 
 -- ---- the view that was told so, met this as flushed, and has this of the turn to write
 
+-- what a log was promised last is not above the words
+pub has_reached : (v : View) (upto moment : ℕ) (l : PassLog)
+    → log_of_pass v ≡ log_with_promise upto moment l → HaveReached upto moment v
+has_reached v upto moment l is stands =
+    let p : FlushPromise = record { upto = upto; moment = moment; entries = length l.entries } in
+    let told : IsToldRightly stands.first v.opening (stands.sound).order
+    (flushed_word stands.words) (moment_word stands.words) (down_word stands.words)
+    (stands.sound).writer (receipts_of v) =
+    ((stands.sound).durable).views stands.id (receipts_of v)
+    (at_map receipts_of stands.views stands.id v stands.here) in
+    let all = subst (λ (ps : List FlushPromise).
+    All (IsPromised (flushed_word stands.words) (moment_word stands.words)) ps)
+    (ap (λ (x : PassLog). x.promises) is) told.own_promised in
+    let low = All-contains (IsPromised (flushed_word stands.words) (moment_word stands.words))
+    (l.promises ++ p ∷ []) p all (Contains-push l.promises p) in
+    (low.upto_low, low.moment_low)
+
 abbrev pub told_view : (upto moment flushed : ℕ) → Hold → View → View
 told_view upto moment flushed hold v = record v {
   reserving = record v.reserving {
@@ -139,13 +157,17 @@ told_view upto moment flushed hold v = record v {
 
 module _ (upto moment flushed : ℕ) (hold : Hold) (old new : View)
     (is : new ≡ told_view upto moment flushed hold old) where
-  pub told_is : (asked : ℕ) → asked ≤ upto → (old.opening).moment ≤ moment → KnowsNoFault old
-      → IsLatestPromise upto moment old → IsToldHard asked upto moment old new
-  told_is asked reached since up latest =
+  pub told_is : (asked : ℕ) → asked ≤ upto → (old.opening).moment ≤ moment
+      → HasMoment old moment → KnowsNoFault old → IsLatestPromise upto moment old
+      → IsToldHard asked upto moment old new
+  told_is asked reached since of_word up latest =
       subst (λ (w : View). IsToldHard asked upto moment old w) (sym is) (record {
         reached = reached;
         log_is = refl;
         since = since;
+        of_word = of_word;
+        held = has_reached (told_view upto moment flushed hold old) upto moment (log_of_pass old)
+            refl;
         latest = latest;
         up = record { met = up.met; set = up.set };
         seen = omega arith;
@@ -192,6 +214,13 @@ module _ (flushed moment : ℕ) (old mid new : View)
     moments = subst (λ (v : View). All (λ (p : FlushPromise). p.moment ≤ moment) v.writing.promises)
         first latest;
     addresses = furthest;
+  }
+
+  pub met_word : Meets mid load_moment moment → HasMoment old moment
+  met_word meets = record {
+    view = mid;
+    since = (flushed_work flushed old mid first).pass;
+    word = inl meets;
   }
 
   pub met_since : Meets mid load_moment moment → (old.opening).moment ≤ moment
@@ -253,7 +282,30 @@ module _ (v : View) (has : HasLent v) where
   may_store_moment up synced =
       ((lent_in v.writing.hold), hold_is v has, (up, synced))
 
+  -- the moment stored is the writer's
+  pub stores_moment : ∥ Stands v ∥₁ → (writer_in v).fault ≡ none → (writer_in v).waiting ≡ none
+      → (moment : ℕ) → moment ≡ (writer_in v).moment → HasMoment v moment
+  stores_moment stood up synced moment is = record {
+    view = v;
+    since = same_pass v;
+    word = inr (record {
+      stands = stood;
+      may = may_store_moment up synced;
+      value_is = is ∙ sym (ap (λ (h : Hold). value_behind (with_hold h v) store_moment 0)
+          (hold_is v has));
+    });
+  }
+
 -- ---- told behind other steps
+
+-- a moment that was met or stored behind other steps
+pub moment_behind : (old mid : View) (moment : ℕ) → KeepsPass old mid → HasMoment mid moment
+    → HasMoment old moment
+moment_behind old mid moment keeps has = record {
+  view = has.view;
+  since = further_pass old mid has.view keeps has.since;
+  word = has.word;
+}
 
 module _ (asked upto moment : ℕ) (old mid new : View) (same : log_of_pass mid ≡ log_of_pass old)
     (keeps : KeepsPass old mid) where
@@ -266,6 +318,8 @@ module _ (asked upto moment : ℕ) (old mid new : View) (same : log_of_pass mid 
     reached = reached;
     log_is = told.log_is ∙ ap (log_with_promise upto moment) same;
     since = subst (λ (o : Opening). o.moment ≤ moment) keeps.opening told.since;
+    of_word = moment_behind old mid moment keeps told.of_word;
+    held = told.held;
     latest = record {
       moments = subst (λ (ps : List FlushPromise).
           All (λ (p : FlushPromise). p.moment ≤ moment) ps) same_promises (told.latest).moments;
@@ -286,6 +340,8 @@ told_still asked upto moment old new newer same keeps up told = record {
   reached = told.reached;
   log_is = same ∙ told.log_is;
   since = told.since;
+  of_word = told.of_word;
+  held = has_reached newer upto moment (log_of_pass old) (same ∙ told.log_is);
   latest = told.latest;
   up = up;
   seen = (let seen = told.seen in let rises = keeps.rises in omega (arith, seen, rises));
@@ -297,26 +353,42 @@ told_still asked upto moment old new newer same keeps up told = record {
 pub fails_flush : (asked faults : ℕ) (old new : View)
     → IsSegmentSize ((old.opening).setup).segment_size
     → asked ≤ end_form (old.opening).setup (old.reserving).seen
-    → (old.reserving).seen ≤ (new.reserving).seen → SetsDownItself faults new
-    → FailsItsFlush asked faults old new
-fails_flush asked faults old new size reserved rises down = record {
+    → (old.reserving).seen ≤ (new.reserving).seen → new.writing.flushed < asked
+    → SetsDownItself faults new → FailsItsFlush asked faults old new
+fails_flush asked faults old new size reserved rises above down = record {
   down = down;
+  above = above;
   reserved = (let higher = end_address_of-mono ((old.opening).setup).segment_size size
       (old.reserving).seen (new.reserving).seen rises in omega (arith, reserved, higher));
+}
+
+-- an address that was reserved is so still
+pub is_to_be_flushed : (asked : ℕ) (old new : View)
+    → IsSegmentSize ((old.opening).setup).segment_size
+    → asked ≤ end_form (old.opening).setup (old.reserving).seen → KeepsPass old new
+    → new.writing.flushed < asked → KnowsNoFault new → IsToBeFlushed asked new
+is_to_be_flushed asked old new size reserved keeps above up = record {
+  reserved = subst (λ (o : Opening). asked ≤ end_form o.setup (new.reserving).seen)
+      (sym keeps.opening)
+      (let higher = end_address_of-mono ((old.opening).setup).segment_size size
+      (old.reserving).seen (new.reserving).seen keeps.rises in omega (arith, reserved, higher));
+  above = above;
+  up = up;
 }
 
 -- the turn to write was not had, and steps before it set no down value
 pub tells_turn : (asked : ℕ) (old mid new : View)
     → IsSegmentSize ((old.opening).setup).segment_size
     → asked ≤ end_form (old.opening).setup (old.reserving).seen
-    → (old.reserving).seen ≤ (new.reserving).seen → mid.writing.down_set ≡ old.writing.down_set
-    → new.writing.flushed < asked → (e : TurnErr) → TellsTurnErr mid new e
-    → TellsFlushTry asked old new (try_flush_err_of_turn e)
-tells_turn asked old mid new size reserved rises same above (turns.Taken turn) told =
-    (told.0, above, told.1)
-tells_turn asked old mid new size reserved rises same above (turns.Fault (Disk faults)) told =
-    fails_flush asked faults old new size reserved rises told
-tells_turn asked old mid new size reserved rises same above (turns.Fault (Down faults)) told =
+    → KeepsPass old new → mid.writing.down_set ≡ old.writing.down_set
+    → HasPassedLocks asked mid → new.writing.flushed < asked → (e : TurnErr)
+    → TellsTurnErr mid new e → TellsFlushTry asked old new (try_flush_err_of_turn e)
+tells_turn asked old mid new size reserved keeps same passed above (turns.Taken turn) told = (
+  told.0,
+  subst (HasPassedLocks asked) (sym told.1) passed,
+  is_to_be_flushed asked old new size reserved keeps above told.2,
+)
+tells_turn asked old mid new size reserved keeps same passed above (turns.Down faults) told =
     meets_since old mid new faults same told
 
 module _ (asked : ℕ) (old mid new : View) (keeps : KeepsPass old mid) where
@@ -328,7 +400,8 @@ module _ (asked : ℕ) (old mid new : View) (keeps : KeepsPass old mid) where
     rises = (let r = is.rises in let before = keeps.rises in omega (arith, r, before));
     begun = subst (λ (o : Opening). (o.setup).segment_size ≤ end) keeps.opening is.begun;
     above = is.above;
-    before = is.before;
+    sight = is.sight;
+    since = (let s = is.since in let before = keeps.rises in omega (arith, s, before));
     loaded = is.loaded;
     up = is.up;
   }
@@ -337,6 +410,7 @@ module _ (asked : ℕ) (old mid new : View) (keeps : KeepsPass old mid) where
       → FailsItsFlush asked faults old new
   fails_behind faults is = record {
     down = is.down;
+    above = is.above;
     reserved = subst (λ (o : Opening). asked ≤ end_form o.setup (new.reserving).seen) keeps.opening
         is.reserved;
   }

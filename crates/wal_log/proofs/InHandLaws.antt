@@ -10,13 +10,14 @@ use Rattle.wal_core.specs.Views.{Plain, Out, Hold, Lent, View}
 use Rattle.wal_rule.specs.declared.seated.SeatedPass.{SeatedPass}
 use Rattle.wal_rule.specs.declared.writer.LogWriter.{LogWriter}
 use Rattle.wal_rule.specs.Ruled.{IsOutOf}
-use Rattle.wal_core.specs.Moves.{lent, with_hold}
+use Rattle.wal_core.specs.Moves.{after_slot_out, lent}
 use Rattle.wal_rule.specs.Slotted.{slot_plain}
 use Rattle.wal_rule.specs.Stepping.{Stands}
 use Rattle.wal_rule.specs.SeatedPasses.{StaysSeated, began_of, hand_of, opening_of, view_of}
 use Rattle.page_writing.specs.InHand.{HasHand, lent_in, writer_in}
 use Rattle.page_writing.proofs.Bounds.{own_writer}
 use Rattle.page_writing.proofs.HandLaws.{HasLent, hand_there, hold_is}
+use Rattle.wal_log.specs.Downs.{KnowsNoFault}
 
 -- ---- in the view
 
@@ -24,9 +25,12 @@ module _ (v : View) (has : HasLent v) where
   pub may_store : MayStep v store_written
   may_store = ((lent_in v.writing.hold), hold_is v has, tt)
 
-  -- a writer that has failed may go back once the down value is set
+  -- a writer that has failed may go back once the down value is set, or was met
   pub may_put_down : v.writing.down_set ≢ 0 → MayStep v slot_in
-  may_put_down set = ((lent_in v.writing.hold), hold_is v has, inr set)
+  may_put_down set = ((lent_in v.writing.hold), hold_is v has, inr (inr set))
+
+  pub may_put_met : v.writing.down_met ≢ 0 → MayStep v slot_in
+  may_put_met met = ((lent_in v.writing.hold), hold_is v has, inr (inl met))
 
   -- else it may where what it has written is stored
   pub may_put_stored : (writer_in v).fault ≡ none
@@ -34,8 +38,9 @@ module _ (v : View) (has : HasLent v) where
   may_put_stored up stored = ((lent_in v.writing.hold), hold_is v has, inl (up, stored))
 
   module _ (faults : ℕ) (failed : (writer_in v).fault ≡ some faults) where
-    pub may_set_down : MayStep v set_down
-    may_set_down = ((lent_in v.writing.hold), hold_is v has, (faults, failed))
+    pub may_set_down : KnowsNoFault v → MayStep v set_down
+    may_set_down up =
+        ((lent_in v.writing.hold), hold_is v has, (faults, failed, up.met, up.set))
 
     above_none : (old new : ℕ) → Rose old new → new ≢ 0
     above_none old new (inl rises) zero = omega (arith, rises, zero)
@@ -73,7 +78,7 @@ module _ {D : Type 0} (tape : D → Rattle.std.specs.Prelude.Option Tape) (momen
         (old.seat).me (new.seat).me) where
       -- a view behind the turn's, with the writer
       pub view_taken : view_of new
-          ≡ with_hold (Out (lent (slot_plain tape moment w) (view_of old))) (view_of old)
+          ≡ after_slot_out (slot_plain tape moment w) (view_of old)
       view_taken = ap (λ (m : View × List (ℕ × LogWriter D)). m.0) out.me_is
 
       pub hand_taken : new.table ≡ old.table → HasHand tape moment faults new

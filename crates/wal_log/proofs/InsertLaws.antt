@@ -17,6 +17,7 @@ use Rattle.wal_log.specs.Downs.{KnowsNoFault, MeetsDown, MeetsFault}
 use Rattle.wal_log.specs.Inserting.{HasReserved, IsReceipt, IsStarted, RefusesInsert, insert_err_of_fault}
 use Rattle.wal_log.specs.PassLogs.{log_of_pass}
 use Rattle.wal_log.specs.Standing.{CopiesUnderOneLock, KeepsPass}
+use Rattle.wal_log.specs.Whole.{CopiesWhole}
 use Rattle.wal_log.proofs.Keeping.{both_up, further_pass, meets_since, up_before}
 use Rattle.wal_log.proofs.Unlocking.{landed_rests, rested, rested_keeps}
 
@@ -59,11 +60,13 @@ module _ (setup : Setup) (body : Assembled) (old mid v new : View) (place : Begu
   up_still : KnowsNoFault v → KnowsNoFault new
   up_still up = subst KnowsNoFault (sym is) (record { met = up.met; set = up.set })
 
-  pub receives : KnowsNoFault v → (receipt : Receipt) → receipt.start ≡ place.start
-      → receipt.end ≡ place.end → IsReceipt setup body old new receipt
-  receives up receipt from to = record {
+  pub receives : KnowsNoFault v → CopiesWhole old new begun.entry → (receipt : Receipt)
+      → receipt.start ≡ place.start → receipt.end ≡ place.end
+      → IsReceipt setup body old new receipt
+  receives up whole receipt from to = record {
     entry = begun.entry;
     reserved = reserved_still;
+    copied = whole;
     start_is = ap (λ (l : Lsn). l.0) from ∙ begun.start_is;
     end_is = ap (λ (l : Lsn). l.0) to ∙ begun.end_is ∙ ends_there;
     up = up_still up;

@@ -1,20 +1,18 @@
 -- What stays of a pass, and of what it is about, stays over several steps.
-use Rattle.std.proofs.Common.{◌≡◌, ◌⊎◌, inl, inr, ℕ, refl, sym, ap, ◌∙◌, subst, arith}
+use Rattle.std.proofs.Common.{◌≡◌, ◌⊎◌, inl, inr, max, ℕ, refl, sym, ap, ◌∙◌, subst, arith}
 use mathlib.Core.Logic.{dite}
 use mathlib.Core.Option.{none}
 use native.Mathlib.Decide.{ℕ_discrete}
-use Rattle.wal_core.specs.Moves.{after_advance, with_hold}
+use Rattle.wal_core.specs.Moves.{after_advance, after_slot_out, fault_number, lent, with_hold}
 use Rattle.wal_core.specs.Steps.{IsResting, load_down, view_behind}
 use Rattle.wal_core.specs.declared.setup.Setup.{Setup}
-use Rattle.wal_core.specs.Views.{Idle, Hold, View, Working}
+use Rattle.wal_core.specs.Views.{Idle, Hold, Out, Plain, View, Working}
 use Rattle.wal_page.specs.Placed.{PlacedState}
 use Rattle.wal_rule.specs.declared.seated.SeatedPass.{SeatedPass}
 use Rattle.wal_rule.specs.Downs.{KnowsDown}
 use Rattle.wal_rule.specs.SeatedPasses.{view_of}
 use Rattle.page_writing.specs.InHand.{ChangesHand}
-use Rattle.wal_log.specs.declared.fault.Fault.{Fault}
-use Rattle.wal_log.specs.declared.fault.Fault.TheVariants.{Disk, Down}
-use Rattle.wal_log.specs.Downs.{KnowsNoFault, MeetsDown, MeetsFault, SetsDownItself}
+use Rattle.wal_log.specs.Downs.{KnowsNoFault, MeetsDown, SetsDownItself}
 use Rattle.wal_log.specs.Hands.{SetsDownAndRests}
 use Rattle.wal_log.specs.Standing.{CopiesUnderOneLock, KeepsPass, KeepsWork}
 use Rattle.wal_log.proofs.Plain.{down_loaded}
@@ -102,6 +100,30 @@ pub hold_keeps : (v : View) (hold : Hold) (w : View) → w ≡ with_hold hold v
 hold_keeps v hold w is = subst (λ (x : View). KeepsWork v x) (sym is)
     (downs_keep v hold v.writing.down_met v.writing.down_set (λ faults knows. knows.1))
 
+-- a pass that knows of no failed disk knows no count of faults
+knows_none : (v : View) → KnowsNoFault v → (faults : ℕ) → KnowsDown faults v → ⊥
+knows_none v up faults (some, inl met) = some (sym met ∙ up.met)
+knows_none v up faults (some, inr set) = some (sym set ∙ up.set)
+
+-- with the writer, a pass that knows of no failed disk learns whether the writer has failed
+pub taken_keeps : (v w : View) (p : Plain) → KnowsNoFault v → w ≡ after_slot_out p v
+    → KeepsWork v w
+taken_keeps v w p up is = subst (λ (x : View). KeepsWork v x) (sym is)
+    (downs_keep v (Out (lent p v)) (max v.writing.down_met (fault_number p.fault))
+    v.writing.down_set (λ known knows. absurd (knows_none v up known knows)))
+
+pub taken_met : (v w : View) (p : Plain) → KnowsNoFault v → w ≡ after_slot_out p v
+    → w.writing.down_met ≡ fault_number p.fault
+taken_met v w p up is =
+    let met = ap (λ (x : View). x.writing.down_met) is in omega (arith, met, up.met)
+
+pub taken_up : (v w : View) (p : Plain) → KnowsNoFault v → w ≡ after_slot_out p v
+    → p.fault ≡ none → KnowsNoFault w
+taken_up v w p up is none_failed = record {
+  met = taken_met v w p up is ∙ ap fault_number none_failed;
+  set = ap (λ (x : View). x.writing.down_set) is ∙ up.set;
+}
+
 -- the down value that is loaded is the one that the pass knows, where it knows one
 pub down_met_keeps : (v : View) (met : ℕ) (w : View) → w ≡ view_behind v load_down met none
     → ((faults : ℕ) → KnowsDown faults v → met ≡ faults) → KeepsWork v w
@@ -134,10 +156,6 @@ rested_on v w work idle rests = record {
 }
 
 -- ---- no down value is known
-
-knows_none : (v : View) → KnowsNoFault v → (faults : ℕ) → KnowsDown faults v → ⊥
-knows_none v up faults (some, inl met) = some (sym met ∙ up.met)
-knows_none v up faults (some, inr set) = some (sym set ∙ up.set)
 
 -- where it is set then, the pass knows it
 pub down_set_keeps : (v w : View) (faults : ℕ) → KnowsNoFault v
@@ -184,12 +202,6 @@ meets_since u v w faults same meets = record {
 pub both_up : (v w : View) → KnowsNoFault v → KnowsNoFault w
     → w.writing.down_set ≡ v.writing.down_set
 both_up v w before after = after.set ∙ sym before.set
-
--- what was met of a failed disk, since an earlier view from which no down value was set
-pub fault_since : (u v w : View) → KnowsNoFault u → KnowsNoFault v → (fault : Fault)
-    → MeetsFault v w fault → MeetsFault u w fault
-fault_since u v w before up (Disk faults) met = met
-fault_since u v w before up (Down faults) met = meets_since u v w faults (both_up u v before up) met
 
 -- ---- with the writer in hand
 

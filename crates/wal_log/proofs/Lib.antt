@@ -16,6 +16,7 @@ pub mod Plain
 pub mod Trying
 pub mod Unlocking
 pub mod Watched
+pub mod WholeLaws
 mod Having
 pub mod Seated
 pub mod Lanes

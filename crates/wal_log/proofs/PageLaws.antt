@@ -1,12 +1,15 @@
 -- A page is reached: its end is met, or pages are mapped one by one up to it.
-use Rattle.std.proofs.Common.{◌≡◌, ℕ, ◌+◌, ◌<◌, ◌≤◌, max, refl, ap, ◌∙◌, arith}
+use Rattle.std.proofs.Common.{◌≡◌, ◌≢◌, ℕ, ◌+◌, ◌%◌, ◌<◌, ◌≤◌, max, refl, sym, ap, ◌∙◌, subst, arith}
 use Rattle.std.proofs.Math.Nat.{le-max_left}
+use Rattle.wal_core.specs.declared.setup.Setup.{Setup}
+use Rattle.wal_core.specs.Steps.{load_buffer_end}
 use Rattle.wal_core.specs.Views.{Taken, View}
 use Rattle.wal_rule.specs.declared.seated.SeatedPass.{SeatedPass}
 use Rattle.wal_rule.specs.SeatedPasses.{HasView, StaysSeated, view_of}
-use Rattle.word_ring.specs.Mapped.{LooksAt, looked_view, staged_view}
+use Rattle.wal_rule.specs.Stepping.{Meets}
+use Rattle.word_ring.specs.Mapped.{IsOldPageUnwritten, LooksAt, looked_view, staged_view}
 use Rattle.word_ring.specs.Ring.{confirmed_view, end_of_page}
-use Rattle.wal_log.specs.Copying.{MapsPage, mapped_view}
+use Rattle.wal_log.specs.Copying.{MapsPage, MeetsOldPage, MeetsOther, mapped_view}
 use Rattle.wal_log.proofs.Seated.{further_seated, seat_stays, view_is}
 
 pub maps_none : {D : Type 0} → (a : SeatedPass D) → MapsPage a a
@@ -27,6 +30,36 @@ maps_on a b c x y =
       view_is = y.view_is ∙ ap (mapped_view y.confirmed y.written) x.view_is;
       rises = omega (arith, x.rises, y.rises, first);
     }
+
+-- ---- what was met before a page's end or the written address was
+
+module _ (v w : View) (confirmed written : ℕ) (is : w ≡ mapped_view confirmed written v) where
+  looked_back : mapped_view v.mapping.confirmed v.writing.written w ≡ v
+  looked_back = ap (mapped_view v.mapping.confirmed v.writing.written) is
+
+  pub other_met : (setup : Setup) (page end : ℕ)
+      → Meets v (load_buffer_end (page % setup.ring_pages)) end → end ≢ end_of_page page
+      → MeetsOther setup page end w
+  other_met setup page end met other = record {
+    confirmed = v.mapping.confirmed;
+    written = v.writing.written;
+    met = subst (λ (x : View). Meets x (load_buffer_end (page % setup.ring_pages)) end)
+        (sym looked_back) met;
+    other = other;
+  }
+
+  pub old_met : (setup : Setup) (page at told : ℕ) → LooksAt (staged_view Taken v) at told
+      → at < end_of_page page → IsOldPageUnwritten setup at told → MeetsOldPage setup page told w
+  old_met setup page at told looks below old = record {
+    confirmed = v.mapping.confirmed;
+    written = v.writing.written;
+    at = at;
+    looks = subst (λ (x : View). LooksAt (staged_view Taken x) at told) (sym looked_back) looks;
+    below = below;
+    old = old;
+  }
+
+-- ---- steps
 
 -- an end was met
 pub met_maps : {D : Type 0} → (end : ℕ) (a b : SeatedPass D)

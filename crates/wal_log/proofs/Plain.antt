@@ -3,8 +3,8 @@ use Rattle.std.specs.Prelude.{if◌then◌else◌, ◌==◌}
 use Rattle.std.proofs.Common.{◌≡◌, ◌≢◌, ℕ, Bool, [], ◌∷◌, ◌++◌, length, max, refl, sym, ap, ◌∙◌, ne_eqb}
 use mathlib.Core.Option.{Option, none, some}
 use Rattle.byte_position.specs.Position.{position_of}
-use Rattle.wal_core.specs.Moves.{after_advance, with_hold}
-use Rattle.wal_core.specs.Steps.{advance, fault_number, load_down, load_flushed, load_moment, set_down, store_written, take_write_turn, view_behind}
+use Rattle.wal_core.specs.Moves.{after_advance, fault_number, with_hold}
+use Rattle.wal_core.specs.Steps.{advance, load_down, load_flushed, load_moment, set_down, store_written, take_write_turn, view_behind}
 use Rattle.wal_core.specs.Views.{Turned, Out, Hold, View}
 use Rattle.page_writing.specs.InHand.{lent_in, writer_in}
 use Rattle.page_writing.proofs.HandLaws.{HasLent, hold_is}
@@ -63,7 +63,7 @@ module _ (met : ℕ) (v : View) where
         ap (λ (h : Hold). view_behind (with_hold h v) set_down met none) (hold_is v has)
         ∙ ap (λ (f : Option ℕ). record v {
           writing = record v.writing {
-            down_set = fault_number v f;
+            down_set = fault_number f;
             hold = Out (lent_in v.writing.hold);
           };
         }) failed

@@ -3,13 +3,15 @@ use Rattle.std.proofs.Common.{◌≡◌, ◌⊎◌, inl, inr, ℕ, ◌-◌, ◌<
 use Rattle.byte_position.specs.Geometry.{IsSegmentSize}
 use Rattle.byte_position.proofs.EndAddresses.{end_address_of-mono}
 use Rattle.wal_core.specs.Moves.{copied_below, is_own, visited_on}
+use Rattle.wal_core.specs.Steps.{load_lock}
 use Rattle.wal_core.specs.Views.{View, Watching}
 use Rattle.wal_core.specs.Words.{end_form}
 use Rattle.wal_rule.specs.declared.seated.SeatedPass.{SeatedPass}
 use Rattle.wal_rule.specs.SeatedPasses.{StaysSeated, view_of}
+use Rattle.wal_rule.specs.Stepping.{Meets}
 use Rattle.insert_locks.specs.Watching.{HasFinished, IsHeldBack, watched_to, with_sight, with_watching}
 use Rattle.wal_log.specs.Downs.{KnowsNoFault}
-use Rattle.wal_log.specs.Flushing.{MeetsHeldLock}
+use Rattle.wal_log.specs.Flushing.{HasPassedLocks, MeetsHeldLock}
 use Rattle.wal_log.specs.PassLogs.{log_of_pass}
 use Rattle.wal_log.specs.Standing.{AddsNothing, HasNoTurn, KeepsWork}
 
@@ -62,15 +64,18 @@ module _ (upto : ℕ) (old new : View) where
       new held.rises held.new_is
 
   pub behind_word : (lock word : ℕ) → IsHeldBack upto lock word old new
-      → MeetsHeldLock upto lock word
+      → MeetsHeldLock upto lock word new
   behind_word lock word held = record {
     lock_low = held.lock_low;
-    view = held.before;
+    watching = held.before.watching;
     limit = held.end;
-    met = held.met;
+    met = subst (λ (v : View). Meets v (load_lock lock held.end) word) as_behind held.met;
     holds_back = ((held.holds_back).0, below (held.holds_back).1);
   }
     where
+      as_behind : held.before ≡ with_watching held.before.watching new
+      as_behind = held.before_is ∙ ap (with_watching held.before.watching) (sym held.new_is)
+
       below : (word ≡ 1) ⊎ (word - 1 < min upto held.end) → (word ≡ 1) ⊎ (word - 1 < upto)
       below (inl held_so) = inl held_so
       below (inr low) = inr (omega (arith, low))
@@ -83,6 +88,13 @@ module _ (upto : ℕ) (old new : View) where
     -- below the bound all is known to be copied
     pub copied_is : copied_below new.watching ≡ bound
     copied_is = ap (λ (v : View). copied_below v.watching) done.new_is
+
+    pub passed_locks : upto ≤ bound → HasPassedLocks upto new
+    passed_locks far =
+        let is = ap (λ (v : View). v.watching) done.new_is in record {
+          visited = ap (λ (x : Watching). x.visited) is;
+          copied = subst (λ (n : ℕ). upto ≤ n) (sym (ap (λ (x : Watching). x.bound) is)) far;
+        }
 
     -- the watch tells the address asked for, or more, where all below that was seen reserved
     pub reached : IsSegmentSize ((old.opening).setup).segment_size

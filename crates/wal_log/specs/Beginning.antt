@@ -1,5 +1,6 @@
 -- What one try to reserve a record's place answers, and what it leaves of its pass.
-use Rattle.std.specs.Prelude.{◌≡◌, ℕ, ◌<◌, Result, Ok, Err}
+use Rattle.std.specs.Prelude.{◌≡◌, ℕ, ◌<◌, ◌≤◌, Result, Ok, Err}
+use mathlib.Core.Option.{some}
 use Rattle.record_spelling.specs.Spelling.{Assembled}
 use Rattle.wal_page.specs.Order.{Entry, start_of}
 use Rattle.wal_page.specs.Placed.{placed_end}
@@ -8,7 +9,8 @@ use Rattle.wal_core.specs.Steps.{IsResting}
 use Rattle.wal_core.specs.Views.{View}
 use Rattle.reserve_lock.specs.declared.reserving.ReserveErr.{ReserveErr}
 use Rattle.reserve_lock.specs.declared.reserving.ReserveErr.TheVariants as reserving
-use Rattle.insert_locks.specs.Taking.{AreHeldWords}
+use Rattle.insert_locks.specs.Taking.{AreHeldWords, with_lock}
+use Rattle.insert_locks.specs.Watching.{with_sight}
 use Rattle.reserve_lock.specs.Reserved.{IsPositionBusy, placed_first}
 use Rattle.wal_log.specs.declared.beginning.Begun.{Begun}
 use Rattle.wal_log.specs.declared.beginning.TryErr.{TryErr}
@@ -16,7 +18,7 @@ use Rattle.wal_log.specs.declared.beginning.TryErr.TheVariants.{Busy, AllHeld, F
 use Rattle.wal_log.specs.Downs.{KnowsNoFault, MeetsDown}
 use Rattle.wal_log.specs.Inserting.{FindsLogFull, HasReserved}
 use Rattle.wal_log.specs.PassLogs.{log_of_pass}
-use Rattle.wal_log.specs.Standing.{CopiesUnderOneLock}
+use Rattle.wal_log.specs.Standing.{CopiesUnderOneLock, entry_in_flight}
 
 -- an entry was reserved, and is copied under one lock, of which all words are left; it starts and
 -- ends at these addresses
@@ -27,14 +29,20 @@ pub record IsPlaceBegun (setup : Setup) (body : Assembled) (old new : View) (beg
   pub up : KnowsNoFault new
   pub lock_low : begun.lock < 8
   pub copies : CopiesUnderOneLock setup begun.lock begun.placed new
+  pub in_flight : entry_in_flight new ≡ some entry
   pub prev : ℕ
   pub placed_is : begun.placed ≡ placed_first setup body entry.start prev
   pub start_is : begun.start.0 ≡ start_of setup.segment_size entry
   pub end_is : begun.end.0 ≡ placed_end begun.placed
 
--- the position was met locked, or met as another one where it was to be locked
-abbrev pub IsFoundBusy : ℕ → Type 0
-IsFoundBusy seen = (before : View) × (after : View) × IsPositionBusy seen before after
+-- the position was met locked, or met as another one where it was to be locked. The view that met
+-- it is the one behind the call, but that it had an insertion lock, and had not seen that position
+-- yet
+pub record IsFoundBusy (seen : ℕ) (old new : View) : Type 0 where
+  pub lock : ℕ
+  pub sight : ℕ
+  pub since : (old.reserving).seen ≤ sight
+  pub busy : IsPositionBusy seen (with_lock lock (with_sight sight new)) (with_lock lock new)
 
 -- a try added nothing to the pass's log, where the disk had not failed
 pub record TriesInVain (old new : View) : Type 0 where
@@ -43,9 +51,8 @@ pub record TriesInVain (old new : View) : Type 0 where
 
 -- why nothing was reserved
 abbrev pub TellsBeginTry : Setup → Assembled → View → View → TryErr → Type 0
-TellsBeginTry setup body old new (Busy seen) = IsFoundBusy seen × TriesInVain old new
-TellsBeginTry setup body old new (AllHeld held) =
-    ((v : View) × AreHeldWords v held.seen) × TriesInVain old new
+TellsBeginTry setup body old new (Busy seen) = IsFoundBusy seen old new × TriesInVain old new
+TellsBeginTry setup body old new (AllHeld held) = AreHeldWords new held.seen × TriesInVain old new
 TellsBeginTry setup body old new (Full free) =
     FindsLogFull setup body free old new × KnowsNoFault new
 TellsBeginTry setup body old new (Down faults) =

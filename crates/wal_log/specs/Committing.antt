@@ -15,19 +15,25 @@ use Rattle.byte_position.specs.Position.{position_of}
 use Rattle.wal_log.specs.Downs.{KnowsNoFault}
 use Rattle.wal_log.specs.Hands.{IsLatestPromise}
 use Rattle.wal_log.specs.Inserting.{IsOwnEntry, RefusesInsert}
+use Rattle.wal_log.specs.Moments.{HasMoment, HaveReached}
 use Rattle.wal_log.specs.PassLogs.{log_of_pass, log_with_entry, log_with_promise}
+use Rattle.wal_log.specs.Whole.{CopiesWhole}
 
--- the record was reserved, the places told are its entry's, and behind it the pass was told that
--- all below an address which is no less than its end is durable from the moment on
+-- the record was reserved, each of its words was copied, the places told are its entry's, and
+-- behind it the pass was told that all below an address which is no less than its end is durable
+-- from the moment on, which is the moment word's
 pub record IsSealed (setup : Setup) (body : Assembled) (old new : View) (sealed : Sealed)
     : Type 0 where
   pub entry : Entry
   pub upto : ℕ
   pub own : IsOwnEntry setup body old entry
+  pub copied : CopiesWhole old new entry
   pub log_is : log_of_pass new
       ≡ log_with_promise upto sealed.moment (log_with_entry entry (log_of_pass old))
   pub reached : finish_of setup.segment_size entry ≤ upto
   pub since : (old.opening).moment ≤ sealed.moment
+  pub of_word : HasMoment old sealed.moment
+  pub held : HaveReached upto sealed.moment new
   pub latest : IsLatestPromise upto sealed.moment old
   pub seen : position_of setup.segment_size upto ≤ (new.reserving).seen
   pub start_is : sealed.start.0 ≡ start_of setup.segment_size entry

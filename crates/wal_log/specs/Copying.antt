@@ -6,25 +6,26 @@ use Rattle.wal_rule.specs.SeatedPasses.{StaysSeated, view_of}
 use Rattle.wal_rule.specs.Stepping.{Meets}
 use Rattle.wal_core.specs.declared.setup.Setup.{Setup}
 use Rattle.wal_core.specs.Steps.{load_buffer_end, take_mapping_turn}
-use Rattle.wal_core.specs.Views.{View}
-use Rattle.word_ring.specs.Mapped.{IsOldPageUnwritten, LooksAt}
+use Rattle.wal_core.specs.Views.{Taken, View}
+use Rattle.word_ring.specs.Mapped.{IsOldPageUnwritten, LooksAt, staged_view}
 use Rattle.word_ring.specs.Ring.{end_of_page}
 use Rattle.wal_log.specs.declared.copying.Absent.{Absent}
 use Rattle.wal_log.specs.declared.copying.Copied.{Copied}
 use Rattle.wal_log.specs.declared.copying.CopyStop.{CopyStop}
 use Rattle.wal_log.specs.declared.copying.CopyStop.TheVariants as stops
 use Rattle.wal_log.specs.PassLogs.{log_of_pass}
-use Rattle.wal_log.specs.Standing.{GoesOnSeated}
+use Rattle.wal_log.specs.Standing.{GoesOnSeated, entry_in_flight}
 
 -- a record at its place is the same, but for the next word
 abbrev pub IsSamePlace : PlacedState → PlacedState → Type 0
 IsSamePlace old new = new ≡ record old { next = new.next }
 
--- a copy went on: of its record only the next word has moved, and nothing was added to the pass's
--- log
+-- a copy went on: of its record only the next word has moved, the entry in flight is the same, and
+-- nothing was added to the pass's log
 pub record CopyGoesOn {D : Type 0} (placed_old placed_new : PlacedState) (old new : SeatedPass D)
     : Type 0 where
   pub place : IsSamePlace placed_old placed_new
+  pub entry : entry_in_flight (view_of new) ≡ entry_in_flight (view_of old)
   pub goes_on : GoesOnSeated old new
   pub log : log_of_pass (view_of new) ≡ log_of_pass (view_of old)
 
@@ -45,37 +46,39 @@ pub record MapsPage {D : Type 0} (old new : SeatedPass D) : Type 0 where
   pub view_is : view_of new ≡ mapped_view confirmed written (view_of old)
   pub rises : ((view_of old).mapping).confirmed ≤ confirmed
 
--- the end word of a page's buffer was met, and is not the page's own
-pub record MeetsOther (setup : Setup) (page end : ℕ) : Type 0 where
-  pub view : View
-  pub met : Meets view (load_buffer_end (page % setup.ring_pages)) end
+-- the end word of a page's buffer was met, and is not the page's own. The view that met it, as the
+-- ones below, is this one, but for the highest end met and the written address loaded
+pub record MeetsOther (setup : Setup) (page end : ℕ) (v : View) : Type 0 where
+  pub confirmed : ℕ
+  pub written : ℕ
+  pub met : Meets (mapped_view confirmed written v) (load_buffer_end (page % setup.ring_pages)) end
   pub other : end ≢ end_of_page page
 
 -- the turn to map was somebody else's, whose word was met
-pub record MeetsMapper (turn : ℕ) : Type 0 where
-  pub view : View
-  pub met : Meets view take_mapping_turn turn
+pub record MeetsMapper (turn : ℕ) (v : View) : Type 0 where
+  pub met : Meets v take_mapping_turn turn
   pub taken : turn ≢ 0
 
 -- with the turn to map had, the initialised end and the written address were met, and the page that
 -- begins at that end, which lies before this one's, has a buffer whose page ends above the other
-pub record MeetsOldPage (setup : Setup) (page written : ℕ) : Type 0 where
-  pub view : View
+pub record MeetsOldPage (setup : Setup) (page told : ℕ) (v : View) : Type 0 where
+  pub confirmed : ℕ
+  pub written : ℕ
   pub at : ℕ
-  pub looks : LooksAt view at written
+  pub looks : LooksAt (staged_view Taken (mapped_view confirmed written v)) at told
   pub below : at < end_of_page page
-  pub old : IsOldPageUnwritten setup at written
+  pub old : IsOldPageUnwritten setup at told
 
 -- why a page was not mapped: the turn was taken, or the page to be replaced is not written
-abbrev pub IsInTheWay : Setup → (page turn written : ℕ) → Type 0
-IsInTheWay setup page turn written = (MeetsMapper turn × (written ≡ 0))
-    ⊎ ((turn ≡ 0) × MeetsOldPage setup page written)
+abbrev pub IsInTheWay : Setup → (page turn written : ℕ) → View → Type 0
+IsInTheWay setup page turn written v = (MeetsMapper turn v × (written ≡ 0))
+    ⊎ ((turn ≡ 0) × MeetsOldPage setup page written v)
 
 -- the page is not in its buffer, and could not be mapped
-pub record TellsAbsent (setup : Setup) (page : ℕ) (absent : Absent) : Type 0 where
+pub record TellsAbsent (setup : Setup) (page : ℕ) (v : View) (absent : Absent) : Type 0 where
   pub page_is : absent.page ≡ page
-  pub other : MeetsOther setup page absent.end
-  pub why : IsInTheWay setup page absent.turn absent.written
+  pub other : MeetsOther setup page absent.end v
+  pub why : IsInTheWay setup page absent.turn absent.written v
   pub low : absent.written < 2 ^ 60
 
 -- ---- words
@@ -88,23 +91,28 @@ pub record CopiesSome (most count : ℕ) (old new : PlacedState) : Type 0 where
   pub within : new.next ≤ placed_end old
 
 -- a word is left, and none was copied: none was asked for, or its page could not be mapped
-abbrev pub StopsAtOnce : Setup → (most : ℕ) → PlacedState → CopyStop → Type 0
-StopsAtOnce setup most placed stops.Asked = most ≡ 0
-StopsAtOnce setup most placed stops.Whole = ⊥
-StopsAtOnce setup most placed (stops.Absent absent) =
-    (0 < most) × TellsAbsent setup (placed.next / 8192) absent
+abbrev pub StopsAtOnce : Setup → (most : ℕ) → PlacedState → View → CopyStop → Type 0
+StopsAtOnce setup most placed v stops.Asked = most ≡ 0
+StopsAtOnce setup most placed v stops.Whole = ⊥
+StopsAtOnce setup most placed v (stops.Absent absent) =
+    (0 < most) × TellsAbsent setup (placed.next / 8192) v absent
 
 -- why a copy stopped behind `k` words, of which so many at most were asked for: these, and words
 -- are left; no word is left; or fewer, since the page of the next one could not be mapped
-abbrev pub TellsStop : Setup → (most k : ℕ) → PlacedState → CopyStop → Type 0
-TellsStop setup most k placed stops.Asked = (k ≡ most) × (placed.next < placed_end placed)
-TellsStop setup most k placed stops.Whole = placed.next ≡ placed_end placed
-TellsStop setup most k placed (stops.Absent absent) = (k < most)
-    × (placed.next < placed_end placed) × TellsAbsent setup (placed.next / 8192) absent
+abbrev pub TellsStop : Setup → (most k : ℕ) → PlacedState → View → CopyStop → Type 0
+TellsStop setup most k placed v stops.Asked = (k ≡ most) × (placed.next < placed_end placed)
+TellsStop setup most k placed v stops.Whole = placed.next ≡ placed_end placed
+TellsStop setup most k placed v (stops.Absent absent) = (k < most)
+    × (placed.next < placed_end placed) × TellsAbsent setup (placed.next / 8192) v absent
 
--- so many words were copied, in order, and why it stopped there
-pub record CopiesFront (setup : Setup) (most : ℕ) (old new : PlacedState) (copied : Copied) : Type 0
-  where
-    pub few : copied.k ≤ most
-    pub next_is : new ≡ record old { next = old.next + 8 * copied.k }
-    pub stop : TellsStop setup most copied.k new copied.stop
+-- so many words were copied, in order, and why it stopped there. Then, where words were asked for
+-- and are left, the pass has told under its lock the address of the next one; where none was asked
+-- for, it has told nothing
+pub record CopiesFront (setup : Setup) (most : ℕ) (old new : PlacedState) (before after : View)
+    (copied : Copied) : Type 0 where
+  pub few : copied.k ≤ most
+  pub next_is : new ≡ record old { next = old.next + 8 * copied.k }
+  pub earlier : ℕ
+  pub stop : TellsStop setup most copied.k new (record after { told = earlier }) copied.stop
+  pub told : 0 < most → new.next < placed_end new → after.told ≡ new.next
+  pub silent : most ≡ 0 → after ≡ before

@@ -1,15 +1,15 @@
 -- A record in flight, which its caller copies: what it is, and what each call leaves of it.
-use Rattle.std.specs.Prelude.{◌≡◌, ℕ, ◌<◌, Contains, Result, Ok, Err}
+use Rattle.std.specs.Prelude.{◌≡◌, ℕ, ◌<◌, Result, Ok, Err}
+use mathlib.Core.Option.{some}
 use Rattle.record_spelling.specs.Spelling.{Assembled}
 use Rattle.wal_types.specs.declared.answers.Receipt.{Receipt}
 use Rattle.wal_page.specs.Order.{Entry, start_of}
 use Rattle.wal_page.specs.Placed.{placed_end}
 use Rattle.wal_core.specs.Steps.{load_down}
-use Rattle.wal_core.specs.Views.{Copy, Copying, View}
-use Rattle.machine_laws.specs.SoundLocks.{IsCopiedWhole}
+use Rattle.wal_core.specs.Views.{View}
 use Rattle.wal_rule.specs.declared.pass.Pass.{Pass}
 use Rattle.wal_rule.specs.Passes.{view_of_pass}
-use Rattle.wal_rule.specs.Stepping.{Meets, Stands}
+use Rattle.wal_rule.specs.Stepping.{Meets}
 use Rattle.wal_rule.specs.Tables.{IsPassOn}
 use Rattle.wal_log.specs.declared.beginning.TryErr.{TryErr}
 use Rattle.wal_log.specs.declared.in_flight.Inflight.{Inflight}
@@ -18,7 +18,8 @@ use Rattle.wal_log.specs.Beginning.{IsPlaceBegun, TellsBeginTry}
 use Rattle.wal_log.specs.Downs.{KnowsNoFault, MeetsDown}
 use Rattle.wal_log.specs.Logs.{IsPassOfLog, setup_of_log, table_of}
 use Rattle.wal_log.specs.PassLogs.{log_of_pass}
-use Rattle.wal_log.specs.Standing.{CopiesUnderOneLock, KeepsPass}
+use Rattle.wal_log.specs.Standing.{CopiesUnderOneLock, KeepsPass, entry_in_flight}
+use Rattle.wal_log.specs.Whole.{CopiesWhole}
 
 -- what its pass knows and is about
 abbrev pub view_of_flight : Inflight → View
@@ -26,7 +27,7 @@ view_of_flight flight = view_of_pass flight.pass
 
 -- its pass is one of the log, and copies an entry under one lock, of which these words are left; it
 -- starts and ends at these addresses
-pub record IsInflightOf {D : Type 0} (wal : Wal D) (flight : Inflight) : Type 0 where
+pub record IsInFlightOf {D : Type 0} (wal : Wal D) (flight : Inflight) : Type 0 where
   pub of_log : IsPassOn (table_of wal) flight.pass
   pub lock_low : (flight.begun).lock < 8
   pub copies : CopiesUnderOneLock (setup_of_log wal) (flight.begun).lock (flight.begun).placed
@@ -40,38 +41,30 @@ pub record KeepsLog (old new : View) : Type 0 where
   pub keeps : KeepsPass old new
   pub log : log_of_pass new ≡ log_of_pass old
 
--- of the record at most the next word has moved
+-- of the record at most the next word has moved, and its entry is the one in flight
 pub record StaysInFlight (old new : Inflight) : Type 0 where
   pub begun : new.begun ≡ record old.begun { placed = (new.begun).placed }
+  pub entry : entry_in_flight (view_of_flight new) ≡ entry_in_flight (view_of_flight old)
   pub pass : KeepsLog (view_of_flight old) (view_of_flight new)
 
 -- try_begin: the log, the record, the pass's view before it, and the answer
 abbrev pub AnswersTryBegin : {D : Type 0} → Wal D → Assembled → View
     → Result Inflight (TryErr × Pass) → Type 0
-AnswersTryBegin wal body old (Ok flight) = IsInflightOf wal flight
+AnswersTryBegin wal body old (Ok flight) = IsInFlightOf wal flight
     × IsPlaceBegun (setup_of_log wal) body old (view_of_flight flight) flight.begun
     × KeepsPass old (view_of_flight flight)
 AnswersTryBegin wal body old (Err refused) = IsPassOfLog wal refused.1
     × TellsBeginTry (setup_of_log wal) body old (view_of_pass refused.1) refused.0
     × KeepsPass old (view_of_pass refused.1)
 
--- a view stands in a state that the rule allows, in which the order has this entry, and each of its
--- words is the log's where the ring has its page
-pub record StandsWhole (v : View) (e : Entry) : Type 0 where
-  pub stands : Stands v
-  pub in_order : Contains (stands.sound).order e
-  pub words : IsCopiedWhole (v.opening).setup (stands.sound).order stands.words e
-
--- so it stands with the entry that it has in flight
-abbrev pub HasWhole : View → Type 0
-HasWhole v = (c : Copy) → (v.working).flight ≡ Copying c → ∥ StandsWhole v c.entry ∥₁
-
 -- a record in flight was whole, its lock is given back, and its places are told
 pub record Finishes {D : Type 0} (wal : Wal D) (flight : Inflight) (receipt : Receipt)
     (pass : Pass) : Type 0 where
   pub pass_is : IsPassOfLog wal pass
   pub none_left : (flight.begun).placed.next ≡ placed_end (flight.begun).placed
-  pub whole : HasWhole (view_of_flight flight)
+  pub entry : Entry
+  pub in_flight : entry_in_flight (view_of_flight flight) ≡ some entry
+  pub whole : CopiesWhole (view_of_flight flight) (view_of_pass pass) entry
   pub start_is : receipt.start ≡ (flight.begun).start
   pub end_is : receipt.end ≡ (flight.begun).end
   pub keeps : KeepsLog (view_of_flight flight) (view_of_pass pass)
@@ -93,8 +86,9 @@ pub record GivesUpCopy {D : Type 0} (wal : Wal D) (flight : Inflight) (pass : Pa
 
 -- none was met, and the record is handed back as it was
 pub record IsHandedBack {D : Type 0} (wal : Wal D) (flight back : Inflight) : Type 0 where
-  pub flight_is : IsInflightOf wal back
+  pub flight_is : IsInFlightOf wal back
   pub begun : back.begun ≡ flight.begun
+  pub entry : entry_in_flight (view_of_flight back) ≡ entry_in_flight (view_of_flight flight)
   pub met : Meets (view_of_flight flight) load_down 0
   pub up : KnowsNoFault (view_of_flight back)
   pub keeps : KeepsLog (view_of_flight flight) (view_of_flight back)

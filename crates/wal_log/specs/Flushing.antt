@@ -6,8 +6,8 @@ use Rattle.wal_types.specs.declared.answers.Hard.{Hard}
 use Rattle.wal_core.specs.Steps.{load_flushed, load_lock, load_moment, view_behind}
 use Rattle.wal_core.specs.Words.{end_form}
 use Rattle.wal_rule.specs.Stepping.{Meets}
-use Rattle.insert_locks.specs.Watching.{HoldsBack, SeesPosition}
-use Rattle.wal_core.specs.Views.{View}
+use Rattle.insert_locks.specs.Watching.{HoldsBack, SeesPosition, with_sight, with_watching}
+use Rattle.wal_core.specs.Views.{View, Watching}
 use Rattle.wal_log.specs.declared.fault.Fault.{Fault}
 use Rattle.wal_log.specs.declared.fault.Fault.TheVariants as faults
 use Rattle.wal_log.specs.declared.turns.TurnErr.{TurnErr}
@@ -18,15 +18,18 @@ use Rattle.wal_log.specs.declared.flushing.FlushErr.{FlushErr}
 use Rattle.wal_log.specs.declared.flushing.FlushErr.TheVariants.{Unreserved, Disk, Down}
 use Rattle.wal_log.specs.Downs.{KnowsNoFault, MeetsDown, SetsDownItself}
 use Rattle.wal_log.specs.Hands.{IsLatestPromise, MeetsWriteTurn}
+use Rattle.wal_log.specs.Moments.{HasMoment, HaveReached}
 use Rattle.wal_log.specs.PassLogs.{log_of_pass, log_with_promise}
 
 -- all below an address, which is at least the one asked for, is told to be durable from a moment
--- on, which is not before the opening; nothing that was told before names more or a later moment;
--- and the disk was not known to have failed
+-- on, which is not before the opening, and is the moment word's; nothing that was told before names
+-- more or a later moment; and the disk was not known to have failed
 pub record IsToldHard (asked upto moment : ℕ) (old new : View) : Type 0 where
   pub reached : asked ≤ upto
   pub log_is : log_of_pass new ≡ log_with_promise upto moment (log_of_pass old)
   pub since : (old.opening).moment ≤ moment
+  pub of_word : HasMoment old moment
+  pub held : HaveReached upto moment new
   pub latest : IsLatestPromise upto moment old
   pub up : KnowsNoFault new
   pub seen : position_of ((old.opening).setup).segment_size upto ≤ (new.reserving).seen
@@ -38,23 +41,26 @@ pub record TellsHard (upto moment : ℕ) (old new : View) : Type 0 where
   pub moment_met : Meets (view_behind old load_flushed upto none) load_moment moment
   pub log_is : log_of_pass new ≡ log_with_promise upto moment (log_of_pass old)
   pub since : (old.opening).moment ≤ moment
+  pub held : HaveReached upto moment new
   pub latest : IsLatestPromise upto moment old
   pub seen : position_of ((old.opening).setup).segment_size upto ≤ (new.reserving).seen
 
 -- the address asked for is above the end of what was reserved, as a load of the position met it,
--- which is no less than the log's start, and than what the pass had seen before
+-- which is no less than the log's start, and than what the pass had seen before. The view that met
+-- it is the one behind the call, but that it had not seen that position yet
 pub record IsUnreserved (asked end : ℕ) (old new : View) : Type 0 where
   pub end_is : end ≡ end_form (old.opening).setup (new.reserving).seen
   pub rises : (old.reserving).seen ≤ (new.reserving).seen
   pub begun : ((old.opening).setup).segment_size ≤ end
   pub above : end < asked
-  pub before : View
-  pub loaded : SeesPosition before (new.reserving).seen
+  pub sight : ℕ
+  pub since : (old.reserving).seen ≤ sight
+  pub loaded : SeesPosition (with_sight sight new) (new.reserving).seen
   pub up : KnowsNoFault new
 
 -- the turn to write was not had
 abbrev pub try_flush_err_of_turn : TurnErr → TryFlushErr
-try_flush_err_of_turn (turns.Fault fault) = tries.Fault fault
+try_flush_err_of_turn (turns.Down n) = tries.Fault (faults.Down n)
 try_flush_err_of_turn (turns.Taken turn) = tries.Turn turn
 
 -- a fault ended the flush
@@ -69,10 +75,12 @@ try_flush_err_known_down n = Err (tries.Fault (faults.Down n))
 abbrev pub flush_err_known_down : ℕ → Result Hard FlushErr
 flush_err_known_down faults = Err (Down faults)
 
--- a device call of the flush itself failed: the address asked for was reserved
+-- a device call of the flush itself failed: the address asked for was reserved, and above the
+-- flushed one that was loaded
 pub record FailsItsFlush (asked faults : ℕ) (old new : View) : Type 0 where
   pub down : SetsDownItself faults new
   pub reserved : asked ≤ end_form (old.opening).setup (new.reserving).seen
+  pub above : new.writing.flushed < asked
 
 -- why a flush told nothing
 abbrev pub TellsFlushErr : ℕ → View → View → FlushErr → Type 0
@@ -80,14 +88,26 @@ TellsFlushErr asked old new (Disk faults) = FailsItsFlush asked faults old new
 TellsFlushErr asked old new (Down faults) = MeetsDown faults old new
 TellsFlushErr asked old new (Unreserved end) = IsUnreserved asked end.0 old new
 
+-- the address asked for is reserved and above the flushed one that was loaded, and the disk was not
+-- known to have failed
+pub record IsToBeFlushed (asked : ℕ) (new : View) : Type 0 where
+  pub reserved : asked ≤ end_form (new.opening).setup (new.reserving).seen
+  pub above : new.writing.flushed < asked
+  pub up : KnowsNoFault new
+
 -- a lock's word was met, and its holder tells nothing, or that all is copied below a lesser address
--- than the one asked for
-pub record MeetsHeldLock (asked lock word : ℕ) : Type 0 where
+-- than the one asked for. The view that met it is the one behind the call, but for what it watches
+pub record MeetsHeldLock (asked lock word : ℕ) (new : View) : Type 0 where
   pub lock_low : lock < 8
-  pub view : View
+  pub watching : Watching
   pub limit : ℕ
-  pub met : Meets view (load_lock lock limit) word
+  pub met : Meets (with_watching watching new) (load_lock lock limit) word
   pub holds_back : HoldsBack asked word
+
+-- all eight locks were visited, and each let the watch pass
+pub record HasPassedLocks (asked : ℕ) (new : View) : Type 0 where
+  pub visited : (new.watching).visited ≡ 8
+  pub copied : asked ≤ (new.watching).bound
 
 -- why one try told nothing: the pass's log is as it was
 abbrev pub TellsFlushTry : ℕ → View → View → TryFlushErr → Type 0
@@ -95,9 +115,9 @@ TellsFlushTry asked old new (tries.Fault fault) =
     TellsFlushErr asked old new (flush_err_of_fault fault)
 TellsFlushTry asked old new (tries.Unreserved end) = IsUnreserved asked end.0 old new
 TellsFlushTry asked old new (tries.Behind lock word) =
-    MeetsHeldLock asked lock word × (new.writing.flushed < asked) × KnowsNoFault new
-TellsFlushTry asked old new (tries.Turn turn) =
-    MeetsWriteTurn turn × (new.writing.flushed < asked) × KnowsNoFault new
+    MeetsHeldLock asked lock word new × IsToBeFlushed asked new
+TellsFlushTry asked old new (tries.Turn word) =
+    MeetsWriteTurn word new × HasPassedLocks asked new × IsToBeFlushed asked new
 
 -- all below an address is told to be durable; where the flushed address that was loaded has reached
 -- the one asked for, it is that one

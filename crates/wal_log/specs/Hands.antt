@@ -8,19 +8,19 @@ use Rattle.wal_rule.specs.SeatedPasses.{view_of}
 use Rattle.wal_rule.specs.Stepping.{Meets}
 use Rattle.page_writing.specs.InHand.{IsReady, lent_in, writer_in}
 use Rattle.wal_log.specs.declared.turns.TurnErr.{TurnErr}
-use Rattle.wal_log.specs.declared.turns.TurnErr.TheVariants.{Fault, Taken}
-use Rattle.wal_log.specs.Downs.{KnowsNoFault, MeetsFault}
+use Rattle.wal_log.specs.declared.turns.TurnErr.TheVariants.{Down, Taken}
+use Rattle.wal_log.specs.Downs.{KnowsNoFault, MeetsDown}
 
--- somebody had the turn to write: its word was met, and is not 0
-pub record MeetsWriteTurn (turn : ℕ) : Type 0 where
-  pub view : View
-  pub met : Meets view take_write_turn turn
+-- somebody had the turn to write: a pass with this view met its word, which is not 0
+pub record MeetsWriteTurn (turn : ℕ) (v : View) : Type 0 where
+  pub met : Meets v take_write_turn turn
   pub taken : turn ≢ 0
 
--- why the turn to write was not had: the disk has failed, or it was taken
+-- why the turn to write was not had: the down value was met, or the turn was taken, and the view is
+-- as it was
 abbrev pub TellsTurnErr : View → View → TurnErr → Type 0
-TellsTurnErr old new (Fault fault) = MeetsFault old new fault
-TellsTurnErr old new (Taken turn) = MeetsWriteTurn turn × KnowsNoFault new
+TellsTurnErr old new (Down faults) = MeetsDown faults old new
+TellsTurnErr old new (Taken turn) = MeetsWriteTurn turn new × (new ≡ old) × KnowsNoFault new
 
 -- the writer is in hand and no call of it has failed, all that it has written is stored, and the
 -- disk is not known to have failed

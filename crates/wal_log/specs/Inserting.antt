@@ -15,6 +15,7 @@ use Rattle.wal_log.specs.declared.inserting.InsertErr.{InsertErr}
 use Rattle.wal_log.specs.declared.inserting.InsertErr.TheVariants.{Full, Disk, Down}
 use Rattle.wal_log.specs.Downs.{KnowsNoFault, MeetsDown, SetsDownItself}
 use Rattle.wal_log.specs.PassLogs.{log_of_pass, log_with_entry, log_with_full}
+use Rattle.wal_log.specs.Whole.{CopiesWhole}
 
 -- an entry is one of the pass that the body's record makes, behind all that the pass had seen, and
 -- within the log
@@ -46,12 +47,13 @@ pub record FindsLogFull (setup : Setup) (body : Assembled) (free : ℕ) (old new
     pub seen : at ≤ (new.reserving).seen
     pub log_is : log_of_pass new ≡ log_with_full at (log_of_pass old)
 
--- the record was reserved, the places told are its entry's, and the disk was not known to have
--- failed
+-- the record was reserved, each of its words was copied, the places told are its entry's, and the
+-- disk was not known to have failed
 pub record IsReceipt (setup : Setup) (body : Assembled) (old new : View) (receipt : Receipt)
     : Type 0 where
   pub entry : Entry
   pub reserved : HasReserved setup body old new entry
+  pub copied : CopiesWhole old new entry
   pub start_is : receipt.start.0 ≡ start_of setup.segment_size entry
   pub end_is : receipt.end.0 ≡ finish_of setup.segment_size entry
   pub up : KnowsNoFault new

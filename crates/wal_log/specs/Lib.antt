@@ -1,6 +1,8 @@
 pub mod Downs
 pub mod PassLogs
 pub mod Standing
+pub mod Whole
+pub mod Moments
 pub mod Hands
 pub mod Writing
 pub mod Logs

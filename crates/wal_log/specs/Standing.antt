@@ -1,8 +1,10 @@
 -- What stays of a pass in a call, and what it is about in the midst of one.
 use Rattle.std.specs.Prelude.{◌≡◌, ℕ, ◌<◌, ◌≤◌, [], ◌∷◌}
+use mathlib.Core.Option.{Option, none, some}
+use Rattle.wal_page.specs.Order.{Entry}
 use Rattle.wal_page.specs.Placed.{PlacedState}
 use Rattle.wal_core.specs.declared.setup.Setup.{Setup}
-use Rattle.wal_core.specs.Views.{Away, Copy, Copying, Free, Landed, Idle, View}
+use Rattle.wal_core.specs.Views.{Away, Copy, Copying, Flight, Free, Landed, Idle, View}
 use Rattle.word_ring.specs.Copied.{rest_of}
 use Rattle.wal_rule.specs.declared.seated.SeatedPass.{SeatedPass}
 use Rattle.wal_rule.specs.Downs.{KnowsDown}
@@ -32,6 +34,14 @@ pub record KeepsWork (old new : View) : Type 0 where
   pub confirmed : (old.mapping).confirmed ≤ (new.mapping).confirmed
 
 -- ---- what it is about, by its view
+
+-- the entry that it has in flight
+abbrev pub entry_of_flight : Flight → Option Entry
+entry_of_flight Landed = none
+entry_of_flight (Copying c) = some c.entry
+
+abbrev pub entry_in_flight : View → Option Entry
+entry_in_flight v = entry_of_flight (v.working).flight
 
 -- it has one insertion lock, and is about nothing else
 pub record HasOneLock (lock : ℕ) (v : View) : Type 0 where

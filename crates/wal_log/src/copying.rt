@@ -15,7 +15,7 @@ ghost use Rattle.word_ring.specs.Ring.{end_of_page};
 ghost use Rattle.wal_log.specs.Copying.{CopiesFront, CopiesSome, CopyGoesOn, MapsPage, StopsAtOnce, TellsAbsent};
 ghost use Rattle.wal_log.specs.Downs.{FindsDown, KnowsNoFault, MeetsFault};
 ghost use Rattle.wal_log.specs.PassLogs.{log_of_pass};
-ghost use Rattle.wal_log.specs.Standing.{CopiesAlone, GoesOnSeated, StaysAtWork};
+ghost use Rattle.wal_log.specs.Standing.{CopiesAlone, StaysAtWork};
 
 use crate::fault::Fault;
 use crate::writing::{WriteErr, tell_progress, write_early};
@@ -103,8 +103,8 @@ fn reset_behind(backoff: &Backoff, copied: u32) {
     }
 }
 
-// Copies a record's next words, at most so many, and tells its progress if words are left. It does
-// not wait. The record's last word ends at `end`.
+// Copies a record's next words, at most so many, and tells its progress if words are left, unless
+// none was asked for. It does not wait. The record's last word ends at `end`.
 pub(crate) fn copy_front<'p, 'a, D: Disk>(
     seated: &mut SeatedPass<'p, D>,
     lock: u32,
@@ -117,13 +117,20 @@ pub(crate) fn copy_front<'p, 'a, D: Disk>(
     requires end { end.0 ≡ placed_end placed.old }
     // So it does behind it. It tells how many words were copied, and why it stopped.
     ensures copies { CopiesAlone lock placed.new seated.new }
-    ensures tells { CopiesFront (setup_of seated.old) most placed.old placed.new result }
+    ensures tells { CopiesFront (setup_of seated.old) most placed.old placed.new
+        (view_of seated.old) (view_of seated.new) result }
     // No fault was met on the way.
     ensures up { KnowsNoFault (view_of seated.old) → KnowsNoFault (view_of seated.new) }
     ensures copies_on { CopyGoesOn placed.old placed.new seated.old seated.new }
 {
     let mut k = 0;
     while placed.next_lsn().0 < end.0 {
+        if most == 0 {
+            return Copied {
+                k,
+                stop: CopyStop::Asked,
+            };
+        }
         match copy_some(seated, end, placed, most - k) {
             Ok(count) => k += count,
             Err(stop) => {
@@ -154,7 +161,7 @@ fn copy_some<'p, 'a, D: Disk>(
         → CopiesAlone lock placed.new seated.new }
     ensures tells { MatchResult result (λ count. CopiesSome most count placed.old placed.new)
         (λ stop. (placed.new ≡ placed.old)
-        × StopsAtOnce (setup_of seated.old) most placed.old stop) }
+        × StopsAtOnce (setup_of seated.old) most placed.old (view_of seated.new) stop) }
     ensures up { KnowsNoFault (view_of seated.old) → KnowsNoFault (view_of seated.new) }
     ensures copies_on { CopyGoesOn placed.old placed.new seated.old seated.new }
 {
@@ -177,7 +184,7 @@ fn reach_page<'p, D: Disk>(seated: &mut SeatedPass<'p, D>, page: u64) -> Result<
     requires low { page < 2 ^ 40 }
     ensures ends { MatchResult result
         (λ _. end_of_page page ≤ (view_of seated.new).mapping.confirmed)
-        (λ absent. TellsAbsent (setup_of seated.old) page absent) }
+        (λ absent. TellsAbsent (setup_of seated.old) page (view_of seated.new) absent) }
     ensures maps { MapsPage seated.old seated.new }
 {
     loop {
@@ -223,8 +230,7 @@ fn wait_for_page<'p, 'a, D: Disk>(
     ensures copies { CopiesAlone lock placed.now seated.new }
     ensures ends { MatchResult result (λ _. KnowsNoFault (view_of seated.new))
         (λ e. MeetsFault (view_of seated.old) (view_of seated.new) e) }
-    ensures goes_on { GoesOnSeated seated.old seated.new }
-    ensures log { log_of_pass (view_of seated.new) ≡ log_of_pass (view_of seated.old) }
+    ensures copies_on { CopyGoesOn placed.now placed.now seated.old seated.new }
 {
     if absent.turn != 0 {
         return wait_up(seated, backoff);

@@ -1,14 +1,16 @@
 // The log is flushed up to an address (PostgreSQL's xlog.c, XLogFlush). The pass holds nothing
 // before it and behind it. A try loads down (word 16), the reserved end (0) and the flushed address
 // (14), and if that suffices the moment (15). Else it watches the locks, and with the turn to write
-// it loads down again, writes what the watch told, stores that as written (13), syncs, and stores
-// the moment, then the flushed address. Since the moment is stored before that address and loaded
-// behind it, who finds an address flushed is told no moment that is too early.
+// it loads down and the flushed address again. If another flush has passed the address meanwhile,
+// the moment is loaded, and no device call is made. Else it writes what the watch told, stores that
+// as written (13), syncs, and stores the moment, then the flushed address. Since the moment is
+// stored before that address and loaded behind it, who finds an address flushed is told no moment
+// that is too early.
 // PostgreSQL waits at locks and turn (WaitXLogInsertionsToFinish, LWLockAcquireOrWait). Here a try
-// ends there, and the next one loads the flushed address again: another flush may have passed it.
+// ends there, and the next one begins anew.
 ghost use Rattle.std.specs.Prelude.{◌≡◌, ◌<◌, ◌≤◌, MatchOption, MatchResult};
 ghost use mathlib.Core.Option.{none};
-ghost use Rattle.page_writing.specs.InHand.{writer_in};
+ghost use Rattle.page_writing.specs.InHand.{IsReady, known_copied, writer_in};
 ghost use Rattle.wal_core.specs.Words.{end_form};
 ghost use Rattle.wal_rule.specs.Downs.{KnowsDown};
 ghost use Rattle.wal_rule.specs.Passes.{view_of_pass};
@@ -25,7 +27,7 @@ ghost use Rattle.wal_log.specs.declared.flushing.TryFlushErr.TheVariants.{Fault}
 use crate::fault::Fault;
 use crate::turns::{TurnErr, give_back, go_down, take_ready};
 use crate::wal::Wal;
-use crate::writing::write_known;
+use crate::writing::{store_written, write_known};
 use crossbeam_utils::Backoff;
 use flush_core::DiskFault;
 use insert_locks::{Watched, see_end, watch};
@@ -46,7 +48,7 @@ pub enum TryFlushErr {
     /// An insertion lock's holder has not copied so far: the lock's word.
     Behind { lock: u32, word: u64 },
     /// Somebody has the turn to write: the turn's word.
-    Turn { turn: u64 },
+    Turn { word: u64 },
 }
 
 /// Why a flush told nothing.
@@ -65,8 +67,8 @@ impl From<TurnErr> for TryFlushErr {
 
     fn from(e: TurnErr) -> TryFlushErr {
         match e {
-            TurnErr::Fault(fault) => TryFlushErr::Fault(fault),
-            TurnErr::Taken { turn } => TryFlushErr::Turn { turn },
+            TurnErr::Down { faults } => TryFlushErr::Fault(Fault::Down { faults }),
+            TurnErr::Taken { turn } => TryFlushErr::Turn { word: turn },
         }
     }
 }
@@ -219,6 +221,35 @@ fn harden_copied<'p, D: Disk>(
         Watched::Behind { lock, word } => return Err(TryFlushErr::Behind { lock, word }),
     };
     take_ready(seated)?;
+    harden_in_turn(seated, upto, known)
+}
+
+// With the turn had, looks at the flushed address again, since another flush may have passed the
+// one asked for while this one was at the locks: then that is told, and no device call is made.
+// Else writes what is known to be copied, and syncs.
+fn harden_in_turn<'p, D: Disk>(
+    seated: &mut SeatedPass<'p, D>,
+    upto: Lsn,
+    known: u64,
+) -> Result<Hard, TryFlushErr>
+    // The writer is in hand and has not failed, and `known` is what the watch told before it was
+    // taken, which reaches the address.
+    requires ready { IsReady D.tape D.moment D.faults seated.old }
+    requires known { known ≡ known_copied (view_of seated.old) }
+    requires reaches { upto.0 ≤ known }
+    requires reserved { upto.0 ≤ end_form (setup_of seated.old)
+        (view_of seated.old).reserving.seen }
+    requires up { KnowsNoFault (view_of seated.old) }
+    ensures tries { AnswersFlushTry upto.0 (view_of seated.old) result (view_of seated.new) }
+    ensures works { WorksOn seated.old seated.new }
+    ensures rests { HasNoTurn seated.new }
+{
+    if let Some(hard) = told_already(seated, upto) {
+        // A writer goes back with all that it has written stored: so that is stored once more.
+        store_written(seated);
+        give_back(seated);
+        return Ok(hard);
+    }
     write_known(seated, known)?;
     Ok(harden(seated)?)
 }

@@ -2,14 +2,15 @@
 // XLogInsertRecord): its place is reserved (`try_begin`), its words are copied, as many at a time
 // as the caller likes (`copy`), and its lock is given back (`finish`). `Wal::insert` is a loop over
 // the same steps. Meanwhile the pass has one insertion lock, with the record in flight under it:
-// other passes insert and flush beside it, and a flush gets no further than the lock tells that the
-// record is copied. Behind a failed disk the copy may be given up, as an insert does it.
+// other passes insert and flush beside it. While the lock tells nothing, each flush of an address
+// that is not flushed yet ends at it, also one below the record; once it tells an address, flushes
+// pass up to there. Behind a failed disk the copy may be given up, as an insert does it.
 ghost use Rattle.std.specs.Prelude.{◌≡◌, IsErrAnd};
 ghost use Rattle.wal_rule.specs.Downs.{KnowsDown};
 ghost use Rattle.wal_rule.specs.Passes.{view_of_pass};
 ghost use Rattle.wal_log.specs.Beginning.{try_err_known_down};
 ghost use Rattle.wal_log.specs.Copying.{CopiesFront};
-ghost use Rattle.wal_log.specs.Flights.{AnswersFinish, AnswersGiveUp, AnswersTryBegin, IsInflightOf, StaysInFlight, view_of_flight};
+ghost use Rattle.wal_log.specs.Flights.{AnswersFinish, AnswersGiveUp, AnswersTryBegin, IsInFlightOf, StaysInFlight, view_of_flight};
 ghost use Rattle.wal_log.specs.Logs.{IsPassOfLog, setup_of_log};
 
 use crate::beginning::{Begun, TryErr, try_begin};
@@ -57,14 +58,15 @@ impl<D: Disk> Wal<D> {
 
 impl<'a> Inflight<'a> {
     /// Copies the record's next words, at most `n`, and maps pages for them where that can be done.
-    /// It does not wait. Where words are left it tells under the lock how far it came.
+    /// It does not wait. Where words are left it tells under the lock how far it came, unless `n`
+    /// is 0.
     pub fn copy<D: Disk>(&mut self, wal: &Wal<D>, n: u32) -> Copied
-        requires flight { IsInflightOf wal.now self.old }
-        ensures flight { IsInflightOf wal.now self.new }
-        // How many words were copied, and why it stopped there. Nothing else of the record has
-        // changed.
+        requires flight { IsInFlightOf wal.now self.old }
+        ensures flight { IsInFlightOf wal.now self.new }
+        // How many words were copied, and why it stopped there; and it has told how far it came.
+        // Nothing else of the record has changed.
         ensures copies { CopiesFront (setup_of_log wal.now) n self.old.begun.placed
-            self.new.begun.placed result }
+            self.new.begun.placed (view_of_flight self.old) (view_of_flight self.new) result }
         ensures stays { StaysInFlight self.old self.new }
     {
         let mut seated = self.pass.seat(&wal.table);
@@ -76,7 +78,7 @@ impl<'a> Inflight<'a> {
 
     /// Gives the record's lock back, where no word of it is left, and tells its place.
     pub fn finish<D: Disk>(self, wal: &Wal<D>) -> Result<(Receipt, Pass), Inflight<'a>>
-        requires flight { IsInflightOf wal.now self }
+        requires flight { IsInFlightOf wal.now self }
         // Each word of the record was copied, and the pass is about nothing. Or words are left, and
         // it is handed back as it was.
         ensures finishes { AnswersFinish wal.now self.entry result }
@@ -98,7 +100,7 @@ impl<'a> Inflight<'a> {
     /// Loads down, and behind a failed disk gives the copy up: the record keeps its place, and its
     /// lock stays held for good.
     pub fn give_up<D: Disk>(self, wal: &Wal<D>) -> Result<Pass, Inflight<'a>>
-        requires flight { IsInflightOf wal.now self }
+        requires flight { IsInFlightOf wal.now self }
         // The down value was met, and the pass is about nothing. Or none was, and it is handed
         // back, the record as it was.
         ensures gives_up { AnswersGiveUp wal.now self.entry result }

@@ -1,8 +1,8 @@
 // Passes are split off and taken in. A pass is what one backend calls the log with: each call takes
-// it `&mut`, so one thread at a time has it, and its number is no other's. Neither call here
-// changes a shared word, or waits. A pass that was taken in makes no more calls: what it reserved
-// and was promised is the taker's to tell from then on, and a log whose passes are not all taken in
-// is not closed.
+// it `&mut` or by value, so one thread at a time has it, and its number is no other's. Neither call
+// here changes a shared word, or waits. A pass that was taken in makes no more calls: what it
+// reserved and was promised is the taker's to tell from then on, and a log whose passes are not all
+// taken in is not closed.
 ghost use Rattle.std.specs.Prelude.{◌≡◌, ◌<◌};
 ghost use Rattle.wal_rule.specs.Passes.{view_of_pass};
 ghost use Rattle.wal_core.specs.Moves.{after_join, after_split, split_off};

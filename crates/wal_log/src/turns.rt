@@ -16,7 +16,6 @@ ghost use Rattle.wal_log.specs.Downs.{KnowsNoFault};
 ghost use Rattle.wal_log.specs.Hands.{SetsDownAndRests, TellsTurnErr};
 ghost use Rattle.wal_log.specs.Standing.{AddsNothing, HasNoTurn};
 
-use crate::fault::Fault;
 use flush_core::DiskFault;
 use page_writing::writer_now;
 use segment_disk::Disk;
@@ -25,8 +24,8 @@ use wal_rule::SeatedPass;
 /// Why the turn to write was not had.
 #[derive(Clone, Copy, Debug, PartialEq, Eq)]
 pub enum TurnErr {
-    /// The disk has failed.
-    Fault(Fault),
+    /// The disk has failed before: its count of faults then, met with the turn had.
+    Down { faults: u64 },
     /// Somebody has it: the turn's word.
     Taken { turn: u64 },
 }
@@ -53,21 +52,21 @@ pub(crate) fn take_ready<'p, D: Disk>(seated: &mut SeatedPass<'p, D>) -> Result<
     let faults = seated.load_down();
     if faults != 0 {
         seated.release_write_turn();
-        return Err(TurnErr::Fault(Fault::Down { faults }));
+        return Err(TurnErr::Down { faults });
     }
     seated.slot_out();
     match writer_now(seated).fault {
         None => Ok(()),
-        // That the writer had failed, and no pass had told so, does not come.
+        // That the writer had failed, and down was 0, does not come.
         Some(faults) => {
-            go_down(seated, DiskFault { faults });
-            Err(TurnErr::Fault(Fault::Disk { faults }))
+            give_back(seated);
+            Err(TurnErr::Down { faults })
         }
     }
 }
 
 // Puts the writer back, and gives the turn back. All that it has written is stored as written, or
-// the down value is set: `slot_in` asks for that. Nothing else of the view changes.
+// the down value is known: `slot_in` asks for that. Nothing else of the view changes.
 pub(crate) fn give_back<'p, D: Disk>(seated: &mut SeatedPass<'p, D>)
     requires hand { HasHand D.tape D.moment D.faults seated.old }
     requires may { MayStep (view_of seated.old) slot_in }
@@ -79,9 +78,11 @@ pub(crate) fn give_back<'p, D: Disk>(seated: &mut SeatedPass<'p, D>)
 }
 
 // Sets the down value to the fault that the writer in hand has met, and gives writer and turn back.
+// The pass knew of no failed disk when it took the writer: so it is the only one that sets it.
 pub(crate) fn go_down<'p, D: Disk>(seated: &mut SeatedPass<'p, D>, fault: DiskFault)
     requires hand { HasHand D.tape D.moment D.faults seated.old }
     requires failed { (writer_in (view_of seated.old)).fault ≡ some fault.faults }
+    requires up { KnowsNoFault (view_of seated.old) }
     ensures down { SetsDownAndRests fault.faults (view_of seated.old) (view_of seated.new) }
     ensures empty { hand_of seated.new ≡ [] }
     ensures same_table { seated.new.table ≡ seated.old.table }

@@ -2,11 +2,12 @@
 // table: shared words, each of which changes by one atomic step, and the writer in its slot.
 // docs/COMMIT.md has a list of who may change which word, and when.
 //
-// Between two calls a pass holds nothing. A call seats it, and puts it back where it is about
-// nothing again. In an insert it takes an insertion lock, then locks the position, and unlocks that
-// before it copies. While it copies, under that lock, it may take the turn to map or the turn to
-// write, and never has both. A flush takes the turn to write alone, and no insertion lock. A call
-// that waits holds nothing but the lock of a record that it is copying.
+// Between two calls a `Pass` holds nothing, and an `Inflight` one insertion lock, with its record
+// in flight. A call seats the pass, and puts it back where it is about nothing again, or about just
+// that. In an insert it takes an insertion lock, then locks the position, and unlocks that before
+// it copies. While it copies, under that lock, it may take the turn to map or the turn to write,
+// and never has both. A flush takes the turn to write alone, and no insertion lock. A call that
+// waits holds nothing but the lock of a record that it is copying.
 
 use segment_disk::Disk;
 use wal_rule::LogTable;

@@ -11,8 +11,8 @@ ghost use Rattle.page_writing.specs.InHand.{IsReady, known_copied, writer_in};
 ghost use Rattle.wal_rule.specs.SeatedPasses.{HasView, view_of};
 ghost use Rattle.wal_log.specs.Downs.{KnowsNoFault, SetsDownItself};
 ghost use Rattle.wal_log.specs.Hands.{HasAllStored};
-ghost use Rattle.wal_log.specs.PassLogs.{log_of_pass};
-ghost use Rattle.wal_log.specs.Standing.{AddsNothing, CopiesAlone, GoesOnSeated, HasNoTurn};
+ghost use Rattle.wal_log.specs.Copying.{CopyGoesOn};
+ghost use Rattle.wal_log.specs.Standing.{AddsNothing, CopiesAlone, HasNoTurn};
 ghost use Rattle.wal_log.specs.Writing.{TellsWriteErr, stored_view, write_err_of_turn};
 ghost use Rattle.wal_log.specs.declared.fault.Fault.TheVariants.{Disk};
 ghost use Rattle.wal_log.specs.declared.writing.WriteErr.TheVariants.{Fault};
@@ -43,7 +43,7 @@ impl From<TurnErr> for WriteErr {
 
     fn from(e: TurnErr) -> WriteErr {
         match e {
-            TurnErr::Fault(fault) => WriteErr::Fault(fault),
+            TurnErr::Down { faults } => WriteErr::Fault(Fault::Down { faults }),
             TurnErr::Taken { turn } => WriteErr::Turn { turn },
         }
     }
@@ -87,7 +87,7 @@ pub(crate) fn write_known<'p, D: Disk>(
 }
 
 // Stores how far the writer in hand has written the log.
-fn store_written<'p, D: Disk>(seated: &mut SeatedPass<'p, D>)
+pub(crate) fn store_written<'p, D: Disk>(seated: &mut SeatedPass<'p, D>)
     requires ready { IsReady D.tape D.moment D.faults seated.old }
     ensures ready { IsReady D.tape D.moment D.faults seated.new }
     ensures view { HasView (stored_view (view_of seated.old)) seated.old seated.new }
@@ -126,8 +126,7 @@ pub(crate) fn write_early<'p, 'a, D: Disk>(
     requires copies { CopiesAlone lock placed.now seated.old }
     requires up { KnowsNoFault (view_of seated.old) }
     ensures copies { CopiesAlone lock placed.now seated.new }
-    ensures goes_on { GoesOnSeated seated.old seated.new }
-    ensures log { log_of_pass (view_of seated.new) ≡ log_of_pass (view_of seated.old) }
+    ensures copies_on { CopyGoesOn placed.now placed.now seated.old seated.new }
     // It was not written: the disk has failed, or a lock or the turn to write was in the way.
     ensures ends { MatchResult result (λ _. KnowsNoFault (view_of seated.new))
         (λ e. TellsWriteErr (view_of seated.old) (view_of seated.new) e) }

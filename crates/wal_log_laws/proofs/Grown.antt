@@ -1,12 +1,35 @@
 -- The log of a pass only grows, and stands with the pass that took it in.
-use Rattle.std.proofs.Common.{◌⊎◌, inl, inr, Contains, List, [], ◌∷◌, ◌++◌, refl, sym, ap, ◌∙◌, subst}
+use Rattle.std.specs.Prelude.{Result, Ok, Err, Option, Some, None}
+use Rattle.std.proofs.Common.{◌≡◌, ◌⊎◌, ℕ, inl, inr, Contains, List, [], ◌∷◌, ◌++◌, refl, sym, ap, ◌∙◌, subst}
 use Rattle.std.proofs.lemmas.List.{append_assoc, append-nil}
 use Rattle.std.proofs.lemmas.List.Elements.{Contains-append_left, Contains-append_right, Contains-push}
+use Rattle.record_spelling.specs.Spelling.{Assembled}
+use Rattle.wal_types.specs.declared.answers.Cause.{Cause}
+use Rattle.wal_types.specs.declared.answers.Cause.TheVariants as causes
+use Rattle.wal_types.specs.declared.answers.Hard.{Hard}
+use Rattle.wal_types.specs.declared.answers.Refused.{Refused}
+use Rattle.wal_types.specs.declared.answers.Sealed.{Sealed}
+use Rattle.wal_types.specs.declared.lsn.Lsn.{Lsn}
+use Rattle.wal_page.specs.Order.{Entry}
+use Rattle.wal_core.specs.declared.setup.Setup.{Setup}
 use Rattle.wal_core.specs.Views.{Joined, View}
-use Rattle.wal_core.specs.Moves.{after_join, after_split}
-use Rattle.wal_log.specs.PassLogs.{PassLog, log_of_pass}
+use Rattle.wal_core.specs.Moves.{after_join, after_split, joined_of}
+use Rattle.wal_rule.specs.declared.pass.Pass.{Pass}
+use Rattle.wal_rule.specs.Passes.{view_of_pass}
+use Rattle.wal_log.specs.Committing.{AnswersCommit, RefusesCommit}
+use Rattle.wal_log.specs.declared.beginning.TryErr.{TryErr}
+use Rattle.wal_log.specs.declared.beginning.TryErr.TheVariants as begins
+use Rattle.wal_log.specs.declared.flushing.TryFlushErr.{TryFlushErr}
+use Rattle.wal_log.specs.declared.in_flight.Inflight.{Inflight}
+use Rattle.wal_log.specs.declared.wal.Wal.{Wal}
+use Rattle.wal_log.specs.Beginning.{TellsBeginTry}
+use Rattle.wal_log.specs.Flights.{AnswersTryBegin, view_of_flight}
+use Rattle.wal_log.specs.Flushing.{AnswersFlushTry, TellsHard}
+use Rattle.wal_log.specs.Inserting.{IsStarted}
+use Rattle.wal_log.specs.Logs.{setup_of_log}
+use Rattle.wal_log.specs.PassLogs.{PassLog, log_of_pass, log_with_entry, log_with_full, log_with_promise}
 use Rattle.wal_log.specs.Standing.{KeepsPass}
-use Rattle.wal_log_laws.specs.Growing.{GrowsTo, HasGrown, HasLog, IsFrontOf}
+use Rattle.wal_log_laws.specs.Growing.{GrowsTo, HasGrown, HasLog, IsFrontOf, view_behind_try}
 
 -- ---- fronts
 
@@ -37,18 +60,101 @@ grows_again first second third f g = record {
   promises = front_of_front first.promises second.promises third.promises f.promises g.promises;
 }
 
--- ---- passes that are taken in
+-- ---- what a commit adds
 
-abbrev taken_in : View → Joined
-taken_in w = record {
-  number = (w.reserving).number;
-  entries = (w.reserving).entries;
-  stops = (w.reserving).stops;
-  promises = w.writing.promises;
+-- a log that is this one is grown so too
+grows_so : (l m n : PassLog) → n ≡ m → GrowsTo l m → GrowsTo l n
+grows_so l m n is grows = subst (GrowsTo l) (sym is) grows
+
+with_entry : (e : Entry) (l : PassLog) → GrowsTo l (log_with_entry e l)
+with_entry e l = record {
+  entries = (e ∷ [], refl);
+  stops = front_itself l.stops;
+  promises = front_itself l.promises;
 }
 
+with_promise : (upto moment : ℕ) (l : PassLog) → GrowsTo l (log_with_promise upto moment l)
+with_promise upto moment l = record {
+  entries = front_itself l.entries;
+  stops = front_itself l.stops;
+  promises = (_, refl);
+}
+
+with_full : (at : ℕ) (l : PassLog) → GrowsTo l (log_with_full at l)
+with_full at l = record {
+  entries = front_itself l.entries;
+  stops = (_, refl);
+  promises = front_itself l.promises;
+}
+
+module _ (setup : Setup) (body : Assembled) (old new : View) where
+  started_grows : (start : ℕ) → IsStarted setup body old new start
+      → GrowsTo (log_of_pass old) (log_of_pass new)
+  started_grows start told = grows_so (log_of_pass old) _ (log_of_pass new) (told.reserved).log_is
+      (with_entry told.entry (log_of_pass old))
+
+  refused_grows : (cause : Cause) (reserved : Option Lsn)
+      → RefusesCommit setup body old new cause reserved
+      → GrowsTo (log_of_pass old) (log_of_pass new)
+  refused_grows (causes.Full free) None told = grows_so (log_of_pass old) _ (log_of_pass new)
+      (told.0).log_is (with_full (told.0).at (log_of_pass old))
+  refused_grows (causes.Full free) (Some start) told = absurd told
+  refused_grows (causes.Disk faults) None told = absurd told
+  refused_grows (causes.Disk faults) (Some start) told = started_grows start.0 told.0
+  refused_grows (causes.Down faults) None told = grows_so (log_of_pass old) _ (log_of_pass new)
+      told.0 (grows_itself (log_of_pass old))
+  refused_grows (causes.Down faults) (Some start) told = started_grows start.0 told.0
+
+  pub commit_grows : (answer : Result Sealed Refused) → AnswersCommit setup body old answer new
+      → GrowsTo (log_of_pass old) (log_of_pass new)
+  commit_grows (Ok sealed) told =
+      let l : PassLog = log_of_pass old in
+      let m : PassLog = log_with_entry told.entry l in
+      grows_so l _ (log_of_pass new) told.log_is
+      (grows_again l m (log_with_promise told.upto sealed.moment m) (with_entry told.entry l)
+      (with_promise told.upto sealed.moment m))
+  commit_grows (Err refused) told = refused_grows refused.cause refused.reserved told
+
+-- ---- what the calls add that do not wait
+
+same_grows : (old new : View) → log_of_pass new ≡ log_of_pass old
+    → GrowsTo (log_of_pass old) (log_of_pass new)
+same_grows old new same =
+    grows_so (log_of_pass old) _ (log_of_pass new) same (grows_itself (log_of_pass old))
+
+module _ (setup : Setup) (body : Assembled) (old new : View) where
+  vain_grows : (e : TryErr) → TellsBeginTry setup body old new e
+      → GrowsTo (log_of_pass old) (log_of_pass new)
+  vain_grows (begins.Busy seen) told = same_grows old new (told.1).log_is
+  vain_grows (begins.AllHeld held) told = same_grows old new (told.1).log_is
+  vain_grows (begins.Full free) told = grows_so (log_of_pass old) _ (log_of_pass new)
+      (told.0).log_is (with_full (told.0).at (log_of_pass old))
+  vain_grows (begins.Down faults) told = same_grows old new told.1
+
+pub begin_grows : {D : Type 0} → (wal : Wal D) (body : Assembled) (old : View)
+    (answer : Result Inflight (TryErr × Pass)) → AnswersTryBegin wal body old answer
+    → GrowsTo (log_of_pass old) (log_of_pass (view_behind_try answer))
+begin_grows wal body old (Ok flight) told =
+    let begun = told.1 in grows_so (log_of_pass old) _ (log_of_pass (view_of_flight flight))
+    (begun.reserved).log_is (with_entry begun.entry (log_of_pass old))
+begin_grows wal body old (Err refused) told =
+    vain_grows (setup_of_log wal) body old (view_of_pass refused.1) refused.0 told.1
+
+pub flush_try_grows : (asked : ℕ) (old new : View) (answer : Result Hard TryFlushErr)
+    → AnswersFlushTry asked old answer new → GrowsTo (log_of_pass old) (log_of_pass new)
+flush_try_grows asked old new (Ok hard) told = grows_so (log_of_pass old) _ (log_of_pass new)
+    (told.0).log_is (with_promise hard.upto.0 hard.moment (log_of_pass old))
+flush_try_grows asked old new (Err e) told = same_grows old new told.1
+
+pub hard_grows : (upto moment : ℕ) (old new : View) → TellsHard upto moment old new
+    → GrowsTo (log_of_pass old) (log_of_pass new)
+hard_grows upto moment old new told = grows_so (log_of_pass old) _ (log_of_pass new) told.log_is
+    (with_promise upto moment (log_of_pass old))
+
+-- ---- passes that are taken in
+
 abbrev taken : View → List Joined
-taken w = taken_in w ∷ (w.reserving).joined
+taken w = joined_of w ∷ (w.reserving).joined
 
 joined_stays : (v w : View) (j : Joined) → Contains (v.reserving).joined j
     → Contains ((after_join v w).reserving).joined j
@@ -63,16 +169,16 @@ pub has_after_join : (l : PassLog) (v w : View) → HasLog l v ⊎ HasLog l w
 has_after_join l v w (inl (inl own)) = inl own
 has_after_join l v w (inl (inr its)) = inr (its.0, joined_stays v w its.0 its.1, its.2)
 has_after_join l v w (inr (inl own)) = inr (
-  taken_in w,
-  taken_has v w (taken_in w)
-      (Contains-append_left (taken_in w ∷ []) (w.reserving).joined (taken_in w)
-      (Contains-push [] (taken_in w))),
+  joined_of w,
+  taken_has v w (joined_of w)
+      (Contains-append_left (joined_of w ∷ []) (w.reserving).joined (joined_of w)
+      (Contains-push [] (joined_of w))),
   own,
 )
 has_after_join l v w (inr (inr its)) = inr (
   its.0,
   taken_has v w its.0
-      (Contains-append_right (taken_in w ∷ []) (w.reserving).joined its.0 its.1),
+      (Contains-append_right (joined_of w ∷ []) (w.reserving).joined its.0 its.1),
   its.2,
 )
 

@@ -2,3 +2,4 @@ pub mod Grown
 pub mod Promised
 pub mod Closes
 pub mod Survivors
+pub mod LoneCalls

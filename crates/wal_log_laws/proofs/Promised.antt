@@ -8,7 +8,7 @@ use Rattle.wal_core.specs.declared.setup.Setup.{Setup}
 use Rattle.wal_core.specs.Views.{FlushPromise, View}
 use Rattle.closed_log.specs.Closed.{WasPromised}
 use Rattle.wal_log.specs.Committing.{IsSealed}
-use Rattle.wal_log.specs.Flushing.{IsToldHard}
+use Rattle.wal_log.specs.Flushing.{IsToldHard, TellsHard}
 use Rattle.wal_log.specs.Inserting.{HasReserved}
 use Rattle.wal_log.specs.PassLogs.{PassLog, log_of_pass, log_with_entry}
 use Rattle.wal_log_laws.specs.Growing.{HasGrown, HasLog, IsFrontOf}
@@ -28,6 +28,15 @@ told_promises asked upto moment old new told = record {
   in_log = subst (λ (l : PassLog). Contains l.promises (promise_to (log_of_pass old) upto moment))
       (sym told.log_is) (Contains-push old.writing.promises (promise_to (log_of_pass old) upto moment));
   reaches = told.reached;
+}
+
+pub hard_promises : (upto moment : ℕ) (old new : View) → TellsHard upto moment old new
+    → Promises (log_of_pass new) upto (promise_to (log_of_pass old) upto moment)
+hard_promises upto moment old new told = record {
+  in_log = subst (λ (l : PassLog). Contains l.promises (promise_to (log_of_pass old) upto moment))
+      (sym told.log_is)
+      (Contains-push old.writing.promises (promise_to (log_of_pass old) upto moment));
+  reaches = omega arith;
 }
 
 module _ (setup : Setup) (body : Assembled) (old new : View) (sealed : Sealed)

@@ -1,8 +1,18 @@
 -- How the log of a pass grows, and who has it once its pass was taken in.
-use Rattle.std.specs.Prelude.{◌≡◌, ◌⊎◌, Contains, List, ◌++◌}
+use Rattle.std.specs.Prelude.{◌≡◌, ◌⊎◌, Contains, List, ◌++◌, Result, Ok, Err}
 use Rattle.wal_core.specs.PassLogs.{log_of_joined}
 use Rattle.wal_core.specs.Views.{Joined, View}
+use Rattle.wal_rule.specs.declared.pass.Pass.{Pass}
+use Rattle.wal_rule.specs.Passes.{view_of_pass}
+use Rattle.wal_log.specs.declared.beginning.TryErr.{TryErr}
+use Rattle.wal_log.specs.declared.in_flight.Inflight.{Inflight}
+use Rattle.wal_log.specs.Flights.{view_of_flight}
 use Rattle.wal_log.specs.PassLogs.{PassLog, log_of_pass}
+
+-- the view of the pass that a try to begin a record leaves, with the record in flight or not
+abbrev pub view_behind_try : Result Inflight (TryErr × Pass) → View
+view_behind_try (Ok flight) = view_of_flight flight
+view_behind_try (Err refused) = view_of_pass refused.1
 
 -- a list has all of another one first, and then more
 abbrev pub IsFrontOf : {A : Type 0} → List A → List A → Type 0

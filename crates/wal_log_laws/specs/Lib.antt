@@ -1,4 +1,5 @@
 pub mod Growing
 pub mod Told
+pub mod Unhindered
 pub mod Keeping
 pub mod Surviving

@@ -17,16 +17,20 @@ ghost use Rattle.wal_rule.specs.Passes.{view_of_pass};
 ghost use Rattle.wal_core.specs.Moves.{after_join, after_split};
 ghost use Rattle.closed_log.specs.Closed.{WasPromised};
 ghost use Rattle.wal_log.specs.Committing.{AnswersCommit, IsSealed};
-ghost use Rattle.wal_log.specs.Flushing.{AnswersFlush, IsToldHard};
+ghost use Rattle.wal_log.specs.Flights.{AnswersTryBegin};
+ghost use Rattle.wal_log.specs.Flushing.{AnswersFlush, AnswersFlushTry, IsToldHard, TellsHard};
 ghost use Rattle.wal_log.specs.Inserting.{HasReserved, AnswersInsert};
 ghost use Rattle.wal_log.specs.Logs.{setup_of_log};
 ghost use Rattle.wal_log.specs.PassLogs.{PassLog, log_of_pass, log_with_entry};
 ghost use Rattle.wal_log.specs.Standing.{KeepsPass};
 ghost use Rattle.wal_log.specs.declared.closing.Closed.{Closed};
+ghost use Rattle.wal_log.specs.declared.beginning.TryErr.{TryErr};
 ghost use Rattle.wal_log.specs.declared.flushing.FlushErr.{FlushErr};
+ghost use Rattle.wal_log.specs.declared.flushing.TryFlushErr.{TryFlushErr};
+ghost use Rattle.wal_log.specs.declared.in_flight.Inflight.{Inflight};
 ghost use Rattle.wal_log.specs.declared.inserting.InsertErr.{InsertErr};
 ghost use Rattle.wal_log.specs.declared.wal.Wal.{Wal};
-ghost use Rattle.wal_log_laws.specs.Growing.{GrowsTo, HasGrown, HasLog};
+ghost use Rattle.wal_log_laws.specs.Growing.{GrowsTo, HasGrown, HasLog, view_behind_try};
 ghost use Rattle.wal_log_laws.specs.Keeping.{IsClosedFrom, KeepsPromises, LeavesOrder};
 ghost use Rattle.wal_log_laws.specs.Surviving.{Survives};
 ghost use Rattle.wal_log_laws.specs.Told.{HasEntry, HasPromise, Promises, promise_to};
@@ -35,7 +39,7 @@ use segment_disk::Disk;
 
 /// Whatever a call answers, the log of its pass only grows. A split and a join leave it as it was;
 /// and a pass that took another one in has each log that either had.
-pub fn logs_only_grow()
+pub fn logs_only_grow<D: Disk>()
     ensures inserts { (setup : Setup) (body : Assembled) (old new : View)
         (answer : Result Receipt InsertErr) → AnswersInsert setup body old answer new
         → GrowsTo (log_of_pass old) (log_of_pass new) }
@@ -43,6 +47,13 @@ pub fn logs_only_grow()
         → AnswersFlush asked old answer new → GrowsTo (log_of_pass old) (log_of_pass new) }
     ensures commits { (setup : Setup) (body : Assembled) (old new : View)
         (answer : Result Sealed Refused) → AnswersCommit setup body old answer new
+        → GrowsTo (log_of_pass old) (log_of_pass new) }
+    ensures begins { (wal : Wal D) (body : Assembled) (old : View)
+        (answer : Result Inflight (TryErr × Pass)) → AnswersTryBegin wal body old answer
+        → GrowsTo (log_of_pass old) (log_of_pass (view_behind_try answer)) }
+    ensures tries { (asked : ℕ) (old new : View) (answer : Result Hard TryFlushErr)
+        → AnswersFlushTry asked old answer new → GrowsTo (log_of_pass old) (log_of_pass new) }
+    ensures hard { (upto moment : ℕ) (old new : View) → TellsHard upto moment old new
         → GrowsTo (log_of_pass old) (log_of_pass new) }
     ensures stays { (l : PassLog) → GrowsTo l l }
     ensures again { (first second third : PassLog) → GrowsTo first second
@@ -67,13 +78,16 @@ pub fn logs_are_never_lost()
 
 /// A record that was reserved stands in its pass's log. What a flush or a commit tells is a promise
 /// to that log, of the address that was asked for or a higher one, or of the end of the commit's
-/// record. And the last pass has all of it, where it has the log, grown since.
+/// record; and what is told as durable without a flush is one, of the address told. And the last
+/// pass has all of it, where it has the log, grown since.
 pub fn what_was_told_was_promised()
     ensures entry { (setup : Setup) (body : Assembled) (old new : View) (e : Entry)
         → HasReserved setup body old new e → Contains (log_of_pass new).entries e }
     ensures flush { (asked upto moment : ℕ) (old new : View)
         → IsToldHard asked upto moment old new
         → Promises (log_of_pass new) asked (promise_to (log_of_pass old) upto moment) }
+    ensures hard { (upto moment : ℕ) (old new : View) → TellsHard upto moment old new
+        → Promises (log_of_pass new) upto (promise_to (log_of_pass old) upto moment) }
     ensures commit { (setup : Setup) (body : Assembled) (old new : View) (sealed : Sealed)
         (s : IsSealed setup body old new sealed) → Contains (log_of_pass new).entries s.entry
         × Promises (log_of_pass new) sealed.end.0

@@ -4,5 +4,6 @@
 
 pub mod laws;
 mod one_commit;
+pub mod unhindered;
 
 pub use one_commit::commit_one;

@@ -38,7 +38,7 @@ pub fn commit_one<D: Disk + Drop, R: Wait>(
     seats_keep_numbers();
     calls_keep_numbers();
     logs_are_never_lost();
-    logs_only_grow();
+    logs_only_grow::<D>();
     closed_logs_are_closed_on_their_disk::<D>();
     sealed_records_survive::<D>();
     match Wal::open(alloc, disk, setup) {

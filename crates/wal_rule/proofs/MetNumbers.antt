@@ -5,7 +5,7 @@ use Rattle.atomic_table.proofs.Lists.{at_map}
 use Rattle.segment_disk.specs.Cause.{Rose}
 use Rattle.machine_words.proofs.Bounds.{limit_low}
 use Rattle.wal_core.specs.Words.{down_word, flushed_word, moment_word, position_word, prev_word}
-use Rattle.wal_core.specs.Views.{FlushPromise, answered_of, reserving_of, receipts_of, View}
+use Rattle.wal_core.specs.Views.{FlushPromise, async_met_of, reserving_of, receipts_of, View}
 use Rattle.wal_core.specs.Durable.{IsPromised, IsToldRightly}
 use Rattle.wal_core.specs.Moves.{unlocked}
 use Rattle.wal_core.specs.Steps.{StepKind, load_async, load_down, load_flushed, load_moment, load_position}
@@ -88,10 +88,10 @@ module _ (v : View) (met : ℕ) where
       (λ p is. subst (λ (n : ℕ). p.moment ≤ n) (sym m.met_is) is.moment_low) v.writing.promises
       (told_rightly v m.before).own_promised
 
-  -- what the pass counts as answered is so
-  pub async_met : Meets v load_async met → v.answered ≤ met
-  async_met m =
+  -- the async address is no less than the one that the pass met last
+  pub async_rises : Meets v load_async met → v.async_met ≤ met
+  async_rises m =
       let s : Stands v = m.before in
-      let low = (((s.sound).answered).met s.id v.answered
-      (at_map answered_of s.views s.id v s.here)).0 in
-      subst (λ (n : ℕ). v.answered ≤ n) (sym m.met_is) low
+      let low = (((s.sound).async).met s.id v.async_met
+      (at_map async_met_of s.views s.id v s.here)).0 in
+      subst (λ (n : ℕ). v.async_met ≤ n) (sym m.met_is) low

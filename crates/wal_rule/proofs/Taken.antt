@@ -3,10 +3,10 @@ use Rattle.std.proofs.Common.{◌≡◌, ℕ, List, [], ◌∷◌, refl, ap, ◌
 use mathlib.Core.Option.{none}
 use Rattle.segment_disk.specs.Tape.{Tape}
 use Rattle.wal_core.specs.Words.{Opening}
-use Rattle.wal_core.specs.Views.{Plain, Out, View}
+use Rattle.wal_core.specs.Views.{Plain, View}
 use Rattle.wal_core.specs.Steps.{take_write_turn, view_behind}
 use Rattle.wal_rule.specs.declared.writer.LogWriter.{LogWriter}
-use Rattle.wal_core.specs.Moves.{lent, with_hold}
+use Rattle.wal_core.specs.Moves.{after_slot_out}
 use Rattle.wal_rule.specs.Slotted.{slot_plain}
 use Rattle.wal_rule.specs.Ruled.{HasTaken, IsOutOf}
 
@@ -20,7 +20,7 @@ module _ {D : Type 0} (tape : D → Rattle.std.specs.Prelude.Option Tape) (momen
       → HasTaken tape moment faults began opening old new
   out_taken old new met w out =
       let p : Plain = slot_plain tape moment w in
-      let is : new ≡ (with_hold (Out (lent p old.0)) old.0, (0, w) ∷ []) =
+      let is : new ≡ (after_slot_out p old.0, (0, w) ∷ []) =
       out.me_is in
       record {
         writer = w;

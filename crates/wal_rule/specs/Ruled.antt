@@ -13,7 +13,7 @@ use Rattle.wal_core.specs.Steps.{slot_out, view_behind}
 use Rattle.machine_laws.specs.RisingMoments.{MomentsKeepRising}
 use Rattle.wal_rule.specs.declared.writer.LogWriter.{LogWriter}
 use Rattle.wal_rule.specs.Slotted.{IsOfLog, first_on, slot_plain}
-use Rattle.wal_core.specs.Moves.{lent, with_hold}
+use Rattle.wal_core.specs.Moves.{after_slot_out, lent}
 
 module _ {D : Type 0} (tape : D → Rattle.std.specs.Prelude.Option Tape) (moment faults : D → ℕ)
   where
@@ -54,4 +54,4 @@ module _ {D : Type 0} (tape : D → Rattle.std.specs.Prelude.Option Tape) (momen
       pub writer : LogWriter D
       pub in_hand : HasInHand began opening new (lent (slot_plain tape moment writer) old.0)
           writer
-      pub view_is : new.0 ≡ with_hold (Out (lent (slot_plain tape moment writer) old.0)) old.0
+      pub view_is : new.0 ≡ after_slot_out (slot_plain tape moment writer) old.0

@@ -4,14 +4,14 @@
 -- the word held the number met (`Meets`). No step of another seat changes a view, so what a view
 -- lets its seat do stays so while others step.
 use Rattle.std.specs.Prelude.{◌≡◌, ℕ, List, slice_index, true}
-use mathlib.Core.Option.{Option, none}
+use mathlib.Core.Option.{Option}
 use Rattle.atomic_table.specs.Seated.{TableId}
 use Rattle.atomic_table.specs.declared.shared.Seat.{Seat}
 use Rattle.segment_disk.specs.Tape.{DiskState}
 use Rattle.wal_core.specs.Words.{Opening}
 use Rattle.wal_core.specs.Views.{HasAt, Plain, View}
 use Rattle.wal_core.specs.Sound.{IsSound}
-use Rattle.wal_core.specs.Steps.{StepKind, create, slot_in, slot_out, sync, view_behind, word_of_step, write}
+use Rattle.wal_core.specs.Steps.{StepKind, create, slot_in, slot_out, sync, word_of_step, write}
 
 -- there is a state that the rule allows, in which a pass has this view: so all that the machine's
 -- invariant says of a view alone is known of it

@@ -144,7 +144,7 @@ impl<'a, D: Disk> SeatedPass<'a, D> {
     pub fn load_async(&mut self) -> u64
         ensures steps { Steps load_async result self.old self.new }
         ensures met { Meets (view_of self.old) load_async result }
-        ensures furthest { (view_of self.old).answered ≤ result }
+        ensures furthest { (view_of self.old).async_met ≤ result }
     {
         let word = async_number(self.shape().ring_pages());
         self.loads::<LoadsAsync>(word, NO_OPERANDS)

@@ -12,6 +12,7 @@ ghost use Rattle.segment_disk.specs.Tape.{IsUncalled, create_call, page_of_segme
 ghost use Rattle.wal_core.specs.declared.setup.Setup.{Setup};
 ghost use Rattle.wal_core.specs.Moves.{after_create, after_sync, after_write};
 ghost use Rattle.wal_core.specs.Opened.{IsFirstWriter};
+ghost use Rattle.wal_core.specs.Words.{Opening, found_end};
 ghost use Rattle.wal_rule.specs.Founded.{empty_log_opening};
 ghost use Rattle.wal_rule.specs.Slotted.{calls_of, CallEnds, as_machine_has, slot_disk, slot_plain, slot_segment_size};
 
@@ -45,12 +46,26 @@ impl<D: Disk> LogWriter<D> {
             → IsFirstWriter (empty_log_opening setup (D.moment disk) (D.faults disk))
             (slot_plain D.tape D.moment result) }
     {
+        let start = geometry.segment_size();
+        LogWriter::resume(disk, geometry, start, 0)
+    }
+
+    /// A writer that goes on behind a log that was found: the log ends at the address `written`,
+    /// and the disk has the segments from 1 up to `made`. It makes no device call.
+    pub fn resume(disk: D, geometry: Geometry, written: u64, made: u64) -> LogWriter<D>
+        ensures disk { slot_disk result ≡ disk }
+        ensures size { slot_segment_size result ≡ geometry }
+        // For each log that is opened so, at the disk's moment, it is the writer to begin with.
+        ensures first { (opening : Opening) → opening.moment ≡ D.moment disk
+            → found_end opening ≡ written → opening.made ≡ made
+            → IsFirstWriter opening (slot_plain D.tape D.moment result) }
+    {
         moments_count_calls(&disk);
         LogWriter {
             disk,
             geometry,
-            written: geometry.segment_size(),
-            made: 0,
+            written,
+            made,
             waiting: None,
             fault: None,
         }

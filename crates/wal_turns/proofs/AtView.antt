@@ -1,8 +1,9 @@
 -- From a machine that runs: what its invariant gives of one backend's view, so that the step that
 -- the order names goes, and what becomes of the writer's home.
-use Rattle.std.proofs.Common.{◌≡◌, ◌≢◌, ⊎_elim, ℕ, ◌+◌, ◌%◌, ◌<◌, ◌≤◌, Bool, true, false, cond, eqb, List, refl, sym, ap, ◌∙◌, subst, arith}
+use Rattle.std.proofs.Common.{◌≡◌, ◌≢◌, ⊎_elim, ℕ, ◌+◌, ◌%◌, ◌<◌, ◌≤◌, Bool, true, false, cond, eqb, List, refl, sym, ap, ◌∙◌, subst, arith, inl, inr}
 use Rattle.std.proofs.Math.Dec.{ltb}
-use mathlib.Core.Option.{Option, none, some, some-injective}
+use Rattle.std.proofs.lemmas.Bool.{cases_eq}
+use mathlib.Core.Option.{Option, none, some, some-injective, some-ne-none}
 use Rattle.byte_position.specs.Geometry.{IsSegmentSize}
 use Rattle.wal_page.specs.Order.{end_position}
 use Rattle.wal_page.proofs.OwnerLaws.{rooms_of-whole}
@@ -11,13 +12,14 @@ use Rattle.wal_core.specs.Words.{Opening, down_word, lock_word, write_turn}
 use Rattle.wal_core.specs.Views.{Place, Free, Locked, Loaded, Stored, Stage, Away, Taken, Looked, Ready, Zeroing, Published, Plain, Lent, Hold, Turned as HasTurned, Out, View, reserving_of, writer_of, receipts_of}
 use Rattle.wal_core.specs.Ordered.{AtPlace}
 use Rattle.wal_core.specs.Locked.{StandsTo}
-use Rattle.wal_core.specs.Steps.{StepKind, load_prev, give_position_back, stay, take_lock, load_lock, zero_ring_word, publish_end, slot_in, IsLive, returned, home_behind}
+use Rattle.wal_core.specs.Steps.{StepKind, load_prev, give_position_back, take_lock, load_lock, zero_ring_word, publish_end, slot_in, IsLive, returned, home_behind}
 use Rattle.wal_core.specs.Aligned.{LearnsAligned}
 use Rattle.wal_core.specs.Sound.{IsSound}
 use Rattle.wal_core.proofs.Lists.{part_at}
-use Rattle.wal_turns.specs.Doing.{Ask, Inserts, Commits, Flushes, Purpose, Doing, Begins, Tries, Reserves, Looks, Copies, Maps, GivesTurn, Tells, Releases, FlushBegins, LoadsPosition, LoadsFlushed, LoadsMoment, Visits, TakesTurn, LoadsDown, TakesOut, LoadsPage, Creates, Writes, SyncsFull, SyncsLast, StoresWritten, StoresMoment, StoresFlushed, SetsDown, PutsBack, GivesWriteTurn, Machine}
+use Rattle.wal_turns.specs.Doing.{Ask, Inserts, Commits, Flushes, Purpose, ForLine, Doing, Begins, Tries, Reserves, Looks, Copies, Maps, GivesTurn, Tells, Releases, FlushBegins, LoadsPosition, LoadsFlushed, LoadsMoment, Visits, TakesTurn, LoadsDown, TakesOut, LoadsPage, Creates, Writes, SyncsFull, SyncsLast, StoresWritten, StoresMoment, StoresFlushed, SetsDown, PutsBack, GivesWriteTurn, Machine}
 use Rattle.wal_turns.specs.Turned.{can_step, looks_down, event_named, reserve_event, map_event, fits, lock_tried}
 use Rattle.wal_turns.specs.Standing.{IsRunning, KnowsDown, IsWriterUp, AwaitsOne, UpFor, segment_next, StandsToDo}
+use Rattle.wal_turns.proofs.NextUp.{Calls}
 use Rattle.wal_turns.proofs.Poses.{Goes}
 use Rattle.wal_turns.proofs.SegmentSteps.{next-near}
 use Rattle.wal_turns.proofs.InsertPlaces.{IsPlaceWhole, begins_goes, tries_goes, reserves_goes, looks_goes, copies_goes}
@@ -26,35 +28,35 @@ use Rattle.wal_turns.proofs.FlushPlaces.{hold_of, flush_begins_goes, loads_posit
 use Rattle.wal_turns.proofs.DevicePlaces.{creates_goes, writes_goes, syncs_full_goes, syncs_last_goes}
 
 pub up_by : (doing : Doing) (d : ℕ) → ((purpose : Purpose) → doing ≡ TakesOut purpose → d ≡ 0)
-    → UpFor doing d
-up_by Begins d given = tt
-up_by (Tries n) d given = tt
-up_by (Reserves lock) d given = tt
-up_by (Looks lock) d given = tt
-up_by (Copies lock) d given = tt
-up_by (Maps lock) d given = tt
-up_by (GivesTurn lock end) d given = tt
-up_by (Tells lock end) d given = tt
-up_by (Releases lock full) d given = tt
-up_by FlushBegins d given = tt
-up_by LoadsPosition d given = tt
-up_by LoadsFlushed d given = tt
-up_by LoadsMoment d given = tt
-up_by (Visits purpose lock) d given = tt
-up_by (TakesTurn purpose) d given = tt
-up_by (LoadsDown purpose) d given = tt
-up_by (TakesOut purpose) d given = given purpose refl
-up_by (LoadsPage purpose k) d given = tt
-up_by (Creates purpose) d given = tt
-up_by (Writes purpose) d given = tt
-up_by (SyncsFull purpose) d given = tt
-up_by SyncsLast d given = tt
-up_by (StoresWritten purpose) d given = tt
-up_by StoresMoment d given = tt
-up_by StoresFlushed d given = tt
-up_by (SetsDown purpose) d given = tt
-up_by (PutsBack purpose failed) d given = tt
-up_by (GivesWriteTurn purpose failed) d given = tt
+    → ((purpose : Purpose) → doing ≡ SetsDown purpose → d ≡ 0) → UpFor doing d
+up_by Begins d taken put = tt
+up_by (Tries n) d taken put = tt
+up_by (Reserves lock) d taken put = tt
+up_by (Looks lock) d taken put = tt
+up_by (Copies lock) d taken put = tt
+up_by (Maps lock) d taken put = tt
+up_by (GivesTurn lock end) d taken put = tt
+up_by (Tells lock end) d taken put = tt
+up_by (Releases lock full) d taken put = tt
+up_by FlushBegins d taken put = tt
+up_by LoadsPosition d taken put = tt
+up_by LoadsFlushed d taken put = tt
+up_by LoadsMoment d taken put = tt
+up_by (Visits purpose lock) d taken put = tt
+up_by (TakesTurn purpose) d taken put = tt
+up_by (LoadsDown purpose) d taken put = tt
+up_by (TakesOut purpose) d taken put = taken purpose refl
+up_by (LoadsPage purpose k) d taken put = tt
+up_by (Creates purpose) d taken put = tt
+up_by (Writes purpose) d taken put = tt
+up_by (SyncsFull purpose) d taken put = tt
+up_by SyncsLast d taken put = tt
+up_by (StoresWritten purpose) d taken put = tt
+up_by StoresMoment d taken put = tt
+up_by StoresFlushed d taken put = tt
+up_by (SetsDown purpose) d taken put = put purpose refl
+up_by (PutsBack purpose failed) d taken put = tt
+up_by (GivesWriteTurn purpose failed) d taken put = tt
 
 module _ (m : Machine) (run : IsRunning m) (number : ℕ) (v : View)
     (live : IsLive m.state (number + 1) v) (ask : Ask) where
@@ -153,6 +155,49 @@ module _ (m : Machine) (run : IsRunning m) (number : ℕ) (v : View)
       takes_out_goes m ask purpose v sound.writer there
       (at_home_up sound.writer no_fault there) stands
 
+  -- a writer in hand that has not failed: no disk has
+  up_out : (l : Lent) → (v.writing).hold ≡ Out l → (l.writer).fault ≡ none → down_word words ≡ 0
+  up_out l is up =
+      let own = (to_writer_of v.opening sound (Out l) is).3 in
+      elim (cases_eq (down_word words) 0) [
+        | inl zeros ↦ zeros
+        | inr is_down ↦ absurd (some-ne-none (down_word words)
+            (sym ((sound.durable).down_is is_down) ∙ ap (λ (w : Plain). w.fault) (sym own) ∙ up))
+      ]
+
+  -- who is to call the device has such a writer
+  pub calls_up : (doing : Doing) → StandsToDo v doing ask → Calls doing → down_word words ≡ 0
+  calls_up (Creates purpose) s c =
+      up_out s.0 (hold_of purpose ask (Out s.0) v s.1) ((s.2.0).writer_up).up
+  calls_up (Writes purpose) s c =
+      up_out s.0 (hold_of purpose ask (Out s.0) v s.1) ((s.2.0).writer_up).up
+  calls_up (SyncsFull purpose) s c = up_out s.0 (hold_of purpose ask (Out s.0) v s.1) s.2.0
+  calls_up SyncsLast s c = up_out s.0 (hold_of ForLine ask (Out s.0) v s.1) s.2.0
+  calls_up Begins s c = absurd c
+  calls_up (Tries n) s c = absurd c
+  calls_up (Reserves lock) s c = absurd c
+  calls_up (Looks lock) s c = absurd c
+  calls_up (Copies lock) s c = absurd c
+  calls_up (Maps lock) s c = absurd c
+  calls_up (GivesTurn lock end) s c = absurd c
+  calls_up (Tells lock end) s c = absurd c
+  calls_up (Releases lock full) s c = absurd c
+  calls_up FlushBegins s c = absurd c
+  calls_up LoadsPosition s c = absurd c
+  calls_up LoadsFlushed s c = absurd c
+  calls_up LoadsMoment s c = absurd c
+  calls_up (Visits purpose lock) s c = absurd c
+  calls_up (TakesTurn purpose) s c = absurd c
+  calls_up (LoadsDown purpose) s c = absurd c
+  calls_up (TakesOut purpose) s c = absurd c
+  calls_up (LoadsPage purpose k) s c = absurd c
+  calls_up (StoresWritten purpose) s c = absurd c
+  calls_up StoresMoment s c = absurd c
+  calls_up StoresFlushed s c = absurd c
+  calls_up (SetsDown purpose) s c = absurd c
+  calls_up (PutsBack purpose failed) s c = absurd c
+  calls_up (GivesWriteTurn purpose failed) s c = absurd c
+
   -- ---- the step goes
 
   pub goes : (doing : Doing) → UpFor doing (down_word words) → StandsToDo v doing ask
@@ -183,7 +228,7 @@ module _ (m : Machine) (run : IsRunning m) (number : ℕ) (v : View)
   goes (StoresWritten purpose) at_out s can up = stores_written_goes m ask purpose v s
   goes StoresMoment at_out s can up = stores_moment_goes m ask v s
   goes StoresFlushed at_out s can up = stores_flushed_goes m ask v s
-  goes (SetsDown purpose) at_out s can up = sets_down_goes m ask purpose v s
+  goes (SetsDown purpose) at_out s can up = sets_down_goes m ask purpose v (knows_no_down at_out) s
   goes (PutsBack purpose failed) at_out s can up = puts_back_goes m ask purpose failed v s
   goes (GivesWriteTurn purpose failed) at_out s can up =
       gives_write_turn_goes m ask purpose failed v s

@@ -1,6 +1,7 @@
 -- At the places of a flush but for the calls of the device: the step that the order names may be
 -- made, and the view behind it stands at the next place.
-use Rattle.std.proofs.Common.{◌≡◌, inl, inr, ⊎_elim, ℕ, suc, ◌+◌, ◌*◌, ◌/◌, ◌%◌, ◌<◌, Bool, true, false, cond, eqb, eqb-true, List, [], ◌∷◌, slice_index, refl, sym, ap, ◌∙◌, subst, arith}
+use Rattle.std.proofs.Common.{◌≡◌, inl, inr, ⊎_elim, ℕ, suc, ◌+◌, ◌*◌, ◌/◌, ◌%◌, ◌<◌, Bool, true, false, cond, eqb, eqb-true, List, [], ◌∷◌, slice_index, refl, sym, ap, ◌∙◌, subst, arith, ◌≢◌, max}
+use Rattle.std.proofs.lemmas.Bool.{cases_eq}
 use Rattle.std.proofs.Math.Dec.{ltb, leb}
 use Rattle.std.proofs.lemmas.Bool.{ltb-true, eqb-false}
 use mathlib.Core.Option.{Option, none, some}
@@ -8,8 +9,8 @@ use Rattle.byte_position.specs.Geometry.{IsSegmentSize}
 use Rattle.byte_position.proofs.Words.{end_address_of-mod_word}
 use Rattle.wal_core.specs.Words.{Opening, end_form}
 use Rattle.wal_core.specs.Views.{Free, Flight, Landed, Copying, Away, Plain, Lent, Hold, Idle, Turned as HasTurned, Out, View, Working}
-use Rattle.wal_core.specs.Moves.{with_hold, after_set_down, hardened, lent, is_done}
-use Rattle.wal_core.specs.Steps.{IsResting, word_of_step, view_behind, fault_number, load_flushed, load_lock, load_ring_word, slot_out}
+use Rattle.wal_core.specs.Moves.{with_hold, after_set_down, hardened, lent, is_done, after_load_down, fault_number}
+use Rattle.wal_core.specs.Steps.{IsResting, word_of_step, view_behind, load_flushed, load_lock, load_ring_word, slot_out}
 use Rattle.wal_turns.specs.Doing.{Ask, Purpose, ForLine, ForPage, FlushBegins, LoadsPosition, LoadsFlushed, LoadsMoment, Visits, TakesTurn, LoadsDown, TakesOut, LoadsPage, Creates, Writes, SyncsLast, StoresWritten, StoresMoment, StoresFlushed, SetsDown, PutsBack, GivesWriteTurn, Machine}
 use Rattle.wal_turns.specs.Turned.{can_step, goes_on, page_or_end, is_some_segment, asked_end, is_segment_new, outcome}
 use Rattle.wal_turns.specs.Standing.{IsPosed, IsLeft, KnowsDown, IsWriterUp, LoadsOn, IsSyncedFor, IsFailed, AreLoaded, WritesFor, StandsToDo}
@@ -57,6 +58,9 @@ pub hold_of : (purpose : Purpose) (ask : Ask) (h : Hold) (v : View) → WritesFo
     → (v.writing).hold ≡ h
 hold_of ForLine ask h v p = p.hold_is
 hold_of (ForPage lock end) ask h v p = (p.0.1).hold_is
+
+none_known : (n : ℕ) → (n ≢ 0 → ⊥) → n ≡ 0
+none_known n known = elim (cases_eq n 0) [ inl zeros ↦ zeros | inr apart ↦ absurd (known apart) ]
 
 module _ (m : Machine) (ask : Ask) where
   abbrev words : List ℕ
@@ -195,7 +199,9 @@ module _ (m : Machine) (ask : Ask) where
       → (m.state).home ≡ some writer → IsWriterUp ((v.opening).setup).segment_size writer
       → StandsToDo v (TakesOut purpose) ask → Goes m ask (TakesOut purpose) v
   takes_out_goes purpose v writer at_home up stands =
-      let l = lent writer v in (
+      let l = lent writer v in
+      let met : ℕ = max (v.writing).down_met (fault_number writer.fault) in
+      let knows : View = after_load_down met v in (
         hold_of purpose ask HasTurned v stands,
         subst
             (λ (home : Option Plain). let w = view_behind v slot_out
@@ -203,9 +209,9 @@ module _ (m : Machine) (ask : Ask) where
             StandsToDo w (page_or_end v w ask (slice_index words 11)
             (is_done (outcome m v ask)) purpose)
             ask) (sym at_home)
-            (page_or_end_stands purpose l v v (slice_index words 11)
+            (page_or_end_stands purpose l v knows (slice_index words 11)
             (is_done (outcome m v ask)) up
-            (writes_on purpose ask HasTurned (Out l) v (in_hand l v) stands
+            (writes_on purpose ask HasTurned (Out l) v (in_hand l knows) stands
             (refl, refl, refl, refl) refl)),
       )
 
@@ -256,12 +262,12 @@ module _ (m : Machine) (ask : Ask) where
               (λ some_left. let apart = eqb-false _ _ some_left in ((d, still, more), omega arith)),
         )
 
-    sets_down_at : IsFailed l → Goes m ask (SetsDown purpose) (in_hand l v)
-    sets_down_at failed =
-        let number = fault_number v (l.writer).fault in
-        let is : number ≡ suc failed.0 =
-        ap (λ (x : Option ℕ). fault_number v x) failed.1 in (
-          (l, refl, (suc failed.0, failed.1)),
+    sets_down_at : IsFailed l → (v.writing).down_met ≡ 0 → (v.writing).down_set ≡ 0
+        → Goes m ask (SetsDown purpose) (in_hand l v)
+    sets_down_at failed none_met none_put =
+        let number = fault_number (l.writer).fault in
+        let is : number ≡ suc failed.0 = ap fault_number failed.1 in (
+          (l, refl, (suc failed.0, failed.1, none_met, none_put)),
           (
             (
               l,
@@ -296,14 +302,16 @@ module _ (m : Machine) (ask : Ask) where
       (loads_page_at purpose l v (writes_on purpose ask (Out l) (Out l) v (in_hand l v) base
       (refl, refl, refl, refl) refl) k stands.0.2 stands.1)
 
-  pub sets_down_goes : (purpose : Purpose) (v : View) → StandsToDo v (SetsDown purpose) ask
-      → Goes m ask (SetsDown purpose) v
-  sets_down_goes purpose v stands =
+  pub sets_down_goes : (purpose : Purpose) (v : View) → (KnowsDown v → ⊥)
+      → StandsToDo v (SetsDown purpose) ask → Goes m ask (SetsDown purpose) v
+  sets_down_goes purpose v up stands =
       let l = stands.0 in
       let is = hold_of purpose ask (Out l) v stands.1 in
       of_hold (Goes m ask (SetsDown purpose)) (Out l) v is
       (sets_down_at purpose l v (writes_on purpose ask (Out l) (Out l) v (in_hand l v) stands.1
-      (refl, refl, refl, refl) refl) stands.2)
+      (refl, refl, refl, refl) refl) stands.2
+      (none_known (v.writing).down_met (λ met. up (inl met)))
+      (none_known (v.writing).down_set (λ put. up (inr put))))
 
   pub stores_written_goes : (purpose : Purpose) (v : View) → StandsToDo v (StoresWritten purpose) ask
       → Goes m ask (StoresWritten purpose) v
@@ -357,7 +365,7 @@ module _ (m : Machine) (ask : Ask) where
       )
   puts_back_goes purpose true v stands =
       let l = stands.0.0 in (
-        (l, hold_of purpose ask (Out l) v stands.0.1, inr stands.1),
+        (l, hold_of purpose ask (Out l) v stands.0.1, inr (inr stands.1)),
         (
           writes_on purpose ask (Out l) HasTurned v (with_hold HasTurned v) stands.0.1
               (refl, refl, refl, refl) refl,

@@ -5,7 +5,7 @@ use Rattle.std.proofs.lemmas.Bool.{leb-true, leb-false, eqb-false}
 use Rattle.byte_position.specs.Geometry.{IsSegmentSize}
 use Rattle.wal_core.specs.Words.{position_word, lock_word, log_limit}
 use Rattle.wal_core.specs.Views.{Place, Free, Locked, Loaded, Stored, Copy, Flight, Landed, Copying, Stage, Away, Hold, Idle, View}
-use Rattle.wal_core.specs.Steps.{MayStep, IsResting, load_prev, store_position, give_position_back, stay, load_buffer_end, take_lock, load_lock, word_of_step, view_behind}
+use Rattle.wal_core.specs.Steps.{MayStep, IsResting, load_prev, store_position, give_position_back, load_buffer_end, take_lock, load_lock, word_of_step, view_behind}
 use Rattle.wal_page.specs.EntryWords.{address_of_word, words_owned}
 use Rattle.wal_page.specs.Order.{position_behind, room_at}
 use Rattle.wal_page.specs.Order.{Entry}

@@ -1,4 +1,5 @@
--- Only behind the load of the down word comes the place at which the writer is taken out.
+-- Only behind the load of the down word comes the place at which the writer is taken out, and only
+-- behind a call of the device the one at which the down word is set.
 use Rattle.std.proofs.Common.{◌≡◌, ℕ, ◌+◌, ◌-◌, ◌*◌, ◌%◌, Bool, true, false, cond, eqb, refl}
 use Rattle.std.proofs.Math.Dec.{ltb, leb}
 use mathlib.Core.Option.{none, some}
@@ -7,6 +8,19 @@ use Rattle.wal_core.specs.Views.{Place, Free, Locked, Loaded, Stored, Stage, Awa
 use Rattle.wal_turns.specs.Doing.{Ask, Inserts, Commits, Flushes, Purpose, ForLine, ForPage, Doing, Begins, Tries, Reserves, Looks, Copies, Maps, GivesTurn, Tells, Releases, FlushBegins, LoadsPosition, LoadsFlushed, LoadsMoment, Visits, TakesTurn, LoadsDown, TakesOut, LoadsPage, Creates, Writes, SyncsFull, SyncsLast, StoresWritten, StoresMoment, StoresFlushed, SetsDown, PutsBack, GivesWriteTurn}
 use Rattle.wal_turns.specs.Turned.{Next, goes_on, answers, next_of, page_or_end, behind_reserving, behind_mapping, behind_insert, behind_call, line_start, has_page_left, is_some_segment, waiting_segment, fits, next_page_end, lock_tried, is_whole, next_address, asked_end, is_segment_new, of_lent}
 use Rattle.wal_turns.specs.Standing.{UpFor}
+
+-- the places of calls of the device
+abbrev pub Calls : Doing → Type 0
+Calls (Creates purpose) = Unit {0}
+Calls (Writes purpose) = Unit {0}
+Calls (SyncsFull purpose) = Unit {0}
+Calls SyncsLast = Unit {0}
+Calls other = ⊥
+
+-- behind the load of the down word it is 0, and behind a call of the device
+pub record IsUpBehind (doing : Doing) (d : ℕ) : Type 0 where
+  pub loads : (purpose : Purpose) → doing ≡ LoadsDown purpose → d ≡ 0
+  pub calls : Calls doing → d ≡ 0
 
 abbrev pub UpNext : Next → ℕ → Type 0
 UpNext (goes_on doing) down = UpFor doing down
@@ -75,12 +89,12 @@ module _ (v w : View) (ask : Ask) (met : ℕ) (done : Bool) (d : ℕ) where
   up_insert (Commits value) = record { up = tt }
   up_insert Flushes = record { up = tt }
 
-  up_call : (purpose : Purpose) (next : Doing) → IsUpAt d next
+  up_call : (purpose : Purpose) (next : Doing) → d ≡ 0 → IsUpAt d next
       → GoesUp d (behind_call v w ask met done purpose next)
-  up_call purpose next up = either done (goes_on next) (goes_on (SetsDown purpose)) d
-      (at_place next d up) (record { up = tt })
+  up_call purpose next first up = either done (goes_on next) (goes_on (SetsDown purpose)) d
+      (at_place next d up) (record { up = first })
 
-  up_next : (doing : Doing) → ((purpose : Purpose) → doing ≡ LoadsDown purpose → d ≡ 0)
+  up_next : (doing : Doing) → IsUpBehind doing d
       → GoesUp d (next_of v w ask met done doing)
   up_next Begins given = flat (Tries 0) tt
   up_next (Tries n) given = either (eqb met 0) (goes_on (Reserves (lock_tried v n)))
@@ -109,7 +123,7 @@ module _ (v w : View) (ask : Ask) (met : ℕ) (done : Bool) (d : ℕ) where
   up_next (Visits purpose lock) given = either (eqb (lock + 1) 8) (goes_on (TakesTurn purpose))
       (goes_on (Visits purpose (lock + 1))) d (record { up = tt }) (record { up = tt })
   up_next (TakesTurn purpose) given = flat (LoadsDown purpose) tt
-  up_next (LoadsDown purpose) given = record { up = given purpose refl }
+  up_next (LoadsDown purpose) given = record { up = given.loads purpose refl }
   up_next (TakesOut purpose) given = at_place (page_or_end v w ask met done purpose) d
       (up_page purpose)
   up_next (LoadsPage purpose k) given = either (eqb (k + 1) 1024)
@@ -117,16 +131,16 @@ module _ (v w : View) (ask : Ask) (met : ℕ) (done : Bool) (d : ℕ) where
       (goes_on (LoadsPage purpose (k + 1))) d
       (either (is_segment_new v) (goes_on (Creates purpose)) (goes_on (Writes purpose)) d
       (record { up = tt }) (record { up = tt })) (record { up = tt })
-  up_next (Creates purpose) given = up_call purpose (Writes purpose) (record { up = tt })
+  up_next (Creates purpose) given = up_call purpose (Writes purpose) (given.calls tt) (record { up = tt })
   up_next (Writes purpose) given =
       let ends = eqb (of_lent w (λ l. (l.writer).written) % ((v.opening).setup).segment_size) 0 in
       up_call purpose (cond ends (SyncsFull purpose) (page_or_end v w ask met done purpose))
-      (either_place ends (SyncsFull purpose) (page_or_end v w ask met done purpose) d
+      (given.calls tt) (either_place ends (SyncsFull purpose) (page_or_end v w ask met done purpose) d
       (record { up = tt })
       (up_page purpose))
   up_next (SyncsFull purpose) given =
-      up_call purpose (page_or_end v w ask met done purpose) (up_page purpose)
-  up_next SyncsLast given = up_call ForLine (StoresWritten ForLine) (record { up = tt })
+      up_call purpose (page_or_end v w ask met done purpose) (given.calls tt) (up_page purpose)
+  up_next SyncsLast given = up_call ForLine (StoresWritten ForLine) (given.calls tt) (record { up = tt })
   up_next (StoresWritten ForLine) given = flat StoresMoment tt
   up_next (StoresWritten (ForPage lock end)) given = flat (PutsBack (ForPage lock end) false) tt
   up_next StoresMoment given = flat StoresFlushed tt
@@ -137,6 +151,6 @@ module _ (v w : View) (ask : Ask) (met : ℕ) (done : Bool) (d : ℕ) where
   up_next (GivesWriteTurn (ForPage lock end) true) given = record { up = tt }
   up_next (GivesWriteTurn (ForPage lock end) false) given = flat (Looks lock) tt
 
-  pub next_up : (doing : Doing) → ((purpose : Purpose) → doing ≡ LoadsDown purpose → d ≡ 0)
+  pub next_up : (doing : Doing) → IsUpBehind doing d
       → UpNext (next_of v w ask met done doing) d
   next_up doing given = (up_next doing given).up

@@ -4,21 +4,22 @@ use Rattle.std.specs.Option.{unwrap_or}
 use Rattle.std.proofs.lemmas.Option.{slice_get_within, unwrap_or-slice_get}
 use mathlib.Core.Option.{none, some}
 use Rattle.wal_core.specs.Words.{down_word}
-use Rattle.wal_core.specs.Views.{Plain, Lent, Out, Turned as HasTurned, View, working_of}
+use Rattle.wal_core.specs.Locked.{HasWriteTurn, StandsTo}
+use Rattle.wal_core.specs.Views.{Plain, Lent, Hold, Idle, Out, Turned as HasTurned, View, working_of}
 use Rattle.wal_core.specs.Steps.{StepKind, MayStep, Makes, State, Moves, IsLive, load_down, word_of_step, view_behind}
 use Rattle.wal_core.proofs.Lists.{at_else, at_place, part_at}
-use Rattle.wal_core.proofs.WordLists.{word_again}
+use Rattle.wal_core.proofs.WordLists.{word_again, word_else}
 use Rattle.machine_laws.proofs.EveryStep.{step_keeps}
 use Rattle.wal_core.specs.Moves.{is_done}
-use Rattle.wal_turns.specs.Doing.{Ask, Inserts, Commits, Flushes, Doing, Backend, Machine}
+use Rattle.wal_turns.specs.Doing.{Ask, Inserts, Commits, Flushes, Doing, Begins, Tries, Reserves, Looks, Copies, Maps, GivesTurn, Tells, Releases, FlushBegins, LoadsPosition, LoadsFlushed, LoadsMoment, Visits, TakesTurn, LoadsDown, TakesOut, LoadsPage, Creates, Writes, SyncsFull, SyncsLast, StoresWritten, StoresMoment, StoresFlushed, SetsDown, PutsBack, GivesWriteTurn, Backend, Machine}
 use Rattle.wal_turns.specs.Turned.{TurnMade, Waits, Next, goes_on, answers, can_step, looks_down, event_named, next_of, outcome, with_answer, with_next, tells_full, line_start, state_stepped, moved_on, fallen, word_waited, turned_by}
 use Rattle.wal_turns.specs.Standing.{IsRunning, HasBackend, HasLeft, IsLine, IsTurnTold, MayBegin, StandsToDo, StandsFor, UpFor}
 use Rattle.wal_turns.proofs.Poses.{StandsNext, bool_cases}
 use Rattle.wal_turns.proofs.FlushPlaces.{hold_of}
-use Rattle.wal_turns.proofs.NextUp.{UpNext, next_up, up_start}
+use Rattle.wal_turns.proofs.NextUp.{Calls, UpNext, next_up, up_start}
 use Rattle.wal_turns.proofs.DownStays.{down_still}
 use Rattle.wal_turns.proofs.LiveStays.{live_stays}
-use Rattle.wal_turns.proofs.AtView.{HomeBy, goes, homes, to_writer_of, up_by}
+use Rattle.wal_turns.proofs.AtView.{HomeBy, calls_up, goes, homes, to_writer_of, up_by}
 
 -- ---- lists
 
@@ -71,6 +72,14 @@ next_up_for b (answers full) d up = up_start (slice_get b.asks (b.answered + 1))
 
 -- ---- a turn
 
+-- a view that has the turn to write, or the writer, is the turn's holder
+turn_held : (turn holder : ℕ) (home : mathlib.Core.Option.Option Plain) (writer : Plain)
+    (id number : ℕ) (h : Hold) → HasWriteTurn h → StandsTo turn holder home writer id number h
+    → holder ≡ id
+turn_held turn holder home writer id number Idle has stands = absurd has
+turn_held turn holder home writer id number HasTurned has stands = stands.1
+turn_held turn holder home writer id number (Out l) has stands = stands.1
+
 abbrev pub Good : Machine → ℕ → TurnMade × Machine → Type 0
 Good m number x = IsTurnTold m number x.0 x.1 × IsRunning x.1
 
@@ -110,17 +119,18 @@ module _ (m : Machine) (run : IsRunning m) (number : ℕ) (b : Backend) (here : 
   still_live : (e : StepKind) → MayStep v e → ((behind e).reserving).live ≡ true
   still_live e may = live_stays v _ home e ∙ live.1
 
-  -- who is to take the writer out has the turn, so that no other one sets the down word
+  -- who is to take the writer out, or to set the down word, has the turn: so no other one sets it
   down_kept : (e : StepKind) → MayStep v e → (j : ℕ) (u : View) → j ≢ number
-      → IsLive m.state (j + 1) u → (u.writing).hold ≡ HasTurned
+      → IsLive m.state (j + 1) u → (h : Hold) → HasWriteTurn h → (u.writing).hold ≡ h
       → down_word (later e).words ≡ down_word words
-  down_kept e may j u apart alive turned_there =
+  down_kept e may j u apart alive h has turned_there =
       let k = run.sound in
       ⊎_elim
       (λ (same : down_word (later e).words ≡ down_word words). same)
       (λ (out : (l : Lent) × ((v.writing).hold ≡ Out l)).
       let mine = (to_writer_of m run number v live ask m.opening k (Out out.0) out.1).1 in
-      let theirs = (to_writer_of m run j u alive ask m.opening k HasTurned turned_there).1 in
+      let theirs = turn_held _ _ _ _ _ _ h has
+      (to_writer_of m run j u alive ask m.opening k h turned_there) in
       absurd (apart (omega (arith, mine, theirs))))
       (down_still words v (λ i held. (((k.locks).locks).each id i (working_of v)
       (part_at working_of views id v live.0) held).0) e may)
@@ -166,10 +176,15 @@ module _ (m : Machine) (run : IsRunning m) (number : ℕ) (b : Backend) (here : 
         let old = run.views j d h.1 in
         let up_there = run.up j d a h.1 has in
         up_by d.doing (down_word (later e).words) (λ purpose takes.
-        down_kept e may j old.0 h.0 old.1
+        down_kept e may j old.0 h.0 old.1 HasTurned tt
         (hold_of purpose a HasTurned old.0
         (subst (λ (x : Doing). StandsToDo old.0 x a) takes (old.2 a has)))
-        ∙ subst (λ (x : Doing). UpFor x (down_word words)) takes up_there))
+        ∙ subst (λ (x : Doing). UpFor x (down_word words)) takes up_there)
+        (λ purpose puts.
+        let there = subst (λ (x : Doing). StandsToDo old.0 x a) puts (old.2 a has) in
+        down_kept e may j old.0 h.0 old.1 (Out there.0) tt
+        (hold_of purpose a (Out there.0) old.0 there.1)
+        ∙ subst (λ (x : Doing). UpFor x (down_word words)) puts up_there))
         (set_cases m.backends number j c d is);
   }
 
@@ -180,6 +195,38 @@ module _ (m : Machine) (run : IsRunning m) (number : ℕ) (b : Backend) (here : 
         (answer_stands b (behind load_down) (run.lines number b here) (inr (inl down)))
         run.at_home (up_start (slice_get b.asks (b.answered + 1)) _),
   )
+
+  -- a call of the device leaves the down word
+  down_not_called : (d : Doing) → Calls d
+      → down_word (later (event_named m v ask d)).words ≡ down_word words
+  down_not_called Begins c = absurd c
+  down_not_called (Tries n) c = absurd c
+  down_not_called (Reserves lock) c = absurd c
+  down_not_called (Looks lock) c = absurd c
+  down_not_called (Copies lock) c = absurd c
+  down_not_called (Maps lock) c = absurd c
+  down_not_called (GivesTurn lock end) c = absurd c
+  down_not_called (Tells lock end) c = absurd c
+  down_not_called (Releases lock full) c = absurd c
+  down_not_called FlushBegins c = absurd c
+  down_not_called LoadsPosition c = absurd c
+  down_not_called LoadsFlushed c = absurd c
+  down_not_called LoadsMoment c = absurd c
+  down_not_called (Visits purpose lock) c = absurd c
+  down_not_called (TakesTurn purpose) c = absurd c
+  down_not_called (LoadsDown purpose) c = absurd c
+  down_not_called (TakesOut purpose) c = absurd c
+  down_not_called (LoadsPage purpose k) c = absurd c
+  down_not_called (Creates purpose) c = word_else words 11 _ 16 (λ e. omega arith)
+  down_not_called (Writes purpose) c = word_else words 11 _ 16 (λ e. omega arith)
+  down_not_called (SyncsFull purpose) c = word_else words 11 _ 16 (λ e. omega arith)
+  down_not_called SyncsLast c = word_else words 11 _ 16 (λ e. omega arith)
+  down_not_called (StoresWritten purpose) c = absurd c
+  down_not_called StoresMoment c = absurd c
+  down_not_called StoresFlushed c = absurd c
+  down_not_called (SetsDown purpose) c = absurd c
+  down_not_called (PutsBack purpose failed) c = absurd c
+  down_not_called (GivesWriteTurn purpose failed) c = absurd c
 
   moves : can_step m v ask b.doing ≡ true
       → (looks_down m v ask b.doing ≡ true → down_word words ≡ 0)
@@ -196,13 +243,17 @@ module _ (m : Machine) (run : IsRunning m) (number : ℕ) (b : Backend) (here : 
         runs_on e g.0 (with_next next b) (m.full || tells_full next) (next_lines b next lines)
             (next_stands b ask (behind e) lines left next g.1)
             (homes m run number v live ask b.doing stands)
-            (next_up_for b next _ (next_up v (behind e) ask met done _ b.doing
-            (λ purpose is.
-            let loaded : down_word (later e).words ≡ down_word words = subst
-            (λ (d : Doing). down_word (later (event_named m v ask d)).words ≡ down_word words)
-            (sym is)
-            (ap (λ (ws : List ℕ). down_word ws) (word_again words 16)) in
-            loaded ∙ up (ap (λ (d : Doing). looks_down m v ask d) is)))),
+            (next_up_for b next _ (next_up v (behind e) ask met done _ b.doing (record {
+              loads = λ purpose is.
+                  let loaded : down_word (later e).words ≡ down_word words = subst
+                  (λ (d : Doing). down_word (later (event_named m v ask d)).words ≡ down_word words)
+                  (sym is)
+                  (ap (λ (ws : List ℕ). down_word ws) (word_again words 16)) in
+                  loaded ∙ up (ap (λ (d : Doing). looks_down m v ask d) is);
+              calls = λ device.
+                  down_not_called b.doing device
+                  ∙ calls_up m run number v live ask b.doing stands device;
+            }))),
       )
 
   and_left : (s t : Bool) → s && t ≡ true → s ≡ true

@@ -211,9 +211,11 @@ HasLeft b ask = slice_get b.asks b.answered ≡ Some ask
 abbrev pub StandsFor : Backend → View → Type 0
 StandsFor b v = (ask : Ask) → HasLeft b ask → StandsToDo v b.doing ask
 
--- who is to take the writer out knows of no failed disk: the down word is 0
+-- who is to take the writer out knows of no failed disk, and who is to set the down word is the
+-- first one to do so: the down word is 0
 abbrev pub UpFor : Doing → ℕ → Type 0
 UpFor (TakesOut purpose) down = down ≡ 0
+UpFor (SetsDown purpose) down = down ≡ 0
 UpFor other down = Unit {0}
 
 abbrev pub HasBackend : Machine → ℕ → Backend → Type 0
@@ -221,7 +223,8 @@ HasBackend m number b = slice_get m.backends number ≡ Some b
 
 -- Its state keeps the invariant; each backend's lines can be written, and its view, number b's at
 -- b + 1, is live and stands at its place. The writer at home, unless a call failed, awaits a sync
--- of one segment at most, and who is to take it out has met no failed disk
+-- of one segment at most, and who is to take it out has met no failed disk; and who is to set the
+-- down word is the first one
 pub record IsRunning (m : Machine) : Type 0 where
   pub sound : IsSound m.first m.opening (m.state).words (m.state).home (m.state).views
   pub lines : (number : ℕ) (b : Backend) → HasBackend m number b → All IsLine b.asks

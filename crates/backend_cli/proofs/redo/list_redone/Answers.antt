@@ -1,4 +1,4 @@
-use Rattle.std.proofs.Common.{ℕ, refl, subst, sym}
+use Rattle.std.proofs.Common.{ℕ, refl, subst}
 use Rattle.std.specs.Prelude.{IfSome}
 use Rattle.redo_text.specs.RedoListing.{IsRedoListing}
 use Rattle.backend_cli.proofs.RedoingLaws.{redo_holds}

@@ -1,4 +1,3 @@
-use Rattle.told_lines.specs.Rooms.{capacity_of}
 use Rattle.backend_cli.specs.Outside.{outside_of, source_view}
 use Rattle.backend_cli.proofs.RunUnopened.{run_of_play}
 use Rattle.backend_cli.proofs.run.run.Goals as goal
@@ -15,6 +14,5 @@ returns-in-Ok-clause-holds g c =
     run_of_play (outside_of before after g.D.Disk.tape g.D.Disk.moment g.D.Disk.faults c.args.disk
     c.run_prepared.result.disk g.O.Sink.taken g.O.Sink.faults c.args.out.now
     c.run_prepared.new.out)
-    options.geometry (capacity_of options.geometry options.cap_segments) options.list
-    c.run_prepared.result.outcome ready.0 c.run_prepared.result.told ready.1
+    options c.run_prepared.result.outcome ready.0 c.run_prepared.result.told ready.1
     (c.run_prepared.ensures.holds before after ready.0 ready.2)

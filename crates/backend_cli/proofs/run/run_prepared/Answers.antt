@@ -2,14 +2,13 @@
 use Rattle.std.proofs.Common.{◌≡◌, List, [], arith, subst, sym}
 use Rattle.byte_position.specs.Geometry.{IsSegmentSize}
 use Rattle.wal_core.specs.declared.setup.Setup.{Setup}
-use Rattle.told_lines.specs.Rooms.{capacity_of}
 use Rattle.told_lines.specs.declared.told.Told.{Told}
 use Rattle.backend_lanes.specs.Backends.{lists_of}
 use Rattle.backend_cli.specs.Outside.{outside_of}
 use Rattle.backend_cli.specs.Run.{PlayHolds}
 use Rattle.backend_cli.specs.declared.outcome.Outcome.{Outcome}
 use Rattle.backend_cli.specs.declared.outcome.Outcome.TheVariants.{OutOfMemory}
-use Rattle.backend_cli.proofs.RunBackends.{all_answered, as_many_prepared, as_many_told, told_holds}
+use Rattle.backend_cli.proofs.RunBackends.{all_answered, as_many_prepared, as_many_told, setup_told, told_holds}
 use Rattle.backend_cli.proofs.RunEnds.{no_memory}
 use Rattle.backend_cli.proofs.RunLaws.{end_told, few_reserved, opened_holds}
 use Rattle.backend_cli.proofs.RunUnopened.{same_without_memory, unopened_holds}
@@ -45,16 +44,18 @@ pub conclude-requires-clause-few : goal.conclude-requires-clause-few
 conclude-requires-clause-few g c =
     let ready = c.requires.prepared in
     let played = c.play_backends-played.ensures ready.0 (ready.1).lines in
-    few_reserved _ _ _ _ c.args.options.now _ _ c.setup_asked-setup.ensures.value _ _
-    c.in-Ok.ensures.opened c.calls_are_counted.ensures _ _ _ played
+    few_reserved _ _ _ _ c.args.options.now _ _ _ c.in-Ok.ensures.opened
+    c.calls_are_counted.ensures ready.0 (setup_told c.args.options.now _ ready.0 c.args.room _
+    ready.1 c.len.ensures c.setup_asked-setup.ensures.value) _ _ played
 
 pub conclude-requires-clause-end : goal.conclude-requires-clause-end
 conclude-requires-clause-end g c =
     let ready = c.requires.prepared in
     let played = c.play_backends-played.ensures ready.0 (ready.1).lines in (
       _,
-      end_told _ _ _ _ c.args.options.now _ _ c.setup_asked-setup.ensures.value _ _
-          c.in-Ok.ensures.opened c.calls_are_counted.ensures _ _ _ played,
+      end_told _ _ _ _ c.args.options.now _ _ _ c.in-Ok.ensures.opened
+          c.calls_are_counted.ensures ready.0 (setup_told c.args.options.now _ ready.0
+          c.args.room _ ready.1 c.len.ensures c.setup_asked-setup.ensures.value) _ _ played,
     )
 
 -- ---- the log was opened
@@ -73,27 +74,26 @@ returns-in-Ok-clause-holds g c = λ before after script ready.
     let outcome = c.conclude.result.outcome in
     let closed = c.play_backends-played.result.closed in
     let backends = c.play_backends-played.result.backends.items in
-    let size = options.geometry in
-    let capacity = capacity_of size options.cap_segments in
     let played = c.play_backends-played.ensures script ready.lines in
-    let setup_is = c.setup_asked-setup.ensures.value in
+    let setup_is = setup_told options _ script c.args.room _ ready c.len.ensures
+    c.setup_asked-setup.ensures.value in
     let opened = c.in-Ok.ensures.opened in
     let counts = c.calls_are_counted.ensures in
     let concluded = c.conclude.ensures.concluded _
-    (end_told _ _ _ _ options _ _ setup_is _ _ opened counts _ _ _ played) in
+    (end_told _ _ _ _ options _ _ _ opened counts script setup_is _ _ played) in
     let valid = subst (λ (s : Setup). IsSegmentSize s.segment_size) setup_is
     c.setup_asked-setup.ensures.can_be.size in
     let holds = told_holds
     (outside_of before after tape moment faults disk closed.disk sunk sink_faults out out_now)
-    size capacity options.list outcome script backends ready.some played.each
-    (opened_holds _ _ _ _ options _ _ setup_is _ _ opened counts _ _ _ played
+    options outcome script backends ready.some played.each
+    (opened_holds _ _ _ _ options _ _ _ opened counts script setup_is _ _ played
     sunk sink_faults out out_now before after outcome concluded valid) in
     subst (λ (lists : List (List Told)). PlayHolds
     (outside_of before after tape moment faults disk c.conclude.result.disk sunk sink_faults
-    out out_now) size capacity options.list outcome script lists) (sym c.conclude.ensures.told)
+    out out_now) options outcome script lists) (sym c.conclude.ensures.told)
     (subst (λ d. PlayHolds
     (outside_of before after tape moment faults disk d sunk sink_faults out out_now)
-    size capacity options.list outcome script (lists_of backends))
+    options outcome script (lists_of backends))
     (sym c.conclude.ensures.disk) holds)
 
 pub returns-in-Ok-clause-as_handed_in : goal.returns-in-Ok-clause-as_handed_in
@@ -101,8 +101,9 @@ returns-in-Ok-clause-as_handed_in g c = λ is.
     let ready = c.requires.prepared in
     let played = c.play_backends-played.ensures ready.0 (ready.1).lines in
     let concluded = c.conclude.ensures.concluded _
-    (end_told _ _ _ _ c.args.options.now _ _ c.setup_asked-setup.ensures.value _ _
-    c.in-Ok.ensures.opened c.calls_are_counted.ensures _ _ _ played) in
+    (end_told _ _ _ _ c.args.options.now _ _ _ c.in-Ok.ensures.opened
+    c.calls_are_counted.ensures ready.0 (setup_told c.args.options.now _ ready.0 c.args.room _
+    ready.1 c.len.ensures c.setup_asked-setup.ensures.value) _ _ played) in
     absurd (no_memory _ _ _ _ concluded.concludes is)
 
 -- ---- it was not
@@ -116,16 +117,14 @@ returns-in-Err-clause-holds g c = λ before after script ready.
     let sink_faults = g.O.Sink.faults in
     let options = c.args.options.now in
     let out = c.args.out.now in
-    let size = options.geometry in
-    let capacity = capacity_of size options.cap_segments in
     let outside = outside_of before after tape moment faults c.args.disk c.in-Err.fault.disk sunk
     sink_faults out out in
     let holds = unopened_holds tape moment faults c.setup_asked-setup.result
     c.setup_asked-setup.ensures.can_be c.args.disk c.in-Err.fault.disk sunk sink_faults out before
-    after script size capacity options.list c.in-Err.fault.kind c.in-Err.ensures.refused in
-    subst (PlayHolds outside size capacity options.list c.outcome_unopened.result script)
+    after script options c.in-Err.fault.kind c.in-Err.ensures.refused in
+    subst (PlayHolds outside options c.outcome_unopened.result script)
     (sym c.none.ensures)
-    (subst (λ (outcome : Outcome). PlayHolds outside size capacity options.list outcome script [])
+    (subst (λ (outcome : Outcome). PlayHolds outside options outcome script [])
     (sym c.outcome_unopened.ensures) holds)
 
 pub returns-in-Err-clause-as_handed_in : goal.returns-in-Err-clause-as_handed_in

@@ -58,8 +58,9 @@ returns g c = λ script are.
       closes = c.close.ensures;
       each = joined.ensures.lines script played;
       taken = taken_behind_flush (opening_of_log log) joined.result.end.0 old new
-          c.flush.result c.flush.ensures.flushes c.flush.ensures.keeps script (lists_of told)
-          (joined.ensures.taken script played idle);
+          c.flush.result c.flush.ensures.flushes c.flush.ensures.down_again
+          c.flush.ensures.keeps script (lists_of told)
+          (joined.ensures.taken script played idle).0;
       flushed = flushed_all (setup_of_log log)
           (has_valid_size log joined.new.first joined.ensures.pass) joined.result.end.0 old new
           (has_setup log joined.new.first joined.ensures.pass) (lists_of told) c.flush.result

@@ -5,5 +5,5 @@ use Rattle.log_tests.proofs.in_flight.finished.Goals as goal
 
 pub returns-clause-keeps : goal.returns-clause-keeps
 returns-clause-keeps g c = further_pass (view_of_flight c.args.flight)
-    (view_of_flight c.copy.new.self) (view_of_pass c.in-Ok.pass) c.copy.ensures.stays.pass.keeps
+    (view_of_flight c.copies.new.flight) (view_of_pass c.in-Ok.pass) c.copies.ensures.keeps
     c.in-Ok.ensures.finishes.keeps.keeps

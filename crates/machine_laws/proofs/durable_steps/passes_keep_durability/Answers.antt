@@ -6,8 +6,8 @@ returns-clause-split c = λ first o order flushed moment down home writer parts 
     split_keeps o order flushed moment down home writer parts h id v here
 
 pub returns-clause-join : goal.returns-clause-join
-returns-clause-join c = λ first o order flushed moment down home writer parts id other v w h here there.
-    join_keeps o order flushed moment down home writer parts h id v here other w there
+returns-clause-join c = λ first o order flushed moment down home writer parts id other v w h here there apart.
+    join_keeps o order flushed moment down home writer parts h id v here other w there apart
 
 pub returns-clause-give_up : goal.returns-clause-give_up
 returns-clause-give_up c = λ first o order flushed moment down home writer parts id v h here.

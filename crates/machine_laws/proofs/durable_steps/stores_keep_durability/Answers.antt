@@ -28,6 +28,6 @@ returns-clause-flushed c = λ first o order flushed moment down home writer part
 
 pub returns-clause-down : goal.returns-clause-down
 returns-clause-down c = λ first o order flushed moment down home writer parts id met v turn writers h
-    here has at may.
+    here has at alone may.
     set_down_keeps o order flushed moment down home writer parts h id v here turn writers has at
-    met may
+    alone met may

@@ -3,6 +3,7 @@ use Rattle.std.proofs.lemmas.Result.{err_from_is_err_and}
 use Rattle.wal_core.specs.Steps.{IsResting}
 use Rattle.wal_core.specs.Views.{View}
 use Rattle.wal_rule.specs.SeatedPasses.{setup_of, view_of}
+use Rattle.insert_locks.specs.Taking.{AreHeldWords}
 use Rattle.wal_log.specs.Beginning.{try_err_known_down}
 use Rattle.wal_log.proofs.Keeping.{further_pass}
 use Rattle.wal_log.proofs.BeginLaws.{answers_since, held_one, loaded_keeps, loaded_rests, none_known, taken_keeps, taken_log, taken_sets_none, taken_up, vain_loaded}
@@ -30,7 +31,7 @@ returns-in_err-lock-clause-begins g c =
     let same = view_is held.1 in
     rw (p.1, p.2) (
       (
-        (view_of load.new.self, held.0),
+        subst (λ (v : View). AreHeldWords v c.in_err-lock.field-0.0.seen) (sym same) held.0,
         vain_loaded (view_of c.args.seated.now) (view_of load.new.self) load.result loads
             load.ensures.known c.if-faults-ne0.false (view_of c.try_take.new.seated) same,
       ),

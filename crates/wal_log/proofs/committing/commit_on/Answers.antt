@@ -38,7 +38,8 @@ returns-in-Ok-clause-commits g c =
     let same : mid.opening.setup ≡ setup = own_setup c.insert_on.new.seated
     ∙ same_setup c.args.seated.now c.insert_on.new.seated c.insert_on.ensures.rests.same_table in
     sealed_is setup c.args.body.now (view_of c.args.seated.now) mid (view_of c.flush_on.new.seated)
-    c.in_ok-start.field-0 c.in_ok-start.ensures.inserts c.insert_on.ensures.rests.keeps same _
+    c.in_ok-start.field-0 c.in_ok-start.ensures.inserts c.insert_on.ensures.rests.keeps
+    c.flush_on.ensures.rests.keeps same _
     c.in-Ok.hard.upto.0 refl refl c.in-Ok.ensures.flushes.0
 
 pub returns-in-Ok-clause-down_again : goal.returns-in-Ok-clause-down_again

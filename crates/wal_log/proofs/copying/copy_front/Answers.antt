@@ -1,10 +1,15 @@
-use Rattle.std.proofs.Common.{◌≡◌, ℕ, ◌+◌, ◌*◌, refl, ap, ◌∙◌, arith}
+use Rattle.std.proofs.Common.{◌≡◌, ℕ, ◌+◌, ◌-◌, ◌*◌, ◌<◌, ◌≤◌, refl, sym, ap, ◌∙◌, subst, arith}
 use Rattle.wal_page.specs.Placed.{PlacedState, placed_end}
+use Rattle.wal_core.specs.declared.setup.Setup.{Setup}
 use Rattle.wal_core.specs.Views.{View}
+use Rattle.wal_rule.specs.SeatedPasses.{setup_of, view_of}
 use Rattle.word_ring.proofs.CopyLaws.{words-left}
+use Rattle.wal_log.specs.declared.copying.CopyStop.{CopyStop}
+use Rattle.wal_log.specs.declared.copying.CopyStop.TheVariants.{Asked, Whole, Absent}
+use Rattle.wal_log.specs.Copying.{StopsAtOnce, TellsStop}
 use Rattle.wal_log.specs.PassLogs.{log_of_pass}
 use Rattle.wal_log.proofs.CopyLaws.{alone_rest, copied_on, goes_on_itself, stood_still, told_keeps}
-use Rattle.wal_log.proofs.Seated.{view_is}
+use Rattle.wal_log.proofs.Seated.{same_setup, view_is}
 use Rattle.wal_log.proofs.copying.copy_front.Goals as goal
 
 pub loop-end-init : goal.loop-end-init
@@ -12,7 +17,7 @@ loop-end-init g c =
     let p : PlacedState = c.args.placed.now in
     let none : p.next ≡ p.next + 0 = omega arith in
     let still = stood_still p c.args.seated.now c.args.seated.now
-    (goes_on_itself c.args.seated.now) refl in record {
+    (goes_on_itself c.args.seated.now) refl refl in record {
       few = omega arith;
       copies = c.requires.copies;
       next_is = ap (λ (n : ℕ). record p { next = n }) none;
@@ -20,6 +25,7 @@ loop-end-init g c =
           (alone_rest c.args.seated.now c.args.lock p c.requires.copies)).0;
       copies_on = still;
       up = λ up. up;
+      silent = λ none_asked. refl;
     }
 
 pub loop-end-preserved : goal.loop-end-preserved
@@ -42,6 +48,74 @@ loop-end-preserved g c =
           c.loop-end.seated c.copy_some.new.seated c.loop-end.invariant.copies_on
           c.copy_some.ensures.copies_on;
       up = λ up. c.copy_some.ensures.up (c.loop-end.invariant.up up);
+      silent = λ none. absurd (c.if-most-eq0.false none);
+    }
+
+-- why it stopped behind so many words, by why it copied none behind them
+stops : (setup : Setup) (most k : ℕ) (p : PlacedState) (v : View) → k ≤ most
+    → p.next < placed_end p → (stop : CopyStop) → StopsAtOnce setup (most - k) p v stop
+    → TellsStop setup most k p v stop
+stops setup most k p v few left Asked none = (omega (arith, few, none), left)
+stops setup most k p v few left Whole none = absurd none
+stops setup most k p v few left (Absent absent) tells =
+    let some = tells.0 in (omega (arith, few, some), left, tells.1)
+
+pub returns-then-most-eq0-clause-tells : goal.returns-then-most-eq0-clause-tells
+returns-then-most-eq0-clause-tells g c =
+    let few = c.loop-end.invariant.few in
+    let none = c.if-most-eq0.true in
+    let ended = ap placed_end c.loop-end.invariant.next_is in
+    let before = c.loop-end-test.true in
+    let next = c.next_lsn.ensures in
+    let end = c.requires.end in record {
+      few = few;
+      next_is = c.loop-end.invariant.next_is;
+      earlier = (view_of c.loop-end.seated).told;
+      stop = (omega (arith, few, none), omega (arith, before, next, end, ended));
+      told = λ some left. absurd (omega (arith, some, none));
+      silent = c.loop-end.invariant.silent;
+    }
+
+pub returns-in-Err-clause-tells : goal.returns-in-Err-clause-tells
+returns-in-Err-clause-tells g c =
+    let tells = c.in-Err.ensures.tells in
+    let v : View = view_of c.copy_some.new.seated in
+    let told = view_is c.tell_progress.ensures.view in
+    let ended = ap placed_end c.loop-end.invariant.next_is in
+    let before = c.loop-end-test.true in
+    let next = c.next_lsn.ensures in
+    let end = c.requires.end in record {
+      few = c.loop-end.invariant.few;
+      next_is = tells.0 ∙ c.loop-end.invariant.next_is;
+      earlier = v.told;
+      stop = subst (λ (w : View). TellsStop (setup_of c.args.seated.now) c.args.most c.loop-end.k
+          c.copy_some.new.placed w c.in-Err.stop)
+          (sym (ap (λ (w : View). record w { told = v.told }) told))
+          (subst (λ (p : PlacedState). TellsStop (setup_of c.args.seated.now) c.args.most
+          c.loop-end.k p v c.in-Err.stop) (sym tells.0)
+          (subst (λ (s : Setup). TellsStop s c.args.most c.loop-end.k c.loop-end.placed v
+          c.in-Err.stop) (same_setup c.args.seated.now c.loop-end.seated
+          c.loop-end.invariant.copies_on.goes_on.stays.same_table)
+          (stops (setup_of c.loop-end.seated) c.args.most c.loop-end.k c.loop-end.placed v
+          c.loop-end.invariant.few (omega (arith, before, next, end, ended)) c.in-Err.stop
+          tells.1)));
+      told = λ some left. ap (λ (w : View). w.told) told;
+      silent = λ none. absurd (c.if-most-eq0.false none);
+    }
+
+pub returns-clause-tells : goal.returns-clause-tells
+returns-clause-tells g c =
+    let within = c.loop-end.invariant.within in
+    let ended = ap placed_end c.loop-end.invariant.next_is in
+    let behind = c.loop-end-test.false in
+    let next = c.next_lsn.ensures in
+    let end = c.requires.end in record {
+      few = c.loop-end.invariant.few;
+      next_is = c.loop-end.invariant.next_is;
+      earlier = (view_of c.loop-end.seated).told;
+      stop = omega (arith, within, behind, next, end, ended);
+      told = λ some left. absurd (omega (arith, left, behind, next, end, ended));
+      silent = c.loop-end.invariant.silent;
     }
 
 pub returns-in-Err-clause-copies_on : goal.returns-in-Err-clause-copies_on
@@ -56,4 +130,5 @@ returns-in-Err-clause-copies_on g c =
     (stood_still c.copy_some.new.placed c.copy_some.new.seated c.tell_progress.new.seated
     (told_keeps c.copy_some.new.seated c.tell_progress.new.seated
     (c.copy_some.new.placed).next told)
-    (ap (λ (v : View). log_of_pass v) (view_is told)))
+    (ap (λ (v : View). log_of_pass v) (view_is told))
+    (ap (λ (v : View). v.working) (view_is told)))

@@ -1,4 +1,4 @@
--- So many words are copied, and no more than were asked for.
+-- So many words are copied, and no more than were asked for; where none was, nothing was done.
 use Rattle.std.proofs.Common.{◌≡◌, ◌+◌, ◌-◌, ◌*◌, ◌≤◌}
 use Rattle.wal_page.specs.Placed.{placed_end}
 use Rattle.wal_rule.specs.SeatedPasses.{view_of}
@@ -15,6 +15,7 @@ invariant-loop-end g l = record {
   within : l.placed.next ≤ placed_end l.placed;
   copies_on : CopyGoesOn l.fn.placed l.placed l.fn.seated l.seated;
   up : KnowsNoFault (view_of l.fn.seated) → KnowsNoFault (view_of l.seated);
+  silent : l.most ≡ 0 → view_of l.seated ≡ view_of l.fn.seated;
 }
 
 abbrev pub decreases-loop-end : goal.decreases-loop-end

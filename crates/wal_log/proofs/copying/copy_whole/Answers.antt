@@ -1,6 +1,6 @@
 use Rattle.std.proofs.Common.{sym, ap, ◌∙◌}
 use Rattle.wal_page.specs.Placed.{placed_end}
-use Rattle.wal_log.proofs.CopyLaws.{copied_on, stood_still}
+use Rattle.wal_log.proofs.CopyLaws.{copied_on}
 use Rattle.wal_log.proofs.copying.copy_whole.Goals as goal
 
 pub copy_front-copied-requires-clause-end : goal.copy_front-copied-requires-clause-end
@@ -14,5 +14,4 @@ returns-in_err-wait_for_page-in-Absent-clause-copies_on g c =
     (copied_on c.args.placed.now c.loop.placed c.copy_front-copied.new.placed c.args.seated.now
     c.loop.seated c.copy_front-copied.new.seated c.loop.invariant.copies_on
     c.copy_front-copied.ensures.copies_on)
-    (stood_still c.copy_front-copied.new.placed c.copy_front-copied.new.seated
-    c.wait_for_page.new.seated c.wait_for_page.ensures.goes_on c.wait_for_page.ensures.log)
+    c.wait_for_page.ensures.copies_on

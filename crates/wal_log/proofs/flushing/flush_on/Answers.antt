@@ -84,7 +84,7 @@ loop-preserved-in-Err-Behind g c =
     let why = rw c.in-Err-Behind.field-0-is at c.in-Err-Behind.ensures.tries in record {
       goes_on = (tt, tt);
       tried = tried_again c.args.seated.now c.loop.seated c.try_flush.new.seated
-          c.loop.invariant.tried c.try_flush.ensures.rests why.1 why.0.2;
+          c.loop.invariant.tried c.try_flush.ensures.rests why.1 why.0.1.up;
     }
 
 pub loop-preserved : goal.loop-preserved
@@ -92,5 +92,5 @@ loop-preserved g c =
     let why = rw c.in-Err-Turn.field-0-is at c.in-Err-Turn.ensures.tries in record {
       goes_on = (tt, tt);
       tried = tried_again c.args.seated.now c.loop.seated c.try_flush.new.seated
-          c.loop.invariant.tried c.try_flush.ensures.rests why.1 why.0.2;
+          c.loop.invariant.tried c.try_flush.ensures.rests why.1 why.0.2.up;
     }

@@ -12,6 +12,10 @@ use Rattle.wal_log.proofs.flushing.harden.Goals.{After-give_back, After-go_down}
 
 -- ---- the disk failed
 
+pub go_down-requires-clause-up : goal.go_down-requires-clause-up
+go_down-requires-clause-up g c = changes_up c.args.seated.now c.sync_written.new.seated
+    c.in-Err.ensures.ends.changes c.requires.stored.up
+
 module _ (g : Over) (c : After-go_down g) where
   down : AddsNothing c.args.seated.now c.go_down.new.seated
   down =

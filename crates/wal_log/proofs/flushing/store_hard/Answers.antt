@@ -6,7 +6,7 @@ use Rattle.wal_rule.specs.SeatedPasses.{StaysSeated, view_of}
 use Rattle.page_writing.specs.InHand.{lent_in, writer_in}
 use Rattle.page_writing.proofs.HandLaws.{HasLent}
 use Rattle.wal_log.specs.Hands.{IsLatestPromise}
-use Rattle.wal_log.proofs.FlushLaws.{hard_lent, hard_told, may_store_moment, may_tell, promises_are_low, since_opening, told_is, told_view, told_work}
+use Rattle.wal_log.proofs.FlushLaws.{hard_lent, hard_told, may_store_moment, may_tell, promises_are_low, since_opening, stores_moment, told_is, told_view, told_work}
 use Rattle.wal_log.proofs.InHandLaws.{hand_stays}
 use Rattle.wal_log.proofs.Seated.{further_seated, seat_stays, view_is, was_read}
 use Rattle.wal_log.proofs.flushing.store_hard.Given.{Over}
@@ -97,7 +97,10 @@ returns-clause-told g c =
       c.writer_now-now.ensures.read.written,
       told_is written moment old.writing.flushed (Out (hard_lent (lent_in old.writing.hold))) old
           (view_of c.store_flushed.new.self) (told g at lent one) written (omega arith)
-          (since g at lent one) c.requires.stored.up (latest g at lent one),
+          (since g at lent one)
+          (stores_moment old lent c.args.seated.now.seated.stands c.requires.stored.ready.up
+          c.requires.synced moment c.writer_now-now.ensures.read.moment)
+          c.requires.stored.up (latest g at lent one),
     )
 
 pub returns-clause-stored : goal.returns-clause-stored

@@ -2,7 +2,7 @@ use Rattle.std.proofs.Common.{◌≡◌, sym, ap, ◌∙◌}
 use Rattle.std.proofs.lemmas.Map.Keys.{ge_from_not_lt}
 use Rattle.wal_core.specs.Views.{View}
 use Rattle.wal_rule.specs.SeatedPasses.{view_of}
-use Rattle.wal_log.proofs.FlushLaws.{flushed_work, met_latest, met_since, met_told, told_is, told_view, told_work}
+use Rattle.wal_log.proofs.FlushLaws.{flushed_work, met_latest, met_since, met_told, met_word, told_is, told_view, told_work}
 use Rattle.wal_log.proofs.Seated.{further_seated, seat_stays, view_is}
 use Rattle.wal_log.proofs.flushing.told_already.Given.{Over}
 use Rattle.wal_log.proofs.flushing.told_already.Goals as goal
@@ -33,6 +33,8 @@ returns-clause-told g c =
           c.args.upto.0
           (ge_from_not_lt flushed c.args.upto.0 (sym c.lt.ensures ∙ c.if-lt.false))
           (met_since flushed moment (old g at) mid (new g at) first next
+          c.load_moment-moment.ensures.met)
+          (met_word flushed moment (old g at) mid (new g at) first next
           c.load_moment-moment.ensures.met)
           c.requires.up
           (met_latest flushed moment (old g at) mid (new g at) first next

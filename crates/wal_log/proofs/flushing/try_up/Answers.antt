@@ -5,6 +5,8 @@ use Rattle.std.proofs.lemmas.Map.Keys.{ge_from_not_lt}
 use Rattle.byte_position.proofs.EndAddresses.{end_address_of-mono}
 use Rattle.wal_core.specs.declared.setup.Setup.{Setup}
 use Rattle.wal_core.specs.Words.{end_form}
+use Rattle.wal_core.specs.Views.{View}
+use Rattle.insert_locks.specs.Watching.{SeesPosition, with_sight}
 use Rattle.wal_rule.specs.SeatedPasses.{setup_of, view_of}
 use Rattle.wal_log.specs.Standing.{HasNoTurn, WorksOn}
 use Rattle.wal_log.proofs.AddingNothing.{works_on}
@@ -47,8 +49,11 @@ returns-then-lt-clause-tries g c =
         rises = sees.rises;
         begun = own.1;
         above = less;
-        before = old;
-        loaded = c.see_end.ensures.met;
+        sight = old.reserving.seen;
+        since = omega arith;
+        loaded = subst (λ (v : View). SeesPosition v end_seen)
+            (sym (ap (λ (v : View). with_sight old.reserving.seen v)
+            (view_is c.see_end.ensures.view))) c.see_end.ensures.met;
         up = leaves.up c.requires.up;
       },
       leaves.log,

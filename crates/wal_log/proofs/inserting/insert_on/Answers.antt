@@ -1,16 +1,22 @@
 use Rattle.std.proofs.Common.{◌≡◌, Result, Ok, Err, None, refl, sym, ap, ◌∙◌, subst}
 use Rattle.std.proofs.lemmas.Result.{err_from_is_err_and}
+use Rattle.wal_page.specs.EntryWords.{words_owned}
+use Rattle.wal_page.specs.Placed.{placed_end}
 use Rattle.wal_core.specs.declared.setup.Setup.{Setup}
+use Rattle.wal_core.specs.Views.{View}
 use Rattle.wal_rule.specs.SeatedPasses.{setup_of, view_of}
 use Rattle.wal_log.specs.declared.beginning.Begun.{Begun}
 use Rattle.wal_log.specs.declared.inserting.InsertErr.{InsertErr}
 use Rattle.wal_log.specs.declared.inserting.InsertErr.TheVariants.{Down}
 use Rattle.wal_log.specs.Inserting.{RefusesInsert}
-use Rattle.wal_log.specs.Standing.{CopiesUnderOneLock}
+use Rattle.wal_log.specs.Standing.{CopiesUnderOneLock, KeepsPass}
+use Rattle.wal_log.specs.Whole.{CopiesWhole}
 use Rattle.wal_log.proofs.CopyLaws.{alone_whole}
 use Rattle.wal_log.proofs.InsertLaws.{copy_failed, keeps_over, receives, refuses, rests}
 use Rattle.wal_log.proofs.Seated.{hand_is, same_setup, view_is}
-use Rattle.wal_log.proofs.Unlocking.{given_up_view, landed_view, may_land, rested, strands}
+use Rattle.wal_log.proofs.Keeping.{further_pass, same_pass}
+use Rattle.wal_log.proofs.Unlocking.{given_up_view, landed_view, may_land, rested, rested_keeps, strands}
+use Rattle.wal_log.proofs.WholeLaws.{copies_whole}
 use Rattle.wal_log.proofs.inserting.insert_on.Given.{Over}
 use Rattle.wal_log.proofs.inserting.insert_on.Goals as goal
 use Rattle.wal_log.proofs.inserting.insert_on.Goals.{After-copy_whole, After-give_up, After-release}
@@ -88,6 +94,28 @@ module _ (g : Over) (c : After-copy_whole g) where
 
 -- ---- it is copied whole
 
+module _ (g : Over) (c : After-copy_whole g) where
+  none_left : c.copy_whole.new.placed.next ≡ placed_end c.in_ok-begun.begun.placed
+      → c.copy_whole.ensures.copies.under.copy.copied
+      ≡ words_owned (view_of c.copy_whole.new.seated).opening.setup.segment_size
+      c.copy_whole.ensures.copies.under.copy.entry
+  none_left = alone_whole c.copy_whole.new.seated c.in_ok-begun.begun.lock c.copy_whole.new.placed
+      c.copy_whole.ensures.copies c.in_ok-begun.begun.placed c.copy_whole.ensures.copies_on.place
+
+  entry_whole : c.copy_whole.new.placed.next ≡ placed_end c.in_ok-begun.begun.placed → (new : View)
+      → new ≡ rested (view_of c.copy_whole.new.seated)
+      → CopiesWhole (view_of c.args.seated.now) new c.in_ok-begun.ensures.begins.entry
+  entry_whole ended new is =
+      let copied = c.copy_whole.ensures in
+      let v : View = view_of c.copy_whole.new.seated in
+      copies_whole (setup_of c.copy_whole.new.seated) c.in_ok-begun.begun.lock
+      c.copy_whole.new.placed (view_of c.args.seated.now) v new copied.copies.under
+      c.copy_whole.new.seated.seated.stands (none_left ended) c.in_ok-begun.ensures.begins.entry
+      (copied.copies_on.entry ∙ c.in_ok-begun.ensures.begins.in_flight)
+      (further_pass (view_of c.args.seated.now) (view_of c.begin.new.seated) v
+      c.begin.ensures.goes_on.keeps copied.copies_on.goes_on.keeps)
+      (subst (KeepsPass v) (sym is) (rested_keeps v v (same_pass v)))
+
 module _ (g : Over) (c : After-release g) where
   landed : view_of c.release.new.self ≡ rested (view_of c.copy_whole.new.seated)
   landed = view_is c.release.ensures.steps
@@ -105,6 +133,7 @@ returns-in-Ok-clause-inserts g c =
     c.in_ok-begun.begun c.copy_whole.new.placed c.in_ok-begun.ensures.begins
     copied.copies_on.goes_on.keeps copied.copies_on.log (under g cw) (landed g at)
     c.in-Ok.ensures.ends.1
+    (entry_whole g cw c.in-Ok.ensures.ends.0 (view_of c.release.new.self) (landed g at))
     (record { start = c.in_ok-begun.begun.start; end = c.in_ok-begun.begun.end }) refl refl
 
 pub returns-in-Ok-clause-down_again : goal.returns-in-Ok-clause-down_again

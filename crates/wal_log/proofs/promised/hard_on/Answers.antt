@@ -4,7 +4,7 @@ use Rattle.wal_core.specs.Views.{View}
 use Rattle.wal_rule.specs.Stepping.{Meets}
 use Rattle.wal_rule.specs.SeatedPasses.{view_of}
 use Rattle.wal_log.specs.PassLogs.{log_of_pass}
-use Rattle.wal_log.proofs.FlushLaws.{met_latest, met_since, met_told, told_view, told_work}
+use Rattle.wal_log.proofs.FlushLaws.{has_reached, met_latest, met_since, met_told, told_view, told_work}
 use Rattle.wal_log.proofs.Keeping.{rested_on}
 use Rattle.wal_log.proofs.Seated.{hand_is, view_is}
 use Rattle.wal_log.proofs.promised.hard_on.Given.{Over}
@@ -39,6 +39,8 @@ returns-clause-told g c =
       log_is = ap (λ (v : View). log_of_pass v) is;
       since = met_since flushed moment (old g at) mid (new g at) first next
           c.load_moment-moment.ensures.met;
+      held = has_reached (new g at) flushed moment (log_of_pass (old g at))
+          (ap (λ (v : View). log_of_pass v) is);
       latest = met_latest flushed moment (old g at) mid (new g at) first next
           c.load_flushed-flushed.ensures.furthest c.load_moment-moment.ensures.latest;
       seen = (let seen = ap (λ (v : View). v.reserving.seen) is in omega (arith, seen));

@@ -12,7 +12,7 @@ use Rattle.wal_log.proofs.turns.go_down.Goals.{After-set_down}
 
 pub set_down-requires-clause-may : goal.set_down-requires-clause-may
 set_down-requires-clause-may g c = may_set_down (view_of c.args.seated.now)
-    (c.requires.hand.0, c.requires.hand.2.hold) c.args.fault.faults c.requires.failed
+    (c.requires.hand.0, c.requires.hand.2.hold) c.args.fault.faults c.requires.failed c.requires.up
 
 module _ (g : Over) (c : After-set_down g) where
   abbrev old : View

@@ -8,14 +8,15 @@ use Rattle.wal_rule.specs.SeatedPasses.{HasView, StaysSeated, view_of}
 use Rattle.insert_locks.specs.declared.watching.Watched.{Watched}
 use Rattle.wal_log.specs.Downs.{KnowsNoFault}
 use Rattle.wal_log.specs.Hands.{TellsTurnErr}
-use Rattle.wal_log.specs.Standing.{AddsNothing, CopiesAlone, GoesOnSeated, HasNoTurn}
+use Rattle.wal_log.specs.Copying.{CopyGoesOn}
+use Rattle.wal_log.specs.Standing.{AddsNothing, CopiesAlone, HasNoTurn}
 use Rattle.wal_log.specs.Writing.{TellsWriteErr, write_err_of_turn}
 use Rattle.wal_log.specs.declared.turns.TurnErr.{TurnErr}
-use Rattle.wal_log.specs.declared.turns.TurnErr.TheVariants.{Fault, Taken}
+use Rattle.wal_log.specs.declared.turns.TurnErr.TheVariants.{Down, Taken}
 use Rattle.wal_log.proofs.AddingNothing.{adds_on, held_else}
-use Rattle.wal_log.proofs.CopyLaws.{alone_still}
+use Rattle.wal_log.proofs.CopyLaws.{alone_still, stood_still}
 use Rattle.wal_log.proofs.InHandLaws.{may_put_stored}
-use Rattle.wal_log.proofs.Keeping.{fault_since, further_pass, still_up, told_pass}
+use Rattle.wal_log.proofs.Keeping.{both_up, further_pass, meets_since, still_up, told_pass}
 use Rattle.wal_log.proofs.Seated.{further_seated, seat_stays, view_is}
 use Rattle.wal_log.proofs.Watched.{LeavesAll, Watches, behind_leaves, copied_is, finished_leaves, still_no_turn, watches}
 use Rattle.wal_log.proofs.writing.write_early.Given.{Over}
@@ -31,14 +32,14 @@ module _ {D : Type 0} (old new : SeatedPass D) (lock : ℕ) (placed : PlacedStat
     alone : CopiesAlone lock placed new
     alone = alone_still old new (adds.works).same_table (adds.works).work rests lock placed copies
 
-    goes_on : GoesOnSeated old new
-    goes_on = record {
+    goes_on : CopyGoesOn placed placed old new
+    goes_on = stood_still placed old new (record {
       stays = record {
         same_table = (adds.works).same_table;
         same_hand = rests.empty ∙ sym copies.empty;
       };
       keeps = ((adds.works).work).pass;
-    }
+    }) adds.log ((adds.works).work).working
 
 -- ---- behind the watch
 
@@ -103,18 +104,13 @@ returns-in-Behind-clause-copies g c =
     (behind g at c.in-Behind.lock c.in-Behind.word is).adds
     (stopped g at c.in-Behind.lock c.in-Behind.word is)
 
-pub returns-in-Behind-clause-goes_on : goal.returns-in-Behind-clause-goes_on
-returns-in-Behind-clause-goes_on g c =
-    let at = (goal.at.returns-in-Behind-clause-goes_on g c).After-watch in
+pub returns-in-Behind-clause-copies_on : goal.returns-in-Behind-clause-copies_on
+returns-in-Behind-clause-copies_on g c =
+    let at = (goal.at.returns-in-Behind-clause-copies_on g c).After-watch in
     let is = c.in-Behind.is in
     goes_on c.args.seated.now c.watch.new.seated c.args.lock c.args.placed.now c.requires.copies
     (behind g at c.in-Behind.lock c.in-Behind.word is).adds
     (stopped g at c.in-Behind.lock c.in-Behind.word is)
-
-pub returns-in-Behind-clause-log : goal.returns-in-Behind-clause-log
-returns-in-Behind-clause-log g c =
-    (behind g (goal.at.returns-in-Behind-clause-log g c).After-watch
-    c.in-Behind.lock c.in-Behind.word c.in-Behind.is).adds.log
 
 pub returns-in-Behind-clause-ends : goal.returns-in-Behind-clause-ends
 returns-in-Behind-clause-ends g c = (
@@ -137,9 +133,9 @@ take_ready-requires-clause-up g c =
 
 write_told : (old watched new : View) → KnowsNoFault old → KnowsNoFault watched → (e : TurnErr)
     → TellsTurnErr watched new e → TellsWriteErr old new (write_err_of_turn e)
-write_told old watched new before up (Fault fault) told =
-    fault_since old watched new before up fault told
-write_told old watched new before up (Taken turn) told = told
+write_told old watched new before up (Down faults) told =
+    meets_since old watched new faults (both_up old watched before up) told
+write_told old watched new before up (Taken turn) told = (told.0, told.2)
 
 module _ (g : Over) (c : After-take_ready g)
     (seen : Watches c.args.seated.now c.watch.new.seated) where
@@ -156,20 +152,14 @@ returns-in_err-take_ready-clause-copies g c =
     (all_seen g path.After-watch c.in-Finished.upto c.in-Finished.is))
     c.in_err-take_ready.ensures.ready.1
 
-pub returns-in_err-take_ready-clause-goes_on : goal.returns-in_err-take_ready-clause-goes_on
-returns-in_err-take_ready-clause-goes_on g c =
-    let path = goal.at.returns-in_err-take_ready-clause-goes_on g c in
+pub returns-in_err-take_ready-clause-copies_on : goal.returns-in_err-take_ready-clause-copies_on
+returns-in_err-take_ready-clause-copies_on g c =
+    let path = goal.at.returns-in_err-take_ready-clause-copies_on g c in
     goes_on c.args.seated.now c.take_ready.new.seated c.args.lock c.args.placed.now
     c.requires.copies
     (tried g path.After-take_ready
     (all_seen g path.After-watch c.in-Finished.upto c.in-Finished.is))
     c.in_err-take_ready.ensures.ready.1
-
-pub returns-in_err-take_ready-clause-log : goal.returns-in_err-take_ready-clause-log
-returns-in_err-take_ready-clause-log g c =
-    let path = goal.at.returns-in_err-take_ready-clause-log g c in
-    (tried g path.After-take_ready
-    (all_seen g path.After-watch c.in-Finished.upto c.in-Finished.is)).log
 
 pub returns-in_err-take_ready-clause-ends : goal.returns-in_err-take_ready-clause-ends
 returns-in_err-take_ready-clause-ends g c =
@@ -205,20 +195,14 @@ returns-in_err-write_known-clause-copies g c =
     (all_seen g path.After-watch c.in-Finished.upto c.in-Finished.is)))
     c.in_err-write_known.ensures.ends.1
 
-pub returns-in_err-write_known-clause-goes_on : goal.returns-in_err-write_known-clause-goes_on
-returns-in_err-write_known-clause-goes_on g c =
-    let path = goal.at.returns-in_err-write_known-clause-goes_on g c in
+pub returns-in_err-write_known-clause-copies_on : goal.returns-in_err-write_known-clause-copies_on
+returns-in_err-write_known-clause-copies_on g c =
+    let path = goal.at.returns-in_err-write_known-clause-copies_on g c in
     goes_on c.args.seated.now c.write_known.new.seated c.args.lock c.args.placed.now
     c.requires.copies
     (written g path.After-write_known (tried g path.After-take_ready
     (all_seen g path.After-watch c.in-Finished.upto c.in-Finished.is)))
     c.in_err-write_known.ensures.ends.1
-
-pub returns-in_err-write_known-clause-log : goal.returns-in_err-write_known-clause-log
-returns-in_err-write_known-clause-log g c =
-    let path = goal.at.returns-in_err-write_known-clause-log g c in
-    (written g path.After-write_known (tried g path.After-take_ready
-    (all_seen g path.After-watch c.in-Finished.upto c.in-Finished.is))).log
 
 pub give_back-requires-clause-may : goal.give_back-requires-clause-may
 give_back-requires-clause-may g c =
@@ -250,21 +234,14 @@ returns-clause-copies g c =
     alone c.args.seated.now c.give_back.new.seated c.args.lock c.args.placed.now
     c.requires.copies (given g at before) (given_rests g at)
 
-pub returns-clause-goes_on : goal.returns-clause-goes_on
-returns-clause-goes_on g c =
-    let path = goal.at.returns-clause-goes_on g c in
+pub returns-clause-copies_on : goal.returns-clause-copies_on
+returns-clause-copies_on g c =
+    let path = goal.at.returns-clause-copies_on g c in
     let at = path.After-give_back in
     let before = written g path.After-write_known (tried g path.After-take_ready
     (all_seen g path.After-watch c.in-Finished.upto c.in-Finished.is)) in
     goes_on c.args.seated.now c.give_back.new.seated c.args.lock c.args.placed.now
     c.requires.copies (given g at before) (given_rests g at)
-
-pub returns-clause-log : goal.returns-clause-log
-returns-clause-log g c =
-    let path = goal.at.returns-clause-log g c in
-    (given g path.After-give_back
-    (written g path.After-write_known (tried g path.After-take_ready
-    (all_seen g path.After-watch c.in-Finished.upto c.in-Finished.is)))).log
 
 pub returns-clause-ends : goal.returns-clause-ends
 returns-clause-ends g c =

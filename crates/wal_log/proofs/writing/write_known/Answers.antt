@@ -7,6 +7,10 @@ use Rattle.wal_log.proofs.Keeping.{changes_up, sets_down, still_up}
 use Rattle.wal_log.proofs.Seated.{view_is}
 use Rattle.wal_log.proofs.writing.write_known.Goals as goal
 
+pub go_down-requires-clause-up : goal.go_down-requires-clause-up
+go_down-requires-clause-up g c = changes_up c.args.seated.now c.write_out.new.seated
+    c.in-Err.ensures.ends.changes c.requires.up
+
 pub returns-in-Err-clause-ends : goal.returns-in-Err-clause-ends
 returns-in-Err-clause-ends g c =
     let down = sets_down (view_of c.write_out.new.seated) (view_of c.go_down.new.seated)

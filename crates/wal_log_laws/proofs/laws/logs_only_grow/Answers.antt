@@ -1,5 +1,17 @@
-use Rattle.wal_log_laws.proofs.Grown.{has_after_join}
+use Rattle.wal_log_laws.proofs.Grown.{begin_grows, commit_grows, flush_try_grows, hard_grows, has_after_join}
 use Rattle.wal_log_laws.proofs.laws.logs_only_grow.Goals as goal
 
 pub returns-clause-join : goal.returns-clause-join
-returns-clause-join c = has_after_join
+returns-clause-join g c = has_after_join
+
+pub returns-clause-commits : goal.returns-clause-commits
+returns-clause-commits g c = commit_grows
+
+pub returns-clause-begins : goal.returns-clause-begins
+returns-clause-begins g c = begin_grows
+
+pub returns-clause-tries : goal.returns-clause-tries
+returns-clause-tries g c = flush_try_grows
+
+pub returns-clause-hard : goal.returns-clause-hard
+returns-clause-hard g c = hard_grows

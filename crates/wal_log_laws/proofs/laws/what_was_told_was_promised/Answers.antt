@@ -1,4 +1,4 @@
-use Rattle.wal_log_laws.proofs.Promised.{commit_tells, reserved, still_entry, still_promise, told_promises, was_promised}
+use Rattle.wal_log_laws.proofs.Promised.{commit_tells, hard_promises, reserved, still_entry, still_promise, told_promises, was_promised}
 use Rattle.wal_log_laws.proofs.laws.what_was_told_was_promised.Goals as goal
 
 pub returns-clause-entry : goal.returns-clause-entry
@@ -6,6 +6,9 @@ returns-clause-entry c = reserved
 
 pub returns-clause-flush : goal.returns-clause-flush
 returns-clause-flush c = told_promises
+
+pub returns-clause-hard : goal.returns-clause-hard
+returns-clause-hard c = hard_promises
 
 pub returns-clause-commit : goal.returns-clause-commit
 returns-clause-commit c = commit_tells

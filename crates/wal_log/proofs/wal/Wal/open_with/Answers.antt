@@ -1,5 +1,5 @@
 use Rattle.std.specs.Prelude.{IfSome}
-use Rattle.std.proofs.Common.{◌≡◌, ℕ, List, None, refl, sym, ap, ◌∙◌, subst}
+use Rattle.std.proofs.Common.{◌≡◌, ℕ, List, None, refl, sym, ap, ◌∙◌, subst, arith}
 use Rattle.segment_disk.specs.Tape.{Tape, page_of_segment, state_now}
 use Rattle.wal_core.proofs.NothingFound.{nothing_opens}
 use Rattle.wal_core.specs.Opened.{IsFirstWriter, first_view}
@@ -21,7 +21,7 @@ pub open-requires-clause-openable : goal.open-requires-clause-openable
 open-requires-clause-openable g c =
     nothing_opens (founded_opening c.of-founding.result)
     (subst (λ (o : Opening). IsSetup o.setup) (sym c.of-founding.ensures.opening) c.requires.setup)
-    refl
+    refl (omega arith)
 
 pub open-requires-clause-writer : goal.open-requires-clause-writer
 open-requires-clause-writer g c =

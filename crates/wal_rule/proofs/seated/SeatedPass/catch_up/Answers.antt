@@ -1,10 +1,8 @@
-use Rattle.std.proofs.Common.{arith, ap, ◌∙◌, subst}
+use Rattle.std.proofs.Common.{arith, subst}
 use Rattle.segment_disk.specs.Tape.{Tape}
-use Rattle.wal_core.specs.Words.{Opening}
-use Rattle.wal_rule.specs.Called.{DeviceCallEnds, IsCalled}
-use Rattle.wal_core.specs.Views.{View}
+use Rattle.wal_rule.specs.Called.{IsCalled}
 use Rattle.wal_rule.specs.Tables.{opening_of_table}
-use Rattle.wal_rule.proofs.DeviceSteps.{call_steady, catches_up}
+use Rattle.wal_rule.proofs.DeviceSteps.{catches_up}
 use Rattle.wal_rule.proofs.Live.{kept_step, live_held}
 use Rattle.wal_rule.proofs.seated.SeatedPass.catch_up.Goals as goal
 

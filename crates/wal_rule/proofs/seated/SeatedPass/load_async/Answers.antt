@@ -1,6 +1,6 @@
 use Rattle.std.proofs.Common.{ℕ, ◌+◌, ◌*◌, ap, ◌∙◌}
 use Rattle.wal_core.specs.declared.setup.Setup.{Setup}
-use Rattle.wal_rule.proofs.MetNumbers.{async_met}
+use Rattle.wal_rule.proofs.MetNumbers.{async_rises}
 use Rattle.wal_rule.proofs.Places.{async_there}
 use Rattle.wal_rule.proofs.seated.SeatedPass.load_async.Goals as goal
 
@@ -12,4 +12,4 @@ loads-requires-clause-there g c = async_there _ _ (c.args.self.now.seat.me).0 _
 
 pub returns-clause-furthest : goal.returns-clause-furthest
 returns-clause-furthest g c =
-    async_met c.args.self.now.seat.me.0 c.loads.result c.loads.ensures.met
+    async_rises c.args.self.now.seat.me.0 c.loads.result c.loads.ensures.met
