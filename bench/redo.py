@@ -20,6 +20,8 @@ import sys
 import tempfile
 import time
 
+sys.dont_write_bytecode = True
+
 from bench import PROGRAM, instructions
 
 IMAGES = 24_000

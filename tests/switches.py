@@ -93,9 +93,6 @@ class Log:
         self.address = SEGMENT
         self.prev = 0
 
-    def header_size(self):
-        return 40 if self.address % SEGMENT == 0 else 24
-
     def put(self, address, text):
         segment = self.segments.setdefault(address // SEGMENT, bytearray(SEGMENT))
         segment[address % SEGMENT:address % SEGMENT + len(text)] = text
@@ -141,7 +138,7 @@ class Log:
 
 
 def filler(chance, left):
-    """An insert behind which so many bytes of its segment are left, out of these."""
+    """An insert of so many bytes in all, or None where no header gives that size."""
     for short, head in ((True, 26), (False, 29)):
         count = left - head
         if count > 0 and (count < 256) == short:
@@ -211,6 +208,7 @@ def trial(chance):
 def main():
     trials = int(sys.argv[1]) if len(sys.argv) > 1 else 100
     seed = int(sys.argv[2]) if len(sys.argv) > 2 else random.randrange(1 << 32)
+    print(f"seed {seed}", flush=True)
     failed = 0
     for number in range(trials):
         said = trial(random.Random(f"{seed} {number}"))

@@ -31,6 +31,12 @@ as_server() {
 
 server() { as_server "$programs/pg_ctl" -D "$base/data" -w "$@" >"$base/said" 2>&1; }
 
+# failed: ends with what the server said last
+failed() {
+  cat "$base/said" "$base/server" >&2
+  exit 1
+}
+
 sql() { as_server "$programs/psql" -h "$base" -d postgres -qAtc "$1" >"$base/said" || exit 1; }
 
 # cluster: a server with segments of 1 MiB that keeps its whole log
@@ -49,7 +55,7 @@ max_wal_size = '1GB'
 CONF
   export PGUSER=postgres
   trap 'server stop -m immediate; rm -rf "$base"' EXIT
-  server start -l "$base/server" || exit 1
+  server start -l "$base/server" || failed
 }
 
 # work: what the log is to have
@@ -89,7 +95,7 @@ compared() { sed -E -e 's/, desc: .*(, blkref #0.*)$/\1/' -e t -e 's/, desc: .*/
 
 cluster
 work
-server stop -m fast || exit 1
+server stop -m fast || failed
 copied
 first=$(ls "$base/copy/pg_wal" | head -n 1)
 start=0/$(printf %X $((16#${first:16} * size)))
@@ -100,5 +106,6 @@ compared <"$base/listing" >"$base/ours"
 equal 'as many lines' "$(wc -l <"$base/ours")" "$(wc -l <"$base/theirs")"
 cmp "$base/ours" "$base/theirs"
 equal 'the same lines' $? 0
-equal 'five segment switches' "$(grep -c 'desc: SWITCH' "$base/listing")" 5
+# (a server's own record between two switches in a row makes the second one count)
+equal 'five segment switches or more' "$(($(grep -c 'desc: SWITCH' "$base/listing") >= 5))" 1
 tell

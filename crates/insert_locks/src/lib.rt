@@ -13,6 +13,6 @@ mod seeing;
 mod taking;
 mod watching;
 
-pub use seeing::see_end;
+pub use seeing::{see_end, see_reserved};
 pub use taking::{AllHeld, try_take};
 pub use watching::{Watched, watch};

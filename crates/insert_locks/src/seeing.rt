@@ -32,9 +32,10 @@ pub fn see_end<'p, D: Disk>(seated: &mut SeatedPass<'p, D>, upto: u64) -> u64
     upto.min(see_reserved(seated))
 }
 
-// Loads the position, and tells the end of what is reserved, which is a multiple of 8 as each
-// record's end is. Of the view only what is seen has changed, which is the position met.
-pub(crate) fn see_reserved<'p, D: Disk>(seated: &mut SeatedPass<'p, D>) -> u64
+/// Loads the position, and tells the end of what is reserved, which is a multiple of 8 as each
+/// record's end is.
+pub fn see_reserved<'p, D: Disk>(seated: &mut SeatedPass<'p, D>) -> u64
+    // Of the view only what is seen has changed, which is the position met.
     ensures rises { (view_of seated.old).reserving.seen ≤ (view_of seated.new).reserving.seen }
     ensures end { result ≡ end_form (setup_of seated.old) (view_of seated.new).reserving.seen }
     ensures begun { (setup_of seated.old).segment_size ≤ result }

@@ -5,6 +5,8 @@
 #[cfg(test)]
 mod answers;
 #[cfg(test)]
+mod behind;
+#[cfg(test)]
 mod filled;
 #[cfg(test)]
 mod held_sync;

@@ -54,6 +54,7 @@ module _ (setup : Setup) (body : Assembled) (old new : View) (lock start : ℕ)
     spare = ap (λ (v : View). (v.reserving).spare) new_is;
     spare_end = ap (λ (v : View). (v.reserving).spare_end) new_is;
     joined = ap (λ (v : View). (v.reserving).joined) new_is;
+    counts = (let same = ap (λ (v : View). v.async_met) new_is in omega (arith, same));
     rises = omega (arith, seen_is, r.behind_seen);
     down = λ faults knows. subst (KnowsDown faults) (sym new_is) knows;
   }
@@ -128,6 +129,7 @@ module _ (v : View) where
     spare = refl;
     spare_end = refl;
     joined = refl;
+    counts = omega arith;
     rises = le-max_left (v.reserving).seen n;
     down = λ faults knows. knows;
   }
@@ -140,6 +142,7 @@ module _ (v : View) where
     spare = refl;
     spare_end = refl;
     joined = refl;
+    counts = omega arith;
     rises = le-max_left (v.reserving).seen at;
     down = λ faults knows. knows;
   }
@@ -379,6 +382,7 @@ module _ (old loaded : View) (met : ℕ) (load : loaded ≡ view_behind old load
           spare = keeps.spare;
           spare_end = keeps.spare_end;
           joined = keeps.joined;
+          counts = keeps.counts;
           rises = keeps.rises;
           down = keeps.down;
         })

@@ -166,6 +166,7 @@ module _ (setup : Setup) (p : PlacedState) (v : View) where
       spare = refl;
       spare_end = refl;
       joined = refl;
+      counts = omega arith;
       rises = omega arith;
       down = λ faults knows. knows;
     };
@@ -200,6 +201,7 @@ module _ (setup : Setup) (p : PlacedState) (v : View) where
       spare = refl;
       spare_end = refl;
       joined = refl;
+      counts = omega arith;
       rises = omega arith;
       down = λ faults knows. knows;
     };

@@ -111,6 +111,7 @@ flushed_work flushed old new is = subst (λ (w : View). KeepsWork old w) (sym is
     spare = refl;
     spare_end = refl;
     joined = refl;
+    counts = omega arith;
     rises = omega arith;
     down = λ faults knows. knows;
   };
@@ -182,6 +183,7 @@ module _ (upto moment flushed : ℕ) (hold : Hold) (old new : View)
       spare = refl;
       spare_end = refl;
       joined = refl;
+      counts = omega arith;
       rises = omega arith;
       down = λ faults knows. knows;
     };

@@ -25,6 +25,7 @@ same_pass v = record {
   spare = refl;
   spare_end = refl;
   joined = refl;
+  counts = omega arith;
   rises = omega arith;
   down = λ faults knows. knows;
 }
@@ -38,6 +39,7 @@ told_pass upto v = record {
   spare = refl;
   spare_end = refl;
   joined = refl;
+  counts = omega arith;
   rises = omega arith;
   down = λ faults knows. knows;
 }
@@ -50,6 +52,7 @@ further_pass a b c x y = record {
   spare = y.spare ∙ x.spare;
   spare_end = y.spare_end ∙ x.spare_end;
   joined = y.joined ∙ x.joined;
+  counts = omega (arith, x.counts, y.counts);
   rises = omega (arith, x.rises, y.rises);
   down = λ faults knows. y.down faults (x.down faults knows);
 }
@@ -86,6 +89,7 @@ downs_keep v hold met set knows = record {
     spare = refl;
     spare_end = refl;
     joined = refl;
+    counts = omega arith;
     rises = omega arith;
     down = λ faults before. (before.0, knows faults before);
   };

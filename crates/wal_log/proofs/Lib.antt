@@ -1,5 +1,7 @@
 pub mod AddingNothing
+pub mod AheadLaws
 pub mod BeginLaws
+pub mod BehindLaws
 pub mod Closes
 pub mod CommitLaws
 pub mod CopyLaws

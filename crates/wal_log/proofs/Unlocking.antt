@@ -22,6 +22,7 @@ rested_keeps old v k = record {
   spare = k.spare;
   spare_end = k.spare_end;
   joined = k.joined;
+  counts = k.counts;
   rises = k.rises;
   down = k.down;
 }

@@ -38,6 +38,7 @@ watched_leaves seen watching old new rises is =
           spare = refl;
           spare_end = refl;
           joined = refl;
+          counts = omega arith;
           rises = rises;
           down = λ faults knows. knows;
         };

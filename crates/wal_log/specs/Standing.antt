@@ -14,7 +14,7 @@ use Rattle.wal_log.specs.PassLogs.{log_of_pass}
 -- ---- what stays of its view
 
 -- a pass keeps its number and its spare ones, the passes that it took in, and what it knows of a
--- failed disk; and it has seen no less of the order than before
+-- failed disk; it has seen no less of the order than before, and counts no less of it as answered
 pub record KeepsPass (old new : View) : Type 0 where
   pub opening : new.opening ≡ old.opening
   pub live : (new.reserving).live ≡ (old.reserving).live
@@ -23,6 +23,7 @@ pub record KeepsPass (old new : View) : Type 0 where
   pub spare_end : (new.reserving).spare_end ≡ (old.reserving).spare_end
   pub joined : (new.reserving).joined ≡ (old.reserving).joined
   pub rises : (old.reserving).seen ≤ (new.reserving).seen
+  pub counts : old.async_met ≤ new.async_met
   pub down : (faults : ℕ) → KnowsDown faults old → KnowsDown faults new
 
 -- and it is about what it was about: a place, locks and an entry, and a page that it maps

@@ -4,11 +4,14 @@
 //!
 //! `wal` says what a pass may hold at once. An insert is `inserting`: its place is reserved in
 //! `beginning`, its words are copied in `copying`. Its steps are calls of their own in `in_flight`.
-//! A flush is `flushing`; `promised` tells what is durable without one. `writing` and `turns` serve
-//! a flush, and an insert that needs a buffer.
+//! A flush is `flushing`; `promised` tells what is durable without one. `ahead` answers a commit
+//! before it is durable, and `behind` flushes behind such commits. `writing` and `turns` serve a
+//! flush, and an insert that needs a buffer.
 #![tactic(auto)]
 
+mod ahead;
 mod beginning;
+mod behind;
 mod closing;
 mod committing;
 mod copying;
@@ -26,6 +29,7 @@ mod wal;
 mod writing;
 
 pub use beginning::TryErr;
+pub use behind::Caught;
 pub use closing::Closed;
 pub use copying::{Absent, Copied, CopyStop};
 pub use fault::Fault;

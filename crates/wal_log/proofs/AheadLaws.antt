@@ -1,0 +1,219 @@
+-- What a step that loads or raises the async address leaves, which no other part of a view reads.
+use Rattle.std.proofs.Common.{◌≡◌, ◌≢◌, ℕ, ◌%◌, ◌<◌, ◌≤◌, Bool, Contains, List, [], ◌∷◌, zero, suc, max, refl, sym, ap, ◌∙◌, subst, eq-eqb, ne_eqb, arith}
+use Rattle.std.proofs.Math.Logic.{∥∥₁_elim}
+use Rattle.std.specs.Coded.{Coded-set, coded_ℕ}
+use Rattle.std.specs.Prelude.{if◌then◌else◌, ◌==◌, Result, Err}
+use mathlib.Core.Option.{none}
+use Rattle.byte_position.specs.Position.{first_position}
+use Rattle.byte_position.specs.Geometry.{IsSegmentSize}
+use Rattle.byte_position.proofs.EndAddresses.{end_address_of-mono}
+use Rattle.byte_position.proofs.Words.{end_address_of-mod_word}
+use Rattle.record_spelling.specs.Spelling.{Assembled}
+use Rattle.wal_types.specs.declared.answers.Receipt.{Receipt}
+use Rattle.wal_page.specs.Order.{Entry, FollowsFrom, finish_of, position_behind}
+use Rattle.wal_page.proofs.WordPositions.{first_position-whole}
+use Rattle.wal_core.specs.declared.setup.Setup.{Setup}
+use Rattle.wal_core.specs.Steps.{IsResting, load_async, raise_async, view_behind, MayStep}
+use Rattle.wal_core.specs.Views.{View}
+use Rattle.wal_core.specs.Words.{Opening, end_form}
+use Rattle.wal_rule.specs.declared.seated.SeatedPass.{SeatedPass}
+use Rattle.wal_rule.specs.SeatedPasses.{HasView, StandsAtRest, Steps, hand_of, setup_of, view_of}
+use Rattle.wal_log.specs.Behind.{RaisesAsync, with_async_met}
+use Rattle.wal_log.specs.declared.inserting.InsertErr.{InsertErr}
+use Rattle.wal_log.specs.Inserting.{IsReceipt}
+use Rattle.wal_log.specs.Standing.{ComesToRest, KeepsPass}
+use Rattle.wal_log.specs.Whole.{StandsWhole}
+use Rattle.wal_log.proofs.Keeping.{further_pass}
+use Rattle.wal_log.proofs.WholeLaws.{copied_behind}
+use Rattle.wal_log.proofs.Seated.{hand_is, own_setup, view_is}
+
+-- ---- the view
+
+pub keeps_async : (n : ℕ) (v : View) → v.async_met ≤ n → KeepsPass v (with_async_met n v)
+keeps_async n v low = record {
+  opening = refl;
+  live = refl;
+  number = refl;
+  spare = refl;
+  spare_end = refl;
+  joined = refl;
+  counts = low;
+  rises = omega arith;
+  down = λ faults knows. knows;
+}
+
+pub rests_async : (n : ℕ) (v : View) → IsResting v → IsResting (with_async_met n v)
+rests_async n v rests = record {
+  place = rests.place;
+  locks = rests.locks;
+  flight = rests.flight;
+  stage = rests.stage;
+  hold = rests.hold;
+}
+
+-- a load leaves the number met, where less was met before
+pub async_loaded : (met : ℕ) (v : View) → v.async_met ≤ met
+    → view_behind v load_async met none ≡ with_async_met met v
+async_loaded met v low =
+    let is : max v.async_met met ≡ met = omega arith in
+    ap (λ (n : ℕ). with_async_met n v) is
+
+abbrev raised : (expected upto met : ℕ) → View → ℕ
+raised expected upto met v = max v.async_met (if met == expected then upto else met)
+
+-- ---- at a table
+
+module _ {D : Type 0} where
+  -- the number is set, and is no less
+  pub raises : (n : ℕ) (old new : SeatedPass D) → (view_of old).async_met ≤ n
+      → HasView (with_async_met n (view_of old)) old new → RaisesAsync old new
+  raises n old new low has =
+      let is : (view_of new).async_met ≡ n = ap (λ (v : View). v.async_met) (view_is has) in
+      record {
+        view = subst (λ (k : ℕ). HasView (with_async_met k (view_of old)) old new) (sym is) has;
+        rises = omega (arith, is, low);
+      }
+
+  pub raises_on : (a b c : SeatedPass D) → RaisesAsync a b → RaisesAsync b c → RaisesAsync a c
+  raises_on a b c x y = record {
+    view = record {
+      same_table = (y.view).same_table ∙ (x.view).same_table;
+      me_is = (y.view).me_is
+          ∙ ap (λ (v : View). (with_async_met (view_of c).async_met v, hand_of b))
+          (view_is x.view)
+          ∙ ap (λ h. (with_async_met (view_of c).async_met (view_of a), h)) (hand_is x.view);
+    };
+    rises = omega (arith, x.rises, y.rises);
+  }
+
+  pub load_raises : (met : ℕ) (old new : SeatedPass D) → (view_of old).async_met ≤ met
+      → Steps load_async met old new → RaisesAsync old new
+  load_raises met old new low steps = raises met old new low (record {
+    same_table = steps.same_table;
+    me_is = steps.me_is ∙ ap (λ (v : View). (v, hand_of old)) (async_loaded met (view_of old) low);
+  })
+
+  pub exchange_raises : (expected upto met : ℕ) (old new : SeatedPass D)
+      → Steps (raise_async expected upto) met old new → RaisesAsync old new
+  exchange_raises expected upto met old new steps =
+      raises (raised expected upto met (view_of old)) old new (omega arith) steps
+
+  -- the address is stored where what was met was expected; else more was met
+  pub exchange_stores : (expected upto met : ℕ) (old new : SeatedPass D) → met ≡ expected
+      → Steps (raise_async expected upto) met old new → upto ≤ (view_of new).async_met
+  exchange_stores expected upto met old new same steps =
+      let is : (view_of new).async_met ≡ raised expected upto met (view_of old) =
+      ap (λ (v : View). v.async_met) (view_is steps) in
+      let stored : raised expected upto met (view_of old) ≡ max (view_of old).async_met upto =
+      ap (λ (b : Bool). max (view_of old).async_met (if b then upto else met))
+      (eq-eqb met expected same) in
+      omega (arith, is, stored)
+
+  pub exchange_learns : (expected upto met : ℕ) (old new : SeatedPass D) → met ≢ expected
+      → Steps (raise_async expected upto) met old new → met ≤ (view_of new).async_met
+  exchange_learns expected upto met old new other steps =
+      let is : (view_of new).async_met ≡ raised expected upto met (view_of old) =
+      ap (λ (v : View). v.async_met) (view_is steps) in
+      let learned : raised expected upto met (view_of old) ≡ max (view_of old).async_met met =
+      ap (λ (b : Bool). max (view_of old).async_met (if b then upto else met))
+      (ne_eqb met expected other) in
+      omega (arith, is, learned)
+
+  -- a pass that was about nothing may raise it, up to what it had seen reserved
+  pub may_raise : (old new : SeatedPass D) → StandsAtRest old → RaisesAsync old new
+      → (expected upto : ℕ) → expected < upto
+      → upto ≤ end_form (setup_of old) ((view_of old).reserving).seen → upto % 8 ≡ 0
+      → MayStep (view_of new) (raise_async expected upto)
+  may_raise old new rests raised expected upto less reserved whole =
+      subst (λ (v : View). MayStep v (raise_async expected upto)) (sym (view_is raised.view)) (
+        less,
+        subst (λ (s : Setup). upto ≤ end_form s ((view_of old).reserving).seen)
+            (sym (own_setup old)) reserved,
+        whole,
+        (rests.rests).flight,
+      )
+
+  -- a call that raises it comes to rest
+  pub raised_rests : (old mid new : SeatedPass D) → ComesToRest old mid → RaisesAsync mid new
+      → ComesToRest old new
+  raised_rests old mid new comes raised =
+      let is = view_is raised.view in
+      let n : ℕ = (view_of new).async_met in record {
+        same_table = (raised.view).same_table ∙ comes.same_table;
+        keeps = further_pass (view_of old) (view_of mid) (view_of new) comes.keeps
+            (subst (KeepsPass (view_of mid)) (sym is) (keeps_async n (view_of mid) raised.rises));
+        rests = record {
+          rests = subst IsResting (sym is) (rests_async n (view_of mid) (comes.rests).rests);
+          empty = hand_is raised.view ∙ (comes.rests).empty;
+        };
+      }
+
+-- ---- entries end at words
+
+starts_whole : (size position : ℕ) (es : List Entry) → position % 8 ≡ 0
+    → FollowsFrom size position es → (e : Entry) → Contains es e → e.start % 8 ≡ 0
+starts_whole size position [] whole follows e (k, low, is) = absurd (omega (arith, low))
+starts_whole size position (x ∷ xs) whole follows e (zero, low, is) =
+    let same = ap (λ (y : Entry). y.start) is in omega (arith, same, follows.0, whole)
+starts_whole size position (x ∷ xs) whole follows e (suc k, low, is) =
+    starts_whole size (position_behind size x) xs (omega (arith, follows.0, whole)) follows.2 e
+    (k, omega (arith, low), is)
+
+finish_is_whole : (v : View) (e : Entry) → StandsWhole v e
+    → finish_of ((v.opening).setup).segment_size e % 8 ≡ 0
+finish_is_whole v e stands =
+    let sound = (stands.stands).sound in
+    let size : ℕ = ((v.opening).setup).segment_size in
+    let valid = (sound.setup_is).size in
+    let start = starts_whole size (first_position size) sound.order
+    (first_position-whole size valid) (sound.reserved).chained e stands.in_order in
+    end_address_of-mod_word size valid (position_behind size e) (omega (arith, start))
+
+-- ---- a record that was inserted
+
+module _ (setup : Setup) (body : Assembled) (old v : View) (receipt : Receipt)
+    (told : IsReceipt setup body old v receipt) where
+  -- is so still
+  pub received_still : (n : ℕ) (new : View) → v.async_met ≤ n → new ≡ with_async_met n v
+      → IsReceipt setup body old new receipt
+  received_still n new low is =
+      subst (λ (w : View). IsReceipt setup body old w receipt) (sym is) (record {
+        entry = told.entry;
+        reserved = record {
+          own = (told.reserved).own;
+          log_is = (told.reserved).log_is;
+          seen = (told.reserved).seen;
+        };
+        copied = copied_behind old v (with_async_met n v) told.entry (keeps_async n v low) told.copied;
+        start_is = told.start_is;
+        end_is = told.end_is;
+        up = record { met = (told.up).met; set = (told.up).set };
+      })
+
+  -- its end is seen reserved
+  pub end_reserved : IsSegmentSize setup.segment_size
+      → receipt.end.0 ≤ end_form setup (v.reserving).seen
+  end_reserved size =
+      let seen = (told.reserved).seen in
+      let low = end_address_of-mono setup.segment_size size
+      (position_behind setup.segment_size told.entry) (v.reserving).seen seen in
+      omega (arith, told.end_is, low)
+
+  -- and ends at a word, as each entry of an order
+  pub end_whole : (v.opening).setup ≡ setup → receipt.end.0 % 8 ≡ 0
+  end_whole own =
+      let copied = told.copied in
+      let same : ((copied.view).opening).setup ≡ setup =
+      ap (λ (o : Opening). o.setup) (sym (copied.until).opening) ∙ own in
+      let whole : finish_of setup.segment_size told.entry % 8 ≡ 0 =
+      subst (λ (s : Setup). finish_of s.segment_size told.entry % 8 ≡ 0) same
+      (∥∥₁_elim copied.whole (Coded-set coded_ℕ _ _)
+      (finish_is_whole copied.view told.entry)) in
+      omega (arith, told.end_is, whole)
+
+abbrev failed : InsertErr → Result Receipt InsertErr
+failed e = Err e
+
+-- the refusal told is the insert's
+pub same_refusal : (e f : InsertErr) → failed e ≡ failed f → e ≡ f
+same_refusal e f is = cc

@@ -1,0 +1,103 @@
+// A commit is answered before it is durable (PostgreSQL's xact.c, RecordTransactionCommit with
+// synchronous_commit off; xlog.c, XLogSetAsyncXactLSN): an insert, then the last word, the async
+// address, is raised to the record's end. It is raised behind the copy: who flushes behind takes
+// the address as its goal, and what it is told to flush is whole. Nothing is held meanwhile, and
+// others may raise it further in between: then nothing is stored. It makes no device call for it.
+// What is answered so may be lost in a crash, until a flush by anybody has passed its end.
+ghost use Rattle.std.specs.Prelude.{◌≡◌, ◌%◌, ◌≤◌, Err, IfOk, None};
+ghost use Rattle.wal_core.specs.Words.{end_form};
+ghost use Rattle.wal_rule.specs.Downs.{KnowsDown};
+ghost use Rattle.wal_rule.specs.Passes.{view_of_pass};
+ghost use Rattle.wal_rule.specs.SeatedPasses.{StandsAtRest, setup_of, view_of};
+ghost use Rattle.wal_log.specs.Behind.{RaisesAsync};
+ghost use Rattle.wal_log.specs.Inserting.{AnswersInsert};
+ghost use Rattle.wal_log.specs.Logs.{IsPassOfLog, setup_of_log};
+ghost use Rattle.wal_log.specs.Standing.{ComesToRest, KeepsPass};
+ghost use Rattle.wal_log.specs.declared.inserting.InsertErr.TheVariants.{Down};
+
+use crate::inserting::{InsertErr, insert_on};
+use crate::wal::Wal;
+use crossbeam_utils::Backoff;
+use record_spelling::Body;
+use segment_disk::Disk;
+use std::sync::Wait;
+use wal_rule::{Pass, SeatedPass};
+use wal_types::Receipt;
+
+impl<D: Disk> Wal<D> {
+    /// Puts a record behind all that is reserved, copies it, and counts it as answered: an insert,
+    /// behind which `write_behind` flushes up to the record's end or further. It is not durable
+    /// before a flush.
+    pub fn commit_async<R: Wait>(
+        &self,
+        rt: &R,
+        pass: &mut Pass,
+        body: &Body,
+    ) -> Result<Receipt, InsertErr>
+        requires pass { IsPassOfLog self.now pass.old }
+        // As an insert tells it, and refuses it.
+        ensures inserts { AnswersInsert (setup_of_log self.now) body.now
+            (view_of_pass pass.old) result (view_of_pass pass.new) }
+        // The pass has met or stored an async address that is no less than the record's end: who
+        // flushes behind reaches it.
+        ensures counts { IfOk result (λ receipt.
+            receipt.end.0 ≤ (view_of_pass pass.new).async_met) }
+        // A pass that knows of a failed disk is told of it, and reserves nothing.
+        ensures down_again { (faults : _) → KnowsDown faults (view_of_pass pass.old)
+            → result ≡ Err (Down faults None) }
+        // However it ends, the pass is about nothing, with its numbers and all that it had seen.
+        ensures keeps { KeepsPass (view_of_pass pass.old) (view_of_pass pass.new) }
+        ensures pass { IsPassOfLog self.now pass.new }
+    {
+        let mut seated = pass.seat(&self.table);
+        let answer = commit_async_on(rt, &mut seated, body);
+        pass.put_back(seated);
+        answer
+    }
+}
+
+// The commit of a pass, which is about nothing before it and behind it. It leaves of the pass what
+// `Wal::commit_async` says.
+fn commit_async_on<'p, D: Disk, R: Wait>(
+    rt: &R,
+    seated: &mut SeatedPass<'p, D>,
+    body: &Body,
+) -> Result<Receipt, InsertErr>
+    requires rests { StandsAtRest seated.old }
+    ensures inserts { AnswersInsert (setup_of seated.old) body.now (view_of seated.old) result
+        (view_of seated.new) }
+    ensures counts { IfOk result (λ receipt. receipt.end.0 ≤ (view_of seated.new).async_met) }
+    ensures down_again { (faults : _) → KnowsDown faults (view_of seated.old)
+        → result ≡ Err (Down faults None) }
+    ensures rests { ComesToRest seated.old seated.new }
+{
+    let receipt = insert_on(rt, seated, body)?;
+    raise(rt, seated, receipt.end.0);
+    Ok(receipt)
+}
+
+// Raises the async address to an address at least, by as many tries as it takes: one that finds
+// another address than was met last has learned a higher one.
+fn raise<'p, D: Disk, R: Wait>(rt: &R, seated: &mut SeatedPass<'p, D>, upto: u64)
+    requires rests { StandsAtRest seated.old }
+    // The pass has seen so much reserved.
+    requires reserved { upto ≤ end_form (setup_of seated.old) (view_of seated.old).reserving.seen }
+    requires whole { upto % 8 ≡ 0 }
+    ensures reached { upto ≤ (view_of seated.new).async_met }
+    ensures raises { RaisesAsync seated.old seated.new }
+{
+    let backoff = Backoff::new();
+    let mut met = seated.load_async();
+    for _ in rt.forever() {
+        if met >= upto {
+            return;
+        }
+        let found = seated.raise_async(met, upto);
+        if found == met {
+            return;
+        }
+        met = found;
+        backoff.snooze();
+    }
+    unreachable!()
+}

@@ -1,0 +1,99 @@
+// The log is flushed behind commits that were answered already (PostgreSQL's xlog.c,
+// XLogBackgroundFlush, as its WAL writer calls it). The down value is loaded (word 16), then the
+// flushed address (14), the async address (the last word), and the position (0) behind that: so
+// what is answered is seen reserved. Whole pages come first: where the page that holds the reserved
+// end starts above the flushed address, the log is flushed up to that start, else up to the async
+// address, also in the midst of a page. Where neither is above, nothing is to be done, and no
+// device call is made. No clock drives it: who calls it says how soon a commit becomes durable.
+ghost use Rattle.std.specs.Prelude.{◌≡◌};
+ghost use Rattle.wal_rule.specs.Downs.{KnowsDown};
+ghost use Rattle.wal_rule.specs.Passes.{view_of_pass};
+ghost use Rattle.wal_rule.specs.SeatedPasses.{StandsAtRest, StaysSeated, view_of};
+ghost use Rattle.wal_log.specs.Behind.{AnswersBehind, SeesTarget, behind_known_down};
+ghost use Rattle.wal_log.specs.Logs.{IsPassOfLog};
+ghost use Rattle.wal_log.specs.Standing.{ComesToRest, KeepsPass};
+
+use crate::flushing::{FlushErr, flush_on};
+use crate::wal::Wal;
+use byte_position::PAGE_SIZE;
+use insert_locks::see_reserved;
+use segment_disk::Disk;
+use std::sync::Wait;
+use wal_rule::{Pass, SeatedPass};
+use wal_types::{Hard, Lsn};
+
+/// What a call that flushes behind has done.
+#[derive(Clone, Copy, Debug, PartialEq, Eq)]
+pub enum Caught {
+    /// It has flushed, or found that somebody had.
+    Flushed(Hard),
+    /// There was nothing to flush: all answered commits, and all whole pages, lie below this
+    /// flushed address.
+    Idle { upto: Lsn },
+}
+
+impl<D: Disk> Wal<D> {
+    /// Flushes what is answered and not durable, whole pages first: up to the start of the page
+    /// that holds the reserved end where that is not flushed, else up to the last commit that was
+    /// answered ahead. It waits as a flush does.
+    pub fn write_behind<R: Wait>(&self, rt: &R, pass: &mut Pass) -> Result<Caught, FlushErr>
+        requires pass { IsPassOfLog self.now pass.old }
+        // A flush is told, of an address that reaches the page of all that the pass had seen. Or
+        // the flushed address is told, which that page and all that the pass counts as answered
+        // have not passed. Or it is refused as a flush of what is reserved, and adds nothing.
+        ensures catches { AnswersBehind (view_of_pass pass.old) result (view_of_pass pass.new) }
+        // A pass that knows of a failed disk is told of it.
+        ensures down_again { (faults : _) → KnowsDown faults (view_of_pass pass.old)
+            → result ≡ behind_known_down faults }
+        // However it ends, the pass is about nothing, with its numbers and all that it had seen.
+        ensures keeps { KeepsPass (view_of_pass pass.old) (view_of_pass pass.new) }
+        ensures pass { IsPassOfLog self.now pass.new }
+    {
+        let mut seated = pass.seat(&self.table);
+        let answer = write_behind_on(rt, &mut seated);
+        pass.put_back(seated);
+        answer
+    }
+}
+
+// It leaves of the pass what `Wal::write_behind` says.
+fn write_behind_on<'p, D: Disk, R: Wait>(
+    rt: &R,
+    seated: &mut SeatedPass<'p, D>,
+) -> Result<Caught, FlushErr>
+    requires rests { StandsAtRest seated.old }
+    ensures catches { AnswersBehind (view_of seated.old) result (view_of seated.new) }
+    ensures down_again { (faults : _) → KnowsDown faults (view_of seated.old)
+        → result ≡ behind_known_down faults }
+    ensures rests { ComesToRest seated.old seated.new }
+{
+    let faults = seated.load_down();
+    if faults != 0 {
+        return Err(FlushErr::Down { faults });
+    }
+    let (flushed, target) = see_target(seated);
+    if target <= flushed {
+        let upto = Lsn(flushed);
+        return Ok(Caught::Idle { upto });
+    }
+    match flush_on(rt, seated, Lsn(target)) {
+        Ok(hard) => Ok(Caught::Flushed(hard)),
+        Err(e) => Err(e),
+    }
+}
+
+// Loads the flushed address and tells it, with the address up to which is to be flushed, which is
+// reserved: the position is loaded behind the async address.
+fn see_target<'p, D: Disk>(seated: &mut SeatedPass<'p, D>) -> (u64, u64)
+    ensures sees { SeesTarget result.0 result.1 (view_of seated.old) (view_of seated.new) }
+    ensures stays { StaysSeated seated.old seated.new }
+{
+    let flushed = seated.load_flushed();
+    let answered = seated.load_async();
+    let end = see_reserved(seated);
+    let page = end - end % PAGE_SIZE;
+    if flushed < page {
+        return (flushed, page);
+    }
+    (flushed, answered)
+}
