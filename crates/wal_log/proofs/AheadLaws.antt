@@ -3,7 +3,6 @@ use Rattle.std.proofs.Common.{◌≡◌, ◌≢◌, ℕ, ◌%◌, ◌<◌, ◌�
 use Rattle.std.proofs.Math.Logic.{∥∥₁_elim}
 use Rattle.std.specs.Coded.{Coded-set, coded_ℕ}
 use Rattle.std.specs.Prelude.{if◌then◌else◌, ◌==◌, Result, Err}
-use mathlib.Core.Option.{none}
 use Rattle.byte_position.specs.Position.{first_position}
 use Rattle.byte_position.specs.Geometry.{IsSegmentSize}
 use Rattle.byte_position.proofs.EndAddresses.{end_address_of-mono}
@@ -13,12 +12,13 @@ use Rattle.wal_types.specs.declared.answers.Receipt.{Receipt}
 use Rattle.wal_page.specs.Order.{Entry, FollowsFrom, finish_of, position_behind}
 use Rattle.wal_page.proofs.WordPositions.{first_position-whole}
 use Rattle.wal_core.specs.declared.setup.Setup.{Setup}
-use Rattle.wal_core.specs.Steps.{IsResting, load_async, raise_async, view_behind, MayStep}
+use Rattle.wal_core.specs.Moves.{with_async}
+use Rattle.wal_core.specs.Steps.{IsResting, load_async, raise_async, MayStep}
 use Rattle.wal_core.specs.Views.{View}
 use Rattle.wal_core.specs.Words.{Opening, end_form}
 use Rattle.wal_rule.specs.declared.seated.SeatedPass.{SeatedPass}
 use Rattle.wal_rule.specs.SeatedPasses.{HasView, StandsAtRest, Steps, hand_of, setup_of, view_of}
-use Rattle.wal_log.specs.Behind.{RaisesAsync, with_async_met}
+use Rattle.wal_log.specs.Behind.{RaisesAsync}
 use Rattle.wal_log.specs.declared.inserting.InsertErr.{InsertErr}
 use Rattle.wal_log.specs.Inserting.{IsReceipt}
 use Rattle.wal_log.specs.Standing.{ComesToRest, KeepsPass}
@@ -29,20 +29,20 @@ use Rattle.wal_log.proofs.Seated.{hand_is, own_setup, view_is}
 
 -- ---- the view
 
-pub keeps_async : (n : ℕ) (v : View) → v.async_met ≤ n → KeepsPass v (with_async_met n v)
-keeps_async n v low = record {
+pub keeps_async : (n : ℕ) (v : View) → KeepsPass v (with_async n v)
+keeps_async n v = record {
   opening = refl;
   live = refl;
   number = refl;
   spare = refl;
   spare_end = refl;
   joined = refl;
-  counts = low;
+  counts = omega arith;
   rises = omega arith;
   down = λ faults knows. knows;
 }
 
-pub rests_async : (n : ℕ) (v : View) → IsResting v → IsResting (with_async_met n v)
+pub rests_async : (n : ℕ) (v : View) → IsResting v → IsResting (with_async n v)
 rests_async n v rests = record {
   place = rests.place;
   locks = rests.locks;
@@ -51,27 +51,22 @@ rests_async n v rests = record {
   hold = rests.hold;
 }
 
--- a load leaves the number met, where less was met before
-pub async_loaded : (met : ℕ) (v : View) → v.async_met ≤ met
-    → view_behind v load_async met none ≡ with_async_met met v
-async_loaded met v low =
-    let is : max v.async_met met ≡ met = omega arith in
-    ap (λ (n : ℕ). with_async_met n v) is
-
 abbrev raised : (expected upto met : ℕ) → View → ℕ
 raised expected upto met v = max v.async_met (if met == expected then upto else met)
 
 -- ---- at a table
 
 module _ {D : Type 0} where
-  -- the number is set, and is no less
-  pub raises : (n : ℕ) (old new : SeatedPass D) → (view_of old).async_met ≤ n
-      → HasView (with_async_met n (view_of old)) old new → RaisesAsync old new
-  raises n old new low has =
-      let is : (view_of new).async_met ≡ n = ap (λ (v : View). v.async_met) (view_is has) in
-      record {
-        view = subst (λ (k : ℕ). HasView (with_async_met k (view_of old)) old new) (sym is) has;
-        rises = omega (arith, is, low);
+  -- the number is met
+  pub raises : (n : ℕ) (old new : SeatedPass D) → HasView (with_async n (view_of old)) old new
+      → RaisesAsync old new
+  raises n old new has =
+      let is : (view_of new).async_met ≡ max (view_of old).async_met n =
+      ap (λ (v : View). v.async_met) (view_is has) in
+      let same : max (view_of old).async_met n
+      ≡ max (view_of old).async_met (view_of new).async_met = omega (arith, is) in record {
+        view = subst (λ (k : ℕ). HasView (record (view_of old) { async_met = k }) old new) same has;
+        rises = omega (arith, is);
       }
 
   pub raises_on : (a b c : SeatedPass D) → RaisesAsync a b → RaisesAsync b c → RaisesAsync a c
@@ -79,24 +74,28 @@ module _ {D : Type 0} where
     view = record {
       same_table = (y.view).same_table ∙ (x.view).same_table;
       me_is = (y.view).me_is
-          ∙ ap (λ (v : View). (with_async_met (view_of c).async_met v, hand_of b))
-          (view_is x.view)
-          ∙ ap (λ h. (with_async_met (view_of c).async_met (view_of a), h)) (hand_is x.view);
+          ∙ ap (λ (v : View). (with_async (view_of c).async_met v, hand_of b)) (view_is x.view)
+          ∙ ap (λ h. (
+            with_async (view_of c).async_met (with_async (view_of b).async_met
+                (view_of a)),
+            h,
+          )) (hand_is x.view)
+          ∙ (let risen = y.rises in
+          let same : max (max (view_of a).async_met (view_of b).async_met) (view_of c).async_met
+          ≡ max (view_of a).async_met (view_of c).async_met = omega (arith, risen) in
+          ap (λ (k : ℕ). (record (view_of a) { async_met = k }, hand_of a)) same);
     };
     rises = omega (arith, x.rises, y.rises);
   }
 
-  pub load_raises : (met : ℕ) (old new : SeatedPass D) → (view_of old).async_met ≤ met
-      → Steps load_async met old new → RaisesAsync old new
-  load_raises met old new low steps = raises met old new low (record {
-    same_table = steps.same_table;
-    me_is = steps.me_is ∙ ap (λ (v : View). (v, hand_of old)) (async_loaded met (view_of old) low);
-  })
+  pub load_raises : (met : ℕ) (old new : SeatedPass D) → Steps load_async met old new
+      → RaisesAsync old new
+  load_raises met old new steps = raises met old new steps
 
   pub exchange_raises : (expected upto met : ℕ) (old new : SeatedPass D)
       → Steps (raise_async expected upto) met old new → RaisesAsync old new
   exchange_raises expected upto met old new steps =
-      raises (raised expected upto met (view_of old)) old new (omega arith) steps
+      raises (if met == expected then upto else met) old new steps
 
   -- the address is stored where what was met was expected; else more was met
   pub exchange_stores : (expected upto met : ℕ) (old new : SeatedPass D) → met ≡ expected
@@ -141,7 +140,7 @@ module _ {D : Type 0} where
       let n : ℕ = (view_of new).async_met in record {
         same_table = (raised.view).same_table ∙ comes.same_table;
         keeps = further_pass (view_of old) (view_of mid) (view_of new) comes.keeps
-            (subst (KeepsPass (view_of mid)) (sym is) (keeps_async n (view_of mid) raised.rises));
+            (subst (KeepsPass (view_of mid)) (sym is) (keeps_async n (view_of mid)));
         rests = record {
           rests = subst IsResting (sym is) (rests_async n (view_of mid) (comes.rests).rests);
           empty = hand_is raised.view ∙ (comes.rests).empty;
@@ -174,9 +173,9 @@ finish_is_whole v e stands =
 module _ (setup : Setup) (body : Assembled) (old v : View) (receipt : Receipt)
     (told : IsReceipt setup body old v receipt) where
   -- is so still
-  pub received_still : (n : ℕ) (new : View) → v.async_met ≤ n → new ≡ with_async_met n v
+  pub received_still : (n : ℕ) (new : View) → new ≡ with_async n v
       → IsReceipt setup body old new receipt
-  received_still n new low is =
+  received_still n new is =
       subst (λ (w : View). IsReceipt setup body old w receipt) (sym is) (record {
         entry = told.entry;
         reserved = record {
@@ -184,7 +183,7 @@ module _ (setup : Setup) (body : Assembled) (old v : View) (receipt : Receipt)
           log_is = (told.reserved).log_is;
           seen = (told.reserved).seen;
         };
-        copied = copied_behind old v (with_async_met n v) told.entry (keeps_async n v low) told.copied;
+        copied = copied_behind old v (with_async n v) told.entry (keeps_async n v) told.copied;
         start_is = told.start_is;
         end_is = told.end_is;
         up = record { met = (told.up).met; set = (told.up).set };

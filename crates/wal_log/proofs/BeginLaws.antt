@@ -184,8 +184,8 @@ module _ (setup : Setup) (body : Assembled) (old between : View) where
   seen_in_vain at is = subst (λ (v : View). at ≤ (v.reserving).seen) (sym is)
       (le-max_right (old.reserving).seen at)
 
-  -- the position was met by the pass as it is behind the lock's release, but for the lock and for
-  -- what it has seen
+  -- the position was met by the pass as it is behind the lock's release, but for the lock, and that
+  -- it had seen what it had before
   found_busy : (lock seen : ℕ) → HasOneLock lock old → IsPositionBusy seen old between
       → IsFoundBusy seen old (rested between)
   found_busy lock seen holds busy =
@@ -194,8 +194,6 @@ module _ (setup : Setup) (body : Assembled) (old between : View) where
       let before = ap (λ (v : View). with_sight (old.reserving).seen v) busy.new_is in
       record {
         lock = lock;
-        sight = (old.reserving).seen;
-        since = omega arith;
         busy = subst (λ (v : View). IsPositionBusy seen (with_sight (old.reserving).seen v) v)
             holding (subst (λ (v : View). IsPositionBusy seen v between) (sym before) busy);
       }
@@ -250,6 +248,10 @@ module _ (setup : Setup) (body : Assembled) (old between : View) where
 
 -- ---- since an earlier view, from which the pass's log is the same
 
+-- a try that reserved nothing
+abbrev pub refused_try : TryErr → Result Begun TryErr
+refused_try e = Err e
+
 module _ (setup : Setup) (body : Assembled) (old between new : View)
     (keeps : KeepsPass old between) (same : log_of_pass between ≡ log_of_pass old) where
   pub reserved_since : (e : Entry) → HasReserved setup body between new e
@@ -296,35 +298,45 @@ module _ (setup : Setup) (body : Assembled) (old between new : View)
     log_is = f.log_is ∙ ap (log_with_full f.at) same;
   }
 
-  busy_since : (seen : ℕ) → IsFoundBusy seen between new → IsFoundBusy seen old new
-  busy_since seen b = record {
+  busy_since : (seen : ℕ) → (between.reserving).seen ≡ (old.reserving).seen
+      → IsFoundBusy seen between new → IsFoundBusy seen old new
+  busy_since seen same_sight b = record {
     lock = b.lock;
-    sight = b.sight;
-    since = omega (arith, keeps.rises, b.since);
-    busy = b.busy;
+    busy = subst (λ (sight : ℕ). IsPositionBusy seen (with_lock b.lock (with_sight sight new))
+        (with_lock b.lock new)) same_sight b.busy;
   }
 
   vain_since : TriesInVain between new → TriesInVain old new
   vain_since vain = record { up = vain.up; log_is = vain.log_is ∙ same }
 
-  pub try_since : between.writing.down_set ≡ old.writing.down_set → (e : TryErr)
+  -- that the position was busy is told since a view that had seen just as much
+  try_since : between.writing.down_set ≡ old.writing.down_set → (e : TryErr)
+      → ((seen : ℕ) → e ≡ tries.Busy seen → (between.reserving).seen ≡ (old.reserving).seen)
       → TellsBeginTry setup body between new e → TellsBeginTry setup body old new e
-  try_since set_none (tries.Busy seen) told = (busy_since seen told.0, vain_since told.1)
-  try_since set_none (tries.AllHeld held) told = (told.0, vain_since told.1)
-  try_since set_none (tries.Full free) told = (full_since free told.0, told.1)
-  try_since set_none (tries.Down faults) told =
+  try_since set_none (tries.Busy seen) same_sight told =
+      (busy_since seen (same_sight seen refl) told.0, vain_since told.1)
+  try_since set_none (tries.AllHeld held) same_sight told = (told.0, vain_since told.1)
+  try_since set_none (tries.Full free) same_sight told = (full_since free told.0, told.1)
+  try_since set_none (tries.Down faults) same_sight told =
       (meets_since old between new faults set_none told.0, told.1 ∙ same)
 
   pub answers_since : between.writing.down_set ≡ old.writing.down_set → (same_one : Setup)
       → same_one ≡ setup → (r : Result Begun TryErr)
+      → ((seen : ℕ) → r ≡ refused_try (tries.Busy seen)
+      → (between.reserving).seen ≡ (old.reserving).seen)
       → AnswersBeginTry same_one body between r new → AnswersBeginTry setup body old r new
-  answers_since set_none same_one is r told = answered r
+  answers_since set_none same_one is r same_sight told = answered r same_sight
       (subst (λ (s : Setup). AnswersBeginTry s body between r new) is told)
     where
-      answered : (r : Result Begun TryErr) → AnswersBeginTry setup body between r new
-          → AnswersBeginTry setup body old r new
-      answered (Ok begun) is_begun = begun_since begun is_begun
-      answered (Err e) vain = (try_since set_none e vain.0, vain.1)
+      answered : (r : Result Begun TryErr)
+          → ((seen : ℕ) → r ≡ refused_try (tries.Busy seen)
+          → (between.reserving).seen ≡ (old.reserving).seen)
+          → AnswersBeginTry setup body between r new → AnswersBeginTry setup body old r new
+      answered (Ok begun) same_sight is_begun = begun_since begun is_begun
+      answered (Err e) same_sight vain = (
+        try_since set_none e (λ seen busy. same_sight seen (ap refused_try busy)) vain.0,
+        vain.1,
+      )
 
 -- ---- behind the down value loaded, with the lock taken or not
 
@@ -371,6 +383,10 @@ module _ (old loaded : View) (met : ℕ) (load : loaded ≡ view_behind old load
     pub taken_log : log_of_pass taken ≡ log_of_pass old
     taken_log = ap (λ (v : View). log_of_pass v)
         (take ∙ ap (with_lock lock) (load ∙ down_loaded met old))
+
+    pub taken_sight : (taken.reserving).seen ≡ (old.reserving).seen
+    taken_sight = ap (λ (v : View). (v.reserving).seen) take
+        ∙ ap (λ (v : View). (v.reserving).seen) (load ∙ down_loaded met old)
 
     pub taken_keeps : KeepsPass old taken
     taken_keeps =

@@ -8,7 +8,7 @@ use Rattle.byte_position.proofs.EndAddresses.{end_address_of-mono}
 use Rattle.wal_types.specs.declared.answers.Hard.{Hard}
 use Rattle.wal_page.specs.Order.{end_position}
 use Rattle.machine_laws.proofs.OrderSteps.{unlocked-is}
-use Rattle.wal_core.specs.Moves.{unlocked}
+use Rattle.wal_core.specs.Moves.{unlocked, with_async}
 use Rattle.wal_core.specs.Steps.{load_async, load_down, load_flushed, view_behind}
 use Rattle.wal_core.specs.Views.{View, async_met_of, reserving_of}
 use Rattle.wal_core.specs.Words.{Opening, end_form, position_word, prev_word}
@@ -20,23 +20,22 @@ use Rattle.insert_locks.specs.Watching.{SeesPosition, with_sight}
 use Rattle.wal_log.specs.declared.fault.Fault.TheVariants as kinds
 use Rattle.wal_log.specs.declared.flushing.FlushErr.{FlushErr}
 use Rattle.wal_log.specs.declared.flushing.FlushErr.TheVariants.{Unreserved, Disk, Down}
-use Rattle.wal_log.specs.Behind.{FindsNothing, FlushesBehind, RefusesBehind, MeetsFlushed, SeesTarget, page_of_end, page_start, with_async_met}
+use Rattle.wal_log.specs.Behind.{FindsNothing, FindsTarget, FlushesBehind, RefusesBehind, SeesTarget, page_of_end, page_start, view_met_up}
 use Rattle.wal_log.specs.Downs.{KnowsNoFault}
 use Rattle.wal_log.specs.Flushing.{HasReached, IsUnreserved, TellsFlushErr}
 use Rattle.wal_log.specs.PassLogs.{log_of_pass}
 use Rattle.wal_log.specs.Standing.{ComesToRest, KeepsPass, KeepsWork}
-use Rattle.wal_log.proofs.AheadLaws.{async_loaded}
 use Rattle.wal_log.proofs.FlushLaws.{fault_behind, told_behind}
 use Rattle.wal_log.proofs.BeginLaws.{loaded_rests}
 use Rattle.wal_log.proofs.Keeping.{down_met_keeps, further_pass, meets_since, rested_on}
 use Rattle.wal_log.proofs.Plain.{flushed_loaded}
 use Rattle.wal_log.proofs.Seated.{hand_is, view_is}
 
--- ---- what a pass counts as answered is reserved wherever it meets the position
+-- ---- the async address that a pass met is reserved wherever it meets the position
 
-pub answered_is_reserved : (v : View) (seen : ℕ) → SeesPosition v seen
+pub async_is_reserved : (v : View) (seen : ℕ) → SeesPosition v seen
     → v.async_met ≤ end_form (v.opening).setup seen
-answered_is_reserved v seen sees =
+async_is_reserved v seen sees =
     let s : Stands v = (sees.met).before in
     let sound = s.sound in
     let size : ℕ = ((v.opening).setup).segment_size in
@@ -58,17 +57,19 @@ page_from_end end n is = (let same : end - end % 8192 ≡ page_start end = omega
     same ∙ ap page_start is)
 
 -- a view that has loaded the flushed address, the async address and the position
-abbrev pub sighted : (flushed answered seen : ℕ) → View → View
-sighted flushed answered seen v = with_async_met answered (record v {
+abbrev pub sighted : (flushed async seen : ℕ) → View → View
+sighted flushed async seen v = record v {
+  async_met = async;
   reserving = record v.reserving { seen = seen };
   writing = record v.writing { flushed = flushed };
-})
+}
 
-module _ (flushed answered seen : ℕ) (old first next new : View)
+module _ (flushed async seen : ℕ) (old first next new : View)
     (by_flushed : first ≡ view_behind old load_flushed flushed none)
-    (by_async : next ≡ view_behind first load_async answered none)
+    (by_async : next ≡ view_behind first load_async async none)
     (by_sight : new ≡ with_sight seen next)
-    (met : Meets old load_flushed flushed) (higher : first.async_met ≤ answered)
+    (met : Meets old load_flushed flushed) (async_met : Meets first load_async async)
+    (higher : first.async_met ≤ async)
     (rises : (next.reserving).seen ≤ seen) (sees : SeesPosition next seen) where
   first_is : first ≡ record old {
     reserving = record old.reserving {
@@ -78,53 +79,61 @@ module _ (flushed answered seen : ℕ) (old first next new : View)
   }
   first_is = by_flushed ∙ flushed_loaded flushed old
 
-  next_is : next ≡ with_async_met answered first
-  next_is = by_async ∙ async_loaded answered first higher
+  same_async_met : first.async_met ≡ old.async_met
+  same_async_met = ap (λ (v : View). v.async_met) first_is
 
-  new_is : new ≡ sighted flushed answered seen old
-  new_is = by_sight ∙ ap (with_sight seen) next_is
-      ∙ ap (λ (v : View). with_sight seen (with_async_met answered v)) first_is
+  new_is : new ≡ sighted flushed async seen old
+  new_is =
+      let is : max old.async_met async ≡ async = omega (arith, same_async_met, higher) in
+      by_sight ∙ ap (with_sight seen) by_async
+      ∙ ap (λ (v : View). with_sight seen (with_async async v)) first_is
+      ∙ ap (λ (n : ℕ). sighted flushed n seen old) is
 
-  seen_is : (new.reserving).seen ≡ seen
-  seen_is = ap (λ (v : View). (v.reserving).seen) new_is
-
-  async_is : new.async_met ≡ answered
-  async_is = ap (λ (v : View). v.async_met) new_is
+  next_seen : (next.reserving).seen ≡ (first.reserving).seen
+  next_seen = ap (λ (v : View). (v.reserving).seen) by_async
 
   risen : (old.reserving).seen ≤ seen
   risen =
-      let one = ap (λ (v : View). (v.reserving).seen) next_is in
-      let two = ap (λ (v : View). (v.reserving).seen) first_is in
-      omega (arith, one, two, rises)
+      let first_seen = ap (λ (v : View). (v.reserving).seen) first_is in
+      omega (arith, next_seen, first_seen, rises)
 
-  answered_low : answered ≤ end_form (old.opening).setup seen
-  answered_low =
-      let low = answered_is_reserved next seen sees in
-      let same = ap (λ (v : View). v.async_met) next_is in
+  async_low : async ≤ end_form (old.opening).setup seen
+  async_low =
+      let low = async_is_reserved next seen sees in
+      let same : next.async_met ≡ max first.async_met async =
+      ap (λ (v : View). v.async_met) by_async in
       let opening : next.opening ≡ old.opening =
-      ap (λ (v : View). v.opening) next_is ∙ ap (λ (v : View). v.opening) first_is in
-      subst (λ (o : Opening). answered ≤ end_form o.setup seen) opening
+      ap (λ (v : View). v.opening) by_async ∙ ap (λ (v : View). v.opening) first_is in
+      subst (λ (o : Opening). async ≤ end_form o.setup seen) opening
       (omega (arith, low, same))
 
   sees_target : (target : ℕ)
       → ((flushed < page_of_end old seen) × (target ≡ page_of_end old seen))
-      ⊎ ((page_of_end old seen ≤ flushed) × (target ≡ answered))
+      ⊎ ((page_of_end old seen ≤ flushed) × (target ≡ async))
       → target ≤ end_form (old.opening).setup seen → SeesTarget flushed target old new
   sees_target target which reserved = subst (λ (v : View). SeesTarget flushed target old v)
       (sym new_is) (record {
         met = met;
+        async = subst (λ (v : View). Meets v load_async async) by_flushed async_met;
+        position = subst (λ (v : View). SeesPosition v seen)
+            (by_async ∙ ap (λ (v : View). view_behind v load_async async none) by_flushed) sees;
         rises = risen;
-        counts = (let low = higher in
-            let same = ap (λ (v : View). v.async_met) first_is in omega (arith, low, same));
-        new_is = refl;
+        new_is = (let is : async ≡ max old.async_met async =
+            omega (arith, same_async_met, higher) in
+            ap (λ (n : ℕ). sighted flushed n seen old) is);
         target_is = which;
         reserved = reserved;
       })
 
-  module _ (page : ℕ) (page_is : page ≡ page_of_end old seen) where
-    pub sees_answered : page ≤ flushed → SeesTarget flushed answered old new
-    sees_answered above = sees_target answered (inr (omega (arith, page_is, above), refl))
-        answered_low
+  -- where the page begins is the target, else the async address
+  pub sees_by_page : (page : ℕ) → page ≡ page_of_end old seen
+      → (flushed < page → SeesTarget flushed page old new)
+      × (page ≤ flushed → SeesTarget flushed async old new)
+  sees_by_page page is = (
+    λ below. (let low : page_of_end old seen ≤ end_form (old.opening).setup seen = omega arith in
+        sees_target page (inl (omega (arith, is, below), is)) (omega (arith, is, low))),
+    λ above. sees_target async (inr (omega (arith, is, above), refl)) async_low,
+  )
 
 -- ---- what is left of a pass
 
@@ -138,7 +147,7 @@ module _ (flushed target : ℕ) (old new : View) (sees : SeesTarget flushed targ
       spare = refl;
       spare_end = refl;
       joined = refl;
-      counts = sees.counts;
+      counts = omega arith;
       rises = sees.rises;
       down = λ faults knows. knows;
     };
@@ -160,18 +169,12 @@ module _ (flushed target : ℕ) (old new : View) (sees : SeesTarget flushed targ
 module _ (old down sight : View) (faults flushed target : ℕ)
     (by_down : down ≡ view_behind old load_down faults none) (zero : faults ≡ 0)
     (sees : SeesTarget flushed target down sight) where
-  met_flushed : MeetsFlushed old flushed
-  met_flushed = subst (λ (v : View). Meets v load_flushed flushed)
-      (by_down ∙ ap (λ (n : ℕ). view_behind old load_down n none) zero) sees.met
+  sees_up : SeesTarget flushed target (view_met_up old) sight
+  sees_up = subst (λ (v : View). SeesTarget flushed target v sight)
+      (by_down ∙ ap (λ (n : ℕ). view_behind old load_down n none) zero) sees
 
   same_opening : down.opening ≡ old.opening
   same_opening = ap (λ (v : View). v.opening) by_down
-
-  same_seen : (down.reserving).seen ≡ (old.reserving).seen
-  same_seen = ap (λ (v : View). (v.reserving).seen) by_down
-
-  same_async : down.async_met ≡ old.async_met
-  same_async = ap (λ (v : View). v.async_met) by_down
 
   same_page : (seen : ℕ) → page_of_end down seen ≡ page_of_end old seen
   same_page seen =
@@ -191,51 +194,40 @@ module _ (old down sight : View) (faults flushed target : ℕ)
       ⊎ ((page_of_end down (sight.reserving).seen ≤ flushed) × (target ≡ sight.async_met))
 
   -- the target is not above the flushed address
-  both_low : Which → target ≤ flushed
-      → (page_of_end down (sight.reserving).seen ≤ flushed) × (sight.async_met ≤ flushed)
+  both_low : Which → target ≤ flushed → (target ≡ sight.async_met)
+      × (page_of_end down (sight.reserving).seen ≤ flushed)
   both_low (inl (below, is)) low = absurd (omega (arith, below, is, low))
-  both_low (inr (above, is)) low = (above, omega (arith, is, low))
+  both_low (inr (above, is)) low = (is, above)
 
   pub finds_nothing : target ≤ flushed → KnowsNoFault sight → FindsNothing flushed old sight
   finds_nothing low up =
       let both = both_low sees.target_is low in
+      let is : target ≡ sight.async_met = both.0 in
       let same = same_page (sight.reserving).seen in record {
-        met = met_flushed;
-        page = omega (arith, same, both.0);
-        answered = both.1;
+        sees = subst (λ (n : ℕ). SeesTarget flushed n (view_met_up old) sight) is sees_up;
+        page = omega (arith, same, both.1);
+        async = omega (arith, is, low);
         log_is = same_log;
         up = up;
       }
 
-  -- it is
-  page_low : Which → flushed < target → page_of_end down (sight.reserving).seen ≤ target
-  page_low (inl (below, is)) high = omega (arith, is)
-  page_low (inr (above, is)) high = omega (arith, above, high)
-
-  answered_low_too : Which → page_of_end down (sight.reserving).seen ≤ flushed
-      → sight.async_met ≤ target
-  answered_low_too (inl (below, is)) low = absurd (omega (arith, below, low))
-  answered_low_too (inr (above, is)) low = omega (arith, is)
+  -- the target is above the flushed address
+  finds_target : flushed < target → FindsTarget target old
+  finds_target high = record {
+    flushed = flushed;
+    sight = sight;
+    sees = sees_up;
+    above = high;
+  }
 
   pub flushes_behind : (hard : Hard) (new : View) → KeepsPass old sight → flushed < target
       → HasReached target hard sight new → FlushesBehind hard old new
-  flushes_behind hard new keeps high told =
-      let same = same_page (sight.reserving).seen in
-      let page = page_low sees.target_is high in record {
-        flushed = flushed;
-        seen = (sight.reserving).seen;
-        target = target;
-        met = met_flushed;
-        rises = keeps.rises;
-        above = high;
-        page = omega (arith, same, page);
-        answered = λ low.
-            let counts = sees.counts in
-            let far = answered_low_too sees.target_is (omega (arith, same, low)) in
-            omega (arith, same_async, counts, far);
-        told = told_behind target hard.upto.0 hard.moment old sight new same_log keeps target
-            (told.0).reached told.0;
-      }
+  flushes_behind hard new keeps high told = record {
+    target = target;
+    found = finds_target high;
+    told = told_behind target hard.upto.0 hard.moment old sight new same_log keeps target
+        (told.0).reached told.0;
+  }
 
   -- a flush of it is not told that it is not reserved
   is_reserved : (end : ℕ) (new : View) → IsSegmentSize ((old.opening).setup).segment_size
@@ -251,13 +243,16 @@ module _ (old down sight : View) (faults flushed target : ℕ)
       omega (arith, reserved, end_is, higher, above)
 
   pub refuses_behind : (new : View) → IsSegmentSize ((old.opening).setup).segment_size
-      → KeepsPass old sight → (e : FlushErr) → TellsFlushErr target sight new e
-      → RefusesBehind old new e
-  refuses_behind new size keeps (Disk n) told =
-      (target, fault_behind target old sight new keeps same_down_set (kinds.Disk n) told)
-  refuses_behind new size keeps (Down n) told =
+      → KeepsPass old sight → flushed < target → (e : FlushErr)
+      → TellsFlushErr target sight new e → RefusesBehind old new e
+  refuses_behind new size keeps high (Disk n) told = (
+    target,
+    finds_target high,
+    fault_behind target old sight new keeps same_down_set (kinds.Disk n) told,
+  )
+  refuses_behind new size keeps high (Down n) told =
       meets_since old sight new n same_down_set told
-  refuses_behind new size keeps (Unreserved end) told =
+  refuses_behind new size keeps high (Unreserved end) told =
       is_reserved end.0 new size keeps told
 
 -- a known fault was met, so none of 0 was

@@ -68,7 +68,7 @@ module _ (setup : Setup) (body : Assembled) (old mid new : View) (receipt : Rece
     log_is = hard.log_is ∙ ap (log_with_promise upto sealed.moment) (told.reserved).log_is;
     reached = (let is = told.end_is in let far = hard.reached in omega (arith, is, far));
     since = subst (λ (o : Opening). o.moment ≤ sealed.moment) keeps.opening hard.since;
-    of_word = moment_behind old mid sealed.moment keeps hard.of_word;
+    of_word = moment_behind old mid new sealed.moment keeps hard.of_word;
     held = hard.held;
     latest = record {
       moments = subst (λ (ps : List FlushPromise).

@@ -159,14 +159,14 @@ told_view upto moment flushed hold v = record v {
 module _ (upto moment flushed : ℕ) (hold : Hold) (old new : View)
     (is : new ≡ told_view upto moment flushed hold old) where
   pub told_is : (asked : ℕ) → asked ≤ upto → (old.opening).moment ≤ moment
-      → HasMoment old moment → KnowsNoFault old → IsLatestPromise upto moment old
+      → HasMoment old new moment → KnowsNoFault old → IsLatestPromise upto moment old
       → IsToldHard asked upto moment old new
   told_is asked reached since of_word up latest =
       subst (λ (w : View). IsToldHard asked upto moment old w) (sym is) (record {
         reached = reached;
         log_is = refl;
         since = since;
-        of_word = of_word;
+        of_word = subst (λ (w : View). HasMoment old w moment) is of_word;
         held = has_reached (told_view upto moment flushed hold old) upto moment (log_of_pass old)
             refl;
         latest = latest;
@@ -218,10 +218,21 @@ module _ (flushed moment : ℕ) (old mid new : View)
     addresses = furthest;
   }
 
-  pub met_word : Meets mid load_moment moment → HasMoment old moment
+  pub met_word : Meets mid load_moment moment → HasMoment old new moment
   met_word meets = record {
     view = mid;
     since = (flushed_work flushed old mid first).pass;
+    until = subst (KeepsPass mid) (sym next) (record {
+      opening = refl;
+      live = refl;
+      number = refl;
+      spare = refl;
+      spare_end = refl;
+      joined = refl;
+      counts = omega arith;
+      rises = omega arith;
+      down = λ faults knows. knows;
+    });
     word = inl meets;
   }
 
@@ -286,10 +297,12 @@ module _ (v : View) (has : HasLent v) where
 
   -- the moment stored is the writer's
   pub stores_moment : ∥ Stands v ∥₁ → (writer_in v).fault ≡ none → (writer_in v).waiting ≡ none
-      → (moment : ℕ) → moment ≡ (writer_in v).moment → HasMoment v moment
-  stores_moment stood up synced moment is = record {
+      → (moment : ℕ) → moment ≡ (writer_in v).moment → (new : View) → KeepsPass v new
+      → HasMoment v new moment
+  stores_moment stood up synced moment is new keeps = record {
     view = v;
     since = same_pass v;
+    until = keeps;
     word = inr (record {
       stands = stood;
       may = may_store_moment up synced;
@@ -301,11 +314,22 @@ module _ (v : View) (has : HasLent v) where
 -- ---- told behind other steps
 
 -- a moment that was met or stored behind other steps
-pub moment_behind : (old mid : View) (moment : ℕ) → KeepsPass old mid → HasMoment mid moment
-    → HasMoment old moment
-moment_behind old mid moment keeps has = record {
+pub moment_behind : (old mid new : View) (moment : ℕ) → KeepsPass old mid
+    → HasMoment mid new moment → HasMoment old new moment
+moment_behind old mid new moment keeps has = record {
   view = has.view;
   since = further_pass old mid has.view keeps has.since;
+  until = has.until;
+  word = has.word;
+}
+
+-- and before other ones
+moment_before : (old new newer : View) (moment : ℕ) → KeepsPass new newer
+    → HasMoment old new moment → HasMoment old newer moment
+moment_before old new newer moment keeps has = record {
+  view = has.view;
+  since = has.since;
+  until = further_pass has.view new newer has.until keeps;
   word = has.word;
 }
 
@@ -320,7 +344,7 @@ module _ (asked upto moment : ℕ) (old mid new : View) (same : log_of_pass mid 
     reached = reached;
     log_is = told.log_is ∙ ap (log_with_promise upto moment) same;
     since = subst (λ (o : Opening). o.moment ≤ moment) keeps.opening told.since;
-    of_word = moment_behind old mid moment keeps told.of_word;
+    of_word = moment_behind old mid new moment keeps told.of_word;
     held = told.held;
     latest = record {
       moments = subst (λ (ps : List FlushPromise).
@@ -342,7 +366,7 @@ told_still asked upto moment old new newer same keeps up told = record {
   reached = told.reached;
   log_is = same ∙ told.log_is;
   since = told.since;
-  of_word = told.of_word;
+  of_word = moment_before old new newer moment keeps told.of_word;
   held = has_reached newer upto moment (log_of_pass old) (same ∙ told.log_is);
   latest = told.latest;
   up = up;

@@ -1,5 +1,5 @@
 -- What one try to reserve a record's place answers, and what it leaves of its pass.
-use Rattle.std.specs.Prelude.{◌≡◌, ℕ, ◌<◌, ◌≤◌, Result, Ok, Err}
+use Rattle.std.specs.Prelude.{◌≡◌, ℕ, ◌<◌, Result, Ok, Err}
 use mathlib.Core.Option.{some}
 use Rattle.record_spelling.specs.Spelling.{Assembled}
 use Rattle.wal_page.specs.Order.{Entry, start_of}
@@ -36,13 +36,12 @@ pub record IsPlaceBegun (setup : Setup) (body : Assembled) (old new : View) (beg
   pub end_is : begun.end.0 ≡ placed_end begun.placed
 
 -- the position was met locked, or met as another one where it was to be locked. The view that met
--- it is the one behind the call, but that it had an insertion lock, and had not seen that position
--- yet
+-- it is the one behind the call, but that it had an insertion lock, and had seen no more than
+-- before the call
 pub record IsFoundBusy (seen : ℕ) (old new : View) : Type 0 where
   pub lock : ℕ
-  pub sight : ℕ
-  pub since : (old.reserving).seen ≤ sight
-  pub busy : IsPositionBusy seen (with_lock lock (with_sight sight new)) (with_lock lock new)
+  pub busy : IsPositionBusy seen (with_lock lock (with_sight (old.reserving).seen new))
+      (with_lock lock new)
 
 -- a try added nothing to the pass's log, where the disk had not failed
 pub record TriesInVain (old new : View) : Type 0 where

@@ -32,7 +32,7 @@ pub record IsSealed (setup : Setup) (body : Assembled) (old new : View) (sealed 
       ≡ log_with_promise upto sealed.moment (log_with_entry entry (log_of_pass old))
   pub reached : finish_of setup.segment_size entry ≤ upto
   pub since : (old.opening).moment ≤ sealed.moment
-  pub of_word : HasMoment old sealed.moment
+  pub of_word : HasMoment old new sealed.moment
   pub held : HaveReached upto sealed.moment new
   pub latest : IsLatestPromise upto sealed.moment old
   pub seen : position_of setup.segment_size upto ≤ (new.reserving).seen

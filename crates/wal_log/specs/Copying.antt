@@ -46,21 +46,22 @@ pub record MapsPage {D : Type 0} (old new : SeatedPass D) : Type 0 where
   pub view_is : view_of new ≡ mapped_view confirmed written (view_of old)
   pub rises : ((view_of old).mapping).confirmed ≤ confirmed
 
--- the end word of a page's buffer was met, and is not the page's own. The view that met it, as the
--- ones below, is this one, but for the highest end met and the written address loaded
+-- the end word of a page's buffer was met, and is not the page's own. It was met by this view, but
+-- for the highest end met and the written address loaded
 pub record MeetsOther (setup : Setup) (page end : ℕ) (v : View) : Type 0 where
   pub confirmed : ℕ
   pub written : ℕ
   pub met : Meets (mapped_view confirmed written v) (load_buffer_end (page % setup.ring_pages)) end
   pub other : end ≢ end_of_page page
 
--- the turn to map was somebody else's, whose word was met
+-- the turn to map was somebody else's, whose word was met by this view
 pub record MeetsMapper (turn : ℕ) (v : View) : Type 0 where
   pub met : Meets v take_mapping_turn turn
   pub taken : turn ≢ 0
 
 -- with the turn to map had, the initialised end and the written address were met, and the page that
--- begins at that end, which lies before this one's, has a buffer whose page ends above the other
+-- begins at that end, which lies before this one's, has a buffer whose page ends above the other.
+-- They were met by this view, but for the highest end met and the written address loaded
 pub record MeetsOldPage (setup : Setup) (page told : ℕ) (v : View) : Type 0 where
   pub confirmed : ℕ
   pub written : ℕ

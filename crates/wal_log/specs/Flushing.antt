@@ -28,7 +28,7 @@ pub record IsToldHard (asked upto moment : ℕ) (old new : View) : Type 0 where
   pub reached : asked ≤ upto
   pub log_is : log_of_pass new ≡ log_with_promise upto moment (log_of_pass old)
   pub since : (old.opening).moment ≤ moment
-  pub of_word : HasMoment old moment
+  pub of_word : HasMoment old new moment
   pub held : HaveReached upto moment new
   pub latest : IsLatestPromise upto moment old
   pub up : KnowsNoFault new

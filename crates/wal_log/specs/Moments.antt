@@ -13,11 +13,12 @@ pub record Stores (v : View) (e : StepKind) (value : ℕ) : Type 0 where
   pub may : MayStep v e
   pub value_is : value ≡ value_behind v e 0
 
--- in a call before which its pass had this view, it met this moment in the moment word, or stored
--- it there with the writer in hand
-pub record HasMoment (old : View) (moment : ℕ) : Type 0 where
+-- in a call before which its pass had this view, and behind which it has that one, it met this
+-- moment in the moment word, or stored it there with the writer in hand
+pub record HasMoment (old new : View) (moment : ℕ) : Type 0 where
   pub view : View
   pub since : KeepsPass old view
+  pub until : KeepsPass view new
   pub word : Meets view load_moment moment ⊎ Stores view store_moment moment
 
 -- wherever a pass stands with this view, the flushed address and the moment have reached these

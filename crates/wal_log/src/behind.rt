@@ -38,9 +38,10 @@ impl<D: Disk> Wal<D> {
     /// answered ahead. It waits as a flush does.
     pub fn write_behind<R: Wait>(&self, rt: &R, pass: &mut Pass) -> Result<Caught, FlushErr>
         requires pass { IsPassOfLog self.now pass.old }
-        // A flush is told, of an address that reaches the page of all that the pass had seen. Or
-        // the flushed address is told, which that page and all that the pass counts as answered
-        // have not passed. Or it is refused as a flush of what is reserved, and adds nothing.
+        // A flush is told, of the target: it reaches the start of the page that holds the end of
+        // all that the pass had seen. Or the flushed address is told, which is no less than that
+        // page's start and than the async address that the pass met. Or it is refused as a flush
+        // of the target, which is reserved, and adds nothing.
         ensures catches { AnswersBehind (view_of_pass pass.old) result (view_of_pass pass.new) }
         // A pass that knows of a failed disk is told of it.
         ensures down_again { (faults : _) → KnowsDown faults (view_of_pass pass.old)
@@ -89,11 +90,11 @@ fn see_target<'p, D: Disk>(seated: &mut SeatedPass<'p, D>) -> (u64, u64)
     ensures stays { StaysSeated seated.old seated.new }
 {
     let flushed = seated.load_flushed();
-    let answered = seated.load_async();
+    let async_met = seated.load_async();
     let end = see_reserved(seated);
     let page = end - end % PAGE_SIZE;
     if flushed < page {
         return (flushed, page);
     }
-    (flushed, answered)
+    (flushed, async_met)
 }

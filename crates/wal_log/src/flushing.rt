@@ -38,7 +38,9 @@ use wal_rule::{Pass, SeatedPass};
 use wal_types::{Hard, Lsn};
 
 /// Why one try of a flush told nothing. It looks in this order: whether the disk has failed before,
-/// whether the address is reserved, at the locks, at the turn; then it calls the device.
+/// whether the address is reserved, whether it is flushed already, at the locks, at the turn; with
+/// the turn had, again whether the disk has failed and whether the address is flushed. Then it
+/// calls the device.
 #[derive(Clone, Copy, Debug, PartialEq, Eq)]
 pub enum TryFlushErr {
     /// The disk has failed, in this call or before.

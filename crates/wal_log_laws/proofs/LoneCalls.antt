@@ -84,7 +84,7 @@ module _ (v : View) (alone : IsLonePass v) where
   not_busy seen old free f = ⊎_elim not_locked not_moved (f.busy).found
     where
       before : View
-      before = with_lock f.lock (with_sight f.sight v)
+      before = with_lock f.lock (with_sight (old.reserving).seen v)
 
       after : View
       after = with_lock f.lock v
@@ -93,7 +93,7 @@ module _ (v : View) (alone : IsLonePass v) where
       loaded = (f.busy).met
 
       not_locked : ((f.busy).loaded % 2 ≡ 1) × (seen ≡ (f.busy).loaded) → ⊥
-      not_locked odd = (held_in before (seeing f.lock f.sight) loaded.before).position
+      not_locked odd = (held_in before (seeing f.lock (old.reserving).seen) loaded.before).position
           (ap (λ n. n % 2) (sym loaded.met_is) ∙ odd.0) free
 
       -- the position of another moment is the same
@@ -104,7 +104,7 @@ module _ (v : View) (alone : IsLonePass v) where
           let t = (moved.2).before in
           moved.1 ((moved.2).met_is
           ∙ same_position v.opening s.words t.words s.home t.home s.views t.views s.sound t.sound
-          s.id t.id before after s.here t.here (seeing f.lock f.sight)
+          s.id t.id before after s.here t.here (seeing f.lock (old.reserving).seen)
           (record { live = alone.live; numbers = alone.numbers })
           (record { number = refl; entries = refl; joined = refl }) free free
           ∙ sym loaded.met_is)

@@ -44,7 +44,6 @@ returns-clause-inserts g c =
     received_still (setup_of c.args.seated.now) c.args.body.now (view_of c.args.seated.now)
     (view_of c.insert_on.new.seated) c.in_ok-receipt.receipt c.in_ok-receipt.ensures.inserts
     (view_of c.raise.new.seated).async_met (view_of c.raise.new.seated)
-    c.raise.ensures.raises.rises
     (view_is c.raise.ensures.raises.view)
 
 pub returns-clause-rests : goal.returns-clause-rests

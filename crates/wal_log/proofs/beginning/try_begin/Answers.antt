@@ -6,7 +6,7 @@ use Rattle.wal_rule.specs.SeatedPasses.{setup_of, view_of}
 use Rattle.insert_locks.specs.Taking.{AreHeldWords}
 use Rattle.wal_log.specs.Beginning.{try_err_known_down}
 use Rattle.wal_log.proofs.Keeping.{further_pass}
-use Rattle.wal_log.proofs.BeginLaws.{answers_since, held_one, loaded_keeps, loaded_rests, none_known, taken_keeps, taken_log, taken_sets_none, taken_up, vain_loaded}
+use Rattle.wal_log.proofs.BeginLaws.{answers_since, held_one, loaded_keeps, loaded_rests, none_known, taken_keeps, taken_log, taken_sets_none, taken_sight, taken_up, vain_loaded}
 use Rattle.wal_log.proofs.Seated.{further_seated, same_setup, seat_stays, view_is}
 use Rattle.wal_log.proofs.beginning.try_begin.Goals as goal
 
@@ -87,7 +87,10 @@ returns-clause-begins g c =
     c.in_ok-lock.lock taken takes) (setup_of c.try_take.new.seated)
     (same_setup c.args.seated.now c.try_take.new.seated
     (took.same_table ∙ load.ensures.steps.same_table))
-    c.reserve_under.result c.reserve_under.ensures.begins
+    c.reserve_under.result
+    (λ seen busy. taken_sight old (view_of load.new.self) load.result loads load.ensures.known
+    c.in_ok-lock.lock taken takes)
+    c.reserve_under.ensures.begins
 
 pub returns-clause-down_again : goal.returns-clause-down_again
 returns-clause-down_again g c =

@@ -106,7 +106,7 @@ returns-in-Err-clause-catches g c =
           (view_of c.flush_on.new.seated)
           (subst (λ (s : Setup). IsSegmentSize s.segment_size) (sym (own_setup c.args.seated.now))
           (valid_size c.args.seated.now))
-          (seen_so g at).keeps c.in-Err.e told.1,
+          (seen_so g at).keeps (omega (arith, c.if-target-flushed.false)) c.in-Err.e told.1,
     )
 
 pub returns-in-Err-clause-down_again : goal.returns-in-Err-clause-down_again

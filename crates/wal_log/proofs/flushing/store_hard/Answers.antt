@@ -93,13 +93,16 @@ returns-clause-told g c =
     let moment = c.writer_now-now.result.moment in
     let lent = has g path.After-writer_now-now in
     let one = first g path.After-store_moment (read g path.After-writer_now-now) in
-    let at = path.After-store_flushed in (
+    let at = path.After-store_flushed in
+    let new = view_of c.store_flushed.new.self in
+    let work = told_work written moment old.writing.flushed
+    (Out (hard_lent (lent_in old.writing.hold))) old new (told g at lent one) in (
       c.writer_now-now.ensures.read.written,
       told_is written moment old.writing.flushed (Out (hard_lent (lent_in old.writing.hold))) old
-          (view_of c.store_flushed.new.self) (told g at lent one) written (omega arith)
+          new (told g at lent one) written (omega arith)
           (since g at lent one)
           (stores_moment old lent c.args.seated.now.seated.stands c.requires.stored.ready.up
-          c.requires.synced moment c.writer_now-now.ensures.read.moment)
+          c.requires.synced moment c.writer_now-now.ensures.read.moment new work.pass)
           c.requires.stored.up (latest g at lent one),
     )
 
