@@ -6,6 +6,7 @@ ghost use Rattle.wal_log.specs.Flights.{IsInFlightOf, view_of_flight};
 ghost use Rattle.wal_log.specs.Logs.{IsPassOfLog, setup_of_log};
 ghost use Rattle.wal_log.specs.Sharing.{ShareNumbers};
 ghost use Rattle.wal_log.specs.Standing.{KeepsPass};
+ghost use Rattle.log_tests.specs.Pairs.{AreOfLog, KeepsBoth};
 
 use crate::filled::{SETUP, open};
 use crate::reading::{Found, records_on};
@@ -257,17 +258,15 @@ fn closed(log: Log, mut first: Pass, second: Pass) -> Closed<MemDisk>
 fn other_way_round<R: Abort>(
     rt: &R,
     log: &Log,
-    first: Pass,
-    second: Pass,
+    passes: (Pass, Pass),
     one: &Body,
     two: &Body,
 ) -> (Pass, Pass)
-    requires first { IsPassOfLog log.now first }
-    requires second { IsPassOfLog log.now second }
-    ensures passes { IsPassOfLog log.now result.0 × IsPassOfLog log.now result.1 }
-    ensures first { KeepsPass (view_of_pass first) (view_of_pass result.0) }
-    ensures second { KeepsPass (view_of_pass second) (view_of_pass result.1) }
+    requires passes { AreOfLog log.now passes }
+    ensures passes { AreOfLog log.now result }
+    ensures keeps { KeepsBoth passes result }
 {
+    let (first, second) = passes;
     let earlier = begun(rt, log, first, one);
     let later = begun(rt, log, second, two);
     let mut second = finished(rt, log, later, 5, SECOND);
@@ -284,17 +283,15 @@ fn other_way_round<R: Abort>(
 fn second_in_part<R: Abort>(
     rt: &R,
     log: &Log,
-    first: Pass,
-    second: Pass,
+    passes: (Pass, Pass),
     one: &Body,
     two: &Body,
 ) -> (Pass, Pass)
-    requires first { IsPassOfLog log.now first }
-    requires second { IsPassOfLog log.now second }
-    ensures passes { IsPassOfLog log.now result.0 × IsPassOfLog log.now result.1 }
-    ensures first { KeepsPass (view_of_pass first) (view_of_pass result.0) }
-    ensures second { KeepsPass (view_of_pass second) (view_of_pass result.1) }
+    requires passes { AreOfLog log.now passes }
+    ensures passes { AreOfLog log.now result }
+    ensures keeps { KeepsBoth passes result }
 {
+    let (first, second) = passes;
     let whole = begun(rt, log, first, one);
     let mut first = finished(rt, log, whole, 10, FIRST);
     let unreserved = TryFlushErr::Unreserved { end: FIRST.end };
@@ -312,14 +309,12 @@ fn second_in_part<R: Abort>(
 
 // All four buffers hold pages of the record itself, none of which is written. A flush up to where
 // the log begins makes no device call, one up to where the copy has come makes room.
-fn ring_full<R: Abort>(rt: &R, log: &Log, first: Pass, second: Pass, one: &Body) -> (Pass, Pass)
-    requires first { IsPassOfLog log.now first }
-    requires second { IsPassOfLog log.now second }
-    ensures passes { IsPassOfLog log.now result.0 × IsPassOfLog log.now result.1 }
-    ensures first { KeepsPass (view_of_pass first) (view_of_pass result.0) }
-    ensures second { KeepsPass (view_of_pass second) (view_of_pass result.1) }
+fn ring_full<R: Abort>(rt: &R, log: &Log, passes: (Pass, Pass), one: &Body) -> (Pass, Pass)
+    requires passes { AreOfLog log.now passes }
+    ensures passes { AreOfLog log.now result }
+    ensures keeps { KeepsBoth passes result }
 {
-    let mut second = second;
+    let (first, mut second) = passes;
     let mut long = begun(rt, log, first, one);
     copies(rt, log, &mut long, 100_000, copied(4096, NO_PAGE));
     flushes(rt, log, &mut second, START, Ok(NONE));
@@ -332,21 +327,18 @@ fn played<R: Abort>(
     rt: &R,
     log: &Log,
     order: Order,
-    first: Pass,
-    second: Pass,
+    passes: (Pass, Pass),
     one: &Body,
     two: &Body,
 ) -> (Pass, Pass)
-    requires first { IsPassOfLog log.now first }
-    requires second { IsPassOfLog log.now second }
-    ensures passes { IsPassOfLog log.now result.0 × IsPassOfLog log.now result.1 }
-    ensures first { KeepsPass (view_of_pass first) (view_of_pass result.0) }
-    ensures second { KeepsPass (view_of_pass second) (view_of_pass result.1) }
+    requires passes { AreOfLog log.now passes }
+    ensures passes { AreOfLog log.now result }
+    ensures keeps { KeepsBoth passes result }
 {
     match order {
-        Order::OtherWayRound => other_way_round(rt, log, first, second, one, two),
-        Order::SecondInPart => second_in_part(rt, log, first, second, one, two),
-        Order::RingFull => ring_full(rt, log, first, second, one),
+        Order::OtherWayRound => other_way_round(rt, log, passes, one, two),
+        Order::SecondInPart => second_in_part(rt, log, passes, one, two),
+        Order::RingFull => ring_full(rt, log, passes, one),
     }
 }
 
@@ -357,7 +349,7 @@ fn ended<R: Abort>(rt: &R, alloc: Global, row: &Row) -> Result<Closed<MemDisk>, 
     let (log, first, second) = shared(alloc, SETUP)?;
     calls_keep_numbers();
     passes_share_numbers();
-    let (first, second) = played(rt, &log, row.order, first, second, &one, &two);
+    let (first, second) = played(rt, &log, row.order, (first, second), &one, &two);
     Ok(closed(log, first, second))
 }
 

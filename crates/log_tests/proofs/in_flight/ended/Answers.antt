@@ -10,5 +10,5 @@ closed-requires-clause-numbers g c =
     still_shared passes (c.passes_share_numbers.ensures.kept passes)
     (view_of_pass c.in_ok-log.first) (view_of_pass c.played-first.result.0)
     (view_of_pass c.in_ok-log.second) (view_of_pass c.played-first.result.1)
-    (keeps _ _ c.played-first.ensures.first) (keeps _ _ c.played-first.ensures.second)
+    (keeps _ _ c.played-first.ensures.keeps.first) (keeps _ _ c.played-first.ensures.keeps.second)
     c.in_ok-log.ensures.numbers
